@@ -1,0 +1,67 @@
+//! The subcommand `show`.
+use crate::hexadecimal::{HexFault, octets_of};
+use crate::listing::{Ending, Listing, frame_line, list};
+use std::alloc::{AllocError, Global};
+use std::io::{self, Read, Write};
+
+/// The status of a run that met no fault.
+const DONE: u8 = 0;
+
+/// The status of a run that printed a fault, or could not print.
+const FAULT: u8 = 1;
+
+/// Reads hexadecimal to its end, prints a line for each frame and one for what ends them otherwise, and answers the exit
+/// status.
+pub fn show<R: Read, W: Write>(alloc: Global, input: &mut R, output: &mut W) -> u8 {
+    let status = print_frames(alloc, input, output);
+    let flushed = output.flush();
+    match (status, flushed) {
+        (Ok(status), Ok(())) => status,
+        _ => FAULT,
+    }
+}
+
+/// The same, without the last octets reaching the output for sure.
+fn print_frames<R: Read, W: Write>(alloc: Global, input: &mut R, output: &mut W) -> io::Result<u8> {
+    let mut text = Vec::new(alloc);
+    if input.read_to_end(&mut text).is_err() {
+        writeln!(output, "fault read")?;
+        return Ok(FAULT);
+    }
+    let octets = match octets_of(alloc, &text) {
+        Ok(octets) => octets,
+        Err(HexFault::NotHex(line)) => {
+            writeln!(output, "line {line}: not hex")?;
+            return Ok(FAULT);
+        }
+        Err(HexFault::OutOfMemory) => return print_want_of_memory(output),
+    };
+    let Ok(listing) = list(alloc, &octets) else {
+        return print_want_of_memory(output);
+    };
+    for frame in &listing.frames {
+        let Ok(line) = frame_line(alloc, frame) else {
+            return print_want_of_memory(output);
+        };
+        writeln!(output, "{line}")?;
+    }
+    print_ending(listing.end, output)
+}
+
+fn print_ending<W: Write>(end: Ending, output: &mut W) -> io::Result<u8> {
+    match end {
+        Ending::Whole => return Ok(DONE),
+        Ending::Rest(length) => writeln!(output, "rest {length}")?,
+        Ending::Fault(fault) => {
+            let number = fault.kind.number();
+            let at = fault.at;
+            writeln!(output, "fault {number} at {at}")?;
+        }
+    }
+    Ok(FAULT)
+}
+
+fn print_want_of_memory<W: Write>(output: &mut W) -> io::Result<u8> {
+    writeln!(output, "fault memory")?;
+    Ok(FAULT)
+}

@@ -1,0 +1,116 @@
+-- What a splitter answers, from what it found in its buffer.
+use Rattle.std.proofs.Common.{◌≡◌, ℕ, zero, suc, inl, inr, ◌+◌, ◌-◌, ◌<◌, ◌≤◌, List, [], ◌∷◌, ◌++◌, length, take, drop, None, Option, refl, sym, ap, ◌∙◌, arith, append_assoc, length-append}
+use Rattle.std.proofs.lemmas.List.{take_all, take-append-le, take-append-drop, append-nil}
+use Rattle.std.proofs.lemmas.Bool.{cases_lt}
+use Rattle.amqp_frame.specs.Frame.{Frame, octets, Fits, frame_length}
+use Rattle.amqp_frame.specs.Splitting.{size_of, TellsFirst}
+use Rattle.amqp_frame.specs.Stream.{Stream}
+use Rattle.amqp_frame.specs.Splitter.{place_after, Completes, Waits, ToldAt, FirstFault, Faults, HasFrameInFront}
+use Rattle.amqp_frame.specs.Judging.{IsBegun, IsFilled}
+use Rattle.amqp_frame.specs.declared.faults.FrameFaultKind.{FrameFaultKind}
+use Rattle.amqp_frame.specs.declared.faults.FrameFaultKind.TheVariants.{UnknownType, TooLarge, BadEnd, OutOfMemory, Failed}
+use Rattle.amqp_frame.proofs.FrameLemmas.{size-in_front}
+use Rattle.amqp_frame.proofs.SplittingLemmas.{begun_front_tells_none, begun_tells_none, begun_front, begun_is_rest}
+
+-- where a frame within the limit stands in front, nothing tells a fault
+pub told_without_frame : (limit : ℕ) (xs : List ℕ) (kind : FrameFaultKind) (place : ℕ) → TellsFirst limit xs kind place → HasFrameInFront limit xs → ⊥
+told_without_frame limit xs kind place told here =
+    begun_front_tells_none limit here.f (take (place + 1) xs) (drop (place + 1) xs) here.tail kind here.fits here.within
+    (sym here.in_front ∙ sym (take-append-drop (place + 1) xs)) told.told
+
+-- and the octets are more than a frame begun
+pub begun_without_frame : (limit : ℕ) (xs : List ℕ) → IsBegun limit xs → HasFrameInFront limit xs → ⊥
+begun_without_frame limit xs begun here = (begun_is_rest limit xs begun).no_frame (here.f, here.tail, here.fits, here.in_front)
+
+-- a first teller stays the first, whatever follows
+pub told_before : (limit : ℕ) (xs ys : List ℕ) (kind : FrameFaultKind) (place : ℕ) → TellsFirst limit xs kind place → TellsFirst limit (xs ++ ys) kind place
+told_before limit xs ys kind place told =
+    let inside = told.within in
+    record {
+      within = simp length-append (omega arith);
+      told = rw (take-append-le (place + 1) xs ys (omega arith)) told.told;
+      first = λ n other before tells. told.first n other before (rw (take-append-le n xs ys (omega arith)) at tells);
+    }
+
+-- the buffer and what is left of the piece are the pending octets and the piece
+pub whole_piece : (old piece buffer : List ℕ) (taken : ℕ) → buffer ≡ old ++ take taken piece → buffer ++ drop taken piece ≡ old ++ piece
+whole_piece old piece buffer taken joined =
+    rw joined (append_assoc old (take taken piece) (drop taken piece) ∙ ap (λ (zs : List ℕ). old ++ zs) (take-append-drop taken piece))
+
+-- what the buffer tells is told behind the octets that were pending
+pub told_behind : (limit : ℕ) (old piece buffer : List ℕ) (taken : ℕ) (kind : FrameFaultKind) (place : ℕ)
+    → IsBegun limit old → IsFilled limit old piece buffer taken → TellsFirst limit buffer kind place → length old ≤ place
+told_behind limit old piece buffer taken kind place begun filled told = elim (cases_lt place (length old)) [
+  | inl before ↦
+      let front : take (place + 1) buffer ≡ take (place + 1) old = ap (take (place + 1)) filled.joined ∙ take-append-le (place + 1) old (take taken piece) (omega arith) in
+      absurd (begun_tells_none limit (take (place + 1) old) kind (begun_front limit (place + 1) old (omega arith) begun) (rw front at told.told))
+  | inr behind ↦ behind
+]
+
+-- a place and a kind that the octets tell are the fault
+first_fault : (old : Stream) (piece : List ℕ) (kind : FrameFaultKind) (at : ℕ) → ToldAt old piece kind at → FirstFault old piece kind at
+first_fault old piece UnknownType at told = told
+first_fault old piece TooLarge at told = told
+first_fault old piece BadEnd at told = told
+first_fault old piece OutOfMemory at told = absurd told.told.told
+first_fault old piece Failed at told = absurd told.told.told
+
+pub fault_of : (fault : Option ℕ) (old : Stream) (piece : List ℕ) (kind : FrameFaultKind) (place at : ℕ)
+    → fault ≡ None → TellsFirst old.limit (old.pending ++ piece) kind place → length old.pending ≤ place → at ≡ place_after old.taken (place - length old.pending)
+    → Faults fault old piece (record { at = at; kind = kind })
+fault_of fault old piece kind place at running told behind at_is =
+    rw running (first_fault old piece kind at (record { place = place; told = told; behind = behind; at_is = at_is }))
+
+-- the frame that the buffer holds is the frame that the piece completes
+pub completed : (old : Stream) (piece buffer : List ℕ) (taken : ℕ) (f : Frame)
+    → IsBegun old.limit old.pending → IsFilled old.limit old.pending piece buffer taken
+    → frame_length f ≤ length buffer → frame_length f ≤ old.limit → Fits f → take (frame_length f) buffer ≡ octets f
+    → Completes old (take taken piece) f
+completed old piece buffer taken f begun filled long within fits is_frame =
+    let in_front : buffer ≡ octets f ++ drop (frame_length f) buffer = sym (take-append-drop (frame_length f) buffer) ∙ ap (λ (zs : List ℕ). zs ++ drop (frame_length f) buffer) is_frame in
+    let size : size_of buffer ≡ length f.payload = ap size_of in_front ∙ size-in_front f (drop (frame_length f) buffer) fits in
+    let short = filled.no_further (omega arith) (omega arith) in
+    record {
+      is_frame = sym filled.joined ∙ sym (take_all (frame_length f) buffer (omega arith)) ∙ is_frame;
+      fits = fits;
+      within = within;
+    }
+
+-- the frame ends in the piece, since none ends in octets that one begins
+pub some_taken : (old : Stream) (piece : List ℕ) (taken : ℕ) (f : Frame) → IsBegun old.limit old.pending → Completes old (take taken piece) f → 0 < taken
+some_taken old piece zero f begun completes =
+    absurd ((begun_is_rest old.limit old.pending begun).no_frame (f, [], completes.fits, sym (append-nil old.pending) ∙ completes.is_frame ∙ sym (append-nil (octets f))))
+some_taken old piece (suc taken) f begun completes = omega arith
+
+-- octets are left in the piece only where the buffer's are no frame begun
+all_taken : (old : Stream) (piece buffer : List ℕ) (taken : ℕ) → IsFilled old.limit old.pending piece buffer taken → IsBegun old.limit buffer → taken ≡ length piece
+all_taken old piece buffer taken filled begun = elim (cases_lt taken (length piece)) [
+  | inl left ↦
+      let long = filled.sized left in
+      let ended = filled.up_to_end left (begun.sized long) in
+      let short = begun.short long in
+      absurd (omega arith)
+  | inr none ↦ let within = filled.within in omega arith
+]
+
+pub buffer_is : (old : Stream) (piece buffer : List ℕ) (taken : ℕ) → IsFilled old.limit old.pending piece buffer taken → taken ≡ length piece → buffer ≡ old.pending ++ piece
+buffer_is old piece buffer taken filled all = filled.joined ∙ ap (λ (zs : List ℕ). old.pending ++ zs) (take_all taken piece (omega arith))
+
+-- a frame begun, and all of the piece in it
+pub waiting : (old : Stream) (piece buffer : List ℕ) (taken : ℕ) → IsFilled old.limit old.pending piece buffer taken → IsBegun old.limit buffer → Waits old piece taken
+waiting old piece buffer taken filled begun =
+    let all = all_taken old piece buffer taken filled begun in
+    record {
+      all = all;
+      rest = rw (← buffer_is old piece buffer taken filled all) (begun_is_rest old.limit buffer begun);
+    }
+
+-- a piece that has octets has a length
+pub some_octets : (xs : List ℕ) → ((xs ≡ []) → ⊥) → 0 < length xs
+some_octets [] some = absurd (some refl)
+some_octets (x ∷ xs) some = omega arith
+
+-- splitters with equal parts are equal
+pub same_stream : (pending others : List ℕ) (limit taken other : ℕ) (fault : Option ℕ) → pending ≡ others → taken ≡ other
+    → ◌≡◌ {A = Stream} (record { pending = pending; limit = limit; taken = taken; fault = fault }) (record { pending = others; limit = limit; taken = other; fault = fault })
+same_stream pending others limit taken other fault p t = rw (p, t) refl

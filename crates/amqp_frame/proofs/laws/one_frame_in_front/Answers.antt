@@ -1,0 +1,5 @@
+use Rattle.amqp_frame.proofs.FrameLemmas.{one_frame}
+use Rattle.amqp_frame.proofs.laws.one_frame_in_front.Goals as goal
+
+pub returns : goal.returns
+returns c = one_frame

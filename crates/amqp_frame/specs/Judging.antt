@@ -1,0 +1,35 @@
+-- How a splitter judges the octets of a frame begun, from the facts that it looks at.
+use Rattle.std.specs.Prelude.{◌≡◌, ℕ, ◌+◌, ◌<◌, ◌≤◌, Bool, true, false, List, [], ◌++◌, length, take, slice_index}
+use Rattle.amqp_frame.specs.Frame.{octets, Fits, frame_length, lent}
+use Rattle.amqp_frame.specs.Splitting.{IsTypeOctet, size_of, TellsFirst}
+use Rattle.amqp_frame.specs.declared.judging.Judgement.{Judgement}
+use Rattle.amqp_frame.specs.declared.judging.Judgement.TheVariants.{Begun, Wrong, Whole}
+
+-- the buffer's octets, until they are spent
+abbrev pub pending_of : Bool → List ℕ → List ℕ
+pending_of true buffer = []
+pending_of false buffer = buffer
+
+-- nothing is wrong with what is there, and the end octet isn't
+pub record IsBegun (limit : ℕ) (xs : List ℕ) : Type 0 where
+  pub typed : 0 < length xs → IsTypeOctet (slice_index xs 0)
+  pub sized : 7 ≤ length xs → size_of xs + 8 ≤ limit
+  pub short : 7 ≤ length xs → length xs < size_of xs + 8
+
+-- what is to be said of octets that a frame begins
+abbrev pub IsJudged : ℕ → List ℕ → Judgement → Type 0
+IsJudged limit xs Begun = IsBegun limit xs
+IsJudged limit xs (Wrong kind place) = TellsFirst limit xs kind place
+IsJudged limit xs (Whole f) =
+    (frame_length (lent f) ≤ length xs) × (frame_length (lent f) ≤ limit) × Fits (lent f) × (take (frame_length (lent f)) xs ≡ octets (lent f))
+
+-- Octets of the piece were added to those of a frame begun, up to the end of that frame and no further.
+pub record IsFilled (limit : ℕ) (old piece new : List ℕ) (taken : ℕ) : Type 0 where
+  pub within : taken ≤ length piece
+  pub joined : new ≡ old ++ take taken piece
+  -- octets are left only where the payload's size is there
+  pub sized : taken < length piece → 7 ≤ length new
+  pub no_further : 7 ≤ length new → size_of new + 8 ≤ limit → length new ≤ size_of new + 8
+  pub up_to_end : taken < length piece → size_of new + 8 ≤ limit → length new ≡ size_of new + 8
+  -- of a frame that is too long no octet is added behind its size
+  pub too_long : limit < size_of new + 8 → length new ≤ 7

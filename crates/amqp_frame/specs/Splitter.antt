@@ -1,0 +1,77 @@
+-- What a piece of the stream does to a splitter, and what the splitter answers.
+use Rattle.std.specs.Prelude.{◌≡◌, ℕ, ◌+◌, ◌-◌, ◌^◌, ◌≤◌, List, [], ◌++◌, length, min, Option, Some, None, Result, Ok, Err}
+use Rattle.std.specs.Borrow.{MutBor, Fml}
+use Rattle.std.specs.Io.BufRead.{Rests}
+use Rattle.amqp_frame.specs.Frame.{Frame, octets, Fits, frame_length}
+use Rattle.amqp_frame.specs.Splitting.{IsRest, TellsFirst}
+use Rattle.amqp_frame.specs.Stream.{Stream}
+use Rattle.amqp_frame.specs.contracts.splitting.Splitter.{the_row}
+use Rattle.amqp_frame.specs.declared.faults.FrameFault.{FrameFault}
+use Rattle.amqp_frame.specs.declared.faults.FrameFaultKind.{FrameFaultKind}
+use Rattle.amqp_frame.specs.declared.faults.FrameFaultKind.TheVariants.{UnknownType, TooLarge, BadEnd, OutOfMemory, Failed}
+use Rattle.amqp_frame.specs.declared.splitting.Fed.{Fed}
+use Rattle.amqp_frame.specs.declared.splitting.FedRef.{FedRef}
+
+-- A place in the stream, counted from 0. The count stays at the greatest number of 64 bits.
+abbrev pub place_after : ℕ → ℕ → ℕ
+place_after taken n = min (taken + n) (2 ^ 64 - 1)
+
+-- the pending octets and those taken of the piece are the frame, which is no longer than the limit
+pub record Completes (old : Stream) (taken : List ℕ) (f : Frame) : Type 0 where
+  pub is_frame : old.pending ++ taken ≡ octets f
+  pub fits : Fits f
+  pub within : frame_length f ≤ old.limit
+
+-- no octet of the piece ends a frame, and none tells a fault: the whole of it was taken
+pub record Waits (old : Stream) (piece : List ℕ) (taken : ℕ) : Type 0 where
+  pub all : taken ≡ length piece
+  pub rest : IsRest old.limit (old.pending ++ piece)
+
+-- The octet of the piece that tells the fault stands behind the pending octets, which tell none.
+pub record ToldAt (old : Stream) (piece : List ℕ) (kind : FrameFaultKind) (at : ℕ) : Type 0 where
+  pub place : ℕ
+  pub told : TellsFirst old.limit (old.pending ++ piece) kind place
+  pub behind : length old.pending ≤ place
+  pub at_is : at ≡ place_after old.taken (place - length old.pending)
+
+-- a splitter that has told no fault tells this one
+abbrev pub FirstFault : Stream → List ℕ → FrameFaultKind → ℕ → Type 0
+FirstFault old piece UnknownType at = ToldAt old piece UnknownType at
+FirstFault old piece TooLarge at = ToldAt old piece TooLarge at
+FirstFault old piece BadEnd at = ToldAt old piece BadEnd at
+FirstFault old piece OutOfMemory at = at ≡ old.taken
+FirstFault old piece Failed at = ⊥
+
+-- The fault is the one that the octets tell, or want of memory; behind a fault it is Failed, at the first one's place.
+abbrev pub Faults : Option ℕ → Stream → List ℕ → FrameFault → Type 0
+Faults None old piece fault = FirstFault old piece fault.kind fault.at
+Faults (Some place) old piece fault = (fault.kind ≡ Failed) × (fault.at ≡ place)
+
+-- a whole frame within the limit stands in front
+pub record HasFrameInFront (limit : ℕ) (piece : List ℕ) : Type 0 where
+  pub f : Frame
+  pub tail : List ℕ
+  pub fits : Fits f
+  pub within : frame_length f ≤ limit
+  pub in_front : piece ≡ octets f ++ tail
+
+-- after octets were taken: behind a frame nothing is pending
+abbrev pub after_taking : {A : Type 0} → Stream → List ℕ → ℕ → Option A → Stream
+after_taking old piece taken None = record old { pending = old.pending ++ piece; taken = place_after old.taken taken }
+after_taking old piece taken (Some f) = record old { pending = []; taken = place_after old.taken taken }
+
+-- after a fault nothing is pending, and the place of the first fault stays
+abbrev pub after_fault : Stream → FrameFault → Stream
+after_fault old fault = record old { pending = []; fault = Some fault.at }
+
+abbrev pub after_feed : Stream → List ℕ → Result Fed FrameFault → Stream
+after_feed old piece (Ok fed) = after_taking old piece fed.taken fed.frame
+after_feed old piece (Err fault) = after_fault old fault
+
+abbrev pub after_feed_ref : Stream → List ℕ → Result FedRef FrameFault → Stream
+after_feed_ref old piece (Ok fed) = after_taking old piece fed.taken fed.frame
+after_feed_ref old piece (Err fault) = after_fault old fault
+
+-- what the splitter is once the frame that it lent is given up
+abbrev pub LeavesAfter : MutBor Stream → List ℕ → Result FedRef FrameFault → Fml
+LeavesAfter s piece result = Rests the_row s (λ new. new ≡ after_feed_ref s.now piece result)

@@ -1,0 +1,12 @@
+-- What callers see of a splitter, apart from the frames that it gives.
+use Rattle.std.specs.Prelude.{ℕ, List, Option}
+
+pub record Stream : Type 0 where
+  -- the octets taken of a frame that isn't whole
+  pub pending : List ℕ
+  -- how many octets a frame may have
+  pub limit : ℕ
+  -- how many octets of the stream were taken, up to the greatest of 64 bits
+  pub taken : ℕ
+  -- the place of the fault, once one was told
+  pub fault : Option ℕ

@@ -1,0 +1,120 @@
+//! A frame, and its octets.
+ghost use Rattle.std.specs.Prelude.{◌≡◌, ◌^◌, ◌<◌, ◌+◌, ◌∷◌, ◌++◌, codes, length, vec_len, IfOk, OnOk, OnErr, MatchOption, Some};
+ghost use Rattle.byteorder.specs.Endian.{big_bytes};
+ghost use Rattle.amqp_frame.specs.Frame.{Frame, octets, type_octet, kind_name, frame_length, owned, lent};
+ghost use Rattle.amqp_frame.specs.Splitting.{IsTypeOctet};
+
+use crate::faults::OutOfMemory;
+use byteorder::{BigEndian, ByteOrder};
+use std::alloc::Global;
+use std::fmt;
+
+/// How many octets stand in front of a payload: the type, the channel and the payload's size.
+pub(crate) const HEADER_LENGTH: usize = 7;
+
+/// How many octets a frame has beside its payload: those in front of it, and the end octet.
+pub(crate) const OVERHEAD: usize = 8;
+
+/// The octet that ends each frame (section 4.2.3, "frame-end").
+pub(crate) const END: u8 = 0xce;
+
+/// What a frame carries, with its type octet.
+#[derive(Clone, Copy, PartialEq, Eq, Debug)]
+pub enum FrameKind {
+    Method = 1,
+    Header = 2,
+    Body = 3,
+    Heartbeat = 8,
+}
+
+impl FrameKind {
+    /// The kind that a type octet stands for, if it stands for one.
+    #[inline]
+    pub fn from_octet(octet: u8) -> Option<FrameKind>
+        ensures { MatchOption result (IsTypeOctet octet → ⊥) (λ kind. type_octet kind ≡ octet) }
+    {
+        match octet {
+            1 => Some(FrameKind::Method),
+            2 => Some(FrameKind::Header),
+            3 => Some(FrameKind::Body),
+            8 => Some(FrameKind::Heartbeat),
+            _ => None,
+        }
+    }
+
+    /// The type octet.
+    pub fn octet(self) -> u8
+        ensures { result ≡ type_octet self }
+    {
+        self as u8
+    }
+}
+
+/// Prints `method`, `header`, `body` or `heartbeat`.
+impl fmt::Display for FrameKind {
+    ghost output = { λ kind. Some (kind_name kind) };
+
+    fn fmt<W: fmt::Write>(&self, f: &mut fmt::Formatter<W>) -> fmt::Result {
+        match self {
+            FrameKind::Method => write!(f, "method"),
+            FrameKind::Header => write!(f, "header"),
+            FrameKind::Body => write!(f, "body"),
+            FrameKind::Heartbeat => write!(f, "heartbeat"),
+        }
+    }
+}
+
+/// A frame that owns its payload.
+#[derive(PartialEq, Eq, Debug, Drop)]
+pub struct RawFrame {
+    pub kind: FrameKind,
+    pub channel: u16,
+    pub payload: Vec<u8>,
+}
+
+/// A frame whose payload is lent.
+#[derive(Clone, Copy, PartialEq, Eq, Debug)]
+pub struct FrameRef<'a> {
+    pub kind: FrameKind,
+    pub channel: u16,
+    pub payload: &'a [u8],
+}
+
+impl FrameRef<'_> {
+    /// The same frame with a payload of its own.
+    pub fn to_raw(&self, alloc: Global) -> Result<RawFrame, OutOfMemory>
+        ensures { IfOk result (λ f. owned f ≡ lent self.now) }
+    {
+        let payload = Vec::from_slice(alloc, self.payload)?;
+        Ok(RawFrame {
+            kind: self.kind,
+            channel: self.channel,
+            payload,
+        })
+    }
+}
+
+/// The octets in front of a payload.
+fn header_octets(kind: FrameKind, channel: u16, size: u32) -> [u8; HEADER_LENGTH]
+    ensures { result ≡ type_octet kind ∷ (big_bytes 2 channel ++ big_bytes 4 size) }
+{
+    let mut header = [kind.octet(); HEADER_LENGTH];
+    BigEndian::write_u16(&mut header[1..], channel);
+    BigEndian::write_u32(&mut header[3..], size);
+    header
+}
+
+/// Appends the frame's octets to `out`: the type, the channel, the payload's size, the payload and `CE`.
+#[tactic(auto, using(crate::proofs::FrameLemmas::written), unfolding(crate::specs::Frame::octets))]
+pub fn write_frame(frame: &RawFrame, out: &mut Vec<u8>) -> Result<(), OutOfMemory>
+    requires { vec_len frame.now.payload < 2 ^ 32 }
+    ensures ok { OnOk result (out.new.items ≡ out.old.items ++ octets (owned frame.now)) }
+    ensures err { OnErr result (out.new.items ≡ out.old.items) }
+{
+    let header = header_octets(frame.kind, frame.channel, frame.payload.len() as u32);
+    out.reserve(frame.payload.len() + OVERHEAD)?;
+    out.extend_from_slice(&header)?;
+    out.extend_from_slice(&frame.payload)?;
+    out.push(END)?;
+    Ok(())
+}

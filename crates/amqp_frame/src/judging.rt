@@ -1,0 +1,91 @@
+//! Whether octets are a frame begun, a whole frame, or none.
+ghost use Rattle.std.specs.Prelude.{◌≡◌, ◌+◌, ◌≤◌, ◌^◌, ◌<◌, length, IfOk, vec_len};
+ghost use Rattle.amqp_frame.specs.Splitting.{size_of};
+ghost use Rattle.amqp_frame.specs.Judging.{IsBegun, IsJudged, IsFilled, pending_of};
+
+use crate::faults::FrameFaultKind;
+use crate::frames::{END, FrameKind, FrameRef, HEADER_LENGTH, OVERHEAD};
+use byteorder::{BigEndian, ByteOrder};
+use std::alloc::AllocError;
+
+/// What octets that a frame begins are.
+#[derive(Clone, Copy)]
+pub(crate) enum Judgement<'a> {
+    /// A part of a frame, with nothing wrong in it.
+    Begun,
+    /// The octet at the place, counted from the first, is the first to tell the fault.
+    Wrong(FrameFaultKind, usize),
+    /// They begin with this frame.
+    Whole(FrameRef<'a>),
+}
+
+/// How many octets the frame has that these begin.
+#[inline]
+fn frame_length(octets: &[u8]) -> usize
+    requires { 7 ≤ length octets.now }
+    ensures value { result ≡ size_of octets.now + 8 }
+    ensures bound { result < 2 ^ 33 }
+{
+    BigEndian::read_u32(&octets[3..]) as usize + OVERHEAD
+}
+
+/// Looks at the type octet, the payload's size and the end octet alone.
+#[inline(always)]
+pub(crate) fn judge(octets: &[u8], limit: u32) -> Judgement<'_>
+    ensures { IsJudged limit octets.now result }
+{
+    if octets.is_empty() {
+        return Judgement::Begun;
+    }
+    let Some(kind) = FrameKind::from_octet(octets[0]) else {
+        return Judgement::Wrong(FrameFaultKind::UnknownType, 0);
+    };
+    if octets.len() < HEADER_LENGTH {
+        return Judgement::Begun;
+    }
+    let length = frame_length(octets);
+    if length > limit as usize {
+        return Judgement::Wrong(FrameFaultKind::TooLarge, HEADER_LENGTH - 1);
+    }
+    if octets.len() < length {
+        return Judgement::Begun;
+    }
+    if octets[length - 1] != END {
+        return Judgement::Wrong(FrameFaultKind::BadEnd, length - 1);
+    }
+    Judgement::Whole(FrameRef {
+        kind,
+        channel: BigEndian::read_u16(&octets[1..]),
+        payload: &octets[HEADER_LENGTH..length - 1],
+    })
+}
+
+/// Empties a buffer whose octets are spent.
+#[inline]
+pub(crate) fn renew(buffer: &mut Vec<u8>, spent: bool)
+    ensures { buffer.new.items ≡ pending_of spent buffer.old.items }
+{
+    if spent {
+        buffer.clear();
+    }
+}
+
+/// Appends octets of the piece up to the end of the frame that the buffer begins, or to the octet that tells that the
+/// frame is longer than the limit, and says how many. Room is made for no octet that isn't there.
+pub(crate) fn fill(buffer: &mut Vec<u8>, piece: &[u8], limit: u32) -> Result<usize, AllocError>
+    requires { IsBegun limit buffer.old.items }
+    ensures { IfOk result (λ taken. IsFilled limit buffer.old.items piece.now buffer.new.items taken) }
+{
+    let header = HEADER_LENGTH.saturating_sub(buffer.len()).min(piece.len());
+    buffer.extend_from_slice(&piece[..header])?;
+    if buffer.len() < HEADER_LENGTH {
+        return Ok(header);
+    }
+    let end = frame_length(buffer);
+    if end > limit as usize {
+        return Ok(header);
+    }
+    let others = end.saturating_sub(buffer.len()).min(piece.len() - header);
+    buffer.extend_from_slice(&piece[header..header + others])?;
+    Ok(header + others)
+}

@@ -1,0 +1,18 @@
+//! Laws of frames that the layers above rest on.
+ghost use Rattle.amqp_frame.specs.Laws.{OneSplit, OneFrameInFront, FrontTellsNoFault};
+
+/// Octets split into frames and a rest in one way only.
+pub fn one_split()
+    ensures { OneSplit }
+{}
+
+/// Octets that begin with two frames begin with the same one: its kind, its channel, its payload and what follows it
+/// are equal.
+pub fn one_frame_in_front()
+    ensures { OneFrameInFront }
+{}
+
+/// A front of a frame that is no longer than the limit tells no fault.
+pub fn front_tells_no_fault()
+    ensures { FrontTellsNoFault }
+{}

@@ -1,0 +1,23 @@
+//! Frames of AMQP 0-9-1 (specification, section 4.2.3): written to octets, and split from a stream that comes in
+//! any pieces.
+//!
+//! A frame is a type octet, the channel in 16 bits, the payload's size in 32, the payload, and the octet `CE`. Numbers
+//! are big-endian.
+//!
+//! [`Splitter::feed_ref`] lends each frame's payload out of the piece or out of the splitter's own buffer;
+//! [`Splitter::feed`] copies it. What the two are proved to do is stated by the definitions of `specs/`: `Frame` has the
+//! octets of a frame, `Splitting` what it is to split octets, and `Splitter` what a piece of the stream does.
+#![tactic(auto)]
+
+mod faults;
+mod frames;
+mod judging;
+mod laws;
+mod splitting;
+#[cfg(test)]
+mod tests;
+
+pub use crate::faults::{FrameFault, FrameFaultKind, OutOfMemory};
+pub use crate::frames::{FrameKind, FrameRef, RawFrame, write_frame};
+pub use crate::laws::{front_tells_no_fault, one_frame_in_front, one_split};
+pub use crate::splitting::{Fed, FedRef, Splitter};
