@@ -13,8 +13,8 @@ const ABOUT: &str = "Reads AMQP 0-9-1 octets and says what they are";
 const SHOW_ABOUT: &str = "Lists the frames of octets read from standard input";
 
 const SHOW_DETAILS: &str = "\
-Reads hexadecimal from standard input, to its end: digits in either case, with spaces, tabs and line ends anywhere
-between two octets. Prints a line for each frame:
+Reads hexadecimal from standard input, to its end: digits in either case, spaces and tabs anywhere, line ends between two
+octets. Prints a line for each frame:
 
     CHANNEL KIND SIZE PAYLOAD
 

@@ -1,0 +1,13 @@
+mod Lists
+mod Ends
+mod Joint
+mod Pauses
+mod Runs
+mod Acted
+mod Ended
+mod Closed
+mod Laws
+mod Words
+mod Contents
+mod Channels
+mod Scripts

@@ -1,0 +1,50 @@
+-- Lists, and the messages in a list of notes with their lives.
+use Rattle.std.proofs.Common.{◌≡◌, ℕ, zero, suc, List, [], ◌∷◌, ◌++◌, Some, ◌⊎◌, inl, inr, Bool, true, false, cond, ◌&&◌, refl, ap, ◌∙◌, append_assoc, append-nil, slice_get, ◌==◌}
+use Rattle.amqp_model.specs.Frame.{Frame}
+use Rattle.amqp_model.specs.Notes.{Kind, is_message}
+use Rattle.amqp_model.specs.Carried.{Entry, At, messages}
+use Rattle.amqp_model.specs.Laws.{IsFrontOf}
+
+pub slice_get_front : {A : Type 0} (xs ys : List A) (i : ℕ) (x : A) → slice_get xs i ≡ Some x → slice_get (xs ++ ys) i ≡ Some x
+slice_get_front [] ys i x e = absurd cc
+slice_get_front (y ∷ xs) ys zero x e = e
+slice_get_front (y ∷ xs) ys (suc i) x e = slice_get_front xs ys i x e
+
+pub front_none : {A : Type 0} (xs : List A) → IsFrontOf xs [] → xs ≡ []
+front_none [] f = refl
+front_none (x ∷ xs) f = absurd (let e = f.1 in cc)
+
+pub front_more : {A : Type 0} (xs ys zs : List A) → IsFrontOf xs ys → IsFrontOf xs (ys ++ zs)
+front_more xs ys zs f = (f.0 ++ zs, ap (λ l. l ++ zs) f.1 ∙ append_assoc xs f.0 zs)
+
+-- where a list with one more element at its end has a given element
+pub snoc_cases : {A : Type 0} (front : List A) (c : A) (back xs : List A) (x : A) → xs ++ x ∷ [] ≡ front ++ c ∷ back → ((back ≡ []) × (x ≡ c) × (xs ≡ front)) ⊎ ((back' : List A) × (back ≡ back' ++ x ∷ []) × (xs ≡ front ++ c ∷ back'))
+snoc_cases [] c back [] x e = inl (cc, cc, refl)
+snoc_cases [] c back (y ∷ xs) x e = let h : back ≡ xs ++ x ∷ [] = cc in let k : y ≡ c = cc in inr (xs, h, ap (λ z. z ∷ xs) k)
+snoc_cases (y ∷ []) c back [] x e = absurd (let h : [] ≡ c ∷ back = cc in cc)
+snoc_cases (y ∷ z ∷ front) c back [] x e = absurd (let h : [] ≡ z ∷ (front ++ c ∷ back) = cc in cc)
+snoc_cases {A} (y ∷ front) c back (z ∷ xs) x e = more (snoc_cases front c back xs x cc)
+  where
+    more : ((back ≡ []) × (x ≡ c) × (xs ≡ front)) ⊎ ((back' : List A) × (back ≡ back' ++ x ∷ []) × (xs ≡ front ++ c ∷ back')) → ((back ≡ []) × (x ≡ c) × (z ∷ xs ≡ y ∷ front)) ⊎ ((back' : List A) × (back ≡ back' ++ x ∷ []) × (z ∷ xs ≡ (y ∷ front) ++ c ∷ back'))
+    more (inl h) = inl (h.0, h.1, (let k : xs ≡ front = h.2 in cc))
+    more (inr h) = inr (h.0, h.1, (let k : xs ≡ front ++ c ∷ h.0 = h.2 in cc))
+
+pub messages-append : (life : ℕ) (xs ys : List Entry) → messages life (xs ++ ys) ≡ messages life xs ++ messages life ys
+messages-append life [] ys = refl
+messages-append life (At kind n frame ∷ xs) ys = more (is_message kind && (n == life)) (messages-append life xs ys)
+  where
+    more : (b : Bool) → messages life (xs ++ ys) ≡ messages life xs ++ messages life ys → cond b (frame ∷ messages life (xs ++ ys)) (messages life (xs ++ ys)) ≡ cond b (frame ∷ messages life xs) (messages life xs) ++ messages life ys
+    more true e = ap (λ l. frame ∷ l) e
+    more false e = e
+
+-- one more note that is no message
+pub messages_other : (life : ℕ) (xs : List Entry) (kind : Kind) (n : ℕ) (frame : Frame) → is_message kind ≡ false → messages life (xs ++ At kind n frame ∷ []) ≡ messages life xs
+messages_other life xs kind n frame e = messages-append life xs _ ∙ (ap (λ l. messages life xs ++ l) (simp e) ∙ append-nil _)
+
+-- one more note of another life
+pub messages_elsewhere : (life : ℕ) (xs : List Entry) (kind : Kind) (n : ℕ) (frame : Frame) → (n == life) ≡ false → messages life (xs ++ At kind n frame ∷ []) ≡ messages life xs
+messages_elsewhere life xs kind n frame e = messages-append life xs _ ∙ (ap (λ l. messages life xs ++ l) (none (is_message kind)) ∙ append-nil _)
+  where
+    none : (b : Bool) → cond (b && (n == life)) (frame ∷ []) [] ≡ []
+    none true = simp e
+    none false = refl

@@ -1,0 +1,11 @@
+pub mod Frame
+pub mod Notes
+pub mod States
+pub mod Lives
+pub mod Sentences
+pub mod Verdict
+pub mod Carried
+pub mod Runs
+pub mod Connections
+pub mod Laws
+pub mod Scripts

@@ -1,0 +1,9 @@
+//! What the two ends of an AMQP 0-9-1 connection mean to each other: definitions over histories, and the laws that
+//! hold of them. No code runs here.
+//!
+//! A history is the list of what one end put and took. The definitions in `specs/` read everything off it by
+//! counting: states, lives, what was dropped, what was acted on. A law is the contract of a function with an empty
+//! body. Who needs it calls the function and has its clauses.
+#![tactic(auto)]
+
+pub mod lives;

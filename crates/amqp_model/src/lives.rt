@@ -1,0 +1,102 @@
+//! Lives of a channel.
+//!
+//! A channel's number is used again once its close is answered, and no frame says to which life of the number it
+//! belongs. Each end counts for itself. It waits for close-ok once it has put close, drops what it takes meanwhile,
+//! and answers a close that crosses its own. These laws say that the two counts agree, whatever the applications
+//! ask, however the two directions are interleaved, and wherever an end puts connection.close or is heard no more.
+//!
+//! `Run` is every such interleaving. A law that speaks of `role` holds of both ends: `mine` are the notes of the end
+//! in that role, `theirs` those of the other.
+
+ghost use Rattle.std.specs.Prelude.{◌≡◌, ◌↔◌, true, ℕ, List};
+ghost use Rattle.amqp_model.specs.Carried.{puts, takes};
+ghost use Rattle.amqp_model.specs.Connections.{ConnectionNote, ConnectionRun, notes_of, overtaken_client, overtaking_server};
+ghost use Rattle.amqp_model.specs.Frame.{Frame};
+ghost use Rattle.amqp_model.specs.Laws.{ActsOnFront, ActsOnNothingAfterItsClose, ActsOnNothingAfterLeaving, AllActedOnAtClose, AllActedOnAtConnectionClose, FindsNoFault, IsFrontOf, NoPauseBeforeContent, OnItsWayIsOfItsLife, SentIsActedOnOrOnItsWay, SidesAgree, TakesNoContentPaused};
+ghost use Rattle.amqp_model.specs.Lives.{awaits_flow_ok, before_leaving, has_left, has_open_ok, has_paused, is_alive, is_opening, is_paused, lives, state, waits};
+ghost use Rattle.amqp_model.specs.Notes.{Note, Role, other_end};
+ghost use Rattle.amqp_model.specs.Runs.{Run, RunAt};
+ghost use Rattle.amqp_model.specs.Scripts.{ClosedAndReopened, ClosedAtOnce, CrossingCloses, DiscardedContents, DroppedClient, MessageThenClose, PausedServer, RestartedServer, ServerLeaves, Step, crossing_closes, replay};
+ghost use Rattle.amqp_model.specs.Sentences.{AwaitsFlowOk, HasLeft, HasOpenOk, HasPaused, IsAlive, IsBeforeLeaving, IsInState, IsPaused, Waits, places_with};
+ghost use Rattle.amqp_model.specs.States.{State};
+
+/// Both ends mean the same life: the i-th note that one took has the life of the i-th note that the other put, and
+/// what was taken is, frame by frame, a front of what was put.
+pub fn sides_agree()
+    ensures lives { (role : Role) (mine theirs : List Note) → RunAt role mine theirs → SidesAgree role mine theirs }
+    ensures notes { (role : Role) (mine theirs : List Note) → RunAt role mine theirs → IsFrontOf (takes role mine) (puts (other_end role) theirs) }
+{}
+
+/// Whatever comes next to an end has a verdict that goes on.
+pub fn no_fault()
+    ensures { (role : Role) (mine theirs : List Note) → RunAt role mine theirs → FindsNoFault role mine theirs }
+{}
+
+/// In each life, the frames that an end acted on are a front of those that the other sent.
+pub fn acted_is_front_of_sent()
+    ensures { (role : Role) (mine theirs : List Note) → RunAt role mine theirs → ActsOnFront role mine theirs }
+{}
+
+/// Where the channel is Opening or Open at an end that has not put connection.close, all that is on its way to it is
+/// of its own life, and with what it acted on it is all that the other sent in that life.
+pub fn on_its_way()
+    ensures life { (role : Role) (mine theirs : List Note) → RunAt role mine theirs → OnItsWayIsOfItsLife role mine theirs }
+    ensures sent { (role : Role) (mine theirs : List Note) → RunAt role mine theirs → SentIsActedOnOrOnItsWay role mine theirs }
+{}
+
+/// Where the other's close ended a life, of the channel or of the connection, and was taken before the end put one,
+/// everything sent in that life was acted on.
+pub fn all_acted_on_at_close()
+    ensures channel { (role : Role) (mine theirs : List Note) → RunAt role mine theirs → AllActedOnAtClose role mine theirs }
+    ensures connection { (role : Role) (mine theirs : List Note) → RunAt role mine theirs → AllActedOnAtConnectionClose role mine theirs }
+{}
+
+/// From where an end puts a close, of the channel or of the connection, it acts on nothing more of that life, or of the
+/// connection.
+pub fn nothing_acted_on_after_own_close()
+    ensures channel { (role : Role) (mine theirs : List Note) → RunAt role mine theirs → ActsOnNothingAfterItsClose role mine }
+    ensures connection { (role : Role) (mine : List Note) → ActsOnNothingAfterLeaving role mine }
+{}
+
+/// From where an end took flow-ok with active 0 in a life until it puts flow with active 1, it takes no content but
+/// get-ok.
+pub fn no_content_while_paused()
+    ensures counted { (role : Role) (mine theirs : List Note) → RunAt role mine theirs → TakesNoContentPaused role mine theirs }
+    ensures plain { (role : Role) (mine theirs : List Note) → RunAt role mine theirs → NoPauseBeforeContent role mine theirs }
+{}
+
+/// A connection of many channels is a run on each of them, where each channel's frames come in order: those of
+/// different channels may overtake each other, as in one that is stated.
+pub fn each_channel_runs()
+    ensures each { (client server : List ConnectionNote) → ConnectionRun client server → (channel : ℕ) → Run (notes_of channel client) (notes_of channel server) }
+    ensures overtaking { (f : ℕ → Frame) → ConnectionRun (overtaken_client f) (overtaking_server f) }
+{}
+
+/// The words that count in a history say of the whole of it what their names say.
+pub fn words_read()
+    ensures waits { (history : List Note) → (waits history ≡ true) ↔ Waits history }
+    ensures alive { (role : Role) (history : List Note) → (is_alive role history ≡ true) ↔ IsAlive role history }
+    ensures lives { (role : Role) (history : List Note) → lives role history ≡ places_with (is_opening role) history }
+    ensures open_ok { (role : Role) (history : List Note) → (has_open_ok role history ≡ true) ↔ HasOpenOk role history }
+    ensures awaits_flow_ok { (role : Role) (history : List Note) → (awaits_flow_ok role history ≡ true) ↔ AwaitsFlowOk role history }
+    ensures paused { (role : Role) (history : List Note) → (is_paused role history ≡ true) ↔ IsPaused role history }
+    ensures has_paused { (role : Role) (history : List Note) → (has_paused role history ≡ true) ↔ HasPaused role history }
+    ensures left { (history : List Note) → (has_left history ≡ true) ↔ HasLeft history }
+    ensures before_leaving { (history : List Note) → IsBeforeLeaving history (before_leaving history) }
+    ensures state { (role : Role) (history : List Note) (word : State) → (state role history ≡ word) ↔ IsInState role (before_leaving history) word }
+{}
+
+/// There are runs: each script plays one, and one of them has closes that cross and two lives.
+pub fn scripts_run()
+    ensures runs { (steps : List Step) → Run (replay steps).client (replay steps).server }
+    ensures crossing_run { (f : ℕ → Frame) → Run (crossing_closes f).client (crossing_closes f).server }
+    ensures crossing_closes { (f : ℕ → Frame) → CrossingCloses f }
+    ensures closed_and_reopened { (f : ℕ → Frame) → ClosedAndReopened f }
+    ensures closed_at_once { (f : ℕ → Frame) → ClosedAtOnce f }
+    ensures discarded_contents { (f : ℕ → Frame) → DiscardedContents f }
+    ensures paused_server { (f : ℕ → Frame) → PausedServer f }
+    ensures restarted_server { (f : ℕ → Frame) → RestartedServer f }
+    ensures message_then_close { (f : ℕ → Frame) → MessageThenClose f }
+    ensures dropped_client { (f : ℕ → Frame) → DroppedClient f }
+    ensures server_leaves { (f : ℕ → Frame) → ServerLeaves f }
+{}
