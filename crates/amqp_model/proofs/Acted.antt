@@ -6,7 +6,7 @@ use Rattle.amqp_model.specs.Notes.{Role, Kind, Open, OpenOk, Close, CloseOk, Not
 use Rattle.amqp_model.specs.States.{State, Opening, Closing}
 use Rattle.amqp_model.specs.Lives.{lives, has_left}
 use Rattle.amqp_model.specs.Carried.{At, takes, is_open, acts_next, acted_takes, messages, acted}
-use Rattle.amqp_model.specs.Laws.{IsFrontOf}
+use Rattle.amqp_model.specs.Fronts.{IsFrontOf}
 use Rattle.amqp_model.proofs.Lists.{front_none, front_more, messages-append, messages_other, messages_elsewhere}
 use Rattle.amqp_model.proofs.Ends.{Is, Lawful, begun, has_asked, has_replied, has_taken, has_left_now, lawful_stands, lawful_lives, here_state, opens, closes, flows, sends, accepts, begins, ends, pauses, hears, acts, crosses, frees, drops, a_flow, a_flow_ok, an_other}
 

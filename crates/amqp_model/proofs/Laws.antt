@@ -10,7 +10,8 @@ use Rattle.amqp_model.specs.Lives.{lives, has_left}
 use Rattle.amqp_model.specs.Verdict.{Discarded}
 use Rattle.amqp_model.specs.Carried.{message_frames, taken_by, Entry, At, life_of, puts, takes, acts_next, acted_takes, messages, sent, acted}
 use Rattle.amqp_model.specs.Runs.{RunAt}
-use Rattle.amqp_model.specs.Laws.{IsFrontOf, SidesAgree, GoesOnWith, FindsNoFault, ActsOnFront, IsLive, OnItsWayIsOfItsLife, SentIsActedOnOrOnItsWay, AllActedOnAtClose, AllActedOnAtConnectionClose}
+use Rattle.amqp_model.specs.Laws.{SidesAgree, GoesOnWith, FindsNoFault, ActsOnFront, IsLive, OnItsWayIsOfItsLife, SentIsActedOnOrOnItsWay, AllActedOnAtClose, AllActedOnAtConnectionClose}
+use Rattle.amqp_model.specs.Fronts.{IsFrontOf}
 use Rattle.amqp_model.proofs.Lists.{slice_get_front, messages-append, front_more, front_none}
 use Rattle.amqp_model.proofs.Ends.{Standing, Is, Lawful, lawful_stands, lawful_lives, here_state, here_verdict, left_verdict, has_asked, has_replied, has_taken, has_left_now, Taking, taking_verdict}
 use Rattle.amqp_model.proofs.Joint.{Row, done, with_flow, with_flow_ok, with_other, opened, opened_closed, ready, server_closes, client_closes, opening, reopening, JointAt, at_client, at_server, Taken, quietly, answering, joint_take}

@@ -11,3 +11,11 @@ mod Words
 mod Contents
 mod Channels
 mod Scripts
+mod Turns
+mod Counting
+mod Rows
+mod Rules
+mod Writing
+mod Closes
+mod Departing
+mod LeavingLast

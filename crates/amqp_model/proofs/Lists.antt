@@ -3,7 +3,7 @@ use Rattle.std.proofs.Common.{◌≡◌, ℕ, zero, suc, List, [], ◌∷◌, �
 use Rattle.amqp_model.specs.Frame.{Frame}
 use Rattle.amqp_model.specs.Notes.{Kind, is_message}
 use Rattle.amqp_model.specs.Carried.{Entry, At, messages}
-use Rattle.amqp_model.specs.Laws.{IsFrontOf}
+use Rattle.amqp_model.specs.Fronts.{IsFrontOf}
 
 pub slice_get_front : {A : Type 0} (xs ys : List A) (i : ℕ) (x : A) → slice_get xs i ≡ Some x → slice_get (xs ++ ys) i ≡ Some x
 slice_get_front [] ys i x e = absurd cc

@@ -6,7 +6,7 @@ use Rattle.amqp_model.specs.Notes.{Role, Client, Server, Kind, Note, Put}
 use Rattle.amqp_model.specs.Verdict.{Verdict, GoesOn, Fault, verdict}
 use Rattle.amqp_model.specs.Carried.{Carried, Carry, put_by, taken_by}
 use Rattle.amqp_model.specs.Runs.{may_put, IsNext, Acts, asks, leaves, takes, replies, Run, start, client_acts, server_acts, RunAt}
-use Rattle.amqp_model.specs.Laws.{IsFrontOf}
+use Rattle.amqp_model.specs.Fronts.{IsFrontOf}
 use Rattle.amqp_model.specs.Scripts.{Step, Ask, Take, Leave, World, with_reply, take_first, take_one, take_many, notes_at, other_notes, stepped, refused_step, after, play, replay, CrossingCloses, ClosedAndReopened, ClosedAtOnce, DiscardedContents, PausedServer, RestartedServer, MessageThenClose, DroppedClient, ServerLeaves}
 use Rattle.amqp_model.proofs.Runs.{carried, carried_rest}
 use Rattle.amqp_model.proofs.Laws.{takes_front}

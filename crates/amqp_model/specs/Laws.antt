@@ -1,5 +1,6 @@
 -- What holds of every run of a channel: the statements that the public laws carry.
 use Rattle.std.specs.Prelude.{◌≡◌, ◌⊎◌, true, false, ℕ, List, ◌∷◌, ◌++◌, map, All, Option, Some, slice_get}
+use Rattle.amqp_model.specs.Fronts.{IsFrontOf}
 use Rattle.amqp_model.specs.Frame.{Frame}
 use Rattle.amqp_model.specs.Notes.{Role, other_end, Kind, Close, Note, Put, Took, Leaving, is_content}
 use Rattle.amqp_model.specs.States.{State, Opening}
@@ -8,10 +9,6 @@ use Rattle.amqp_model.specs.Sentences.{HasPaused}
 use Rattle.amqp_model.specs.Verdict.{Event, GoesOn, verdict}
 use Rattle.amqp_model.specs.Carried.{Carried, Carry, message_frames, put_by, taken_by, Entry, life_of, puts, takes, sent, acted}
 use Rattle.amqp_model.specs.Runs.{IsNext}
-
--- the one list begins with the other
-abbrev pub IsFrontOf : {A : Type 0} → List A → List A → Type 0
-IsFrontOf {A} front whole = (rest : List A) × (whole ≡ front ++ rest)
 
 -- the i-th note that an end took has the life of the i-th note that the other put
 abbrev pub SidesAgree : Role → (mine theirs : List Note) → Type 0

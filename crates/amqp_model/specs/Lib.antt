@@ -7,5 +7,12 @@ pub mod Verdict
 pub mod Carried
 pub mod Runs
 pub mod Connections
+pub mod Fronts
 pub mod Laws
 pub mod Scripts
+pub mod Arrangement
+pub mod ArrangementRules
+pub mod Outputs
+pub mod Departures
+pub mod ArrangementLaws
+pub mod ArrangementExamples

@@ -6,4 +6,5 @@
 //! body. Who needs it calls the function and has its clauses.
 #![tactic(auto)]
 
+pub mod arrangement;
 pub mod lives;
