@@ -19,7 +19,18 @@ octets. Prints a line for each frame:
     CHANNEL KIND SIZE PAYLOAD
 
 with the kind `method`, `header`, `body` or `heartbeat`, the payload's size in octets and the payload in hexadecimal, `-`
-where it is empty. A frame has at most 1048576 octets.
+where it is empty. A frame has at most 1048576 octets. Below a method or header frame stands what its payload says: the
+method with its arguments, or the body's size with the properties, or, where it says nothing, `fault N at A`, with A the place
+in the payload:
+
+    1    no such method, or a header of another class than basic
+    2.1  a field passes the payload's end
+    2.2  a value in a field table has no known tag
+    2.3  an element of a field table passes the table's end
+    2.4  a field table nests deeper than 32
+    3    octets stand behind the last field
+    4    a header's weight isn't 0
+    5    a header's flags go on
 
 Where the octets stop being frames it prints `fault N at A`, with A the place of the octet that tells it, counted from 0:
 
@@ -29,7 +40,7 @@ Where the octets stop being frames it prints `fault N at A`, with A the place of
     4  out of memory
 
 and where they end inside a frame `rest N`, the number of octets that were left. A line that isn't hexadecimal of whole
-octets is answered with `line N: not hex` alone. Each of these ends with status 1; status 0 says that all was frames.";
+octets is answered with `line N: not hex` alone. Each fault, rest and such line ends with status 1; status 0 says that all was well.";
 
 /// The request that the words spell. The first word is the program's name.
 ///

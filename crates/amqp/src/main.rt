@@ -4,6 +4,7 @@
 mod arguments;
 mod hexadecimal;
 mod listing;
+mod payloads;
 mod showing;
 #[cfg(test)]
 mod tests;

@@ -1,7 +1,8 @@
 //! The subcommand `show`.
 use crate::hexadecimal::{HexFault, octets_of};
-use crate::listing::{Ending, Listing, frame_line, list};
-use std::alloc::{AllocError, Global};
+use crate::listing::{Ending, frame_line, list};
+use crate::payloads::payload_line;
+use std::alloc::Global;
 use std::io::{self, Read, Write};
 
 /// The status of a run that met no fault.
@@ -10,8 +11,8 @@ const DONE: u8 = 0;
 /// The status of a run that printed a fault, or could not print.
 const FAULT: u8 = 1;
 
-/// Reads hexadecimal to its end, prints a line for each frame and one for what ends them otherwise, and answers the exit
-/// status.
+/// Reads hexadecimal to its end, prints a line for each frame, one below it for a method or a header, and one for what ends
+/// them otherwise, and answers the exit status.
 pub fn show<R: Read, W: Write>(alloc: Global, input: &mut R, output: &mut W) -> u8 {
     let status = print_frames(alloc, input, output);
     let flushed = output.flush();
@@ -39,13 +40,25 @@ fn print_frames<R: Read, W: Write>(alloc: Global, input: &mut R, output: &mut W)
     let Ok(listing) = list(alloc, &octets) else {
         return print_want_of_memory(output);
     };
+    let mut status = DONE;
     for frame in &listing.frames {
         let Ok(line) = frame_line(alloc, frame) else {
             return print_want_of_memory(output);
         };
         writeln!(output, "{line}")?;
+        let Ok(below) = payload_line(alloc, frame) else {
+            return print_want_of_memory(output);
+        };
+        if let Some(below) = below {
+            let text = &below.text;
+            writeln!(output, "{text}")?;
+            if below.is_fault {
+                status = FAULT;
+            }
+        }
     }
-    print_ending(listing.end, output)
+    let ended = print_ending(listing.end, output)?;
+    Ok(status.max(ended))
 }
 
 fn print_ending<W: Write>(end: Ending, output: &mut W) -> io::Result<u8> {

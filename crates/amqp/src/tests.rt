@@ -19,14 +19,14 @@ fn inputs_are_shown(rt: HostRuntime) -> Result<(), Fail> {
     let open = "01 0001 00000005 0014000a00 ce";
     let table: [(&str, &str, u8); 16] = [
         ("", "", 0),
-        (open, "1 method 5 0014000a00\n", 0),
+        (open, "1 method 5 0014000a00\n  channel.open\n", 0),
         ("01 0001 00000005 0014000a00 cd", "fault 3 at 12\n", 1),
         ("01 0001 00000005 0014000a00", "rest 12\n", 1),
         ("04", "fault 1 at 0\n", 1),
         ("010001ffffffff", "fault 2 at 6\n", 1),
         (
             "01 0001 00000005 0014000a00 ce 09",
-            "1 method 5 0014000a00\nfault 1 at 13\n",
+            "1 method 5 0014000a00\n  channel.open\nfault 1 at 13\n",
             1,
         ),
         ("08000000000000ce", "0 heartbeat 0 -\n", 0),
@@ -42,7 +42,7 @@ fn inputs_are_shown(rt: HostRuntime) -> Result<(), Fail> {
         ("08000000000000ce\nĀ", "line 2: not hex\n", 1),
         (
             "02ffff0000000100ce03000000000001",
-            "65535 header 1 00\nrest 7\n",
+            "65535 header 1 00\n  fault 2.1 at 0\nrest 7\n",
             1,
         ),
         ("030000000000ce", "rest 7\n", 1),
@@ -51,6 +51,66 @@ fn inputs_are_shown(rt: HostRuntime) -> Result<(), Fail> {
         let (printed, answered) = shown(rt.alloc(), input)?;
         assert_eq!(rt; printed.as_str(), text, "for {input}");
         assert_eq!(rt; answered, status, "for {input}");
+    }
+    Ok(())
+}
+
+/// A frame on channel 1, in hexadecimal.
+fn framed(alloc: Global, kind: u8, payload: &str) -> Result<String, Fail> {
+    let size = payload.len() / 2;
+    Ok(format!(in alloc; "{kind:02x}0001{size:08x}{payload}ce")?)
+}
+
+#[test]
+fn payloads_are_shown(rt: HostRuntime) -> Result<(), Fail> {
+    let table: [(u8, &str, &str, u8); 16] = [
+        (1, "0014000a00", "  channel.open\n", 0),
+        (
+            1,
+            "0032000a00000171ea00000000",
+            "  queue.declare queue=\"q\" passive=0 durable=1 exclusive=0 auto-delete=1 no-wait=0 arguments={}\n",
+            0,
+        ),
+        (1, "0014000a0000", "  fault 3 at 5\n", 1),
+        (1, "003c0078", "  fault 2.1 at 4\n", 1),
+        (1, "003c0079", "  fault 1 at 0\n", 1),
+        (2, "003c000100000000000000000000", "  fault 4 at 2\n", 1),
+        (2, "003c000000000000000000000001", "  fault 5 at 12\n", 1),
+        (1, "0014", "  fault 2.1 at 2\n", 1),
+        (1, "ffff", "  fault 2.1 at 2\n", 1),
+        (
+            2,
+            "003c0000000000000000000290000a746578742f706c61696e02",
+            "  header size=2 content-type=\"text/plain\" delivery-mode=2\n",
+            0,
+        ),
+        (2, "0032000000000000000000000000", "  fault 1 at 0\n", 1),
+        (2, "0032", "  fault 1 at 0\n", 1),
+        (
+            1,
+            "0032000a00000171ea0000000301617a",
+            "  fault 2.2 at 15\n",
+            1,
+        ),
+        (1, "0055000a00", "  confirm.select no-wait=0\n", 0),
+        (
+            1,
+            "003c0078000000000000000703",
+            "  basic.nack delivery-tag=7 multiple=1 requeue=1\n",
+            0,
+        ),
+        (
+            1,
+            "0028001e000001640173016b0000000000",
+            "  exchange.bind destination=\"d\" source=\"s\" routing-key=\"k\" no-wait=0 arguments={}\n",
+            0,
+        ),
+    ];
+    for (kind, payload, line, status) in table {
+        let (printed, answered) = shown(rt.alloc(), framed(rt.alloc(), kind, payload)?.as_str())?;
+        let below = printed.as_str().split_once('\n').ok_or("one line")?;
+        assert_eq!(rt; below.1, line, "for {payload}");
+        assert_eq!(rt; answered, status, "for {payload}");
     }
     Ok(())
 }

@@ -1,0 +1,243 @@
+-- The arguments of a method: what is read is spelled so, and what is spelled so is read.
+use Rattle.std.proofs.Common.{◌≡◌, ℕ, zero, suc, ◌/◌, ◌<◌, List, [], ◌∷◌, ◌++◌, map, Bool, Ok, refl, sym, ap, subst, ◌∙◌, append_assoc, arith}
+use Rattle.std.proofs.Math.Nat.{mod-eq_of_lt}
+use Rattle.byteorder.specs.Endian.{big_bytes}
+use Rattle.amqp_value.proofs.Elements.{bind_ok}
+use Rattle.amqp_value.proofs.Numbers.{IsBytes}
+use Rattle.amqp_value.specs.Fields.{SpellsNumber}
+use Rattle.amqp_method.specs.Arguments.{Argument, bit, octet, short, long, long_long, short_string, long_string, table, kind_of, keep, kept}
+use Rattle.amqp_method.specs.Methods.{FieldRow}
+use Rattle.amqp_method.specs.Reading.{Read, Bits, no_bits, number_at, short_string_at, long_string_at, field_table_at, bit_at, ends_run, field_at, args_at}
+use Rattle.amqp_method.specs.Spelling.{SpellsArgument, one, parts_of, SpellsParts}
+use Rattle.amqp_method.specs.declared.fields.FieldKind.{FieldKind}
+use Rattle.amqp_method.specs.declared.fields.FieldKind.TheVariants.{Bit, Octet, Short, Long, LongLong, ShortStr, LongStr, Table}
+use Rattle.amqp_method.proofs.FieldLemmas.{same_ok, Takes, number_at-takes, number_at-again, short_string_at-takes, short_string_at-again, long_string_at-takes, long_string_at-again, field_table_at-takes, field_table_at-again}
+use Rattle.amqp_method.proofs.RunLemmas.{SpellsOn, on_parts, off_parts, on_bit, off_bit, on_octet, off_octet}
+
+-- an octet is the spelling of its number
+octet_of : (n : ℕ) → n < 256 → n ∷ [] ≡ big_bytes 1 n
+octet_of n h = ap (λ (m : ℕ). m ∷ []) (sym (mod-eq_of_lt h))
+
+-- ---- what is read is spelled so
+
+-- a value that was read, in front of values that are spelled
+pub record TakesField (kind : FieldKind) (bits : Bits) (octets : List ℕ) (value : Argument) (others : Bits) (behind : List ℕ) : Type 0 where
+  pub kind_is : kind_of value ≡ kind
+  pub spelled : (values : List Argument) (front after : List ℕ) → behind ≡ front ++ after → SpellsOn others.left others.packed (parts_of values) front
+      → (whole : List ℕ) × (octets ≡ whole ++ after) × SpellsOn bits.left bits.packed (parts_of (value ∷ values)) whole
+  pub behind_fits : IsBytes behind
+
+-- a field that has octets of its own ends the run before it
+takes_one : (kind : FieldKind) (bits : Bits) (octets : List ℕ) (value : Argument) (behind : List ℕ) → kind_of value ≡ kind
+    → ((values : List Argument) → parts_of (value ∷ values) ≡ one value ∷ parts_of values)
+    → Takes (SpellsArgument value) octets behind → TakesField kind bits octets value no_bits behind
+takes_one kind bits octets value behind kind_is alone takes = record {
+  kind_is = kind_is;
+  spelled = λ values front after e h. (
+    takes.front ++ front,
+    takes.parts ∙ ap (λ (o : List ℕ). takes.front ++ o) e ∙ sym (append_assoc takes.front front after),
+    rw (alone values) (takes.front, front, refl, takes.spells, off_parts 0 (parts_of values) front h),
+  );
+  behind_fits = takes.behind_fits;
+}
+
+pub record TakesStep (kind : FieldKind) (bits : Bits) (octets : List ℕ) (x : (Argument × Bits) × List ℕ) : Type 0 where
+  pub takes : TakesField kind bits octets x.0.0 x.0.1 x.1
+
+takes_run : {X : Type 0} (kind : FieldKind) (bits : Bits) (octets : List ℕ) (make : X → Argument) (read : Read X) (x : (Argument × Bits) × List ℕ)
+    → ((v : X) → kind_of (make v) ≡ kind) → ((v : X) (values : List Argument) → parts_of (make v ∷ values) ≡ one (make v) ∷ parts_of values)
+    → ((y : X × List ℕ) → read ≡ Ok y → Takes (SpellsArgument (make y.0)) octets y.1)
+    → ends_run make read ≡ Ok x → TakesStep kind bits octets x
+takes_run kind bits octets make read x kind_is alone takes e =
+    let b = bind_ok read _ x e in
+    subst (TakesStep kind bits octets) (same_ok _ _ b.2) (record { takes = takes_one kind bits octets (make b.0.0) b.0.1 (kind_is b.0.0) (alone b.0.0) (takes b.0 b.1) })
+
+takes_bit : (left packed end : ℕ) (octets : List ℕ) (x : (Argument × Bits) × List ℕ) → IsBytes octets → bit_at left packed end octets ≡ Ok x
+    → TakesStep Bit (record { left = left; packed = packed }) octets x
+takes_bit zero packed end octets x fits e =
+    let b = bind_ok (number_at 1 end octets) _ x e in
+    let takes = number_at-takes 1 end octets b.0 fits b.1 in
+    let n = b.0.0 in
+    let below : n < 256 = omega (arith, takes.spells.fits) in
+    let alone : takes.front ≡ n ∷ [] = takes.spells.octets_are ∙ sym (octet_of n below) in
+    subst (TakesStep Bit (record { left = zero; packed = packed }) octets) (same_ok _ _ b.2) (record {
+      takes = record {
+        kind_is = refl;
+        spelled = λ values front after e h.
+            (n ∷ front, takes.parts ∙ rw (alone, e) refl, on_octet packed n (parts_of values) front below h);
+        behind_fits = takes.behind_fits;
+      };
+    })
+takes_bit (suc left) packed end octets x fits e =
+    subst (TakesStep Bit (record { left = suc left; packed = packed }) octets) (same_ok _ _ e) (record {
+      takes = record {
+        kind_is = refl;
+        spelled = λ values front after e h. (front, e, on_bit left packed (parts_of values) front h);
+        behind_fits = fits;
+      };
+    })
+
+field_at-takes : (kind : FieldKind) (bits : Bits) (end : ℕ) (octets : List ℕ) (x : (Argument × Bits) × List ℕ) → IsBytes octets → field_at kind bits end octets ≡ Ok x
+    → TakesStep kind bits octets x
+unfolding field_at
+field_at-takes Bit bits end octets x fits e = takes_bit bits.left bits.packed end octets x fits e
+field_at-takes Octet bits end octets x fits e = takes_run Octet bits octets octet (number_at 1 end octets) x (λ v. refl) (λ v values. refl) (λ y. number_at-takes 1 end octets y fits) e
+field_at-takes Short bits end octets x fits e = takes_run Short bits octets short (number_at 2 end octets) x (λ v. refl) (λ v values. refl) (λ y. number_at-takes 2 end octets y fits) e
+field_at-takes Long bits end octets x fits e = takes_run Long bits octets long (number_at 4 end octets) x (λ v. refl) (λ v values. refl) (λ y. number_at-takes 4 end octets y fits) e
+field_at-takes LongLong bits end octets x fits e = takes_run LongLong bits octets long_long (number_at 8 end octets) x (λ v. refl) (λ v values. refl) (λ y. number_at-takes 8 end octets y fits) e
+field_at-takes ShortStr bits end octets x fits e = takes_run ShortStr bits octets short_string (short_string_at end octets) x (λ v. refl) (λ v values. refl) (λ y. short_string_at-takes end octets y fits) e
+field_at-takes LongStr bits end octets x fits e = takes_run LongStr bits octets long_string (long_string_at end octets) x (λ v. refl) (λ v values. refl) (λ y. long_string_at-takes end octets y fits) e
+field_at-takes Table bits end octets x fits e = takes_run Table bits octets table (field_table_at end octets) x (λ v. refl) (λ v values. refl) (λ y. field_table_at-takes end octets y fits) e
+
+-- the kinds of the fields, in order
+abbrev pub kinds_of : List FieldRow → List FieldKind
+kinds_of fields = map (λ (f : FieldRow). f.kind) fields
+
+-- arguments that were read
+pub record TakesArgs (fields : List FieldRow) (bits : Bits) (octets : List ℕ) (x : List Argument × List ℕ) : Type 0 where
+  pub values : List Argument
+  pub front : List ℕ
+  pub parts : octets ≡ front ++ x.1
+  pub kinds_are : map kind_of values ≡ kinds_of fields
+  pub args_are : x.0 ≡ kept fields values
+  pub spelled : SpellsOn bits.left bits.packed (parts_of values) front
+  pub behind_fits : IsBytes x.1
+
+pub args_at-takes : (fields : List FieldRow) (bits : Bits) (end : ℕ) (octets : List ℕ) (x : List Argument × List ℕ) → IsBytes octets → args_at fields bits end octets ≡ Ok x
+    → TakesArgs fields bits octets x
+unfolding args_at
+args_at-takes [] bits end octets x fits e =
+    subst (TakesArgs [] bits octets) (same_ok _ _ e) (record { values = []; front = []; parts = refl; kinds_are = refl; args_are = refl; spelled = refl; behind_fits = fits })
+args_at-takes (f ∷ fields) bits end octets x fits e =
+    let b = bind_ok (field_at f.kind bits end octets) _ x e in
+    let step = (field_at-takes f.kind bits end octets b.0 fits b.1).takes in
+    let d = bind_ok (args_at fields b.0.0.1 end b.0.1) _ x b.2 in
+    let inside = args_at-takes fields b.0.0.1 end b.0.1 d.0 step.behind_fits d.1 in
+    let all = step.spelled inside.values inside.front d.0.1 inside.parts inside.spelled in
+    subst (TakesArgs (f ∷ fields) bits octets) (same_ok _ _ d.2) (record {
+      values = b.0.0.0 ∷ inside.values;
+      front = all.0;
+      parts = all.1;
+      kinds_are = rw (step.kind_is, inside.kinds_are) refl;
+      args_are = ap (keep f.reserved b.0.0.0) inside.args_are;
+      spelled = all.2;
+      behind_fits = inside.behind_fits;
+    })
+
+-- ---- what is spelled so is read
+
+-- a value in front of the octets is read, and leaves the others
+pub record ReadsField (bits : Bits) (front : List ℕ) (value : Argument) (values : List Argument) : Type 0 where
+  pub others : Bits
+  pub rest : List ℕ
+  pub reads : (end : ℕ) (after : List ℕ) → field_at (kind_of value) bits end (front ++ after) ≡ Ok ((value, others), rest ++ after)
+  pub goes_on : SpellsOn others.left others.packed (parts_of values) rest
+
+-- a field that has octets of its own
+reads_one : (bits : Bits) (front : List ℕ) (value : Argument) (values : List Argument)
+    → ((end : ℕ) (first behind : List ℕ) → SpellsArgument value first → field_at (kind_of value) bits end (first ++ behind) ≡ Ok ((value, no_bits), behind))
+    → ((first rest : List ℕ) × (front ≡ first ++ rest) × SpellsArgument value first × SpellsParts (parts_of values) rest) → ReadsField bits front value values
+reads_one bits front value values again h = record {
+  others = no_bits;
+  rest = h.1;
+  reads = λ end after.
+      ap (λ (o : List ℕ). field_at (kind_of value) bits end (o ++ after)) h.2
+      ∙ ap (field_at (kind_of value) bits end) (append_assoc h.0 h.1 after) ∙ again end h.0 (h.1 ++ after) h.3;
+  goes_on = on_parts 0 (parts_of values) h.1 h.4;
+}
+
+reads_bit : (left packed : ℕ) (front : List ℕ) (holds : Bool) (values : List Argument) → SpellsOn left packed (parts_of (bit holds ∷ values)) front
+    → ReadsField (record { left = left; packed = packed }) front (bit holds) values
+unfolding field_at
+reads_bit zero packed front holds values h =
+    let o = off_octet packed holds (parts_of values) front h in
+    record {
+      others = record { left = 7; packed = o.first / 2 };
+      rest = o.others;
+      reads = λ end after.
+          let spelled : SpellsNumber 1 o.first (o.first ∷ []) = record { fits = o.fits; octets_are = octet_of o.first o.fits } in
+          let is = number_at-again 1 end o.first (o.first ∷ []) (o.others ++ after) spelled in
+          ap (λ (p : List ℕ). bit_at zero packed end (p ++ after)) o.octets_are ∙ rw (is, o.bit_is) refl;
+      goes_on = o.goes_on;
+    }
+reads_bit (suc left) packed front holds values h =
+    let o = off_bit left packed holds (parts_of values) front h in
+    record {
+      others = record { left = left; packed = packed / 2 };
+      rest = front;
+      reads = λ end after. rw o.0 refl;
+      goes_on = o.1;
+    }
+
+field_at-again : (value : Argument) (values : List Argument) (bits : Bits) (front : List ℕ) → SpellsOn bits.left bits.packed (parts_of (value ∷ values)) front → ReadsField bits front value values
+unfolding field_at
+field_at-again (bit holds) values bits front h = reads_bit bits.left bits.packed front holds values h
+field_at-again (octet n) values bits front h = reads_one bits front (octet n) values (λ end first behind s. rw (number_at-again 1 end n first behind s) refl) h
+field_at-again (short n) values bits front h = reads_one bits front (short n) values (λ end first behind s. rw (number_at-again 2 end n first behind s) refl) h
+field_at-again (long n) values bits front h = reads_one bits front (long n) values (λ end first behind s. rw (number_at-again 4 end n first behind s) refl) h
+field_at-again (long_long n) values bits front h = reads_one bits front (long_long n) values (λ end first behind s. rw (number_at-again 8 end n first behind s) refl) h
+field_at-again (short_string t) values bits front h = reads_one bits front (short_string t) values (λ end first behind s. rw (short_string_at-again end t first behind s) refl) h
+field_at-again (long_string t) values bits front h = reads_one bits front (long_string t) values (λ end first behind s. rw (long_string_at-again end t first behind s) refl) h
+field_at-again (table t) values bits front h = reads_one bits front (table t) values (λ end first behind s. rw (field_table_at-again end t first behind s) refl) h
+
+pub args_at-again : (fields : List FieldRow) (values : List Argument) (bits : Bits) (end : ℕ) (front after : List ℕ) → map kind_of values ≡ kinds_of fields → SpellsOn bits.left bits.packed (parts_of values) front
+    → args_at fields bits end (front ++ after) ≡ Ok (kept fields values, after)
+unfolding args_at
+args_at-again [] [] bits end front after kinds h = rw h refl
+args_at-again [] (value ∷ values) bits end front after kinds h = absurd cc
+args_at-again (f ∷ fields) [] bits end front after kinds h = absurd cc
+args_at-again (f ∷ fields) (value ∷ values) bits end front after kinds h =
+    let r = field_at-again value values bits front h in
+    let first : kind_of value ≡ f.kind = cc in
+    let others : map kind_of values ≡ kinds_of fields = cc in
+    let is : field_at f.kind bits end (front ++ after) ≡ Ok ((value, r.others), r.rest ++ after) = rw (← first) (r.reads end after) in
+    let inside = args_at-again fields values r.others end r.rest after others r.goes_on in
+    rw (is, inside) refl
+
+-- ---- a field alone
+
+-- a value that was read of octets of its own
+pub record TakesAlone (kind : FieldKind) (octets : List ℕ) (x : (Argument × Bits) × List ℕ) : Type 0 where
+  pub kind_is : kind_of x.0.0 ≡ kind
+  pub takes : Takes (SpellsArgument x.0.0) octets x.1
+
+alone : {X : Type 0} (kind : FieldKind) (octets : List ℕ) (make : X → Argument) (read : Read X) (x : (Argument × Bits) × List ℕ)
+    → ((v : X) → kind_of (make v) ≡ kind) → ((y : X × List ℕ) → read ≡ Ok y → Takes (SpellsArgument (make y.0)) octets y.1)
+    → ends_run make read ≡ Ok x → TakesAlone kind octets x
+alone kind octets make read x kind_is takes e =
+    let b = bind_ok read _ x e in
+    subst (TakesAlone kind octets) (same_ok _ _ b.2) (record { kind_is = kind_is b.0.0; takes = takes b.0 b.1 })
+
+-- kinds that have octets of their own
+abbrev pub HasOctets : FieldKind → Type 0
+HasOctets Bit = ⊥
+HasOctets Octet = Unit {0}
+HasOctets Short = Unit {0}
+HasOctets Long = Unit {0}
+HasOctets LongLong = Unit {0}
+HasOctets ShortStr = Unit {0}
+HasOctets LongStr = Unit {0}
+HasOctets Table = Unit {0}
+
+pub field_alone-takes : (kind : FieldKind) (bits : Bits) (end : ℕ) (octets : List ℕ) (x : (Argument × Bits) × List ℕ) → HasOctets kind → IsBytes octets → field_at kind bits end octets ≡ Ok x
+    → TakesAlone kind octets x
+unfolding field_at
+field_alone-takes Bit bits end octets x own fits e = absurd own
+field_alone-takes Octet bits end octets x own fits e = alone Octet octets octet (number_at 1 end octets) x (λ v. refl) (λ y. number_at-takes 1 end octets y fits) e
+field_alone-takes Short bits end octets x own fits e = alone Short octets short (number_at 2 end octets) x (λ v. refl) (λ y. number_at-takes 2 end octets y fits) e
+field_alone-takes Long bits end octets x own fits e = alone Long octets long (number_at 4 end octets) x (λ v. refl) (λ y. number_at-takes 4 end octets y fits) e
+field_alone-takes LongLong bits end octets x own fits e = alone LongLong octets long_long (number_at 8 end octets) x (λ v. refl) (λ y. number_at-takes 8 end octets y fits) e
+field_alone-takes ShortStr bits end octets x own fits e = alone ShortStr octets short_string (short_string_at end octets) x (λ v. refl) (λ y. short_string_at-takes end octets y fits) e
+field_alone-takes LongStr bits end octets x own fits e = alone LongStr octets long_string (long_string_at end octets) x (λ v. refl) (λ y. long_string_at-takes end octets y fits) e
+field_alone-takes Table bits end octets x own fits e = alone Table octets table (field_table_at end octets) x (λ v. refl) (λ y. field_table_at-takes end octets y fits) e
+
+pub field_alone-again : (value : Argument) (bits : Bits) (end : ℕ) (front behind : List ℕ) → SpellsArgument value front → field_at (kind_of value) bits end (front ++ behind) ≡ Ok ((value, no_bits), behind)
+unfolding field_at
+field_alone-again (bit holds) bits end front behind s = absurd s
+field_alone-again (octet n) bits end front behind s = rw (number_at-again 1 end n front behind s) refl
+field_alone-again (short n) bits end front behind s = rw (number_at-again 2 end n front behind s) refl
+field_alone-again (long n) bits end front behind s = rw (number_at-again 4 end n front behind s) refl
+field_alone-again (long_long n) bits end front behind s = rw (number_at-again 8 end n front behind s) refl
+field_alone-again (short_string t) bits end front behind s = rw (short_string_at-again end t front behind s) refl
+field_alone-again (long_string t) bits end front behind s = rw (long_string_at-again end t front behind s) refl
+field_alone-again (table t) bits end front behind s = rw (field_table_at-again end t front behind s) refl

@@ -1,0 +1,14 @@
+pub mod ArgsLemmas
+pub mod CompleteLemmas
+pub mod FieldLemmas
+pub mod FitLemmas
+pub mod HeaderLemmas
+pub mod KindLemmas
+pub mod MethodLemmas
+pub mod PlainLemmas
+pub mod PresentLemmas
+pub mod PropertyKinds
+pub mod ReadingLemmas
+pub mod RunLemmas
+pub mod TableFaults
+pub mod WritingLemmas

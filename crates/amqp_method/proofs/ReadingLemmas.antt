@@ -1,0 +1,58 @@
+-- A loop over the fields reads what the list of them reads.
+use Rattle.std.proofs.Common.{◌≡◌, ℕ, ◌+◌, ◌<◌, ◌≤◌, List, [], ◌∷◌, ◌++◌, length, map, drop, get_or, Ok, Err, inl, inr, refl, sym, ap, ◌∙◌, append_assoc, drop-cons, add-one, Bool, true, false}
+use Rattle.std.proofs.lemmas.List.{append-nil, drop_all}
+use Rattle.amqp_value.specs.Reading.{◌>>=◌}
+use Rattle.amqp_method.specs.Arguments.{Argument, keep}
+use Rattle.amqp_method.specs.Reading.{Read, Fails, Bits, field_at, args_at}
+use Rattle.amqp_method.specs.Rows.{field_view}
+use Rattle.amqp_method.specs.declared.faults.MethodFault.{MethodFault}
+use Rattle.amqp_method.specs.declared.fields.Field.{Field}
+
+-- what is read behind these arguments, with them in front
+abbrev pub with_front : List Argument → Read (List Argument) → Read (List Argument)
+with_front front read = read >>= λ x. Ok (front ++ x.0, x.1)
+
+with_front-kept : (front : List Argument) (reserved : Bool) (value : Argument) (read : Read (List Argument))
+    → with_front front (read >>= λ y. Ok (keep reserved value y.0, y.1)) ≡ with_front (front ++ keep reserved value []) read
+with_front-kept front true value (Ok x) = rw (append-nil front) refl
+with_front-kept front false value (Ok x) = ap (λ (args : List Argument). Ok (args, x.1)) (sym (append_assoc front (value ∷ []) x.0))
+with_front-kept front reserved value (Err e) = refl
+
+field_here : (fields : List Field) (i : ℕ) (d : Field) → i < length fields
+    → map field_view (drop i fields) ≡ field_view (get_or fields i d) ∷ map field_view (drop (i + 1) fields)
+field_here fields i d h = rw (add-one, drop-cons fields i d) refl
+
+pub goes_on : (front after : List Argument) (fields : List Field) (i : ℕ) (d : Field) (bits others : Bits) (end : ℕ) (octets behind : List ℕ) (value : Argument) (total : Read (List Argument))
+    → i < length fields → field_at (get_or fields i d).kind bits end octets ≡ Ok ((value, others), behind) → after ≡ front ++ keep (get_or fields i d).reserved value []
+    → with_front front (args_at (map field_view (drop i fields)) bits end octets) ≡ total
+    → with_front after (args_at (map field_view (drop (i + 1) fields)) others end behind) ≡ total
+unfolding args_at
+goes_on front after fields i d bits others end octets behind value total h is after_is so_far =
+    let one : with_front front (args_at (map field_view (drop i fields)) bits end octets) ≡ with_front after (args_at (map field_view (drop (i + 1) fields)) others end behind) =
+    rw (field_here fields i d h, is, after_is) (with_front-kept front (get_or fields i d).reserved value (args_at (map field_view (drop (i + 1) fields)) others end behind)) in
+    sym one ∙ so_far
+
+pub ends : (e : MethodFault) (front : List Argument) (fields : List Field) (i : ℕ) (d : Field) (bits : Bits) (end : ℕ) (octets : List ℕ) (total : Read (List Argument))
+    → i < length fields → Fails e (field_at (get_or fields i d).kind bits end octets)
+    → with_front front (args_at (map field_view (drop i fields)) bits end octets) ≡ total → Fails e total
+unfolding args_at
+ends e front fields i d bits end octets total h (inl memory) so_far = inl memory
+ends e front fields i d bits end octets total h (inr is) so_far =
+    let one : with_front front (args_at (map field_view (drop i fields)) bits end octets) ≡ Err e = rw (field_here fields i d h, is) refl in
+    inr (sym so_far ∙ one)
+
+pub is_done : (front : List Argument) (fields : List Field) (i : ℕ) (bits : Bits) (end : ℕ) (octets : List ℕ) (total : Read (List Argument)) → length fields ≤ i
+    → with_front front (args_at (map field_view (drop i fields)) bits end octets) ≡ total → total ≡ Ok (front, octets)
+unfolding args_at
+is_done front fields i bits end octets total h so_far =
+    let one : with_front front (args_at (map field_view (drop i fields)) bits end octets) ≡ Ok (front, octets) = rw (drop_all i fields h, append-nil front) refl in
+    sym so_far ∙ one
+
+-- an argument is kept where its field isn't reserved
+pub is_kept : (front : List Argument) (reserved : Bool) (value : Argument) → reserved ≡ false → front ++ value ∷ [] ≡ front ++ keep reserved value []
+is_kept front true value e = absurd cc
+is_kept front false value e = refl
+
+pub is_left : (front : List Argument) (reserved : Bool) (value : Argument) → reserved ≡ true → front ≡ front ++ keep reserved value []
+is_left front true value e = sym (append-nil front)
+is_left front false value e = absurd cc

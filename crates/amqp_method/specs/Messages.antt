@@ -1,0 +1,32 @@
+-- Messages: methods alone, and methods that a content follows (AMQP 0-9-1 specification, 4.2.6).
+use Rattle.std.specs.Prelude.{◌≡◌, ℕ, List, [], Bool, true, false, Option, Some, None}
+use Rattle.amqp_method.specs.Arguments.{Argument, Call}
+use Rattle.amqp_method.specs.HeaderView.{properties_view}
+use Rattle.amqp_method.specs.Kinds.{has_content}
+use Rattle.amqp_method.specs.MethodView.{method_view}
+use Rattle.amqp_method.specs.declared.messages.Form.{Form}
+use Rattle.amqp_method.specs.declared.messages.Form.TheVariants as form
+
+-- a message apart from where it lies in memory: a method, and the properties and the body of a content, if one follows
+pub record Letter : Type 0 where
+  pub call : Call
+  pub properties : Option (List (Option Argument))
+  pub body : List ℕ
+
+abbrev pub letter_alone : Call → Letter
+letter_alone call = record { call = call; properties = None; body = [] }
+
+abbrev pub letter_with : Call → List (Option Argument) → List ℕ → Letter
+letter_with call properties body = record { call = call; properties = Some properties; body = body }
+
+abbrev pub letter : Form → Letter
+letter (form.Plain method) = letter_alone (method_view method)
+letter (form.Content method properties body) = letter_with (method_view method) (properties_view properties) body.items
+
+abbrev pub is_content : Form → Bool
+is_content (form.Plain method) = false
+is_content (form.Content method properties body) = true
+
+-- a content follows just where the kind has one
+abbrev pub KindFits : Form → Type 0
+KindFits f = has_content (letter f).call.kind ≡ is_content f

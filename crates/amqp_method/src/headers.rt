@@ -1,0 +1,75 @@
+//! Content headers.
+ghost use Rattle.std.specs.Prelude.{◌≡◌, IfOk};
+ghost use Rattle.amqp_method.specs.Arguments.{short_string};
+ghost use Rattle.amqp_method.specs.HeaderView.{present, table_argument, properties_view, header_view};
+
+use crate::faults::OutOfMemory;
+use amqp_value::{ShortStr, Table};
+
+/// The properties of a content: those of the class basic, in the order of their flags.
+#[derive(Debug, Default, Drop)]
+pub struct Properties {
+    pub content_type: Option<ShortStr>,
+    pub content_encoding: Option<ShortStr>,
+    pub headers: Option<Table>,
+    pub delivery_mode: Option<u8>,
+    pub priority: Option<u8>,
+    pub correlation_id: Option<ShortStr>,
+    pub reply_to: Option<ShortStr>,
+    pub expiration: Option<ShortStr>,
+    pub message_id: Option<ShortStr>,
+    pub timestamp: Option<u64>,
+    pub type_name: Option<ShortStr>,
+    pub user_id: Option<ShortStr>,
+    pub app_id: Option<ShortStr>,
+    pub cluster_id: Option<ShortStr>,
+}
+
+/// A content header: the size of the body in octets, and the properties.
+#[derive(Debug, Default, Drop)]
+pub struct Header {
+    pub body_size: u64,
+    pub properties: Properties,
+}
+
+fn copy_text(text: &Option<ShortStr>) -> Result<Option<ShortStr>, OutOfMemory>
+    ensures { IfOk result (λ copy. present short_string copy ≡ present short_string text.now) }
+{
+    match text {
+        Some(text) => Ok(Some(text.copy()?)),
+        None => Ok(None),
+    }
+}
+
+fn copy_table(table: &Option<Table>) -> Result<Option<Table>, OutOfMemory>
+    ensures { IfOk result (λ copy. present table_argument copy ≡ present table_argument table.now) }
+{
+    match table {
+        Some(table) => Ok(Some(table.copy()?)),
+        None => Ok(None),
+    }
+}
+
+impl Properties {
+    /// Equal properties.
+    pub fn copy(&self) -> Result<Properties, OutOfMemory>
+        ensures { IfOk result (λ p. properties_view p ≡ properties_view self.now) }
+    {
+        Ok(Properties {
+            content_type: copy_text(&self.content_type)?,
+            content_encoding: copy_text(&self.content_encoding)?,
+            headers: copy_table(&self.headers)?,
+            delivery_mode: self.delivery_mode,
+            priority: self.priority,
+            correlation_id: copy_text(&self.correlation_id)?,
+            reply_to: copy_text(&self.reply_to)?,
+            expiration: copy_text(&self.expiration)?,
+            message_id: copy_text(&self.message_id)?,
+            timestamp: self.timestamp,
+            type_name: copy_text(&self.type_name)?,
+            user_id: copy_text(&self.user_id)?,
+            app_id: copy_text(&self.app_id)?,
+            cluster_id: copy_text(&self.cluster_id)?,
+        })
+    }
+}

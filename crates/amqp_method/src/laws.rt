@@ -1,0 +1,33 @@
+//! Laws of methods and headers that the layers above rest on.
+ghost use Rattle.amqp_method.specs.Laws.{OneMethod, OneHeader, DistinctIds, OnlyClientOpens, EachIsSent, ContentKinds};
+
+/// No octets spell two methods.
+pub fn one_method()
+    ensures { OneMethod }
+{}
+
+/// No octets spell two content headers.
+pub fn one_header()
+    ensures { OneHeader }
+{}
+
+/// No two kinds have the same class id and method id.
+pub fn distinct_ids()
+    ensures { DistinctIds }
+{}
+
+/// Only the client opens a connection or a channel.
+#[tactic(auto, unfolding(crate::specs::Methods::row))]
+pub fn only_client_opens()
+    ensures { OnlyClientOpens }
+{}
+
+/// Each kind is sent by the client or by the server.
+pub fn each_is_sent()
+    ensures { EachIsSent }
+{}
+
+/// A content follows basic.publish, return, deliver and get-ok, and no other method.
+pub fn content_kinds()
+    ensures { ContentKinds }
+{}

@@ -1,0 +1,42 @@
+//! Methods, content headers and messages of AMQP 0-9-1 (`amqp0-9-1.xml`, and the specification, sections 2.3.5 and 4.2).
+//!
+//! A method payload is the class id and the method id, 16 bits each, and the arguments in order: numbers of 1, 2, 4 and 8
+//! octets, short and long strings, field tables, and bits, of which a run shares octets, the lowest bit first. A content
+//! header payload is the class id 60, the weight 0, the size of the body in 64 bits, the flags in 16, and the properties
+//! whose flags are set. Numbers are big-endian.
+//!
+//! The definitions of `specs/` say what the functions are proved to do: `Methods` is the table of the methods, `Spelling`
+//! and `Properties` have which octets spell a method and a header, `Plain` the one spelling that is written, and `Reading`
+//! and `HeaderReading` the first fault, with its place.
+#![tactic(auto)]
+
+mod bit_run;
+mod faults;
+mod fields;
+mod header_octets;
+mod headers;
+mod kinds;
+mod laws;
+mod messages;
+mod method_octets;
+mod methods;
+mod properties;
+mod reading;
+mod table;
+#[cfg(test)]
+mod tests;
+mod texts;
+mod writing;
+
+pub use crate::faults::{MethodFault, MethodFaultKind, OutOfMemory};
+pub use crate::fields::{Arg, Field, FieldKind};
+pub use crate::header_octets::{read_header, write_header};
+pub use crate::headers::{Header, Properties};
+pub use crate::kinds::{Kind, schema, sends};
+pub use crate::laws::{
+    content_kinds, distinct_ids, each_is_sent, one_header, one_method, only_client_opens,
+};
+pub use crate::messages::Message;
+pub use crate::method_octets::{read_method, write_method};
+pub use crate::methods::{Method, fits};
+pub use crate::texts::{header_text, method_text};

@@ -1,0 +1,130 @@
+//! Writing the properties of a content header.
+ghost use Rattle.std.specs.Prelude.{◌≡◌, ◌<◌, ◌≤◌, ◌⊎◌, ◌++◌, length, map, take, OnOk, OnErr, IfErr, Err};
+ghost use Rattle.amqp_method.specs.Arguments.{octet as octet_argument, long_long as long_long_argument, short_string};
+ghost use Rattle.amqp_method.specs.Faults.{out_of_memory, too_long};
+ghost use Rattle.amqp_method.specs.HeaderView.{present, table_argument, properties_view};
+ghost use Rattle.amqp_method.specs.Lent.{value_view, lent_view, lent_views};
+ghost use Rattle.amqp_method.specs.Plain.{plain_argument, plain_present, CountFits, CountsPresentFit};
+ghost use Rattle.amqp_method.specs.Properties.{flags_of};
+ghost use Rattle.amqp_method.specs.Writing.{Fitting, PresentFitting};
+
+use crate::faults::MethodFault;
+use crate::headers::Properties;
+use crate::writing::{append_long_long, append_octet, append_short_string, append_table};
+use amqp_value::{ShortStr, Table};
+
+/// How many properties there are.
+pub(crate) const PROPERTIES: usize = 14;
+
+/// The value of a property, lent.
+#[derive(Clone, Copy)]
+pub(crate) enum Lent<'a> {
+    Octet(u8),
+    LongLong(u64),
+    ShortStr(&'a ShortStr),
+    Table(&'a Table),
+}
+
+fn text(property: &Option<ShortStr>) -> Option<Lent<'_>>
+    ensures { lent_view result ≡ present short_string property.now }
+{
+    match property {
+        Some(text) => Some(Lent::ShortStr(text)),
+        None => None,
+    }
+}
+
+fn table(property: &Option<Table>) -> Option<Lent<'_>>
+    ensures { lent_view result ≡ present table_argument property.now }
+{
+    match property {
+        Some(table) => Some(Lent::Table(table)),
+        None => None,
+    }
+}
+
+fn octet<'a>(property: Option<u8>) -> Option<Lent<'a>>
+    ensures { lent_view result ≡ present octet_argument property }
+{
+    match property {
+        Some(number) => Some(Lent::Octet(number)),
+        None => None,
+    }
+}
+
+fn long_long<'a>(property: Option<u64>) -> Option<Lent<'a>>
+    ensures { lent_view result ≡ present long_long_argument property }
+{
+    match property {
+        Some(number) => Some(Lent::LongLong(number)),
+        None => None,
+    }
+}
+
+/// The properties in order, lent.
+pub(crate) fn lent_properties(properties: &Properties) -> [Option<Lent<'_>>; PROPERTIES]
+    ensures { lent_views result ≡ properties_view properties.now }
+{
+    [
+        text(&properties.content_type),
+        text(&properties.content_encoding),
+        table(&properties.headers),
+        octet(properties.delivery_mode),
+        octet(properties.priority),
+        text(&properties.correlation_id),
+        text(&properties.reply_to),
+        text(&properties.expiration),
+        text(&properties.message_id),
+        long_long(properties.timestamp),
+        text(&properties.type_name),
+        text(&properties.user_id),
+        text(&properties.app_id),
+        text(&properties.cluster_id),
+    ]
+}
+
+fn append_lent(value: Lent, out: &mut Vec<u8>) -> Result<(), MethodFault>
+    ensures ok { OnOk result (out.new.items ≡ out.old.items ++ plain_argument (value_view value.entry)) }
+    ensures fits { OnOk result (Fitting (value_view value.entry)) }
+    ensures too_long { result ≡ Err too_long → CountFits (value_view value.entry) → ⊥ }
+    ensures err { IfErr result (λ e. (e ≡ too_long) ⊎ (e ≡ out_of_memory)) }
+    ensures kept { OnErr result (take (length out.old.items) out.new.items ≡ out.old.items) }
+{
+    match value {
+        Lent::Octet(number) => append_octet(number, out),
+        Lent::LongLong(number) => append_long_long(number, out),
+        Lent::ShortStr(text) => append_short_string(text, out),
+        Lent::Table(table) => append_table(table, out),
+    }
+}
+
+/// The properties that are there, in order.
+pub(crate) fn append_present(
+    properties: &[Option<Lent>],
+    out: &mut Vec<u8>,
+) -> Result<(), MethodFault>
+    ensures ok { OnOk result (out.new.items ≡ out.old.items ++ plain_present (lent_views properties.now)) }
+    ensures fits { OnOk result (PresentFitting (lent_views properties.now)) }
+    ensures too_long { result ≡ Err too_long → CountsPresentFit (lent_views properties.now) → ⊥ }
+    ensures err { IfErr result (λ e. (e ≡ too_long) ⊎ (e ≡ out_of_memory)) }
+    ensures kept { OnErr result (take (length out.old.items) out.new.items ≡ out.old.items) }
+{
+    for property in properties {
+        if let Some(value) = property {
+            append_lent(*value, out)?;
+        }
+    }
+    Ok(())
+}
+
+/// The flags: a bit for each property, set where it is there, and two clear bits.
+pub(crate) fn flags_word(properties: &[Option<Lent>]) -> u16
+    requires { length properties.now ≤ 14 }
+    ensures { result ≡ flags_of (lent_views properties.now) }
+{
+    let mut flags = 0;
+    for property in properties {
+        flags = 2 * flags + u16::from(property.is_some());
+    }
+    4 * flags
+}

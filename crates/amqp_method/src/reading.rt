@@ -1,0 +1,293 @@
+//! Reading methods from octets.
+ghost use Rattle.std.specs.Prelude.{◌≡◌, ◌+◌, ◌^◌, ◌≤◌, ◌<◌, length, map, IfOk, []};
+ghost use Rattle.amqp_method.specs.Arguments.{bit, call};
+ghost use Rattle.amqp_method.specs.Faults.{in_table};
+ghost use Rattle.amqp_method.specs.Reading.{Gives, Bits as RunOfBits, no_bits, ends_at, number_at, short_string_at, long_string_at, field_table_at, bit_at, field_at, args_at, nothing_behind, method_at};
+ghost use Rattle.amqp_method.specs.Rows.{field_view};
+ghost use Rattle.amqp_method.specs.Views.{arg_view, args_view};
+ghost use Rattle.amqp_value.specs.Tables.{table_view};
+ghost use Rattle.amqp_method.specs.BitsView.{bits_view};
+
+use crate::faults::{MethodFault, MethodFaultKind};
+use crate::fields::{Arg, Field, FieldKind};
+use crate::kinds::{Kind, schema};
+use amqp_value::{ShortStr, Table, ValueFault, ValueFaultKind, read_table};
+use byteorder::{BigEndian, ByteOrder};
+use std::alloc::Global;
+
+/// The fault of a field that begins with the first of these octets, which end at `end`, and has more than these.
+fn ends_here(octets: &[u8], end: usize) -> MethodFault
+    requires { length octets.now ≤ end }
+    ensures { result ≡ ends_at end octets.now }
+{
+    MethodFault {
+        at: end - octets.len(),
+        kind: MethodFaultKind::Value(ValueFaultKind::Ends),
+    }
+}
+
+/// Nothing: a fault where octets are left.
+pub(crate) fn read_end(octets: &[u8], end: usize) -> Result<(), MethodFault>
+    requires { length octets.now ≤ end }
+    ensures { Gives (λ x. x) result (nothing_behind end octets.now) }
+{
+    if !octets.is_empty() {
+        return Err(MethodFault {
+            at: end - octets.len(),
+            kind: MethodFaultKind::Trailing,
+        });
+    }
+    Ok(())
+}
+
+/// A number of one octet, and the octets behind it.
+pub(crate) fn read_octet(octets: &[u8], end: usize) -> Result<(u8, &[u8]), MethodFault>
+    requires { length octets.now ≤ end }
+    ensures read { Gives (λ x. (x.0, x.1.now)) result (number_at 1 end octets.now) }
+    ensures within { IfOk result (λ x. length x.1.now ≤ length octets.now) }
+{
+    let Some((octet, behind)) = octets.split_first() else {
+        return Err(ends_here(octets, end));
+    };
+    Ok((*octet, behind))
+}
+
+/// A number of two octets, and the octets behind it.
+pub(crate) fn read_short(octets: &[u8], end: usize) -> Result<(u16, &[u8]), MethodFault>
+    requires { length octets.now ≤ end }
+    ensures read { Gives (λ x. (x.0, x.1.now)) result (number_at 2 end octets.now) }
+    ensures within { IfOk result (λ x. length x.1.now ≤ length octets.now) }
+{
+    if octets.len() < 2 {
+        return Err(ends_here(octets, end));
+    }
+    Ok((BigEndian::read_u16(octets), &octets[2..]))
+}
+
+/// A number of four octets, and the octets behind it.
+pub(crate) fn read_long(octets: &[u8], end: usize) -> Result<(u32, &[u8]), MethodFault>
+    requires { length octets.now ≤ end }
+    ensures read { Gives (λ x. (x.0, x.1.now)) result (number_at 4 end octets.now) }
+    ensures within { IfOk result (λ x. length x.1.now ≤ length octets.now) }
+{
+    if octets.len() < 4 {
+        return Err(ends_here(octets, end));
+    }
+    Ok((BigEndian::read_u32(octets), &octets[4..]))
+}
+
+/// A number of eight octets, and the octets behind it.
+pub(crate) fn read_long_long(octets: &[u8], end: usize) -> Result<(u64, &[u8]), MethodFault>
+    requires { length octets.now ≤ end }
+    ensures read { Gives (λ x. (x.0, x.1.now)) result (number_at 8 end octets.now) }
+    ensures within { IfOk result (λ x. length x.1.now ≤ length octets.now) }
+{
+    if octets.len() < 8 {
+        return Err(ends_here(octets, end));
+    }
+    Ok((BigEndian::read_u64(octets), &octets[8..]))
+}
+
+/// A short string: a length octet and that many octets, and the octets behind it.
+pub(crate) fn read_short_string(
+    alloc: Global,
+    octets: &[u8],
+    end: usize,
+) -> Result<(ShortStr, &[u8]), MethodFault>
+    requires { length octets.now ≤ end }
+    ensures read { Gives (λ x. (x.0, x.1.now)) result (short_string_at end octets.now) }
+    ensures within { IfOk result (λ x. length x.1.now ≤ length octets.now) }
+{
+    let Some((length, behind)) = octets.split_first() else {
+        return Err(ends_here(octets, end));
+    };
+    let length = *length as usize;
+    if behind.len() < length {
+        return Err(ends_here(octets, end));
+    }
+    let (text, behind) = behind.split_at(length);
+    let Ok(text) = ShortStr::new(alloc, text) else {
+        return Err(MethodFault::NO_MEMORY);
+    };
+    Ok((text, behind))
+}
+
+/// A long string: a length of four octets and that many octets, and the octets behind it.
+fn read_long_string(
+    alloc: Global,
+    octets: &[u8],
+    end: usize,
+) -> Result<(Vec<u8>, &[u8]), MethodFault>
+    requires { length octets.now ≤ end }
+    ensures read { Gives (λ x. (x.0.items, x.1.now)) result (long_string_at end octets.now) }
+    ensures within { IfOk result (λ x. length x.1.now ≤ length octets.now) }
+{
+    if octets.len() < 4 {
+        return Err(ends_here(octets, end));
+    }
+    let (length, behind) = octets.split_at(4);
+    let length = BigEndian::read_u32(length) as usize;
+    if behind.len() < length {
+        return Err(ends_here(octets, end));
+    }
+    let (text, behind) = behind.split_at(length);
+    Ok((Vec::from_slice(alloc, text)?, behind))
+}
+
+/// The fault of a table that begins at a place.
+fn fault_in_table(place: usize, fault: ValueFault) -> MethodFault
+    requires { place + fault.at < 2 ^ 64 }
+    ensures { result ≡ in_table place fault }
+{
+    match fault.kind {
+        ValueFaultKind::OutOfMemory => MethodFault::NO_MEMORY,
+        kind => MethodFault {
+            at: place + fault.at,
+            kind: MethodFaultKind::Value(kind),
+        },
+    }
+}
+
+/// A field table, and the octets behind it.
+pub(crate) fn read_field_table(
+    alloc: Global,
+    octets: &[u8],
+    end: usize,
+) -> Result<(Table, &[u8]), MethodFault>
+    requires { length octets.now ≤ end }
+    ensures read { Gives (λ x. (table_view x.0, x.1.now)) result (field_table_at end octets.now) }
+    ensures within { IfOk result (λ x. length x.1.now ≤ length octets.now) }
+{
+    match read_table(alloc, octets) {
+        Ok((table, length)) => Ok((table, &octets[length..])),
+        Err(fault) => Err(fault_in_table(end - octets.len(), fault)),
+    }
+}
+
+/// The bits of an octet that are still to be read.
+#[derive(Clone, Copy)]
+struct Bits {
+    /// how many
+    left: u8,
+    /// the octet without those that were read
+    packed: u8,
+}
+
+impl Bits {
+    const NONE: Bits = Bits { left: 0, packed: 0 };
+}
+
+/// The next bit of a run, in a new octet where none is left of the last one.
+fn read_bit(bits: Bits, octets: &[u8], end: usize) -> Result<(bool, Bits, &[u8]), MethodFault>
+    requires { length octets.now ≤ end }
+    ensures read { Gives (λ x. ((bit x.0, bits_view x.1), x.2.now)) result (bit_at bits.left bits.packed end octets.now) }
+    ensures within { IfOk result (λ x. length x.2.now ≤ length octets.now) }
+{
+    if bits.left == 0 {
+        let (packed, behind) = read_octet(octets, end)?;
+        let others = Bits {
+            left: 7,
+            packed: packed / 2,
+        };
+        return Ok((packed % 2 == 1, others, behind));
+    }
+    let others = Bits {
+        left: bits.left - 1,
+        packed: bits.packed / 2,
+    };
+    Ok((bits.packed % 2 == 1, others, octets))
+}
+
+/// The value of a field, the bits of its octet that are left, and the octets behind it.
+#[tactic(auto, unfolding(crate::specs::Reading::field_at))]
+fn read_field(
+    alloc: Global,
+    kind: FieldKind,
+    bits: Bits,
+    octets: &[u8],
+    end: usize,
+) -> Result<(Arg, Bits, &[u8]), MethodFault>
+    requires { length octets.now ≤ end }
+    ensures read { Gives (λ x. ((arg_view x.0, bits_view x.1), x.2.now)) result (field_at kind (bits_view bits) end octets.now) }
+    ensures within { IfOk result (λ x. length x.2.now ≤ length octets.now) }
+{
+    match kind {
+        FieldKind::Bit => {
+            let (holds, bits, behind) = read_bit(bits, octets, end)?;
+            Ok((Arg::Bit(holds), bits, behind))
+        }
+        FieldKind::Octet => {
+            let (number, behind) = read_octet(octets, end)?;
+            Ok((Arg::Octet(number), Bits::NONE, behind))
+        }
+        FieldKind::Short => {
+            let (number, behind) = read_short(octets, end)?;
+            Ok((Arg::Short(number), Bits::NONE, behind))
+        }
+        FieldKind::Long => {
+            let (number, behind) = read_long(octets, end)?;
+            Ok((Arg::Long(number), Bits::NONE, behind))
+        }
+        FieldKind::LongLong => {
+            let (number, behind) = read_long_long(octets, end)?;
+            Ok((Arg::LongLong(number), Bits::NONE, behind))
+        }
+        FieldKind::ShortStr => {
+            let (text, behind) = read_short_string(alloc, octets, end)?;
+            Ok((Arg::ShortStr(text), Bits::NONE, behind))
+        }
+        FieldKind::LongStr => {
+            let (text, behind) = read_long_string(alloc, octets, end)?;
+            Ok((Arg::LongStr(text), Bits::NONE, behind))
+        }
+        FieldKind::Table => {
+            let (table, behind) = read_field_table(alloc, octets, end)?;
+            Ok((Arg::Table(table), Bits::NONE, behind))
+        }
+    }
+}
+
+/// The arguments of these fields, and the octets behind them.
+fn read_args<'a>(
+    alloc: Global,
+    fields: &[Field],
+    octets: &'a [u8],
+    end: usize,
+) -> Result<(Vec<Arg>, &'a [u8]), MethodFault>
+    requires { length octets.now ≤ end }
+    ensures read { Gives (λ x. (args_view x.0.items, x.1.now)) result (args_at (map field_view fields.now) no_bits end octets.now) }
+    ensures within { IfOk result (λ x. length x.1.now ≤ length octets.now) }
+{
+    let count = fields.iter().filter(|field| !field.reserved).count();
+    let mut args = Vec::with_capacity(alloc, count)?;
+    let mut bits = Bits::NONE;
+    let mut rest = octets;
+    for field in fields {
+        let (arg, others, behind) = read_field(alloc, field.kind, bits, rest, end)?;
+        if !field.reserved {
+            args.push(arg)?;
+        }
+        bits = others;
+        rest = behind;
+    }
+    Ok((args, rest))
+}
+
+/// The call that a payload spells, by the machine.
+#[tactic(auto, unfolding(crate::specs::Reading::method_at))]
+pub(crate) fn read_call(alloc: Global, octets: &[u8]) -> Result<(Kind, Vec<Arg>), MethodFault>
+    ensures { Gives (λ x. call x.0 (args_view x.1.items)) result (method_at octets.now) }
+{
+    let end = octets.len();
+    let (class, behind) = read_short(octets, end)?;
+    let (id, behind) = read_short(behind, end)?;
+    let Some(kind) = Kind::from_ids(class, id) else {
+        return Err(MethodFault {
+            at: 0,
+            kind: MethodFaultKind::UnknownMethod,
+        });
+    };
+    let (args, behind) = read_args(alloc, schema(kind), behind, end)?;
+    read_end(behind, end)?;
+    Ok((kind, args))
+}

@@ -1,0 +1,188 @@
+-- Reading elements one after the other, as a loop does.
+use Rattle.std.proofs.Common.{◌≡◌, ℕ, zero, suc, ◌-◌, ◌≤◌, ◌<◌, ◌==◌, Bool, true, false, cond, ltb, List, [], ◌∷◌, ◌++◌, length, take, drop, Option, Some, None, Result, Ok, Err, refl, sym, ap, ◌∙◌, append_assoc, arith, inl, inr, length-drop}
+use Rattle.std.proofs.lemmas.Bool.{eqb-true}
+use Rattle.std.proofs.lemmas.List.{append-nil}
+use Rattle.byteorder.specs.Endian.{big_number}
+use Rattle.amqp_value.specs.Reading.{◌>>=◌, Fails, Reader, front_of, counted, name_at, many, elements, named, behind_tag, tagged, tag_of, value_at}
+use Rattle.amqp_value.specs.Values.{Datum}
+use Rattle.amqp_value.specs.declared.fault.ValueFault.{ValueFault}
+use Rattle.amqp_value.specs.declared.tag.Tag.{Tag}
+use Rattle.amqp_value.specs.declared.tag.Tag.TheVariants.{Fixed, LongString, ByteArray, Array, Table}
+
+-- the value of a step that did not fail
+pub bind_ok : {A B E : Type 0} (r : Result A E) (f : A → Result B E) (y : B) → (r >>= f) ≡ Ok y → (x : A) × (r ≡ Ok x) × (f x ≡ Ok y)
+bind_ok (Ok x) f y e = (x, refl, e)
+bind_ok (Err d) f y e = absurd cc
+
+-- two steps that go on alike
+pub bind_same : {A B E : Type 0} (r : Result A E) (f g : A → Result B E) → ((x : A) → r ≡ Ok x → f x ≡ g x) → (r >>= f) ≡ (r >>= g)
+bind_same (Ok x) f g same = same x refl
+bind_same (Err d) f g same = refl
+
+-- a test that did not fail
+pub guard_ok : {A E : Type 0} (b : Bool) (d : E) (r : Result A E) (y : A) → cond b (Err d) r ≡ Ok y → (b ≡ false) × (r ≡ Ok y)
+guard_ok true d r y e = absurd cc
+guard_ok false d r y e = (refl, e)
+
+abbrev done : {A : Type 0} → A → Result A ValueFault
+done x = Ok x
+
+pub ok_is : {A : Type 0} (x y : A) → done x ≡ done y → x ≡ y
+ok_is x y e = cc
+
+-- what is read has an octet at least
+pub record Consumes {X : Type 0} (read : Reader X) (end : ℕ) : Type 0 where
+  pub consumes : (octets : List ℕ) (x : X × List ℕ) → read end octets ≡ Ok x → length x.1 < length octets
+
+many-fuel : {X : Type 0} (read : Reader X) (end : ℕ) → Consumes read end → (f g : ℕ) (octets : List ℕ) → length octets ≤ f → length octets ≤ g → many read f end octets ≡ many read g end octets
+unfolding many
+many-fuel read end h f g [] p q = refl
+many-fuel read end h zero g (octet ∷ octets) p q = absurd (omega arith)
+many-fuel read end h (suc f) zero (octet ∷ octets) p q = absurd (omega arith)
+many-fuel read end h (suc f) (suc g) (octet ∷ octets) p q =
+    bind_same (read end (octet ∷ octets)) _ _ (λ x e.
+    let shorter : length x.1 < length (octet ∷ octets) = h.consumes (octet ∷ octets) x e in
+    ap (λ r. r >>= λ others. Ok (x.0 ∷ others)) (many-fuel read end h f g x.1 (omega arith) (omega arith)))
+
+pub elements-nil : {X : Type 0} (read : Reader X) (end : ℕ) → elements read end [] ≡ Ok []
+unfolding elements many
+elements-nil read end = refl
+
+pub elements-next : {X : Type 0} (read : Reader X) (end : ℕ) → Consumes read end → (octets : List ℕ) → 0 < length octets
+    → elements read end octets ≡ (read end octets >>= λ x. elements read end x.1 >>= λ others. Ok (x.0 ∷ others))
+unfolding elements many
+elements-next read end h [] long = absurd (omega arith)
+elements-next read end h (octet ∷ octets) long =
+    bind_same (read end (octet ∷ octets)) _ _ (λ x e.
+    let shorter : length x.1 < length (octet ∷ octets) = h.consumes (octet ∷ octets) x e in
+    ap (λ r. r >>= λ others. Ok (x.0 ∷ others)) (many-fuel read end h (length octets) (length x.1) x.1 (omega arith) (omega arith)))
+
+-- what was read before, and what is still read
+abbrev pub with_front : {X : Type 0} → List X → Result (List X) ValueFault → Result (List X) ValueFault
+with_front front read = read >>= λ xs. Ok (front ++ xs)
+
+pub with_front-nil : {X : Type 0} (read : Result (List X) ValueFault) → with_front [] read ≡ read
+with_front-nil (Ok xs) = refl
+with_front-nil (Err e) = refl
+
+regroup : {X : Type 0} (front : List X) (x : X) (read : Result (List X) ValueFault) → with_front front (read >>= λ others. Ok (x ∷ others)) ≡ with_front (front ++ x ∷ []) read
+regroup front x (Ok xs) = ap (λ ys. Ok ys) (sym (append_assoc front (x ∷ []) xs))
+regroup front x (Err e) = refl
+
+pub goes_on : {X : Type 0} (read : Reader X) (end : ℕ) → Consumes read end → (front : List X) (octets : List ℕ) (x : X) (behind : List ℕ) (total : Result (List X) ValueFault)
+    → 0 < length octets → read end octets ≡ Ok (x, behind) → with_front front (elements read end octets) ≡ total → with_front (front ++ x ∷ []) (elements read end behind) ≡ total
+goes_on read end h front octets x behind total long is so_far =
+    let one : with_front front (elements read end octets) ≡ with_front (front ++ x ∷ []) (elements read end behind) =
+    rw (elements-next read end h octets long, is) (regroup front x (elements read end behind)) in
+    sym one ∙ so_far
+
+pub ends : {X : Type 0} (read : Reader X) (end : ℕ) → Consumes read end → (e : ValueFault) (front : List X) (octets : List ℕ) (total : Result (List X) ValueFault)
+    → 0 < length octets → Fails e (read end octets) → with_front front (elements read end octets) ≡ total → Fails e total
+ends read end h e front octets total long (inl memory) so_far = inl memory
+ends read end h e front octets total long (inr is) so_far =
+    let one : with_front front (elements read end octets) ≡ Err e = rw (elements-next read end h octets long, is) refl in
+    inr (sym so_far ∙ one)
+
+pub is_done : {X : Type 0} (read : Reader X) (end : ℕ) (front : List X) (octets : List ℕ) (total : Result (List X) ValueFault) → length octets ≡ 0 → with_front front (elements read end octets) ≡ total → total ≡ Ok front
+is_done read end front [] total none so_far =
+    let one : with_front front (elements read end []) ≡ Ok front = rw (elements-nil read end) (ap (λ xs. Ok xs) (append-nil front)) in
+    sym so_far ∙ one
+is_done read end front (octet ∷ octets) total none so_far = absurd (omega arith)
+
+-- ---- what a field leaves
+
+pub front_of-shorter : (n end : ℕ) (octets : List ℕ) (x : List ℕ × List ℕ) → front_of n end octets ≡ Ok x → length x.1 ≤ length octets
+front_of-shorter n end octets x e =
+    let g = guard_ok (ltb (length octets) n) _ _ x e in
+    let is : (take n octets, drop n octets) ≡ x = ok_is _ _ g.1 in
+    rw (← is) (omega (arith, length-drop n octets))
+
+pub counted-shorter : (end : ℕ) (octets : List ℕ) (x : List ℕ × List ℕ) → counted end octets ≡ Ok x → length x.1 ≤ length octets
+counted-shorter end octets x e =
+    let g = guard_ok (ltb (length octets) 4) _ _ x e in
+    let k = guard_ok (ltb (length octets - 4) (big_number 4 octets)) _ _ x g.1 in
+    let n = big_number 4 octets in
+    let is : (take n (drop 4 octets), drop n (drop 4 octets)) ≡ x = ok_is _ _ k.1 in
+    rw (← is) (omega (arith, length-drop n (drop 4 octets), length-drop 4 octets))
+
+pub name_at-shorter : (end : ℕ) (octets : List ℕ) (x : List ℕ × List ℕ) → name_at end octets ≡ Ok x → length x.1 < length octets
+name_at-shorter end [] x e = absurd cc
+name_at-shorter end (n ∷ octets) x e =
+    let g = guard_ok (ltb (length octets) n) _ _ x e in
+    let is : (take n octets, drop n octets) ≡ x = ok_is _ _ g.1 in
+    rw (← is) (omega (arith, length-drop n octets))
+
+behind_tag-shorter : (inner : Option (Reader Datum)) (end : ℕ) (octets rest : List ℕ) (tag : Option Tag) (x : Datum × List ℕ) → behind_tag inner end octets rest tag ≡ Ok x → length x.1 ≤ length rest
+unfolding behind_tag
+behind_tag-shorter inner end octets rest None x e = absurd cc
+behind_tag-shorter inner end octets rest (Some (Fixed tag)) x e =
+    let b = bind_ok (front_of _ end rest) _ x e in
+    rw (← ok_is _ _ b.2) (front_of-shorter _ end rest b.0 b.1)
+behind_tag-shorter inner end octets rest (Some LongString) x e =
+    let b = bind_ok (counted end rest) _ x e in
+    rw (← ok_is _ _ b.2) (counted-shorter end rest b.0 b.1)
+behind_tag-shorter inner end octets rest (Some ByteArray) x e =
+    let b = bind_ok (counted end rest) _ x e in
+    rw (← ok_is _ _ b.2) (counted-shorter end rest b.0 b.1)
+behind_tag-shorter None end octets rest (Some Array) x e = absurd cc
+behind_tag-shorter (Some read) end octets rest (Some Array) x e =
+    let b = bind_ok (counted end rest) _ x e in
+    let d = bind_ok (elements read (end - length b.0.1) b.0.0) _ x b.2 in
+    rw (← ok_is _ _ d.2) (counted-shorter end rest b.0 b.1)
+behind_tag-shorter None end octets rest (Some Table) x e = absurd cc
+behind_tag-shorter (Some read) end octets rest (Some Table) x e =
+    let b = bind_ok (counted end rest) _ x e in
+    let d = bind_ok (elements (named read) (end - length b.0.1) b.0.0) _ x b.2 in
+    rw (← ok_is _ _ d.2) (counted-shorter end rest b.0 b.1)
+
+pub tagged-consumes : (inner : Option (Reader Datum)) (end : ℕ) → Consumes (tagged inner) end
+unfolding tagged
+tagged-consumes inner end = record { consumes = tagged_case inner end }
+  where
+    tagged_case : (inner : Option (Reader Datum)) (end : ℕ) (octets : List ℕ) (x : Datum × List ℕ) → tagged inner end octets ≡ Ok x → length x.1 < length octets
+    tagged_case inner end [] x e = absurd cc
+    tagged_case inner end (octet ∷ rest) x e = let h = behind_tag-shorter inner end (octet ∷ rest) rest (tag_of octet) x e in omega arith
+
+pub value_at-consumes : (levels end : ℕ) → Consumes (value_at levels) end
+unfolding value_at
+value_at-consumes zero end = tagged-consumes None end
+value_at-consumes (suc levels) end = tagged-consumes (Some (value_at levels)) end
+
+named-shorter : {X : Type 0} (read : Reader X) (end : ℕ) → Consumes read end → (octets : List ℕ) (x : (List ℕ × X) × List ℕ) → named read end octets ≡ Ok x → length x.1 < length octets
+unfolding named
+named-shorter read end h octets x e =
+    let b = bind_ok (name_at end octets) _ x e in
+    let d = bind_ok (read end b.0.1) _ x b.2 in
+    let first = name_at-shorter end octets b.0 b.1 in
+    let second = h.consumes b.0.1 d.0 d.1 in
+    rw (← ok_is _ _ d.2) (omega arith)
+
+pub named-consumes : {X : Type 0} (read : Reader X) (end : ℕ) → Consumes read end → Consumes (named read) end
+named-consumes read end h = record { consumes = named-shorter read end h }
+
+-- ---- a name, and what is read behind it
+
+pub named-ok : {X : Type 0} (read : Reader X) (end : ℕ) (octets name field behind : List ℕ) (x : X)
+    → name_at end octets ≡ Ok (name, field) → read end field ≡ Ok (x, behind) → named read end octets ≡ Ok ((name, x), behind)
+unfolding named
+named-ok read end octets name field behind x first second = rw (first, second) refl
+
+pub named-no_name : {X : Type 0} (read : Reader X) (end : ℕ) (octets : List ℕ) (e : ValueFault) → Fails e (name_at end octets) → Fails e (named read end octets)
+unfolding named
+named-no_name read end octets e (inl memory) = inl memory
+named-no_name read end octets e (inr is) = inr (rw is refl)
+
+pub named-no_value : {X : Type 0} (read : Reader X) (end : ℕ) (octets name field : List ℕ) (e : ValueFault)
+    → name_at end octets ≡ Ok (name, field) → Fails e (read end field) → Fails e (named read end octets)
+unfolding named
+named-no_value read end octets name field e first (inl memory) = inl memory
+named-no_value read end octets name field e first (inr is) = inr (rw (first, is) refl)
+
+-- ---- what `is_empty` says
+
+pub some_left : (octets : List ℕ) (b : Bool) → b ≡ (length octets == 0) → b ≡ false → 0 < length octets
+some_left [] b e f = absurd cc
+some_left (octet ∷ octets) b e f = omega arith
+
+pub none_left : (octets : List ℕ) (b : Bool) → b ≡ (length octets == 0) → b ≡ true → length octets ≡ 0
+none_left octets b e f = eqb-true (length octets) 0 (sym e ∙ f)

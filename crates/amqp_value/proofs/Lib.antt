@@ -1,0 +1,12 @@
+pub mod Complete
+pub mod Depths
+pub mod Elements
+pub mod Numbers
+pub mod One
+pub mod OnlyTold
+pub mod Sound
+pub mod TableLaws
+pub mod Tags
+pub mod Texts
+pub mod Told
+pub mod Written

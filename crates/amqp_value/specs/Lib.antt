@@ -1,0 +1,12 @@
+pub mod Faults
+pub mod Fields
+pub mod FirstFault
+pub mod Laws
+pub mod Plain
+pub mod Reading
+pub mod ShortStrs
+pub mod Spelling
+pub mod Tables
+pub mod Text
+pub mod Values
+pub mod View

@@ -1,0 +1,24 @@
+//! Field values and field tables of AMQP 0-9-1: the grammar of the nineteen tags, read with the first fault
+//! that is met, and written in its one plain spelling (AMQP 0-9-1 specification, 4.2.1 and 4.2.5).
+#![tactic(auto)]
+
+mod fault;
+mod laws;
+mod read;
+mod short_str;
+mod tables;
+mod tag;
+#[cfg(test)]
+mod tests;
+mod text;
+mod values;
+mod write;
+
+pub use fault::{OutOfMemory, ValueFault, ValueFaultKind};
+pub use laws::{one_table, one_value};
+pub use read::read_table;
+pub use short_str::ShortStr;
+pub use tables::{MAX_DEPTH, Table};
+pub use text::{table_text, text_of};
+pub use values::Value;
+pub use write::write_table;

@@ -1,0 +1,275 @@
+//! Reading a table from the front of octets.
+
+ghost use Rattle.std.specs.Prelude.{◌≡◌, ◌⊎◌, ◌++◌, ◌+◌, ◌≤◌, ◌<◌, ℕ, List, length, take, map, IfOk, IfErr, Ok, Err};
+ghost use Rattle.amqp_value.specs.Faults.{out_of_memory};
+ghost use Rattle.amqp_value.specs.Spelling.{SpellsTable};
+ghost use Rattle.amqp_value.specs.Tables.{table_view, read_view};
+ghost use Rattle.amqp_value.specs.FirstFault.{FirstFault};
+ghost use Rattle.amqp_value.specs.Reading.{fault_here as place_fault, Gives, front_of, counted, name_at, width_of, scalar_of, elements, named, value_at, table_at};
+ghost use Rattle.amqp_value.specs.Values.{scalar, Pairs};
+ghost use Rattle.amqp_value.specs.View.{view, named_view, pairs_view};
+ghost use Rattle.amqp_value.specs.declared.fault.ValueFault.{ValueFault};
+
+use crate::fault::{ValueFault, ValueFaultKind};
+use crate::short_str::ShortStr;
+use crate::tables::{MAX_DEPTH, Table};
+use crate::tag::{ScalarTag, Tag, tag_from};
+use crate::values::Value;
+use byteorder::{BigEndian, ByteOrder};
+use std::alloc::Global;
+
+/// How many octets a pair of a table, and a value of an array, are expected to have. Room for as many as the
+/// octets then hold is made at once, but for no more than a few, since a long value looks like many.
+const EXPECTED_PAIR: usize = 16;
+
+const EXPECTED_VALUE: usize = 8;
+
+const FEW: usize = 8;
+
+/// The fault of an element whose first octet is the first of these, which end at `end`.
+fn fault_here(octets: &[u8], end: usize, kind: ValueFaultKind) -> ValueFault
+    requires { length octets.now ≤ end }
+    ensures { result ≡ place_fault end octets.now kind }
+{
+    ValueFault {
+        at: end - octets.len(),
+        kind,
+    }
+}
+
+/// The first `n` octets, and those behind them.
+#[inline(always)]
+fn front(octets: &[u8], n: usize, end: usize) -> Result<(&[u8], &[u8]), ValueFault>
+    requires { length octets.now ≤ end }
+    ensures read { Gives (λ x. (x.0.now, x.1.now)) result (front_of n end octets.now) }
+    ensures within { IfOk result (λ x. length x.0.now + length x.1.now ≡ length octets.now) }
+    ensures width { IfOk result (λ x. length x.0.now ≡ n) }
+{
+    if octets.len() < n {
+        return Err(fault_here(octets, end, ValueFaultKind::PassesItsEnd));
+    }
+    Ok(octets.split_at(n))
+}
+
+/// A count of four octets and that many octets, and those behind them.
+#[inline(always)]
+fn counted_octets(octets: &[u8], end: usize) -> Result<(&[u8], &[u8]), ValueFault>
+    requires { length octets.now ≤ end }
+    ensures read { Gives (λ x. (x.0.now, x.1.now)) result (counted end octets.now) }
+    ensures within { IfOk result (λ x. length x.0.now + length x.1.now ≤ length octets.now) }
+{
+    if octets.len() < 4 {
+        return Err(fault_here(octets, end, ValueFaultKind::PassesItsEnd));
+    }
+    let (count, behind) = octets.split_at(4);
+    let count = BigEndian::read_u32(count) as usize;
+    if behind.len() < count {
+        return Err(fault_here(octets, end, ValueFaultKind::PassesItsEnd));
+    }
+    Ok(behind.split_at(count))
+}
+
+/// A length octet and that many octets, these and all that follow the length octet, and those behind the name.
+#[inline(always)]
+fn name_octets(octets: &[u8], end: usize) -> Result<(&[u8], &[u8], &[u8]), ValueFault>
+    requires { length octets.now ≤ end }
+    ensures read { Gives (λ x. (x.0.now, x.2.now)) result (name_at end octets.now) }
+    ensures within { IfOk result (λ x. length x.0.now + length x.2.now < length octets.now) }
+    ensures short { IfOk result (λ x. length x.0.now ≤ 255) }
+    ensures front { IfOk result (λ x. x.0.now ≡ take (length x.0.now) x.1.now) }
+    ensures room { IfOk result (λ x. length x.0.now ≤ length x.1.now) }
+{
+    let Some((length, behind)) = octets.split_first() else {
+        return Err(fault_here(octets, end, ValueFaultKind::PassesItsEnd));
+    };
+    let length = *length as usize;
+    if behind.len() < length {
+        return Err(fault_here(octets, end, ValueFaultKind::PassesItsEnd));
+    }
+    let (name, field) = behind.split_at(length);
+    Ok((name, behind, field))
+}
+
+/// The value of fixed size that the octets behind its tag are.
+#[inline(always)]
+fn scalar_value(tag: ScalarTag, field: &[u8]) -> Value
+    requires { length field.now ≡ width_of tag }
+    ensures { view result ≡ scalar (scalar_of tag field.now) }
+{
+    match tag {
+        ScalarTag::Boolean => Value::Boolean(field[0] != 0),
+        ScalarTag::ShortShortInt => Value::ShortShortInt(field[0].cast_signed()),
+        ScalarTag::ShortShortUint => Value::ShortShortUint(field[0]),
+        ScalarTag::ErrataShortInt => Value::ErrataShortInt(BigEndian::read_i16(field)),
+        ScalarTag::ShortInt => Value::ShortInt(BigEndian::read_i16(field)),
+        ScalarTag::ShortUint => Value::ShortUint(BigEndian::read_u16(field)),
+        ScalarTag::LongInt => Value::LongInt(BigEndian::read_i32(field)),
+        ScalarTag::LongUint => Value::LongUint(BigEndian::read_u32(field)),
+        ScalarTag::ErrataLongLongInt => Value::ErrataLongLongInt(BigEndian::read_i64(field)),
+        ScalarTag::LongLongInt => Value::LongLongInt(BigEndian::read_i64(field)),
+        ScalarTag::Float => {
+            let mut octets = [0; 4];
+            octets.copy_from_slice(field);
+            Value::Float(octets)
+        }
+        ScalarTag::Double => {
+            let mut octets = [0; 8];
+            octets.copy_from_slice(field);
+            Value::Double(octets)
+        }
+        ScalarTag::Decimal => Value::Decimal {
+            scale: field[0],
+            number: BigEndian::read_u32(&field[1..]),
+        },
+        ScalarTag::Timestamp => Value::Timestamp(BigEndian::read_u64(field)),
+        ScalarTag::Void => Value::Void,
+    }
+}
+
+/// A tag with its value, and the octets behind it.
+#[inline(always)]
+#[cycle(read)]
+#[tactic(auto, unfolding(crate::specs::Reading::value_at, crate::specs::Reading::tagged, crate::specs::Reading::behind_tag))]
+fn read_value(
+    alloc: Global,
+    octets: &[u8],
+    end: usize,
+    levels: usize,
+) -> Result<(Value, &[u8]), ValueFault>
+    requires { length octets.now ≤ end }
+    ensures { Gives (λ x. (view x.0, x.1.now)) result (value_at levels end octets.now) }
+{
+    let Some((octet, rest)) = octets.split_first() else {
+        return Err(fault_here(octets, end, ValueFaultKind::PassesItsEnd));
+    };
+    let Some(tag) = tag_from(*octet) else {
+        return Err(fault_here(octets, end, ValueFaultKind::UnknownTag));
+    };
+    match tag {
+        Tag::Fixed(tag) => {
+            let (field, behind) = front(rest, tag.width(), end)?;
+            Ok((scalar_value(tag, field), behind))
+        }
+        Tag::LongString => {
+            let (text, behind) = counted_octets(rest, end)?;
+            Ok((Value::LongString(Vec::from_slice(alloc, text)?), behind))
+        }
+        Tag::ByteArray => {
+            let (text, behind) = counted_octets(rest, end)?;
+            Ok((Value::ByteArray(Vec::from_slice(alloc, text)?), behind))
+        }
+        Tag::Array => {
+            let Some(inner) = levels.checked_sub(1) else {
+                return Err(fault_here(octets, end, ValueFaultKind::TooDeep));
+            };
+            let (body, behind) = counted_octets(rest, end)?;
+            let values = read_items(alloc, body, end - behind.len(), inner)?;
+            Ok((Value::Array(values), behind))
+        }
+        Tag::Table => {
+            let Some(inner) = levels.checked_sub(1) else {
+                return Err(fault_here(octets, end, ValueFaultKind::TooDeep));
+            };
+            let (body, behind) = counted_octets(rest, end)?;
+            let pairs = read_pairs(alloc, body, end - behind.len(), inner)?;
+            Ok((Value::Table(pairs), behind))
+        }
+    }
+}
+
+/// The values of an array, whose octets these are.
+#[cycle(read)]
+fn read_items(
+    alloc: Global,
+    body: &[u8],
+    end: usize,
+    levels: usize,
+) -> Result<Vec<Value>, ValueFault>
+    requires { length body.now ≤ end }
+    ensures { Gives (λ values. map view values.items) result (elements (value_at levels) end body.now) }
+{
+    let mut values = Vec::with_capacity(alloc, body.len().div_ceil(EXPECTED_VALUE).min(FEW))?;
+    let mut rest = body;
+    while !rest.is_empty() {
+        let (value, behind) = read_value(alloc, rest, end, levels)?;
+        values.push(value)?;
+        rest = behind;
+    }
+    Ok(values)
+}
+
+/// The pairs of a table, whose octets these are.
+#[cycle(read)]
+fn read_pairs(
+    alloc: Global,
+    body: &[u8],
+    end: usize,
+    levels: usize,
+) -> Result<Vec<(ShortStr, Value)>, ValueFault>
+    requires { length body.now ≤ end }
+    ensures { Gives (λ pairs. map named_view pairs.items) result (elements (named (value_at levels)) end body.now) }
+{
+    let mut pairs = Vec::with_capacity(alloc, body.len().div_ceil(EXPECTED_PAIR).min(FEW))?;
+    let mut rest = body;
+    while !rest.is_empty() {
+        let (octets, from_name, field) = name_octets(rest, end)?;
+        let name = ShortStr::front(alloc, from_name, octets.len())?;
+        let (value, behind) = read_value(alloc, field, end, levels)?;
+        pairs.push((name, value))?;
+        rest = behind;
+    }
+    Ok(pairs)
+}
+
+/// The table that a front of the octets spells, and how many octets that front has: a count of 32 bits,
+/// and that many octets of pairs.
+///
+/// A fault tells the first element that can't be read, in order: the outer count, a name with its length
+/// octet, a tag octet, the value behind a tag with its count where it has one. Ends is told at 0 only,
+/// where the octets have fewer than four, or fewer than the outer count says; inside, what doesn't fit
+/// the table or the array round it passes its end. UnknownTag and TooDeep are told at the tag. Want of
+/// memory is told at 0. Memory is asked only for octets that are there, whatever a count says.
+pub fn read_table(alloc: Global, octets: &[u8]) -> Result<(Table, usize), ValueFault>
+    // What is read is spelled so.
+    ensures found { IfOk result (λ x. SpellsTable (table_view x.0) (take x.1 octets.now)) }
+    ensures within { IfOk result (λ x. x.1 ≤ length octets.now) }
+
+    // What is spelled so is read, whatever stands behind it, unless memory runs out.
+    ensures only { (pairs : Pairs) (front behind : List ℕ) → SpellsTable pairs front
+        → octets.now ≡ front ++ behind → Gives read_view result (Ok (pairs, length front)) }
+
+    // Every other fault comes where no front spells a table.
+    ensures refused { IfErr result (λ e. (e ≡ out_of_memory)
+        ⊎ ((pairs : Pairs) (front behind : List ℕ) → SpellsTable pairs front → octets.now ≡ front ++ behind → ⊥)) }
+
+    // It is the fault of the first element that can't be read, and that one is told, unless memory runs out.
+    ensures fault { IfErr result (λ e. (e ≡ out_of_memory) ⊎ FirstFault octets.now e) }
+    ensures told { (e : ValueFault) → FirstFault octets.now e → Gives read_view result (Err e) }
+
+    // What is read, as a function of the octets.
+    ensures exact { Gives read_view result (table_at octets.now) }
+{
+    table_front(alloc, octets)
+}
+
+#[tactic(auto, unfolding(crate::specs::Reading::table_at))]
+fn table_front(alloc: Global, octets: &[u8]) -> Result<(Table, usize), ValueFault>
+    ensures { Gives read_view result (table_at octets.now) }
+{
+    if octets.len() < 4 {
+        return Err(ValueFault {
+            at: 0,
+            kind: ValueFaultKind::Ends,
+        });
+    }
+    let (count, rest) = octets.split_at(4);
+    let count = BigEndian::read_u32(count) as usize;
+    if rest.len() < count {
+        return Err(ValueFault {
+            at: 0,
+            kind: ValueFaultKind::Ends,
+        });
+    }
+    let pairs = read_pairs(alloc, &rest[..count], 4 + count, MAX_DEPTH - 1)?;
+    Ok((Table::from_pairs(pairs), 4 + count))
+}

@@ -1,0 +1,125 @@
+//! Short strings.
+
+ghost use Rattle.std.specs.Prelude.{◌≡◌, ◌≤◌, ◌<◌, ◌↔◌, ◌⊎◌, length, take, IfOk, IfErr, Err};
+ghost use Rattle.amqp_value.specs.Faults.{fault_at, out_of_memory};
+ghost use Rattle.amqp_value.specs.declared.fault.ValueFaultKind.TheVariants.{TooLong};
+
+use crate::fault::{OutOfMemory, ValueFault, ValueFaultKind};
+use std::alloc::{AllocError, Global};
+use std::fmt;
+use std::marker::Model;
+
+/// How many octets stand in place, without an allocation: the names of most headers have fewer.
+const IN_PLACE: usize = 24;
+
+/// At most 255 octets, any octets.
+#[derive(Drop)]
+pub struct ShortStr {
+    store: Store,
+}
+
+/// The octets behind `len` say nothing.
+#[derive(Drop)]
+enum Store {
+    InPlace { len: usize, octets: [u8; IN_PLACE] },
+    Allocated(Vec<u8>),
+}
+
+impl Model for ShortStr {
+    ghost use Rattle.std.specs.Prelude.{ℕ, List, length, ◌≤◌};
+    ghost use Rattle.amqp_value.specs.ShortStrs.{stored, IsStored};
+
+    ghost Value = { List ℕ };
+
+    ghost view = { λ s. stored s.store };
+
+    ghost invariant = { λ s. IsStored s.store };
+}
+
+impl fmt::Debug for ShortStr {
+    fn fmt<W: fmt::Write>(&self, f: &mut fmt::Formatter<W>) -> fmt::Result {
+        let octets = self.as_bytes();
+        write!(f, "{octets:?}")
+    }
+}
+
+impl ShortStr {
+    /// The octets.
+    pub fn as_bytes(&self) -> &[u8]
+        ensures octets { result.now ≡ self.now }
+        ensures short { length self.now ≤ 255 }
+    {
+        match &self.store {
+            Store::InPlace { len, octets } => &octets[..*len],
+            Store::Allocated(octets) => octets.as_slice(),
+        }
+    }
+
+    /// These octets. TooLong at 0 for more than 255.
+    pub fn new(alloc: Global, octets: &[u8]) -> Result<ShortStr, ValueFault>
+        ensures ok { IfOk result (λ s. s ≡ octets.now) }
+        ensures too_long { (result ≡ Err (fault_at 0 TooLong)) ↔ (255 < length octets.now) }
+        ensures err { IfErr result (λ e. (e ≡ fault_at 0 TooLong) ⊎ (e ≡ out_of_memory)) }
+    {
+        if octets.len() > 255 {
+            return Err(ValueFault {
+                at: 0,
+                kind: ValueFaultKind::TooLong,
+            });
+        }
+        Ok(ShortStr::front(alloc, octets, octets.len())?)
+    }
+
+    /// An equal short string.
+    pub fn copy(&self) -> Result<ShortStr, OutOfMemory>
+        ensures { IfOk result (λ s. s ≡ self.now) }
+    {
+        let store = match &self.store {
+            Store::InPlace { len, octets } => Store::InPlace {
+                len: *len,
+                octets: *octets,
+            },
+            Store::Allocated(octets) => {
+                Store::Allocated(Vec::from_slice(*octets.allocator(), octets)?)
+            }
+        };
+        Ok(ShortStr { store })
+    }
+
+    /// The first `len` octets, of which there may be more. Where there are, the room in place is filled with them, which
+    /// is one copy of a fixed size.
+    #[inline(always)]
+    pub(crate) fn front(alloc: Global, octets: &[u8], len: usize) -> Result<ShortStr, AllocError>
+        requires within { len ≤ length octets.now }
+        requires short { len ≤ 255 }
+        ensures { IfOk result (λ s. s ≡ take len octets.now) }
+    {
+        if len > IN_PLACE {
+            return Ok(ShortStr {
+                store: Store::Allocated(Vec::from_slice(alloc, &octets[..len])?),
+            });
+        }
+        Ok(ShortStr {
+            store: Store::InPlace {
+                len,
+                octets: in_place(octets, len),
+            },
+        })
+    }
+}
+
+/// An array that begins with the first `len` octets.
+#[inline(always)]
+fn in_place(octets: &[u8], len: usize) -> [u8; IN_PLACE]
+    requires within { len ≤ length octets.now }
+    requires room { len ≤ 24 }
+    ensures { take len result ≡ take len octets.now }
+{
+    let mut copied = [0; IN_PLACE];
+    if octets.len() >= IN_PLACE {
+        copied.copy_from_slice(&octets[..IN_PLACE]);
+        return copied;
+    }
+    copied[..len].copy_from_slice(&octets[..len]);
+    copied
+}

@@ -1,0 +1,85 @@
+//! Field tables.
+
+ghost use Rattle.std.specs.Prelude.{◌≤◌};
+ghost use Rattle.amqp_value.specs.Values.{table_depth};
+ghost use Rattle.amqp_value.specs.View.{pairs_view};
+
+use crate::fault::{OutOfMemory, ValueFault, ValueFaultKind};
+use crate::short_str::ShortStr;
+use crate::values::{Value, copy_pairs, nests_within};
+use std::alloc::Global;
+
+/// How deep tables and arrays may nest: a table has depth 1, and each table or array inside adds 1.
+pub const MAX_DEPTH: usize = 32;
+
+/// A field table: names with values, in order, repeats kept, at most [`MAX_DEPTH`] deep.
+#[derive(Debug, Drop)]
+pub struct Table {
+    pairs: Vec<(ShortStr, Value)>,
+    pub ghost depth_is_bounded: { table_depth (pairs_view pairs.items) ≤ 32 },
+}
+
+impl Table {
+    ghost use Rattle.std.specs.Prelude.{◌≡◌, ◌<◌, ◌↔◌, ◌⊎◌, OnOk, OnErr, IfOk, IfErr, Err};
+    ghost use Rattle.amqp_value.specs.Faults.{fault_at, out_of_memory};
+    ghost use Rattle.amqp_value.specs.Tables.{table_view};
+    ghost use Rattle.amqp_value.specs.Values.{no_pairs, with_pair};
+    ghost use Rattle.amqp_value.specs.View.{view};
+    ghost use Rattle.amqp_value.specs.declared.fault.ValueFaultKind.TheVariants.{TooDeep};
+
+    /// A table of no pairs, which takes no memory yet.
+    pub fn new(alloc: Global) -> Table
+        ensures { table_view result ≡ no_pairs }
+    {
+        Table {
+            pairs: Vec::new(alloc),
+        }
+    }
+
+    pub(crate) fn from_pairs(pairs: Vec<(ShortStr, Value)>) -> Table
+        requires { table_depth (pairs_view pairs.items) ≤ 32 }
+        ensures { table_view result ≡ pairs_view pairs.items }
+    {
+        Table { pairs }
+    }
+
+    /// Adds a pair behind the last. TooDeep at 0 where the table would nest deeper than [`MAX_DEPTH`];
+    /// after a fault the table is as it was, and the pair is dropped.
+    pub fn push(&mut self, name: ShortStr, value: Value) -> Result<(), ValueFault>
+        ensures ok { OnOk result (table_view self.new ≡ with_pair (table_view self.old) name (view value)) }
+        ensures too_deep { (result ≡ Err (fault_at 0 TooDeep))
+            ↔ (32 < table_depth (with_pair (table_view self.old) name (view value))) }
+        ensures err { IfErr result (λ e. (e ≡ fault_at 0 TooDeep) ⊎ (e ≡ out_of_memory)) }
+        ensures same { OnErr result (table_view self.new ≡ table_view self.old) }
+    {
+        if !nests_within(&value, MAX_DEPTH - 1) {
+            return Err(ValueFault {
+                at: 0,
+                kind: ValueFaultKind::TooDeep,
+            });
+        }
+        self.pairs.push((name, value))?;
+        Ok(())
+    }
+
+    /// Where the table takes its memory.
+    pub(crate) fn allocator(&self) -> Global {
+        *self.pairs.allocator()
+    }
+
+    /// The pairs, in order.
+    pub fn pairs(&self) -> &[(ShortStr, Value)]
+        ensures pairs { pairs_view result.now ≡ table_view self.now }
+        ensures deep { table_depth (table_view self.now) ≤ 32 }
+    {
+        self.pairs.as_slice()
+    }
+
+    /// An equal table.
+    pub fn copy(&self) -> Result<Table, OutOfMemory>
+        ensures { IfOk result (λ t. table_view t ≡ table_view self.now) }
+    {
+        let pairs = copy_pairs(&self.pairs)?;
+        Ok(Table { pairs })
+    }
+}
