@@ -1,6 +1,6 @@
 -- The methods, one row each: `amqp0-9-1.xml`, in its order and its words. Behind those of the standard in each class stand the
 -- methods that RabbitMQ added: connection.blocked and unblocked, exchange.bind and unbind, basic.nack and the class confirm.
--- The fourth and fifth bits of exchange.declare, which the standard reserves, bear the names that RabbitMQ gave them; and basic.ack,
+-- The third and fourth bits of exchange.declare, which the standard reserves, bear the names that RabbitMQ gave them; and basic.ack,
 -- basic.cancel and basic.cancel-ok are sent by both sides, as it has them.
 use Rattle.std.specs.Prelude.{ℕ, List, [], ◌∷◌, Bool, true, false, Option, Some, None, codes}
 use Rattle.amqp_method.specs.declared.fields.FieldKind.{FieldKind}

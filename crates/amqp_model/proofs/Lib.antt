@@ -8,7 +8,7 @@ mod Ended
 mod Closed
 mod Laws
 mod Words
-mod Contents
+mod PausedContents
 mod Channels
 mod Scripts
 mod Turns
@@ -19,3 +19,9 @@ mod Writing
 mod Closes
 mod Departing
 mod LeavingLast
+mod ContentLemmas
+mod UnderWayLemmas
+mod GatheringLemmas
+mod StepLemmas
+mod ItemLemmas
+mod CutLemmas

@@ -8,6 +8,11 @@ pub mod Carried
 pub mod Runs
 pub mod Connections
 pub mod Fronts
+pub mod Methods
+pub mod Contents
+pub mod Gathering
+pub mod Items
+pub mod ContentLaws
 pub mod Laws
 pub mod Scripts
 pub mod Arrangement

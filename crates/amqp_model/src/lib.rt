@@ -7,4 +7,5 @@
 #![tactic(auto)]
 
 pub mod arrangement;
+pub mod contents;
 pub mod lives;

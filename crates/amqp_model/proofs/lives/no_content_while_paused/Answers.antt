@@ -1,5 +1,5 @@
 -- Each clause is a lemma on runs.
-use Rattle.amqp_model.proofs.Contents.{no_content, no_pause}
+use Rattle.amqp_model.proofs.PausedContents.{no_content, no_pause}
 use Rattle.amqp_model.proofs.lives.no_content_while_paused.Goals as goal
 
 pub returns-clause-counted : goal.returns-clause-counted

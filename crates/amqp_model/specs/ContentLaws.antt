@@ -1,0 +1,145 @@
+-- What holds of contents, of what is gathered of them, and of items: the statements that the public laws carry.
+use Rattle.std.specs.Prelude.{◌≡◌, ◌↔◌, true, false, ℕ, ◌*◌, ◌<◌, ◌≤◌, List, [], ◌∷◌, ◌++◌, length, take, drop, reverse, All, Some, slice_get}
+use Rattle.amqp_model.specs.Fronts.{IsFrontOf}
+use Rattle.std.specs.Option.{option_to_list}
+use Rattle.amqp_frame.specs.Frame.{Frame, frame_length}
+use Rattle.amqp_frame.specs.declared.frames.FrameKind.TheVariants.{Body as BodyKind}
+use Rattle.amqp_model.specs.Methods.{Method, Properties, sort_of, carries_content}
+use Rattle.amqp_model.specs.Contents.{Payload, Calls, Header, Body, Content, IsContent, pieces, cut, UnderWay, EndsContent, body_octets, due, IsDue}
+use Rattle.amqp_model.specs.Gathering.{Gathering, Nothing, BodyDue, Misfit, PastSize, Completes, Keeps, Breaks, step, gathering, kept, Gathers, DoesNotFit}
+use Rattle.amqp_model.specs.Items.{Item, WholeContent, EndsItem, Spells, item_of, item_ended, items_taken, items}
+
+-- payloads are the content of at most one message
+abbrev pub IsAtMostOneContent : List Payload → Type 0
+IsAtMostOneContent payloads = (one other : Content) → IsContent one payloads → IsContent other payloads → one ≡ other
+
+-- payloads that are a content are no front of another
+abbrev pub NoContentInFront : List Payload → Type 0
+NoContentInFront payloads = (one other : Content) (next : Payload) (later : List Payload) → IsContent one payloads → IsContent other (payloads ++ next ∷ later) → ⊥
+
+-- the frame of a body part
+abbrev body_frame : (channel : ℕ) → (octets : List ℕ) → Frame
+body_frame channel octets = record { kind = BodyKind; channel = channel; payload = octets }
+
+-- a body part's frame is no longer than this, on any channel
+abbrev pub BodyFits : (max : ℕ) → Payload → Type 0
+BodyFits max (Body octets) = (channel : ℕ) → frame_length (body_frame channel octets) ≤ max
+BodyFits max _ = Unit {0}
+
+-- what is written of a content is that content, where its method carries one and a frame has room for a body
+abbrev pub CutIsContent : Type 0
+CutIsContent = (max : ℕ) (content : Content) → 8 < max → carries_content content.method ≡ true → IsContent content (cut max content)
+
+-- no frame of a body part is longer than it may be
+abbrev pub CutFits : Type 0
+CutFits = (max : ℕ) (content : Content) → 8 < max → All (BodyFits max) (cut max content)
+
+-- no payloads of the content whose body parts fit are fewer
+abbrev pub CutIsShortest : Type 0
+CutIsShortest = (max : ℕ) (content : Content) (payloads : List Payload) → 8 < max → IsContent content payloads → All (BodyFits max) payloads → length (cut max content) ≤ length payloads
+
+-- the body part at a place holds the octets from there on that fit
+abbrev pub PartsInPlace : Type 0
+PartsInPlace = (room : ℕ) (octets : List ℕ) (place : ℕ) → place < length (pieces room octets) → slice_get (pieces room octets) place ≡ Some (take room (drop (place * room) octets))
+
+-- the lengths of the body parts
+abbrev pub body_lengths : List Payload → List ℕ
+body_lengths [] = []
+body_lengths (Body octets ∷ later) = length octets ∷ body_lengths later
+body_lengths (_ ∷ later) = body_lengths later
+
+-- a body of this length is written in parts of these lengths
+abbrev pub CutsTo : (max body_length : ℕ) → List ℕ → Type 0
+CutsTo max body_length lengths = (content : Content) → length content.body ≡ body_length → body_lengths (cut max content) ≡ lengths
+
+-- payloads taken leave at most one content under way
+abbrev pub OneUnderWay : (taken : List Payload) → Type 0
+OneUnderWay taken = (since others : List Payload) → UnderWay taken since → UnderWay taken others → since ≡ others
+
+-- whatever goes on with what is under way goes on with what is due
+abbrev pub GoesOnAsDue : (taken since : List Payload) → Type 0
+GoesOnAsDue taken since = (content : Content) (next : Payload) (later : List Payload) → UnderWay taken since → IsContent content (reverse since ++ next ∷ later) → IsDue (due since) next
+
+-- the machine keeps what is under way: a state says it all, and it is the state for it
+abbrev pub KeepsUnderWay : (taken : List Payload) → Gathering → Type 0
+KeepsUnderWay taken state = (gathering taken ≡ state) ↔ Gathers taken state
+
+-- the octets kept are those of the body parts since the content's method
+abbrev pub KeepsItsOctets : (taken since : List Payload) → Type 0
+KeepsItsOctets taken since = UnderWay taken since → kept (gathering taken) ≡ body_octets since
+
+-- where nothing is under way, what comes behind is gathered as if nothing had come before
+abbrev pub GathersAfresh : (later before : List Payload) → Type 0
+GathersAfresh later before = Gathers before Nothing → gathering (later ++ before) ≡ gathering later
+
+-- nothing is under way behind a method that carries no content
+abbrev pub NothingBehindMethod : (before : List Payload) → Method → Type 0
+NothingBehindMethod before method = carries_content method ≡ false → Gathers (Calls method ∷ before) Nothing
+
+-- nor behind a content that is whole
+abbrev pub NothingBehindContent : (taken : List Payload) → Content → Type 0
+NothingBehindContent taken content = EndsContent taken content → Gathers taken Nothing
+
+-- the machine tells a content where it is whole
+abbrev pub TellsWhole : (before : List Payload) → Payload → Content → Type 0
+TellsWhole before payload content = (step (gathering before) payload ≡ Completes content) ↔ EndsContent (payload ∷ before) content
+
+-- the machine refuses what doesn't fit, for the reason that holds
+abbrev pub TellsMisfits : (before : List Payload) → Payload → Misfit → Type 0
+TellsMisfits before payload misfit = (step (gathering before) payload ≡ Breaks misfit) ↔ DoesNotFit before payload misfit
+
+-- where it goes on, it does so with what is then under way
+abbrev pub GoesOnWith : (before : List Payload) → Payload → Gathering → Type 0
+GoesOnWith before payload state = step (gathering before) payload ≡ Keeps state → Gathers (payload ∷ before) state
+
+-- the machine tells the items that payloads end
+abbrev pub TellsItems : (before : List Payload) → Payload → Item → Type 0
+TellsItems before payload item = (item_ended (gathering before) payload ≡ Some item) ↔ EndsItem (payload ∷ before) item
+
+-- the machine's items are those that the payloads spell
+abbrev pub ItemsAreSpelled : (taken : List Payload) → List Item → Type 0
+ItemsAreSpelled taken list = (items_taken taken ≡ list) ↔ Spells taken list
+
+-- the items of a front are a front of the items
+abbrev pub ItemsOfFront : (front whole : List Payload) → Type 0
+ItemsOfFront front whole = IsFrontOf front whole → IsFrontOf (items front) (items whole)
+
+-- one more payload adds the item that it ends, if it ends one
+abbrev pub OneMoreSpelled : (front : List Payload) → Payload → Type 0
+OneMoreSpelled front payload = items (front ++ payload ∷ []) ≡ items front ++ option_to_list (item_ended (gathering (reverse front)) payload)
+
+-- where nothing is under way, what comes behind is spelled as if nothing had come before
+abbrev pub SpelledAfresh : (front later : List Payload) → Type 0
+SpelledAfresh front later = Gathers (reverse front) Nothing → items (front ++ later) ≡ items front ++ items later
+
+-- A method that carries no content stands by itself: what is spelled before it, the item that it is, what is spelled
+-- behind it. So the items of a life are those of its own payloads.
+abbrev pub MethodStandsAlone : (front : List Payload) → Method → (later : List Payload) → Type 0
+MethodStandsAlone front method later = carries_content method ≡ false → items (front ++ Calls method ∷ later) ≡ (items front ++ option_to_list (item_of method (sort_of method))) ++ items later
+
+-- a content's payloads add just that content, whatever stands before them
+abbrev pub ContentSpelledBehind : (front payloads : List Payload) → Content → Type 0
+ContentSpelledBehind front payloads content = IsContent content payloads → items (front ++ payloads) ≡ items front ++ WholeContent content ∷ []
+
+-- what is under way has added nothing yet
+abbrev pub UnfinishedSpellsNothing : (taken since : List Payload) → Type 0
+UnfinishedSpellsNothing taken since = (under : UnderWay taken since) → items_taken taken ≡ items_taken under.before
+
+-- a content of these, with a method that carries one
+abbrev content_of : Method → Properties → List ℕ → Content
+content_of method properties body = record { method = method; properties = properties; body = body }
+
+-- a content of no octets is whole with its header
+abbrev pub IsToldAtHeader : Type 0
+IsToldAtHeader = (method : Method) (properties : Properties) (before : List Payload) → carries_content method ≡ true → step (gathering (Calls method ∷ before)) (Header 0 properties) ≡ Completes (content_of method properties [])
+
+-- the content `hi` is whole with its last part, and not with an empty one before
+abbrev pub IsToldAtLastPart : Type 0
+IsToldAtLastPart = (method : Method) (properties : Properties) (before : List Payload) → carries_content method ≡ true
+    → (gathering (Body [] ∷ Body (104 ∷ []) ∷ Header 2 properties ∷ Calls method ∷ before) ≡ BodyDue method 2 properties (104 ∷ []))
+    × (step (BodyDue method 2 properties (104 ∷ [])) (Body (105 ∷ [])) ≡ Completes (content_of method properties (104 ∷ 105 ∷ [])))
+
+-- a part of two octets is past the end where one is left
+abbrev pub IsRefusedPastSize : Type 0
+IsRefusedPastSize = (method : Method) (properties : Properties) (before : List Payload) → carries_content method ≡ true
+    → step (gathering (Body (104 ∷ []) ∷ Header 2 properties ∷ Calls method ∷ before)) (Body (105 ∷ 33 ∷ [])) ≡ Breaks PastSize
