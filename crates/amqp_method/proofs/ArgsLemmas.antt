@@ -77,7 +77,7 @@ takes_bit (suc left) packed end octets x fits e =
       };
     })
 
-field_at-takes : (kind : FieldKind) (bits : Bits) (end : ℕ) (octets : List ℕ) (x : (Argument × Bits) × List ℕ) → IsBytes octets → field_at kind bits end octets ≡ Ok x
+pub field_at-takes : (kind : FieldKind) (bits : Bits) (end : ℕ) (octets : List ℕ) (x : (Argument × Bits) × List ℕ) → IsBytes octets → field_at kind bits end octets ≡ Ok x
     → TakesStep kind bits octets x
 unfolding field_at
 field_at-takes Bit bits end octets x fits e = takes_bit bits.left bits.packed end octets x fits e
@@ -169,7 +169,7 @@ reads_bit (suc left) packed front holds values h =
       goes_on = o.1;
     }
 
-field_at-again : (value : Argument) (values : List Argument) (bits : Bits) (front : List ℕ) → SpellsOn bits.left bits.packed (parts_of (value ∷ values)) front → ReadsField bits front value values
+pub field_at-again : (value : Argument) (values : List Argument) (bits : Bits) (front : List ℕ) → SpellsOn bits.left bits.packed (parts_of (value ∷ values)) front → ReadsField bits front value values
 unfolding field_at
 field_at-again (bit holds) values bits front h = reads_bit bits.left bits.packed front holds values h
 field_at-again (octet n) values bits front h = reads_one bits front (octet n) values (λ end first behind s. rw (number_at-again 1 end n first behind s) refl) h

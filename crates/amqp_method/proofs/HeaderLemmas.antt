@@ -78,7 +78,7 @@ was_clear n flags rest below is =
 four_times : (n : ℕ) → 2 ^ (n + 2) ≡ 2 ^ n * 4
 four_times n = pow-add 2 n 2
 
-flags_of-clear : (properties : List (Option Argument)) → flags_of properties % 4 ≡ 0
+pub flags_of-clear : (properties : List (Option Argument)) → flags_of properties % 4 ≡ 0
 flags_of-clear [] = refl
 flags_of-clear (None ∷ properties) = flags_of-clear properties
 flags_of-clear (Some value ∷ properties) = rw four_times (mul-add-mod_self_right (2 ^ length properties) 4 (flags_of properties) ∙ flags_of-clear properties)
@@ -86,18 +86,18 @@ flags_of-clear (Some value ∷ properties) = rw four_times (mul-add-mod_self_rig
 -- ---- what is read is spelled so
 
 -- all kinds have octets of their own
-abbrev AllHaveOctets : List FieldKind → Type 0
+abbrev pub AllHaveOctets : List FieldKind → Type 0
 AllHaveOctets [] = Unit {0}
 AllHaveOctets (kind ∷ kinds) = HasOctets kind × AllHaveOctets kinds
 
-record TakesProperties (kinds : List FieldKind) (flags : ℕ) (octets : List ℕ) (x : List (Option Argument) × List ℕ) : Type 0 where
-  front : List ℕ
-  parts : octets ≡ front ++ x.1
-  counts : length x.0 ≡ length kinds
-  kinds_are : HaveKinds x.0 kinds
-  flags_are : flags % 4 ≡ 0 → flags % 2 ^ (length kinds + 2) ≡ flags_of x.0
-  spelled : SpellsPresent x.0 front
-  behind_fits : IsBytes x.1
+pub record TakesProperties (kinds : List FieldKind) (flags : ℕ) (octets : List ℕ) (x : List (Option Argument) × List ℕ) : Type 0 where
+  pub front : List ℕ
+  pub parts : octets ≡ front ++ x.1
+  pub counts : length x.0 ≡ length kinds
+  pub kinds_are : HaveKinds x.0 kinds
+  pub flags_are : flags % 4 ≡ 0 → flags % 2 ^ (length kinds + 2) ≡ flags_of x.0
+  pub spelled : SpellsPresent x.0 front
+  pub behind_fits : IsBytes x.1
 
 -- one property in front of the others
 takes_next : (there : Bool) (kind : FieldKind) (kinds : List FieldKind) (flags end : ℕ) (octets : List ℕ) (p : Option Argument × List ℕ) (others : List (Option Argument)) (rest : List ℕ)
@@ -133,7 +133,7 @@ takes_next true kind kinds flags end octets p others rest own fits set e inside 
       behind_fits = t.behind_fits;
     }) inside
 
-properties_at-takes : (kinds : List FieldKind) (flags end : ℕ) (octets : List ℕ) (x : List (Option Argument) × List ℕ) → AllHaveOctets kinds → IsBytes octets
+pub properties_at-takes : (kinds : List FieldKind) (flags end : ℕ) (octets : List ℕ) (x : List (Option Argument) × List ℕ) → AllHaveOctets kinds → IsBytes octets
     → properties_at kinds flags end octets ≡ Ok x → TakesProperties kinds flags octets x
 unfolding properties_at
 properties_at-takes [] flags end octets x own fits e =
@@ -149,7 +149,7 @@ test_ok : {A : Type 0} (b : Bool) (x : Result A MethodFault) (e : MethodFault) (
 test_ok true x e y h = (refl, h)
 test_ok false x e y h = absurd cc
 
-all_own : AllHaveOctets property_kinds
+pub all_own : AllHaveOctets property_kinds
 all_own = (tt, (tt, (tt, (tt, (tt, (tt, (tt, (tt, (tt, (tt, (tt, (tt, (tt, (tt, tt))))))))))))))
 
 pub header_at-takes : (octets : List ℕ) (h : ContentHeader) → IsBytes octets → header_at octets ≡ Ok h → SpellsHeader h octets
@@ -200,7 +200,7 @@ same_length (p ∷ properties) [] h = absurd h
 same_length (None ∷ properties) (kind ∷ kinds) h = ap suc (same_length properties kinds h)
 same_length (Some value ∷ properties) (kind ∷ kinds) h = ap suc (same_length properties kinds h.1)
 
-properties_at-again : (properties : List (Option Argument)) (kinds : List FieldKind) (flags end : ℕ) (front after : List ℕ) → HaveKinds properties kinds
+pub properties_at-again : (properties : List (Option Argument)) (kinds : List FieldKind) (flags end : ℕ) (front after : List ℕ) → HaveKinds properties kinds
     → flags % 2 ^ (length kinds + 2) ≡ flags_of properties → SpellsPresent properties front → properties_at kinds flags end (front ++ after) ≡ Ok (properties, after)
 unfolding properties_at optional_at
 properties_at-again [] [] flags end front after h f s = rw s refl

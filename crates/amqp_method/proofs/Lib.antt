@@ -1,9 +1,12 @@
 pub mod ArgsLemmas
 pub mod CompleteLemmas
+pub mod FieldFaults
 pub mod FieldLemmas
 pub mod FitLemmas
+pub mod HeaderFaults
 pub mod HeaderLemmas
 pub mod KindLemmas
+pub mod MethodFaults
 pub mod MethodLemmas
 pub mod PlainLemmas
 pub mod PresentLemmas

@@ -10,6 +10,7 @@ pub mod BitsView
 pub mod MethodView
 pub mod Properties
 pub mod HeaderReading
+pub mod FirstFault
 pub mod HeaderView
 pub mod Plain
 pub mod Writing

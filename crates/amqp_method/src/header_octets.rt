@@ -2,6 +2,7 @@
 ghost use Rattle.std.specs.Prelude.{◌≡◌, ◌≤◌, ◌<◌, ◌⊎◌, ◌++◌, ◌^◌, length, take, IfOk, IfErr, OnOk, OnErr, Ok, Err};
 ghost use Rattle.amqp_method.specs.Arguments.{octet, long_long, short_string};
 ghost use Rattle.amqp_method.specs.Faults.{out_of_memory, too_long};
+ghost use Rattle.amqp_method.specs.FirstFault.{FirstFaultOfHeader};
 ghost use Rattle.amqp_method.specs.HeaderReading.{has_flag as is_set, optional_at, properties_at, header_at};
 ghost use Rattle.amqp_method.specs.HeaderView.{present, table_argument, later_view, properties_view, header_view};
 ghost use Rattle.amqp_method.specs.Plain.{plain_front, plain_header, CountsPresentFit};
@@ -205,7 +206,11 @@ pub fn read_header(alloc: Global, octets: &[u8]) -> Result<Header, MethodFault>
     // Every other fault comes where the octets spell no header.
     ensures refused { IfErr result (λ e. (e ≡ out_of_memory) ⊎ ((h : ContentHeader) → SpellsHeader h octets.now → ⊥)) }
 
-    // Which fault it is.
+    // It is the fault of the first field that can't be read, and that one is told, unless memory runs out.
+    ensures fault { IfErr result (λ e. (e ≡ out_of_memory) ⊎ FirstFaultOfHeader octets.now e) }
+    ensures told { (e : MethodFault) → FirstFaultOfHeader octets.now e → Gives header_view result (Err e) }
+
+    // What is read, as a function of the octets.
     ensures exact { Gives header_view result (header_at octets.now) }
 {
     exact_header(alloc, octets)

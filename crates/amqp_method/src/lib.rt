@@ -6,8 +6,8 @@
 //! whose flags are set. Numbers are big-endian.
 //!
 //! The definitions of `specs/` say what the functions are proved to do: `Methods` is the table of the methods, `Spelling`
-//! and `Properties` have which octets spell a method and a header, `Plain` the one spelling that is written, and `Reading`
-//! and `HeaderReading` the first fault, with its place.
+//! and `Properties` have which octets spell a method and a header, `Plain` the one spelling that is written, `FirstFault`
+//! the first field that can't be read, with its place, and `Reading` and `HeaderReading` reading as functions of octets.
 #![tactic(auto)]
 
 mod bit_run;

@@ -2,6 +2,7 @@
 ghost use Rattle.std.specs.Prelude.{◌⊎◌, ◌≡◌, ◌++◌, length, take, IfOk, IfErr, OnOk, OnErr, Ok, Err};
 ghost use Rattle.amqp_method.specs.Arguments.{Call};
 ghost use Rattle.amqp_method.specs.Faults.{out_of_memory, too_long};
+ghost use Rattle.amqp_method.specs.FirstFault.{FirstFaultOfMethod};
 ghost use Rattle.amqp_method.specs.MethodView.{method_view};
 ghost use Rattle.amqp_method.specs.Plain.{plain_method, CountsAllFit};
 ghost use Rattle.amqp_method.specs.Reading.{Gives, method_at};
@@ -29,7 +30,11 @@ pub fn read_method(alloc: Global, octets: &[u8]) -> Result<Method, MethodFault>
     // Every other fault comes where the octets spell no method.
     ensures refused { IfErr result (λ e. (e ≡ out_of_memory) ⊎ ((c : Call) → SpellsMethod c octets.now → ⊥)) }
 
-    // Which fault it is.
+    // It is the fault of the first field that can't be read, and that one is told, unless memory runs out.
+    ensures fault { IfErr result (λ e. (e ≡ out_of_memory) ⊎ FirstFaultOfMethod octets.now e) }
+    ensures told { (e : MethodFault) → FirstFaultOfMethod octets.now e → Gives method_view result (Err e) }
+
+    // What is read, as a function of the octets.
     ensures exact { Gives method_view result (method_at octets.now) }
 {
     exact_method(alloc, octets)

@@ -1,5 +1,6 @@
 use Rattle.std.proofs.Common.{arith}
 use Rattle.amqp_method.specs.HeaderView.{header_view}
+use Rattle.amqp_method.proofs.HeaderFaults.{header_fault, header_told}
 use Rattle.amqp_method.proofs.HeaderLemmas.{header_found, header_only, header_refused}
 use Rattle.amqp_method.proofs.header_octets.read_header.Goals as goal
 
@@ -11,3 +12,9 @@ returns-clause-only c = header_only header_view c.args.octets.now c.exact_header
 
 pub returns-clause-refused : goal.returns-clause-refused
 returns-clause-refused c = header_refused header_view c.args.octets.now c.exact_header.result c.exact_header.ensures
+
+pub returns-clause-fault : goal.returns-clause-fault
+returns-clause-fault c = header_fault header_view c.args.octets.now c.exact_header.result (λ i. omega (arith, c.type_inv.octets i)) c.exact_header.ensures
+
+pub returns-clause-told : goal.returns-clause-told
+returns-clause-told c = header_told header_view c.args.octets.now c.exact_header.result c.exact_header.ensures

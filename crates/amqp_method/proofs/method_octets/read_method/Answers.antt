@@ -1,6 +1,7 @@
 use Rattle.std.proofs.Common.{arith}
 use Rattle.amqp_method.specs.MethodView.{method_view}
 use Rattle.amqp_method.proofs.MethodLemmas.{found, only, refused}
+use Rattle.amqp_method.proofs.MethodFaults.{fault, told}
 use Rattle.amqp_method.proofs.method_octets.read_method.Goals as goal
 
 pub returns-clause-found : goal.returns-clause-found
@@ -11,3 +12,9 @@ returns-clause-only c = only method_view c.args.octets.now c.exact_method.result
 
 pub returns-clause-refused : goal.returns-clause-refused
 returns-clause-refused c = refused method_view c.args.octets.now c.exact_method.result c.exact_method.ensures
+
+pub returns-clause-fault : goal.returns-clause-fault
+returns-clause-fault c = fault method_view c.args.octets.now c.exact_method.result (λ i. omega (arith, c.type_inv.octets i)) c.exact_method.ensures
+
+pub returns-clause-told : goal.returns-clause-told
+returns-clause-told c = told method_view c.args.octets.now c.exact_method.result c.exact_method.ensures
