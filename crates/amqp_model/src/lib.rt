@@ -9,3 +9,5 @@
 pub mod arrangement;
 pub mod contents;
 pub mod lives;
+pub mod methods;
+pub mod one_end;

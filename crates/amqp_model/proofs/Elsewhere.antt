@@ -1,0 +1,227 @@
+-- What a verdict puts stands on the frame's channel or on channel 0, and is no connection.close where the end goes on.
+use Rattle.std.proofs.Common.{◌≡◌, Bool, true, false, cond, not, ◌&&◌, ℕ, suc, ◌==◌, arith, nat_lt, nat_le, List, [], ◌∷◌, map, length, Option, Some, None, refl, ap, ◌∙◌}
+use Rattle.std.proofs.lemmas.Bool.{false≢true, ne_eqb}
+use Rattle.amqp_method.specs.declared.kinds.Kind.TheVariants as kinds
+use Rattle.amqp_model.specs.Notes.{Role, Client, Server, is_client, Kind, OpenOk, Close, CloseOk, FlowOk, Other}
+use Rattle.amqp_model.specs.Verdict as lives
+use Rattle.amqp_model.specs.Verdict.{verdict_at}
+use Rattle.amqp_model.specs.Methods.{MethodKind, Method, class_of, sends, same_kind, carries_content, is_reply, is_request}
+use Rattle.amqp_model.specs.Gathering.{Gathering, HeaderDue, Step, Keeps, Completes, Breaks, Misfit, step}
+use Rattle.amqp_model.specs.Readings.{Reading, Calls, UnknownMethod, MalformedMethod, HeaderOf, MalformedHeader, BodyOf, Beat, reading, is_call, kind_of, payload_of}
+use Rattle.amqp_model.specs.Histories.{Put, History, closes_connection, entries_on}
+use Rattle.amqp_model.specs.Channels.{Life, Channel, Free, Opening, Closing, state_of, Phase, Handshake, Running, Closed, Failed, Agreed, AwaitsProtocolHeader, AwaitsStart, AwaitsStartOk, AwaitsTune, AwaitsTuneOk, AwaitsOpen, AwaitsOpenOk}
+use Rattle.amqp_model.specs.Channels as channels
+use Rattle.amqp_model.specs.Negotiation.{Config, Hello, OfClient, start_ok, open_host, tunes_too_small, agreed_in, in_range}
+use Rattle.amqp_model.specs.Closes.{Owed, AllReadBack, frame_of}
+use Rattle.amqp_model.specs.Events.{FrameVerdict, Faults, Fault}
+use Rattle.amqp_model.specs.FrameVerdict.{Facts, first_of, awaits_in, as_lives, lives_verdict, closed_by, on_awaited, is_awaited, on_connection, by_state, on_open, on_idle, on_matched, part_on, on_part, after_part, on_message, is_no_channel, is_gathering, on_rest, when_over, when_leaving, when_heartbeat, when_closing, when_unread, when_handshake, when_content, when_connection, when_misdirected, when_no_channel, answers_first, MOST_REQUESTS, verdict_on, methods_put}
+use Rattle.amqp_model.specs.LawfulHistories.{goes_on, then_put}
+use Rattle.amqp_model.proofs.Acting.{reads-back}
+
+-- a method that channel n + 1 does not see
+abbrev pub IsAway : ℕ → Owed → Type 0
+IsAway n owed = ((owed.channel == suc n) ≡ false) × (same_kind owed.method.kind kinds.ConnectionClose ≡ false)
+
+abbrev pub AllAway : ℕ → List Owed → Type 0
+AllAway n [] = Unit {0}
+AllAway n (owed ∷ later) = IsAway n owed × AllAway n later
+
+pub entries-away : (n : ℕ) (owed : List Owed) (history : History) → AllReadBack owed → AllAway n owed → entries_on (suc n) (then_put (map frame_of owed) history) ≡ entries_on (suc n) history
+entries-away n [] history back away = refl
+entries-away n (owed ∷ later) history back away = entries-away n later (Put (frame_of owed) ∷ history) back.1 away.1 ∙ unseen
+  where
+    quiet : is_call kinds.ConnectionClose (reading (frame_of owed)) ≡ false
+    quiet = ap (is_call kinds.ConnectionClose) (reads-back owed.channel owed.method back.0) ∙ away.0.1
+
+    not_close : (b : Bool) → is_call kinds.ConnectionClose (reading (frame_of owed)) ≡ false → (b && is_call kinds.ConnectionClose (reading (frame_of owed))) ≡ false
+    not_close true e = e
+    not_close false e = refl
+
+    unseen : entries_on (suc n) (Put (frame_of owed) ∷ history) ≡ entries_on (suc n) history
+    unseen = let here : (owed.channel == suc n) ≡ false = away.0.0 in let shut : closes_connection (frame_of owed) ≡ false = not_close (owed.channel == 0) quiet in simp (here, shut)
+
+start_ok-quiet : (config : Config Client) → same_kind (start_ok config).kind kinds.ConnectionClose ≡ false
+start_ok-quiet config = go config.hello
+  where
+    go : (hello : Hello Client) → same_kind (start_ok (record config { hello = hello })).kind kinds.ConnectionClose ≡ false
+    go (OfClient properties mechanism response locale virtual_host) = refl
+
+open_host-quiet : (config : Config Client) → same_kind (open_host config).kind kinds.ConnectionClose ≡ false
+open_host-quiet config = go config.hello
+  where
+    go : (hello : Hello Client) → same_kind (open_host (record config { hello = hello })).kind kinds.ConnectionClose ≡ false
+    go (OfClient properties mechanism response locale virtual_host) = refl
+
+-- Whatever holds of each method that a verdict owes, given that it is no connection.close and stands on the frame's
+-- channel or on channel 0.
+abbrev pub IsQuiet : Method → Type 0
+IsQuiet method = same_kind method.kind kinds.ConnectionClose ≡ false
+
+abbrev pub Each : (Owed → Type 0) → List Owed → Type 0
+Each P [] = Unit {0}
+Each P (owed ∷ later) = P owed × Each P later
+
+module _ {role : Role} (facts : Facts role) (P : Owed → Type 0) (at_zero : (method : Method) → IsQuiet method → P (record { channel = 0; method = method })) (here : (method : Method) → IsQuiet method → P (record { channel = facts.number; method = method })) where
+  abbrev Away : FrameVerdict → Type 0
+  Away v = goes_on v ≡ true → Each P (methods_put facts v)
+
+  faulted : (fault : Fault) → Away (Faults fault)
+  faulted fault g = absurd (false≢true g)
+
+  either : (b : Bool) (one other : FrameVerdict) → Away one → Away other → Away (cond b one other)
+  either true one other h k = h
+  either false one other h k = k
+
+  abbrev MayAway : Option FrameVerdict → Type 0
+  MayAway (Some v) = Away v
+  MayAway None = Unit {0}
+
+  after : (rule : Option FrameVerdict) (later : List (Option FrameVerdict)) (last : FrameVerdict) → MayAway rule → Away (first_of later last) → Away (first_of (rule ∷ later) last)
+  after (Some v) later last h k = h
+  after None later last h k = k
+
+  lives-away : (r : Reading) (v : lives.Verdict) → Away (as_lives facts.number r v)
+  lives-away r (lives.Fault code) = λ g. absurd (false≢true g)
+  lives-away r (lives.GoesOn event None) = λ g. tt
+  lives-away r (lives.GoesOn event (Some OpenOk)) = λ g. (here _ refl, tt)
+  lives-away r (lives.GoesOn event (Some CloseOk)) = λ g. (here _ refl, tt)
+  lives-away r (lives.GoesOn event (Some (FlowOk active))) = λ g. (here _ refl, tt)
+  lives-away r (lives.GoesOn event (Some kind)) = λ g. tt
+
+  over : (phase : Phase) → MayAway (when_over phase)
+  over Closed = λ g. absurd (false≢true g)
+  over Failed = λ g. absurd (false≢true g)
+  over phase = tt
+
+  close-away : (method : Method) → Away (closed_by method)
+  close-away method = λ g. (at_zero _ refl, tt)
+
+  leaving : (phase : Phase) (r : Reading) → MayAway (when_leaving phase facts.number r)
+  leaving Phase.Closing r =
+      either ((facts.number == 0) && is_call kinds.ConnectionClose r) _ _ (λ g. (at_zero _ refl, tt)) (either ((facts.number == 0) && is_call kinds.ConnectionCloseOk r) _ _ (λ g. tt) (λ g. tt))
+  leaving phase r = tt
+
+  beat : (r : Reading) → MayAway (when_heartbeat facts.number r)
+  beat (Beat empty) = either ((facts.number == 0) && empty) _ _ (λ g. tt) (λ g. absurd (false≢true g))
+  beat r = tt
+
+  closing : (channel : Channel) (r : Reading) → MayAway (when_closing facts channel r)
+  closing Closing r = lives-away r (verdict_at role (state_of facts.channel) (awaits_in facts.channel) (kind_of r))
+  closing channel r = tt
+
+  unread : (r : Reading) → MayAway (when_unread r)
+  unread UnknownMethod = λ g. absurd (false≢true g)
+  unread MalformedMethod = λ g. absurd (false≢true g)
+  unread r = tt
+
+  awaited : (r : Role) (config : Config r) (agreed : Option Agreed) (step : channels.Step) (method : Method) → Away (on_awaited r config agreed step method)
+  awaited Client config agreed AwaitsStart method = λ g. (at_zero (start_ok config) (start_ok-quiet config), tt)
+  awaited Client config agreed AwaitsTune method = either (tunes_too_small method) _ _ (λ g. absurd (false≢true g)) (λ g. (at_zero _ refl, (at_zero (open_host config) (open_host-quiet config), tt)))
+  awaited Client config agreed AwaitsOpenOk method = λ g. tt
+  awaited Server config agreed AwaitsStartOk method = λ g. (at_zero _ refl, tt)
+  awaited Server config agreed AwaitsTuneOk method = either (in_range config (agreed_in method)) _ _ (λ g. tt) (λ g. absurd (false≢true g))
+  awaited Server config agreed AwaitsOpen method = λ g. (at_zero _ refl, tt)
+  awaited Client config agreed step method = λ g. absurd (false≢true g)
+  awaited Server config agreed step method = λ g. absurd (false≢true g)
+
+  handshake : (phase : Phase) (r : Reading) → MayAway (when_handshake facts phase r)
+  handshake (Handshake step) (Calls method) =
+      either (facts.number == 0) _ _
+      (either (same_kind method.kind kinds.ConnectionClose) _ _ (close-away method)
+      (either (is_client role && same_kind method.kind kinds.ConnectionSecure) _ _ (λ g. absurd (false≢true g))
+      (either (is_awaited step method.kind) _ _ (awaited role facts.config facts.agreed step method) (λ g. absurd (false≢true g)))))
+      (λ g. absurd (false≢true g))
+  handshake (Handshake step) r = λ g. absurd (false≢true g)
+  handshake phase r = tt
+
+  parted : (s : Step) → Away (after_part facts.number s)
+  parted (Completes content) = λ g. tt
+  parted (Keeps kept) = λ g. tt
+  parted (Breaks Misfit.PastSize) = λ g. absurd (false≢true g)
+  parted (Breaks misfit) = λ g. absurd (false≢true g)
+
+  part : (kept : Gathering) (r : Reading) → Away (on_part facts kept r)
+  part (HeaderDue method) MalformedHeader = λ g. absurd (false≢true g)
+  part (HeaderDue method) (HeaderOf size properties) = either (nat_lt facts.config.max_body size) _ _ (λ g. (here _ refl, tt)) (parted _)
+  part kept r = parted (step kept (payload_of r))
+
+  part-on : (channel : Channel) (r : Reading) → Away (part_on facts channel r)
+  part-on (channels.Open life) r = part life.content r
+  part-on Free r = λ g. absurd (false≢true g)
+  part-on channel r = λ g. absurd (false≢true g)
+
+  content : (r : Reading) → MayAway (when_content facts r)
+  content (HeaderOf size properties) = either (is_no_channel facts) _ _ (λ g. absurd (false≢true g)) (part-on facts.channel (HeaderOf size properties))
+  content MalformedHeader = either (is_no_channel facts) _ _ (λ g. absurd (false≢true g)) (part-on facts.channel MalformedHeader)
+  content (BodyOf octets) = either (is_no_channel facts) _ _ (λ g. absurd (false≢true g)) (part-on facts.channel (BodyOf octets))
+  content r = tt
+
+  if-some : (b : Bool) (v : FrameVerdict) → Away v → MayAway (cond b (Some v) None)
+  if-some true v h = h
+  if-some false v h = tt
+
+  unless-some : (b : Bool) (v : FrameVerdict) → Away v → MayAway (cond b None (Some v))
+  unless-some true v h = tt
+  unless-some false v h = h
+
+  connection : (r : Role) (method : Method) → Away (on_connection r method)
+  connection r method =
+      either (same_kind method.kind kinds.ConnectionClose) _ _ (close-away method)
+      (either (is_client r && same_kind method.kind kinds.ConnectionSecure) _ _ (λ g. absurd (false≢true g))
+      (either (is_client r && same_kind method.kind kinds.ConnectionBlocked) _ _ (λ g. tt)
+      (either (is_client r && same_kind method.kind kinds.ConnectionUnblocked) _ _ (λ g. tt) (λ g. absurd (false≢true g)))))
+
+  message : (method : Method) → Away (on_message facts.number method)
+  message method = either (carries_content method) _ _ (λ g. tt) (λ g. tt)
+
+  matched : (r : Role) (requests : List MethodKind) (method : Method) → Away (on_matched r facts.number requests method)
+  matched Client requests method = either (is_reply method.kind && not (answers_first method.kind requests)) _ _ (λ g. absurd (false≢true g)) (message method)
+  matched Server requests method = either (is_request method && nat_le MOST_REQUESTS (length requests)) _ _ (λ g. absurd (false≢true g)) (message method)
+
+  by-lives : (r : Reading) → Away (lives_verdict facts r)
+  by-lives r = lives-away r (verdict_at role (state_of facts.channel) (awaits_in facts.channel) (kind_of r))
+
+  idle : (life : Life) (method : Method) (kind : Kind) → Away (on_idle facts life method kind)
+  idle life method (Other begins) = matched role life.requests method
+  idle life method kind = by-lives (Calls method)
+
+  opened : (life : Life) (method : Method) (kind : Kind) → Away (on_open facts life method kind)
+  opened life method Close = by-lives (Calls method)
+  opened life method kind = either (is_gathering life.content) _ _ (λ g. absurd (false≢true g)) (idle life method kind)
+
+  stated : (channel : Channel) (method : Method) → Away (by_state facts channel method)
+  stated (channels.Open life) method = opened life method (kind_of (Calls method))
+  stated Free method = by-lives (Calls method)
+  stated channel method = by-lives (Calls method)
+
+  rest : (r : Reading) → Away (on_rest facts r)
+  rest (Calls method) =
+      after (when_connection role facts.number method) _ _ (if-some (class_of method.kind == 10) _ (either (facts.number == 0) _ _ (connection role method) (λ g. absurd (false≢true g))))
+      (after (when_misdirected role method) _ _ (unless-some (sends (not (is_client role)) method.kind) _ (λ g. absurd (false≢true g)))
+      (after (when_no_channel facts) _ _ (if-some (is_no_channel facts) _ (λ g. absurd (false≢true g))) (stated facts.channel method)))
+  rest r = λ g. absurd (false≢true g)
+
+  pub each-owed : (r : Reading) → Away (verdict_on facts r)
+  each-owed r =
+      after (when_over facts.phase) _ _ (over facts.phase)
+      (after (when_leaving facts.phase facts.number r) _ _ (leaving facts.phase r)
+      (after (when_heartbeat facts.number r) _ _ (beat r)
+      (after (when_closing facts facts.channel r) _ _ (closing facts.channel r)
+      (after (when_unread r) _ _ (unread r)
+      (after (when_handshake facts facts.phase r) _ _ (handshake facts.phase r)
+      (after (when_content facts r) _ _ (content r) (rest r)))))))
+
+zero-apart : (n : ℕ) → (0 == suc n) ≡ false
+zero-apart n = ne_eqb 0 (suc n) (λ e. let h : 0 ≡ suc n = e in omega arith)
+
+all-away : (n : ℕ) (owed : List Owed) → Each (IsAway n) owed → AllAway n owed
+all-away n [] each = tt
+all-away n (owed ∷ later) each = (each.0, all-away n later each.1)
+
+-- where the frame's channel is another, the channel sees nothing of it
+pub verdict-away : {role : Role} (facts : Facts role) (n : ℕ) → (facts.number == suc n) ≡ false → (r : Reading) → goes_on (verdict_on facts r) ≡ true → AllAway n (methods_put facts (verdict_on facts r))
+verdict-away facts n apart r g = all-away n (methods_put facts (verdict_on facts r)) (each-owed facts (IsAway n) (λ method quiet. (zero-apart n, quiet)) (λ method quiet. (apart, quiet)) r g)
+
+-- on channel 0 all that is owed stands on channel 0
+pub verdict-zero : {role : Role} (facts : Facts role) → facts.number ≡ 0 → (r : Reading) → goes_on (verdict_on facts r) ≡ true → Each (λ owed. owed.channel ≡ 0) (methods_put facts (verdict_on facts r))
+verdict-zero facts e r g = each-owed facts (λ owed. owed.channel ≡ 0) (λ method quiet. refl) (λ method quiet. e) r g

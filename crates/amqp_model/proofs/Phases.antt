@@ -1,0 +1,103 @@
+-- The phase, and what was agreed, follow each entry of channel 0.
+use Rattle.std.proofs.Common.{◌≡◌, Bool, true, false, cond, not, ◌&&◌, ◌||◌, List, ◌∷◌, refl, ap, ◌∙◌}
+use Rattle.amqp_method.specs.declared.kinds.Kind.TheVariants as kinds
+use Rattle.amqp_model.specs.Frame.{Frame}
+use Rattle.amqp_model.specs.Notes.{Role, Client, Server}
+use Rattle.amqp_model.specs.Readings.{Reading, is_call}
+use Rattle.amqp_model.specs.Histories.{ChannelEntry, PutHere, TookHere}
+use Rattle.amqp_model.specs.Channels.{Step, AwaitsProtocolHeader, AwaitsStart, AwaitsStartOk, AwaitsTune, AwaitsTuneOk, AwaitsOpen, AwaitsOpenOk, Phase, Handshake, Running, Closed}
+use Rattle.amqp_model.specs.StateFromHistory.{has_put, has_taken, closed_by_peer, is_closed, is_negotiated, step_from, phase_from}
+use Rattle.amqp_model.specs.Machine.{taken_ends_handshake, put_ends_handshake, after_start, after_start_ok, after_start_put, step_taken, step_put, phase_taken, phase_put, phase_after}
+
+-- the phase by the words that are counted
+abbrev word : (closed put over : Bool) → Step → Phase
+word closed put over step = cond closed Closed (cond put Phase.Closing (cond over Running (Handshake step)))
+
+-- a frame taken that closes, or answers a close, or ends the handshake
+took-closed : (c put co b over : Bool) (step : Step) → word (((c && not put) || true) || (co || b)) put over step ≡ Closed
+took-closed false put co b over step = refl
+took-closed true true co b over step = refl
+took-closed true false co b over step = refl
+
+took-answered : (c put co over : Bool) (step : Step) → word (((c && not put) || false) || (co || true)) put over step ≡ Closed
+took-answered true true true over step = refl
+took-answered true true false over step = refl
+took-answered true false co over step = refl
+took-answered false put true over step = refl
+took-answered false put false over step = refl
+
+took-closing : (c co over : Bool) (step : Step) → word (((c && false) || false) || (co || false)) true over step ≡ cond co Closed Phase.Closing
+took-closing true true over step = refl
+took-closing true false over step = refl
+took-closing false true over step = refl
+took-closing false false over step = refl
+
+took-running : (c co e : Bool) (step : Step) → word (((c && true) || false) || (co || false)) false (e || true) step ≡ cond (c || co) Closed Running
+took-running true co e step = refl
+took-running false true e step = refl
+took-running false false true step = refl
+took-running false false false step = refl
+
+took-handshake : (c co e : Bool) (step : Step) → word (((c && true) || false) || (co || false)) false (e || false) step ≡ cond (c || co) Closed (cond e Running (Handshake step))
+took-handshake true co e step = refl
+took-handshake false true e step = refl
+took-handshake false false true step = refl
+took-handshake false false false step = refl
+
+client-step : (t s ht hs : Bool) → cond (t || ht) AwaitsOpenOk (cond (s || hs) AwaitsTune AwaitsStart) ≡ cond t AwaitsOpenOk (cond s (after_start (cond ht AwaitsOpenOk (cond hs AwaitsTune AwaitsStart))) (cond ht AwaitsOpenOk (cond hs AwaitsTune AwaitsStart)))
+client-step true s ht hs = refl
+client-step false true true hs = refl
+client-step false true false true = refl
+client-step false true false false = refl
+client-step false false ht hs = refl
+
+server-step : (t s ht hs : Bool) (first : Bool) → cond (t || ht) AwaitsOpen (cond (s || hs) AwaitsTuneOk (cond first AwaitsStartOk AwaitsProtocolHeader)) ≡ cond t AwaitsOpen (cond s (after_start_ok (cond ht AwaitsOpen (cond hs AwaitsTuneOk (cond first AwaitsStartOk AwaitsProtocolHeader)))) (cond ht AwaitsOpen (cond hs AwaitsTuneOk (cond first AwaitsStartOk AwaitsProtocolHeader))))
+server-step true s ht hs first = refl
+server-step false true true hs first = refl
+server-step false true false true first = refl
+server-step false true false false true = refl
+server-step false true false false false = refl
+server-step false false ht hs first = refl
+
+took : (role : Role) (r : Reading) (a b put over : Bool) (old new : Step) → new ≡ step_taken role r old → word (((is_call kinds.ConnectionClose r && not put) || a) || (is_call kinds.ConnectionCloseOk r || b)) put (taken_ends_handshake role r || over) new ≡ phase_taken role r (word (a || b) put over old)
+took role r true b put over old new s = took-closed (is_call kinds.ConnectionClose r) put (is_call kinds.ConnectionCloseOk r) b (taken_ends_handshake role r || over) new
+took role r false true put over old new s = took-answered (is_call kinds.ConnectionClose r) put (is_call kinds.ConnectionCloseOk r) (taken_ends_handshake role r || over) new
+took role r false false true over old new s = took-closing (is_call kinds.ConnectionClose r) (is_call kinds.ConnectionCloseOk r) (taken_ends_handshake role r || over) new
+took role r false false false true old new s = took-running (is_call kinds.ConnectionClose r) (is_call kinds.ConnectionCloseOk r) (taken_ends_handshake role r) new
+took role r false false false false old new s = took-handshake (is_call kinds.ConnectionClose r) (is_call kinds.ConnectionCloseOk r) (taken_ends_handshake role r) new ∙ ap (λ step. cond (is_call kinds.ConnectionClose r || is_call kinds.ConnectionCloseOk r) Closed (cond (taken_ends_handshake role r) Running (Handshake step))) s
+
+-- a frame put
+put-closing : (c over : Bool) (step : Step) → word false (c || true) over step ≡ Phase.Closing
+put-closing true over step = refl
+put-closing false over step = refl
+
+put-running : (c e : Bool) (step : Step) → word false (c || false) (e || true) step ≡ cond c Phase.Closing Running
+put-running true e step = refl
+put-running false true step = refl
+put-running false false step = refl
+
+put-handshake : (c e : Bool) (step : Step) → word false (c || false) (e || false) step ≡ cond c Phase.Closing (cond e Running (Handshake step))
+put-handshake true e step = refl
+put-handshake false true step = refl
+put-handshake false false step = refl
+
+put-server-step : (s ht hs first : Bool) → cond ht AwaitsOpen (cond hs AwaitsTuneOk (cond (s || first) AwaitsStartOk AwaitsProtocolHeader)) ≡ cond s (after_start_put (cond ht AwaitsOpen (cond hs AwaitsTuneOk (cond first AwaitsStartOk AwaitsProtocolHeader)))) (cond ht AwaitsOpen (cond hs AwaitsTuneOk (cond first AwaitsStartOk AwaitsProtocolHeader)))
+put-server-step true true hs first = refl
+put-server-step true false true first = refl
+put-server-step true false false true = refl
+put-server-step true false false false = refl
+put-server-step false ht hs first = refl
+
+puts : (role : Role) (r : Reading) (closed put over : Bool) (old new : Step) → new ≡ step_put role r old → word closed (is_call kinds.ConnectionClose r || put) (put_ends_handshake role r || over) new ≡ phase_put role r (word closed put over old)
+puts role r true put over old new s = refl
+puts role r false true over old new s = put-closing (is_call kinds.ConnectionClose r) (put_ends_handshake role r || over) new
+puts role r false false true old new s = put-running (is_call kinds.ConnectionClose r) (put_ends_handshake role r) new
+puts role r false false false old new s = put-handshake (is_call kinds.ConnectionClose r) (put_ends_handshake role r) new ∙ ap (λ step. cond (is_call kinds.ConnectionClose r) Phase.Closing (cond (put_ends_handshake role r) Running (Handshake step))) s
+
+pub phase-taken : (role : Role) (r : Reading) (frame : Frame) (entries : List ChannelEntry) → phase_from role false (TookHere r frame ∷ entries) ≡ phase_after role (TookHere r frame) (phase_from role false entries)
+phase-taken Client r frame es = took Client r (closed_by_peer es) (has_taken kinds.ConnectionCloseOk es) (has_put kinds.ConnectionClose es) (is_negotiated Client es) (step_from Client es) (step_from Client (TookHere r frame ∷ es)) (client-step (is_call kinds.ConnectionTune r) (is_call kinds.ConnectionStart r) (has_taken kinds.ConnectionTune es) (has_taken kinds.ConnectionStart es))
+phase-taken Server r frame es = took Server r (closed_by_peer es) (has_taken kinds.ConnectionCloseOk es) (has_put kinds.ConnectionClose es) (is_negotiated Server es) (step_from Server es) (step_from Server (TookHere r frame ∷ es)) (server-step (is_call kinds.ConnectionTuneOk r) (is_call kinds.ConnectionStartOk r) (has_taken kinds.ConnectionTuneOk es) (has_taken kinds.ConnectionStartOk es) (has_put kinds.ConnectionStart es))
+
+pub phase-put : (role : Role) (r : Reading) (frame : Frame) (entries : List ChannelEntry) → phase_from role false (PutHere r frame ∷ entries) ≡ phase_after role (PutHere r frame) (phase_from role false entries)
+phase-put Client r frame es = puts Client r (is_closed es) (has_put kinds.ConnectionClose es) (is_negotiated Client es) (step_from Client es) (step_from Client es) refl
+phase-put Server r frame es = puts Server r (is_closed es) (has_put kinds.ConnectionClose es) (is_negotiated Server es) (step_from Server es) (step_from Server (PutHere r frame ∷ es)) (put-server-step (is_call kinds.ConnectionStart r) (has_taken kinds.ConnectionTuneOk es) (has_taken kinds.ConnectionStartOk es) (has_put kinds.ConnectionStart es))

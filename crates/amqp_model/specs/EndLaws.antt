@@ -1,0 +1,139 @@
+-- What holds of an end and its history: the statements that the public laws carry.
+use Rattle.std.specs.Prelude.{◌≡◌, ◌≢◌, ◌≤◌, ◌<◌, ◌+◌, ◌⊎◌, Bool, true, false, ℕ, suc, List, [], ◌∷◌, map, Option, Some, None}
+use Rattle.amqp_model.specs.Frame.{Frame}
+use Rattle.amqp_model.specs.Notes.{Role, Kind}
+use Rattle.amqp_model.specs.Verdict as lives
+use Rattle.amqp_model.specs.Verdict.{verdict_at}
+use Rattle.amqp_model.specs.Lives.{has_left, state}
+use Rattle.amqp_model.specs.Notes.{Note}
+use Rattle.amqp_model.specs.Carried.{Carry}
+use Rattle.amqp_model.specs.Runs.{IsNext, Acts}
+use Rattle.amqp_model.specs.Methods.{ReadsBack}
+use Rattle.amqp_model.specs.Readings.{Reading, kind_of, reading as reading_of}
+use Rattle.amqp_model.specs.Histories.{Entry, Put, Took, History, ChannelEntry, PutHere, TookHere, LeftHere, channel_of, entries_on, notes}
+use Rattle.amqp_model.specs.Channels.{Channel, Phase, Handshake, Running, End, state_of}
+use Rattle.amqp_model.specs.Negotiation.{Config}
+use Rattle.amqp_model.specs.StateFromHistory.{channel_from, end_from}
+use Rattle.amqp_model.specs.FrameVerdict.{Facts, on_channel, awaits_in, verdict_on, methods_put}
+use Rattle.amqp_model.specs.Closes.{AllReadBack, reply_to}
+use Rattle.amqp_model.specs.Events.{Event, FrameVerdict, Proceeds, RefusesContent}
+use Rattle.amqp_model.specs.Asks.{is_free, Ask, is_made, method_asked, Puts, ask_verdict}
+use Rattle.amqp_model.specs.LawfulHistories.{facts_at, end_verdict, goes_on, then_put, then_taken}
+use Rattle.amqp_model.specs.Machine.{end_after, end_after_taken, end_after_put, new_end, channel_after, may_put_here, ChannelStandsFor, StandsFor}
+
+-- A Running end takes a frame on a channel above 0, and goes on: what it keeps of the channel follows from what it
+-- kept and from the frame, and stands for the channel's entries with that frame.
+abbrev pub FollowsTaken : (role : Role) → Facts role → Reading → Frame → List ChannelEntry → Type 0
+FollowsTaken role facts reading frame entries =
+    facts.phase ≡ Running → facts.number ≢ 0 → has_left (notes entries) ≡ false → ChannelStandsFor role facts.channel entries → goes_on (verdict_on facts reading) ≡ true → ChannelStandsFor role (channel_after role (TookHere reading frame) facts.channel) (TookHere reading frame ∷ entries)
+
+-- the same of a frame that it puts there, as its application asks or as its verdict owes
+abbrev pub FollowsPut : Role → Channel → Reading → Frame → List ChannelEntry → Type 0
+FollowsPut role channel reading frame entries =
+    has_left (notes entries) ≡ false → ChannelStandsFor role channel entries → may_put_here role channel reading ≡ true → ChannelStandsFor role (channel_after role (PutHere reading frame) channel) (PutHere reading frame ∷ entries)
+
+-- connection.close, and what follows it, leave what the end keeps of the channel
+abbrev pub StaysLeaving : Role → Channel → ChannelEntry → List ChannelEntry → Type 0
+StaysLeaving role channel entry entries = has_left (notes entries) ≡ true → ChannelStandsFor role channel entries → ChannelStandsFor role channel (entry ∷ entries)
+
+abbrev pub StaysAtLeaving : Role → Channel → List ChannelEntry → Type 0
+StaysAtLeaving role channel entries = ChannelStandsFor role channel entries → ChannelStandsFor role channel (LeftHere ∷ entries)
+
+-- an entry of another channel above 0 leaves the channel's entries, and so what stands for them
+abbrev pub LeavesOthers : Entry → History → ℕ → Type 0
+LeavesOthers entry history channel = channel_of entry ≢ 0 → channel_of entry ≢ channel → entries_on channel (entry ∷ history) ≡ entries_on channel history
+
+-- what the record of a channel says is what its entries count to
+abbrev pub ReadsChannel : Role → Channel → List ChannelEntry → Type 0
+ReadsChannel role channel entries = ChannelStandsFor role channel entries → channel_from role entries ≡ channel
+
+-- its state is the one that the lives of a channel count
+abbrev pub ReadsState : Role → List ChannelEntry → Type 0
+ReadsState role entries = state_of (channel_from role entries) ≡ state role (notes entries)
+
+-- the verdict of an end on a frame is the one that its history gives
+abbrev pub VerdictOfHistory : (role : Role) → Config role → (failed : Bool) → End → History → Frame → Type 0
+VerdictOfHistory role config failed end history frame = StandsFor role config failed end history → end_verdict config end frame ≡ end_verdict config (end_from role config failed history) frame
+
+-- what comes of an ask is what its history gives
+abbrev pub AskOfHistory : (role : Role) → Config role → (failed : Bool) → End → History → Ask → Type 0
+AskOfHistory role config failed end history ask = StandsFor role config failed end history → ask_verdict role end ask ≡ ask_verdict role (end_from role config failed history) ask
+
+-- A verdict that goes on agrees with the lives of a channel: they go on too, and owe the reply that it puts; or it
+-- refuses a content, of which they say no more than that it came.
+pub data AgreesWithLives (role : Role) (number : ℕ) (channel : Channel) (reading : Reading) (verdict : FrameVerdict) : Type 0 where
+  agrees : (event : lives.Event) (owed : Option Kind) (told : Option Event) → verdict_at role (state_of channel) (awaits_in channel) (kind_of reading) ≡ lives.GoesOn event owed → verdict ≡ Proceeds told (map (on_channel number) (reply_to owed)) → AgreesWithLives role number channel reading verdict
+  refuses : verdict_at role (state_of channel) (awaits_in channel) (kind_of reading) ≡ lives.GoesOn lives.Acted None → verdict ≡ RefusesContent → AgreesWithLives role number channel reading verdict
+
+-- the connection is closed, or the end has put connection.close or has failed
+abbrev pub is_over : Phase → Bool
+is_over (Handshake step) = false
+is_over Running = false
+is_over phase = true
+
+abbrev pub VerdictAgrees : (role : Role) → Facts role → Reading → Type 0
+VerdictAgrees role facts reading = is_over facts.phase ≡ false → facts.number ≢ 0 → goes_on (verdict_on facts reading) ≡ true → AgreesWithLives role facts.number facts.channel reading (verdict_on facts reading)
+
+-- an end acts on a channel as the lives of a channel allow, any number of times
+pub data ActsOn (role : Role) (theirs : List Note) : List Note → List Note → Type 0 where
+  rests : {mine : List Note} → ActsOn role theirs mine mine
+  acts : {mine next after : List Note} → Acts role theirs mine next → ActsOn role theirs next after → ActsOn role theirs mine after
+
+-- the notes of a channel above 0
+abbrev pub notes_on : (channel : ℕ) → History → List Note
+notes_on channel history = notes (entries_on channel history)
+
+-- An end takes a frame, and goes on. If the frame is the next that the other put on its channel, the end acts on each
+-- channel above 0 as the lives of a channel allow.
+abbrev pub TakesActs : (role : Role) → Config role → History → Frame → (n : ℕ) → (theirs : List Note) → Type 0
+TakesActs role config history frame n theirs =
+    AllReadBack (methods_put (facts_at config (end_from role config false history) frame.channel) (end_verdict config (end_from role config false history) frame)) → goes_on (end_verdict config (end_from role config false history) frame) ≡ true → (frame.channel ≡ suc n → IsNext theirs (notes_on (suc n) history) (Carry (kind_of (reading_of frame)) frame)) → ActsOn role theirs (notes_on (suc n) history) (notes_on (suc n) (then_taken config (end_from role config false history) frame history))
+
+-- An end accepts an ask: it acts on each channel above 0 as the lives of a channel allow.
+abbrev pub AsksActs : (role : Role) → Config role → History → Ask → List Frame → (n : ℕ) → (theirs : List Note) → Type 0
+AsksActs role config history ask frames n theirs =
+    ReadsBack (method_asked ask) → is_made ask ≡ true → ask_verdict role (end_from role config false history) ask ≡ Puts frames → ActsOn role theirs (notes_on (suc n) history) (notes_on (suc n) (then_put frames history))
+
+-- an entry as its channel sees it
+abbrev pub seen_by_channel : Entry → ChannelEntry
+seen_by_channel (Put frame) = PutHere (reading_of frame) frame
+seen_by_channel (Took frame) = TookHere (reading_of frame) frame
+
+-- the end goes on with a frame that it takes; what it puts stands on channel 0, or on a channel that may carry it
+abbrev pub EntryFits : (role : Role) → Config role → End → Entry → Type 0
+EntryFits role config end (Took frame) = goes_on (end_verdict config end frame) ≡ true
+EntryFits role config end (Put frame) = (frame.channel ≡ 0) ⊎ ((end.phase ≡ Running) × (may_put_here role (end.channels frame.channel) (reading_of frame) ≡ true))
+
+-- what the end keeps after such an entry stands for its history with that entry
+abbrev pub EndFollows : (role : Role) → Config role → End → History → Entry → Type 0
+EndFollows role config end history entry =
+    StandsFor role config false end history → EntryFits role config end entry → StandsFor role config false (end_after role config (channel_of entry) (seen_by_channel entry) end) (entry ∷ history)
+
+-- a new end stands for a history of nothing
+abbrev pub NewEndStands : (role : Role) → Config role → Type 0
+NewEndStands role config = StandsFor role config false (new_end role) []
+
+-- the lowest of so many numbers, counted up from one, at which the channel is Free
+pub record IsLowestFree (channels : ℕ → Channel) (many from k : ℕ) : Type 0 where
+  pub free : is_free (channels k) ≡ true
+  pub at_least : from ≤ k
+  pub below_end : k < from + many
+  pub none_below : (j : ℕ) → from ≤ j → j < k → is_free (channels j) ≡ false
+
+abbrev pub NoneFree : (ℕ → Channel) → (many from : ℕ) → Type 0
+NoneFree channels many from = (j : ℕ) → from ≤ j → j < from + many → is_free (channels j) ≡ false
+
+abbrev pub FindsLowest : (ℕ → Channel) → (many from : ℕ) → Option ℕ → Type 0
+FindsLowest channels many from (Some k) = IsLowestFree channels many from k
+FindsLowest channels many from None = NoneFree channels many from
+
+-- An end takes a frame, and goes on: what it keeps then stands for its history with the frame, and with the frames that
+-- it owes.
+abbrev pub FrameFollows : (role : Role) → Config role → End → History → Frame → Type 0
+FrameFollows role config end history frame =
+    StandsFor role config false end history → AllReadBack (methods_put (facts_at config end frame.channel) (end_verdict config end frame)) → goes_on (end_verdict config end frame) ≡ true → StandsFor role config false (end_after_taken role config end (reading_of frame) frame) (then_taken config end frame history)
+
+-- An end accepts an ask: what it keeps then stands for its history with the frames put.
+abbrev pub AskFollows : (role : Role) → Config role → End → History → Ask → List Frame → Type 0
+AskFollows role config end history ask frames =
+    StandsFor role config false end history → ReadsBack (method_asked ask) → is_made ask ≡ true → ask_verdict role end ask ≡ Puts frames → StandsFor role config false (end_after_put role config frames end) (then_put frames history)

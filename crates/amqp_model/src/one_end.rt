@@ -1,0 +1,75 @@
+//! What one end keeps, and the history that it stands for.
+//!
+//! A history is the list of all frames that an end put and took. An end keeps none of it. It keeps its phase, what was
+//! agreed, and a small record of each channel. These laws say that this is enough: the record of a channel follows
+//! each entry of that channel, and what the end does with a frame or with an ask is what its history gives.
+
+ghost use Rattle.std.specs.Prelude.{Bool, ℕ, List};
+ghost use Rattle.amqp_model.specs.Asks.{Ask, first_free};
+ghost use Rattle.amqp_model.specs.Channels.{Channel, End};
+ghost use Rattle.amqp_model.specs.EndLaws.{AskFollows, AskOfHistory, AsksActs, EndFollows, FindsLowest, FollowsPut, FollowsTaken, FrameFollows, LeavesOthers, NewEndStands, ReadsChannel, ReadsState, StaysAtLeaving, StaysLeaving, TakesActs, VerdictAgrees, VerdictOfHistory};
+ghost use Rattle.amqp_model.specs.Frame.{Frame};
+ghost use Rattle.amqp_model.specs.FrameVerdict.{Facts};
+ghost use Rattle.amqp_model.specs.Histories.{ChannelEntry, Entry, History};
+ghost use Rattle.amqp_model.specs.Negotiation.{Config};
+ghost use Rattle.amqp_model.specs.Notes.{Client, Note, Role, Server};
+ghost use Rattle.amqp_model.specs.Pairs.{RunsOnEach};
+ghost use Rattle.amqp_model.specs.Readings.{Reading};
+
+/// What an end keeps of a channel follows from what it kept before, the entry, and the facts that its verdict rests
+/// on, and stands for that channel's entries extended.
+pub fn record_follows()
+    ensures taken { (role : Role) (facts : Facts role) (reading : Reading) (frame : Frame) (entries : List ChannelEntry) → FollowsTaken role facts reading frame entries }
+    ensures put { (role : Role) (channel : Channel) (reading : Reading) (frame : Frame) (entries : List ChannelEntry) → FollowsPut role channel reading frame entries }
+    ensures at_leaving { (role : Role) (channel : Channel) (entries : List ChannelEntry) → StaysAtLeaving role channel entries }
+    ensures leaving { (role : Role) (channel : Channel) (entry : ChannelEntry) (entries : List ChannelEntry) → StaysLeaving role channel entry entries }
+{}
+
+/// An entry of another channel above 0 leaves what an end keeps of a channel, and what that stands for.
+pub fn others_stay()
+    ensures { (entry : Entry) (history : History) (channel : ℕ) → LeavesOthers entry history channel }
+{}
+
+/// The record of a channel is what the channel's entries count to, and its state the one of the lives of a channel.
+pub fn record_reads()
+    ensures channel { (role : Role) (channel : Channel) (entries : List ChannelEntry) → ReadsChannel role channel entries }
+    ensures state { (role : Role) (entries : List ChannelEntry) → ReadsState role entries }
+{}
+
+/// The verdict of an end on a frame is the one that every history gives for which the end stands.
+pub fn verdict_is_of_history()
+    ensures { (role : Role) (config : Config role) (failed : Bool) (end : End) (history : History) (frame : Frame) → VerdictOfHistory role config failed end history frame }
+{}
+
+/// What an end does with an ask is what every history gives for which the end stands.
+pub fn ask_is_of_history()
+    ensures { (role : Role) (config : Config role) (failed : Bool) (end : End) (history : History) (ask : Ask) → AskOfHistory role config failed end history ask }
+{}
+
+/// Where an end goes on, its verdict on a frame of a channel above 0 is that of the lives of a channel: the same event
+/// and the same reply.
+pub fn verdict_agrees()
+    ensures { (role : Role) (facts : Facts role) (reading : Reading) → VerdictAgrees role facts reading }
+{}
+
+/// A frame that an end takes, and what it accepts to put, act on each channel above 0 as the lives of a channel allow.
+/// So the histories of two ends are a run on each.
+pub fn history_acts()
+    ensures taken { (role : Role) (config : Config role) (history : History) (frame : Frame) (n : ℕ) (theirs : List Note) → TakesActs role config history frame n theirs }
+    ensures asked { (role : Role) (config : Config role) (history : History) (ask : Ask) (frames : List Frame) (n : ℕ) (theirs : List Note) → AsksActs role config history ask frames n theirs }
+    ensures pair { (client_config : Config Client) (server_config : Config Server) (client server : History) → RunsOnEach client_config server_config client server }
+{}
+
+/// What an end keeps follows each entry of its history, each frame that it takes with the frames that it owes, and
+/// each ask that it accepts. A new end stands for the history of nothing.
+pub fn end_follows()
+    ensures new { (role : Role) (config : Config role) → NewEndStands role config }
+    ensures entry { (role : Role) (config : Config role) (end : End) (history : History) (entry : Entry) → EndFollows role config end history entry }
+    ensures frame { (role : Role) (config : Config role) (end : End) (history : History) (frame : Frame) → FrameFollows role config end history frame }
+    ensures ask { (role : Role) (config : Config role) (end : End) (history : History) (ask : Ask) (frames : List Frame) → AskFollows role config end history ask frames }
+{}
+
+/// The number that an open takes is the lowest that is Free, and there is none where none is found.
+pub fn lowest_is_found()
+    ensures { (channels : ℕ → Channel) (many from : ℕ) → FindsLowest channels many from (first_free channels many from) }
+{}
