@@ -1,5 +1,5 @@
 -- What an end keeps follows each entry of its history.
-use Rattle.std.proofs.Common.{◌≡◌, ◌⊎◌, inl, inr, Bool, true, false, cond, ◌||◌, ℕ, zero, suc, ◌==◌, arith, List, ◌∷◌, refl, sym, ap, ◌∙◌, subst}
+use Rattle.std.proofs.Common.{◌≡◌, ◌⊎◌, inl, inr, Bool, true, false, cond, ◌||◌, ℕ, zero, suc, ◌==◌, arith, List, ◌∷◌, refl, sym, ap, ◌∙◌, ap₂, subst}
 use Rattle.std.proofs.lemmas.Bool.{false≢true, true≢false, eqb-true, eq-eqb, ne_eqb}
 use Rattle.amqp_method.specs.declared.kinds.Kind.TheVariants as kinds
 use Rattle.amqp_model.specs.Frame.{Frame}
@@ -28,18 +28,18 @@ zero-not n = ne_eqb 0 (suc n) (λ e. let h : 0 ≡ suc n = e in omega arith)
 
 -- Channel 0.
 
-zero-took : (frame : Frame) (history : History) → frame.channel ≡ 0 → entries_on 0 (Took frame ∷ history) ≡ TookHere (reading frame) frame ∷ entries_on 0 history
+pub zero-took : (frame : Frame) (history : History) → frame.channel ≡ 0 → entries_on 0 (Took frame ∷ history) ≡ TookHere (reading frame) frame ∷ entries_on 0 history
 zero-took frame history e = let here : (frame.channel == 0) ≡ true = eq-eqb frame.channel 0 e in simp here
 
-zero-put : (frame : Frame) (history : History) → frame.channel ≡ 0 → entries_on 0 (Put frame ∷ history) ≡ PutHere (reading frame) frame ∷ entries_on 0 history
+pub zero-put : (frame : Frame) (history : History) → frame.channel ≡ 0 → entries_on 0 (Put frame ∷ history) ≡ PutHere (reading frame) frame ∷ entries_on 0 history
 zero-put frame history e = let here : (frame.channel == 0) ≡ true = eq-eqb frame.channel 0 e in simp here
 
-agreed-taken : (role : Role) (config : Config role) (r : Reading) (frame : Frame) (entries : List ChannelEntry) → agreed_from role config (TookHere r frame ∷ entries) ≡ agreed_after role config (TookHere r frame) (agreed_from role config entries)
+pub agreed-taken : (role : Role) (config : Config role) (r : Reading) (frame : Frame) (entries : List ChannelEntry) → agreed_from role config (TookHere r frame ∷ entries) ≡ agreed_after role config (phase_from role false entries) (TookHere r frame) (agreed_from role config entries)
 agreed-taken Client config r frame entries = refl
 agreed-taken Server config (Calls method) frame entries = refl
 agreed-taken Server config r frame entries = refl
 
-agreed-put : (role : Role) (config : Config role) (r : Reading) (frame : Frame) (entries : List ChannelEntry) → agreed_from role config (PutHere r frame ∷ entries) ≡ agreed_after role config (PutHere r frame) (agreed_from role config entries)
+pub agreed-put : (role : Role) (config : Config role) (r : Reading) (frame : Frame) (entries : List ChannelEntry) → agreed_from role config (PutHere r frame ∷ entries) ≡ agreed_after role config (phase_from role false entries) (PutHere r frame) (agreed_from role config entries)
 agreed-put Server config r frame entries = refl
 agreed-put Client config (Calls method) frame entries = refl
 agreed-put Client config r frame entries = refl
@@ -101,20 +101,20 @@ took-zero : (role : Role) (config : Config role) (end : End) (history : History)
 took-zero role config end history frame e stands =
     record {
       phase = ap (phase_from role false) (zero-took frame history e) ∙ (phase-taken role (reading frame) frame (entries_on 0 history) ∙ ap (phase_after role (TookHere (reading frame) frame)) stands.phase);
-      agreed = ap (agreed_from role config) (zero-took frame history e) ∙ (agreed-taken role config (reading frame) frame (entries_on 0 history) ∙ ap (agreed_after role config (TookHere (reading frame) frame)) stands.agreed);
+      agreed = ap (agreed_from role config) (zero-took frame history e) ∙ (agreed-taken role config (reading frame) frame (entries_on 0 history) ∙ ap₂ (λ phase agreed. agreed_after role config phase (TookHere (reading frame) frame) agreed) stands.phase stands.agreed);
       no_channel = stands.no_channel;
       free_before = λ step p. free-still end stands.free_before (still-taken role (reading frame) end.phase (ap in_handshake p));
-      channels = λ n. subst (ChannelStandsFor role (end.channels (suc n))) (sym (zero-leaves-took frame history n e)) (stands.channels n);
+      channels = λ goes n. subst (ChannelStandsFor role (end.channels (suc n))) (sym (zero-leaves-took frame history n e)) (stands.channels goes n);
     }
 
 put-zero : (role : Role) (config : Config role) (end : End) (history : History) (frame : Frame) → frame.channel ≡ 0 → StandsFor role config false end history → StandsFor role config false (end_after role config 0 (PutHere (reading frame) frame) end) (Put frame ∷ history)
 put-zero role config end history frame e stands =
     record {
       phase = ap (phase_from role false) (zero-put frame history e) ∙ (phase-put role (reading frame) frame (entries_on 0 history) ∙ ap (phase_after role (PutHere (reading frame) frame)) stands.phase);
-      agreed = ap (agreed_from role config) (zero-put frame history e) ∙ (agreed-put role config (reading frame) frame (entries_on 0 history) ∙ ap (agreed_after role config (PutHere (reading frame) frame)) stands.agreed);
+      agreed = ap (agreed_from role config) (zero-put frame history e) ∙ (agreed-put role config (reading frame) frame (entries_on 0 history) ∙ ap₂ (λ phase agreed. agreed_after role config phase (PutHere (reading frame) frame) agreed) stands.phase stands.agreed);
       no_channel = stands.no_channel;
       free_before = λ step p. free-still end stands.free_before (still-put role (reading frame) end.phase (ap in_handshake p));
-      channels = λ n. zero-leaves-put role (end.channels (suc n)) frame history n e (stands.channels n);
+      channels = λ goes n. zero-leaves-put role (end.channels (suc n)) frame history n e (stands.channels goes n);
     }
 
 -- A channel above 0.
@@ -126,10 +126,10 @@ others-took frame history n apart = simp apart
 others-put : (frame : Frame) (history : History) (n : ℕ) → (frame.channel == 0) ≡ false → (frame.channel == suc n) ≡ false → entries_on (suc n) (Put frame ∷ history) ≡ entries_on (suc n) history
 others-put frame history n above apart = simp (above, apart)
 
-zero-took-others : (frame : Frame) (history : History) → (frame.channel == 0) ≡ false → entries_on 0 (Took frame ∷ history) ≡ entries_on 0 history
+pub zero-took-others : (frame : Frame) (history : History) → (frame.channel == 0) ≡ false → entries_on 0 (Took frame ∷ history) ≡ entries_on 0 history
 zero-took-others frame history above = simp above
 
-zero-put-others : (frame : Frame) (history : History) → (frame.channel == 0) ≡ false → entries_on 0 (Put frame ∷ history) ≡ entries_on 0 history
+pub zero-put-others : (frame : Frame) (history : History) → (frame.channel == 0) ≡ false → entries_on 0 (Put frame ∷ history) ≡ entries_on 0 history
 zero-put-others frame history above = simp above
 
 -- the channel of the entry, and the others
@@ -142,7 +142,7 @@ set-stands role m after channels before now here others stand n = cases (suc n =
         let apart : (suc m == suc n) ≡ false = ne_eqb (suc m) (suc n) (λ same. let h : (suc n == suc m) ≡ true = eq-eqb (suc n) (suc m) (sym same) in true≢false (sym h ∙ e)) in
         subst (ChannelStandsFor role (channels (suc n))) (sym (others n apart)) (stand n)
 
-set-zero : (m : ℕ) (after : Channel) (channels : ℕ → Channel) → channels 0 ≡ Free → set_channel (suc m) after channels 0 ≡ Free
+pub set-zero : (m : ℕ) (after : Channel) (channels : ℕ → Channel) → channels 0 ≡ Free → set_channel (suc m) after channels 0 ≡ Free
 set-zero m after channels e = let apart : (0 == suc m) ≡ false = zero-not m in simp apart e
 
 -- the words that say whether the end has put connection.close
@@ -158,9 +158,9 @@ left-here role config end history m stands p = left-noted history m ∙ has-left
 -- the channel of a frame taken
 took-here : (role : Role) (config : Config role) (end : End) (history : History) (frame : Frame) (m : ℕ) → frame.channel ≡ suc m → StandsFor role config false end history → goes_on (verdict_on (facts_at config end (suc m)) (reading frame)) ≡ true → (phase : Phase) → end.phase ≡ phase → ChannelStandsFor role (unless_leaving phase (end.channels (suc m)) (channel_after role (TookHere (reading frame) frame) (end.channels (suc m)))) (entries_on (suc m) (Took frame ∷ history))
 took-here role config end history frame m e stands g Running p =
-    subst (ChannelStandsFor role (channel_after role (TookHere (reading frame) frame) (end.channels (suc m)))) (sym (seen-took frame history m e)) (follows-taken role (facts_at config end (suc m)) (reading frame) frame (entries_on (suc m) history) p (λ z. let h : suc m ≡ 0 = z in omega arith) (stays-here role config end history m stands p) (stands.channels m) g)
+    subst (ChannelStandsFor role (channel_after role (TookHere (reading frame) frame) (end.channels (suc m)))) (sym (seen-took frame history m e)) (follows-taken role (facts_at config end (suc m)) (reading frame) frame (entries_on (suc m) history) p (λ z. let h : suc m ≡ 0 = z in omega arith) (stays-here role config end history m stands p) (stands.channels refl m) g)
 took-here role config end history frame m e stands g Phase.Closing p =
-    subst (ChannelStandsFor role (end.channels (suc m))) (sym (seen-took frame history m e)) (follows-leaving role (end.channels (suc m)) (TookHere (reading frame) frame) (entries_on (suc m) history) (left-here role config end history m stands p) (stands.channels m))
+    subst (ChannelStandsFor role (end.channels (suc m))) (sym (seen-took frame history m e)) (follows-leaving role (end.channels (suc m)) (TookHere (reading frame) frame) (entries_on (suc m) history) (left-here role config end history m stands p) (stands.channels refl m))
 took-here role config end history frame m e stands g (Handshake step) p =
     handshake-stops config step end.agreed (suc m) (end.channels (suc m)) (ap is_closing (stands.free_before step p (suc m))) (not-zero m) (reading frame) (subst (λ p. goes_on (verdict_on (facts_in config p end.agreed (suc m) (end.channels (suc m))) (reading frame)) ≡ true) p g)
 took-here role config end history frame m e stands g Closed p = absurd (false≢true (subst (λ p. goes_on (verdict_on (facts_in config p end.agreed (suc m) (end.channels (suc m))) (reading frame)) ≡ true) p g))
@@ -178,7 +178,7 @@ took-above role config end history frame m e stands g =
       agreed = ap (agreed_from role config) (zero-took-others frame history above) ∙ stands.agreed;
       no_channel = set-zero m _ end.channels stands.no_channel;
       free_before = λ step p. absurd (no-handshake role config end history frame m stands g step p);
-      channels = set-stands role m _ end.channels history (Took frame ∷ history) (took-here role config end history frame m e stands g end.phase refl) (λ n apart. others-took frame history n (ap (λ c. c == suc n) e ∙ apart)) stands.channels;
+      channels = λ goes. set-stands role m _ end.channels history (Took frame ∷ history) (took-here role config end history frame m e stands g end.phase refl) (λ n apart. others-took frame history n (ap (λ c. c == suc n) e ∙ apart)) (stands.channels goes);
     }
   where
     above : (frame.channel == 0) ≡ false
@@ -191,14 +191,14 @@ put-above role config end history frame m e stands p may =
       agreed = ap (agreed_from role config) (zero-put-others frame history above) ∙ stands.agreed;
       no_channel = set-zero m _ end.channels stands.no_channel;
       free_before = λ step q. absurd (false≢true (ap in_handshake (sym p ∙ q)));
-      channels = set-stands role m _ end.channels history (Put frame ∷ history) here (λ n apart. others-put frame history n above (ap (λ c. c == suc n) e ∙ apart)) stands.channels;
+      channels = λ goes. set-stands role m _ end.channels history (Put frame ∷ history) here (λ n apart. others-put frame history n above (ap (λ c. c == suc n) e ∙ apart)) (stands.channels goes);
     }
   where
     above : (frame.channel == 0) ≡ false
     above = ap (λ c. c == 0) e ∙ not-zero m
 
     here : ChannelStandsFor role (unless_leaving end.phase (end.channels (suc m)) (channel_after role (PutHere (reading frame) frame) (end.channels (suc m)))) (entries_on (suc m) (Put frame ∷ history))
-    here = subst (λ q. ChannelStandsFor role (unless_leaving q (end.channels (suc m)) (channel_after role (PutHere (reading frame) frame) (end.channels (suc m)))) (entries_on (suc m) (Put frame ∷ history))) (sym p) (subst (ChannelStandsFor role (channel_after role (PutHere (reading frame) frame) (end.channels (suc m)))) (sym (seen-put frame history m e)) (follows-put role (end.channels (suc m)) (reading frame) frame (entries_on (suc m) history) (stays-here role config end history m stands p) (stands.channels m) may))
+    here = subst (λ q. ChannelStandsFor role (unless_leaving q (end.channels (suc m)) (channel_after role (PutHere (reading frame) frame) (end.channels (suc m)))) (entries_on (suc m) (Put frame ∷ history))) (sym p) (subst (ChannelStandsFor role (channel_after role (PutHere (reading frame) frame) (end.channels (suc m)))) (sym (seen-put frame history m e)) (follows-put role (end.channels (suc m)) (reading frame) frame (entries_on (suc m) history) (stays-here role config end history m stands p) (stands.channels refl m) may))
 
 pub end-follows : (role : Role) (config : Config role) (end : End) (history : History) (entry : Entry) → EndFollows role config end history entry
 end-follows role config end history (Took frame) stands g = by-channel frame.channel refl g
@@ -214,5 +214,5 @@ end-follows role config end history (Put frame) stands fits = by-channel frame.c
     by-channel (suc m) e (inr fits) = put-above role config end history frame m e stands fits.0 fits.1
 
 pub new-end-stands : (role : Role) (config : Config role) → NewEndStands role config
-new-end-stands Client config = record { phase = refl; agreed = refl; no_channel = refl; free_before = λ step p n. refl; channels = λ n. (refl, refl) }
-new-end-stands Server config = record { phase = refl; agreed = refl; no_channel = refl; free_before = λ step p n. refl; channels = λ n. (refl, refl) }
+new-end-stands Client config = record { phase = refl; agreed = refl; no_channel = refl; free_before = λ step p n. refl; channels = λ goes n. (refl, refl) }
+new-end-stands Server config = record { phase = refl; agreed = refl; no_channel = refl; free_before = λ step p n. refl; channels = λ goes n. (refl, refl) }

@@ -127,7 +127,7 @@ above-follows role config end history frame m stands taken back g Closed p = abs
 above-follows role config end history frame m stands taken back g Failed p = absurd (false≢true (subst (λ p. goes_on (verdict_on (facts_in config p end.agreed (suc m) (end.channels (suc m))) (reading frame)) ≡ true) p g))
 
 pub frame-follows : (role : Role) (config : Config role) (end : End) (history : History) (frame : Frame) → FrameFollows role config end history frame
-frame-follows role config end history frame stands back g = by-channel frame.channel refl back g (end-follows role config end history (Took frame) stands g)
+frame-follows role config end history frame back stands g = by-channel frame.channel refl (back.owed end frame.channel (reading frame)) g (end-follows role config end history (Took frame) stands g)
   where
     by-channel : (c : ℕ) → frame.channel ≡ c → AllReadBack (methods_put (facts_at config end c) (verdict_on (facts_at config end c) (reading frame))) → goes_on (verdict_on (facts_at config end c) (reading frame)) ≡ true → StandsFor role config false (end_after role config c (TookHere (reading frame) frame) end) (Took frame ∷ history) → StandsFor role config false (failed_by (verdict_on (facts_at config end c) (reading frame)) (end_after_owed role config (methods_put (facts_at config end c) (verdict_on (facts_at config end c) (reading frame))) (end_after role config c (TookHere (reading frame) frame) end))) (then_put (map frame_of (methods_put (facts_at config end c) (verdict_on (facts_at config end c) (reading frame)))) (Took frame ∷ history))
     by-channel zero e back g taken =

@@ -36,11 +36,13 @@ mod Acting
 mod Elsewhere
 mod Taking
 mod Asking
-mod Pairing
 mod VerdictRows
 mod Phases
 mod EndSteps
 mod Lowest
 mod FrameSteps
+mod Failing
 mod AskSteps
+mod Lawfulness
+mod Pairing
 mod MethodTable

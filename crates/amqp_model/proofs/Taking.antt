@@ -42,8 +42,11 @@ puts-none config agreed n channel r =
     ap (methods_put (facts_in config Phase.Closing agreed (suc n) channel)) (drops (suc n == 0) (is_call kinds.ConnectionClose r) (is_call kinds.ConnectionCloseOk r) _ _ (Discarded (suc n)) (not-zero n))
 
 pub takes-acts : (role : Role) (config : Config role) (history : History) (frame : Frame) (n : ℕ) (theirs : List Note) → TakesActs role config history frame n theirs
-takes-acts role config history frame n theirs back g next = cases (frame.channel == suc n) refl
+takes-acts role config history frame n theirs writes g next = cases (frame.channel == suc n) refl
   where
+    back : AllReadBack (methods_put (facts_at config (end_from role config false history) frame.channel) (verdict_on (facts_at config (end_from role config false history) frame.channel) (reading frame)))
+    back = writes.owed (end_from role config false history) frame.channel (reading frame)
+
     end : End
     end = end_from role config false history
 

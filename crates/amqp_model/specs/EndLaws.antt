@@ -14,12 +14,13 @@ use Rattle.amqp_model.specs.Histories.{Entry, Put, Took, History, ChannelEntry, 
 use Rattle.amqp_model.specs.Channels.{Channel, Phase, Handshake, Running, End, state_of}
 use Rattle.amqp_model.specs.Negotiation.{Config}
 use Rattle.amqp_model.specs.StateFromHistory.{channel_from, end_from}
-use Rattle.amqp_model.specs.FrameVerdict.{Facts, on_channel, awaits_in, verdict_on, methods_put}
-use Rattle.amqp_model.specs.Closes.{AllReadBack, reply_to}
+use Rattle.amqp_model.specs.FrameVerdict.{Facts, on_channel, awaits_in, verdict_on}
+use Rattle.amqp_model.specs.Closes.{reply_to}
 use Rattle.amqp_model.specs.Events.{Event, FrameVerdict, Proceeds, RefusesContent}
+use Rattle.amqp_model.specs.Answers.{channel_state, gathered, reply_due}
 use Rattle.amqp_model.specs.Asks.{is_free, Ask, is_made, method_asked, Puts, ask_verdict}
-use Rattle.amqp_model.specs.LawfulHistories.{facts_at, end_verdict, goes_on, then_put, then_taken}
-use Rattle.amqp_model.specs.Machine.{end_after, end_after_taken, end_after_put, new_end, channel_after, may_put_here, ChannelStandsFor, StandsFor}
+use Rattle.amqp_model.specs.LawfulHistories.{end_verdict, goes_on, then_put, then_taken, too_large_puts, WritesReadBack, Goes, Lawful}
+use Rattle.amqp_model.specs.Machine.{end_after, end_after_taken, end_after_too_large, end_after_put, as_failed, new_end, channel_after, may_put_here, ChannelStandsFor, StandsFor}
 
 -- A Running end takes a frame on a channel above 0, and goes on: what it keeps of the channel follows from what it
 -- kept and from the frame, and stands for the channel's entries with that frame.
@@ -87,7 +88,7 @@ notes_on channel history = notes (entries_on channel history)
 -- channel above 0 as the lives of a channel allow.
 abbrev pub TakesActs : (role : Role) → Config role → History → Frame → (n : ℕ) → (theirs : List Note) → Type 0
 TakesActs role config history frame n theirs =
-    AllReadBack (methods_put (facts_at config (end_from role config false history) frame.channel) (end_verdict config (end_from role config false history) frame)) → goes_on (end_verdict config (end_from role config false history) frame) ≡ true → (frame.channel ≡ suc n → IsNext theirs (notes_on (suc n) history) (Carry (kind_of (reading_of frame)) frame)) → ActsOn role theirs (notes_on (suc n) history) (notes_on (suc n) (then_taken config (end_from role config false history) frame history))
+    WritesReadBack role config → goes_on (end_verdict config (end_from role config false history) frame) ≡ true → (frame.channel ≡ suc n → IsNext theirs (notes_on (suc n) history) (Carry (kind_of (reading_of frame)) frame)) → ActsOn role theirs (notes_on (suc n) history) (notes_on (suc n) (then_taken config (end_from role config false history) frame history))
 
 -- An end accepts an ask: it acts on each channel above 0 as the lives of a channel allow.
 abbrev pub AsksActs : (role : Role) → Config role → History → Ask → List Frame → (n : ℕ) → (theirs : List Note) → Type 0
@@ -131,9 +132,42 @@ FindsLowest channels many from None = NoneFree channels many from
 -- it owes.
 abbrev pub FrameFollows : (role : Role) → Config role → End → History → Frame → Type 0
 FrameFollows role config end history frame =
-    StandsFor role config false end history → AllReadBack (methods_put (facts_at config end frame.channel) (end_verdict config end frame)) → goes_on (end_verdict config end frame) ≡ true → StandsFor role config false (end_after_taken role config end (reading_of frame) frame) (then_taken config end frame history)
+    WritesReadBack role config → StandsFor role config false end history → goes_on (end_verdict config end frame) ≡ true → StandsFor role config false (end_after_taken role config end (reading_of frame) frame) (then_taken config end frame history)
 
 -- An end accepts an ask: what it keeps then stands for its history with the frames put.
 abbrev pub AskFollows : (role : Role) → Config role → End → History → Ask → List Frame → Type 0
 AskFollows role config end history ask frames =
     StandsFor role config false end history → ReadsBack (method_asked ask) → is_made ask ≡ true → ask_verdict role end ask ≡ Puts frames → StandsFor role config false (end_after_put role config frames end) (then_put frames history)
+
+-- An end takes a frame, and finds fault with it: what it keeps then stands for its history with the frame, and with the
+-- connection.close that it puts, if it puts one.
+abbrev pub FrameFails : (role : Role) → Config role → End → History → Frame → Type 0
+FrameFails role config end history frame =
+    WritesReadBack role config → StandsFor role config false end history → goes_on (end_verdict config end frame) ≡ false → StandsFor role config true (end_after_taken role config end (reading_of frame) frame) (then_taken config end frame history)
+
+-- the same where octets tell of a frame above the limit, which is not taken
+abbrev pub TooLargeFails : (role : Role) → Config role → End → History → Type 0
+TooLargeFails role config end history =
+    WritesReadBack role config → StandsFor role config false end history → StandsFor role config true (end_after_too_large role config end) (then_put (too_large_puts config end) history)
+
+-- and where nothing is put
+abbrev pub AnyFails : (role : Role) → Config role → End → History → Type 0
+AnyFails role config end history = StandsFor role config false end history → StandsFor role config true (as_failed end) history
+
+-- What is read off a lawful history stands for it.
+abbrev pub LawfulStands : (role : Role) → Config role → (failed : Bool) → History → Type 0
+LawfulStands role config failed history = WritesReadBack role config → Lawful role config failed history → StandsFor role config failed (end_from role config failed history) history
+
+-- an end that stands for a lawful history goes on to stand for it with each step
+abbrev pub StepFollows : (role : Role) → Config role → End → (before : History) → (taken : Option Frame) → (failed : Bool) → (after : History) → Type 0
+StepFollows role config end before taken failed after =
+    WritesReadBack role config → StandsFor role config false end before → Goes role config before taken failed after → (next : End) × StandsFor role config failed next after
+
+-- what an end answers of a channel is what its history gives
+pub record SameAnswers (end other : End) (number : ℕ) : Type 0 where
+  pub state : channel_state end number ≡ channel_state other number
+  pub octets : gathered end number ≡ gathered other number
+  pub request : reply_due end number ≡ reply_due other number
+
+abbrev pub AnswersOfHistory : (role : Role) → Config role → (failed : Bool) → End → History → (number : ℕ) → Type 0
+AnswersOfHistory role config failed end history number = StandsFor role config failed end history → SameAnswers end (end_from role config failed history) number

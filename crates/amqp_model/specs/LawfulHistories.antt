@@ -1,17 +1,18 @@
 -- The histories that an end can have: each frame taken is followed by just the frames that its verdict puts, each
 -- other frame put belongs to an accepted ask, whose frames stand together, and after a fault nothing more comes.
-use Rattle.std.specs.Prelude.{◌≡◌, Bool, true, false, ℕ, List, [], ◌∷◌, map}
+use Rattle.std.specs.Prelude.{◌≡◌, Bool, true, false, ℕ, List, [], ◌∷◌, map, Option, Some, None}
 use Rattle.amqp_model.specs.Frame.{Frame}
-use Rattle.amqp_model.specs.Notes.{Role, Server}
-use Rattle.amqp_model.specs.Readings.{reading}
+use Rattle.amqp_model.specs.Notes.{Role, Client, Server}
+use Rattle.amqp_model.specs.Readings.{Reading, reading}
 use Rattle.amqp_model.specs.Histories.{Put, Took, History}
 use Rattle.amqp_model.specs.Channels.{Phase, Handshake, AwaitsProtocolHeader, Closed, Failed, End}
 use Rattle.amqp_model.specs.Negotiation.{Config, start}
 use Rattle.amqp_model.specs.StateFromHistory.{end_from}
-use Rattle.amqp_model.specs.Closes.{FrameError, frame_of, method_frame}
+use Rattle.amqp_model.specs.Closes.{FrameError, AllReadBack, frame_of, method_frame}
 use Rattle.amqp_model.specs.Events.{Peer, FrameVerdict, Proceeds, RefusesContent, Faults}
 use Rattle.amqp_model.specs.FrameVerdict.{Facts, verdict_on, methods_put}
-use Rattle.amqp_model.specs.Asks.{Ask, is_made, Puts, ask_verdict}
+use Rattle.amqp_model.specs.Methods.{ReadsBack}
+use Rattle.amqp_model.specs.Asks.{Ask, is_made, method_asked, Puts, ask_verdict}
 
 -- what a verdict on a frame of this channel rests on
 abbrev pub facts_at : {role : Role} → Config role → End → (number : ℕ) → Facts role
@@ -47,19 +48,38 @@ takes_frames Failed = false
 takes_frames (Handshake AwaitsProtocolHeader) = false
 takes_frames phase = true
 
--- A lawful history of an end, and whether it has failed.
-pub data Lawful : (role : Role) → Config role → (failed : Bool) → History → Type 0 where
-  -- a new end
-  begun : {role : Role} {config : Config role} → Lawful role config false []
+-- the frames that close the connection where octets tell of a frame above the limit
+abbrev pub too_large_puts : {role : Role} → Config role → End → List Frame
+too_large_puts config end = map frame_of (methods_put (facts_at config end 0) (Faults (Peer FrameError)))
+
+abbrev pub GreetingReadsBack : (role : Role) → Config role → Type 0
+GreetingReadsBack Client config = Unit {0}
+GreetingReadsBack Server config = ReadsBack (start config)
+
+-- What an end of this configuration writes of itself reads back: what its verdicts put, and a server's start. It does
+-- where the configuration fits its fields, which is a law.
+pub record WritesReadBack (role : Role) (config : Config role) : Type 0 where
+  pub owed : (end : End) (number : ℕ) (reading : Reading) → AllReadBack (methods_put (facts_at config end number) (verdict_on (facts_at config end number) reading))
+  pub too_large : (end : End) → AllReadBack (methods_put (facts_at config end 0) (Faults (Peer FrameError)))
+  pub greeting : GreetingReadsBack role config
+
+-- One step of an end that has not failed: its history before, the frame that it takes if it takes one, whether it has
+-- failed then, and its history after.
+pub data Goes : (role : Role) → Config role → (before : History) → (taken : Option Frame) → (failed : Bool) → (after : History) → Type 0 where
   -- a server took the whole protocol header, and puts start
-  greets : {config : Config Server} → Lawful Server config false (Put (method_frame 0 (start config)) ∷ [])
-  -- an end takes a frame, and goes on
-  takes : {role : Role} {config : Config role} {history : History} (frame : Frame) → Lawful role config false history → takes_frames (end_from role config false history).phase ≡ true → goes_on (end_verdict config (end_from role config false history) frame) ≡ true → Lawful role config false (then_taken config (end_from role config false history) frame history)
-  -- an end takes a frame, and finds fault with it
-  faults : {role : Role} {config : Config role} {history : History} (frame : Frame) → Lawful role config false history → takes_frames (end_from role config false history).phase ≡ true → goes_on (end_verdict config (end_from role config false history) frame) ≡ false → Lawful role config true (then_taken config (end_from role config false history) frame history)
+  greets : {config : Config Server} → Goes Server config [] None false (Put (method_frame 0 (start config)) ∷ [])
+  -- it takes a frame, and goes on
+  takes : {role : Role} {config : Config role} {before : History} (frame : Frame) → takes_frames (end_from role config false before).phase ≡ true → goes_on (end_verdict config (end_from role config false before) frame) ≡ true → Goes role config before (Some frame) false (then_taken config (end_from role config false before) frame before)
+  -- it takes a frame, and finds fault with it
+  faults : {role : Role} {config : Config role} {before : History} (frame : Frame) → takes_frames (end_from role config false before).phase ≡ true → goes_on (end_verdict config (end_from role config false before) frame) ≡ false → Goes role config before (Some frame) true (then_taken config (end_from role config false before) frame before)
   -- octets tell that a frame is above the limit: it is not taken, and the connection is closed
-  meets_too_large : {role : Role} {config : Config role} {history : History} → Lawful role config false history → takes_frames (end_from role config false history).phase ≡ true → Lawful role config true (then_put (map frame_of (methods_put (facts_at config (end_from role config false history) 0) (Faults (Peer FrameError)))) history)
+  meets_too_large : {role : Role} {config : Config role} {before : History} → takes_frames (end_from role config false before).phase ≡ true → Goes role config before None true (then_put (too_large_puts config (end_from role config false before)) before)
   -- octets that can't be answered, or want of memory: nothing is put
-  fails : {role : Role} {config : Config role} {history : History} → Lawful role config false history → Lawful role config true history
-  -- an application asks, and the end accepts
-  asks : {role : Role} {config : Config role} {history : History} (ask : Ask) (frames : List Frame) → Lawful role config false history → is_made ask ≡ true → ask_verdict role (end_from role config false history) ask ≡ Puts frames → Lawful role config false (then_put frames history)
+  fails : {role : Role} {config : Config role} {before : History} → Goes role config before None true before
+  -- an application asks what can be made and written, and the end accepts
+  asks : {role : Role} {config : Config role} {before : History} (ask : Ask) (frames : List Frame) → is_made ask ≡ true → ReadsBack (method_asked ask) → ask_verdict role (end_from role config false before) ask ≡ Puts frames → Goes role config before None false (then_put frames before)
+
+-- A lawful history of an end, and whether it has failed: any steps, one after another.
+pub data Lawful (role : Role) (config : Config role) : (failed : Bool) → History → Type 0 where
+  begun : Lawful role config false []
+  goes : {before after : History} {taken : Option Frame} {failed : Bool} → Lawful role config false before → Goes role config before taken failed after → Lawful role config failed after

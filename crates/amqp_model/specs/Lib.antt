@@ -31,9 +31,11 @@ pub mod Closes
 pub mod Events
 pub mod FrameVerdict
 pub mod Asks
+pub mod Answers
 pub mod LawfulHistories
 pub mod Machine
 pub mod EndLaws
 pub mod Pairs
 pub mod Sent
+pub mod Octets
 pub mod MethodLaws

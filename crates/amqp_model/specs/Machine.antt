@@ -13,9 +13,9 @@ use Rattle.amqp_model.specs.Histories.{History, ChannelEntry, PutHere, TookHere,
 use Rattle.amqp_model.specs.Replies.{asked_by, answered_by, requested, replied, unreplied}
 use Rattle.amqp_model.specs.Channels.{Life, Channel, Free, Opening, Closing, Open, new_life, Step, AwaitsProtocolHeader, AwaitsStart, AwaitsStartOk, AwaitsTune, AwaitsTuneOk, AwaitsOpen, AwaitsOpenOk, Phase, Handshake, Running, Closed, Failed, Agreed, End}
 use Rattle.amqp_model.specs.Negotiation.{Config, agreed_in}
-use Rattle.amqp_model.specs.StateFromHistory.{accepted, phase_from, agreed_from}
-use Rattle.amqp_model.specs.Closes.{Owed, frame_of}
-use Rattle.amqp_model.specs.Events.{FrameVerdict, Faults}
+use Rattle.amqp_model.specs.StateFromHistory.{accepted, awaits_tune_ok, phase_from, agreed_from}
+use Rattle.amqp_model.specs.Closes.{FrameError, Owed, frame_of}
+use Rattle.amqp_model.specs.Events.{Peer, FrameVerdict, Faults}
 use Rattle.amqp_model.specs.FrameVerdict.{answers_first, verdict_on, methods_put}
 use Rattle.amqp_model.specs.LawfulHistories.{facts_at}
 
@@ -158,10 +158,11 @@ phase_after role (TookHere reading frame) phase = phase_taken role reading phase
 phase_after role (PutHere reading frame) phase = phase_put role reading phase
 phase_after role LeftHere phase = phase
 
-abbrev pub agreed_after : (role : Role) → Config role → ChannelEntry → Option Agreed → Option Agreed
-agreed_after Client config (PutHere (Calls method) frame) agreed = cond (same_kind method.kind kinds.ConnectionTuneOk) (Some (agreed_in method)) agreed
-agreed_after Server config (TookHere (Calls method) frame) agreed = cond (same_kind method.kind kinds.ConnectionTuneOk) (accepted config (agreed_in method)) agreed
-agreed_after role config entry agreed = agreed
+-- a client settles with the tune-ok that it puts, a server with the one that it awaits
+abbrev pub agreed_after : (role : Role) → Config role → Phase → ChannelEntry → Option Agreed → Option Agreed
+agreed_after Client config phase (PutHere (Calls method) frame) agreed = cond (same_kind method.kind kinds.ConnectionTuneOk) (Some (agreed_in method)) agreed
+agreed_after Server config phase (TookHere (Calls method) frame) agreed = cond (same_kind method.kind kinds.ConnectionTuneOk && awaits_tune_ok phase) (accepted config (agreed_in method)) agreed
+agreed_after role config phase entry agreed = agreed
 
 -- once the end has put connection.close, no channel changes
 abbrev pub unless_leaving : Phase → Channel → Channel → Channel
@@ -173,7 +174,7 @@ set_channel number channel channels other = cond (other == number) channel (chan
 
 -- what an entry on this channel leaves of what an end keeps
 abbrev pub end_after : (role : Role) → Config role → (number : ℕ) → ChannelEntry → End → End
-end_after role config zero entry end = record { phase = phase_after role entry end.phase; agreed = agreed_after role config entry end.agreed; channels = end.channels }
+end_after role config zero entry end = record { phase = phase_after role entry end.phase; agreed = agreed_after role config end.phase entry end.agreed; channels = end.channels }
 end_after role config (suc n) entry end =
     record { phase = end.phase; agreed = end.agreed; channels = set_channel (suc n) (unless_leaving end.phase (end.channels (suc n)) (channel_after role entry (end.channels (suc n)))) end.channels }
 
@@ -187,8 +188,12 @@ abbrev pub end_after_put : (role : Role) → Config role → List Frame → End 
 end_after_put role config [] end = end
 end_after_put role config (frame ∷ later) end = end_after_put role config later (end_after role config frame.channel (PutHere (reading_of frame) frame) end)
 
+-- an end that has failed keeps what was agreed
+abbrev pub as_failed : End → End
+as_failed end = record { phase = Failed; agreed = end.agreed; channels = end.channels }
+
 abbrev pub failed_by : FrameVerdict → End → End
-failed_by (Faults fault) end = record { phase = Failed; agreed = end.agreed; channels = end.channels }
+failed_by (Faults fault) end = as_failed end
 failed_by verdict end = end
 
 -- An end takes a frame that says this: its verdict, and what the end keeps then.
@@ -199,6 +204,10 @@ abbrev pub end_after_taken : (role : Role) → Config role → End → Reading �
 end_after_taken role config end reading frame =
     failed_by (taken_verdict config end frame.channel reading)
     (end_after_owed role config (methods_put (facts_at config end frame.channel) (taken_verdict config end frame.channel reading)) (end_after role config frame.channel (TookHere reading frame) end))
+
+-- Octets tell that a frame is above the limit: the end closes the connection, and has failed.
+abbrev pub end_after_too_large : (role : Role) → Config role → End → End
+end_after_too_large role config end = as_failed (end_after_owed role config (methods_put (facts_at config end 0) (Faults (Peer FrameError))) end)
 
 -- A new end, and a server that has put start.
 abbrev first_step : Role → Step
@@ -275,10 +284,11 @@ Counts role (Open life) entries = CountsOpen role life entries
 abbrev pub ChannelStandsFor : Role → Channel → List ChannelEntry → Type 0
 ChannelStandsFor role channel entries = Counts role channel (entries_before_leaving entries)
 
--- what an end keeps stands for its history; until the handshake is over every channel is Free
+-- What an end keeps stands for its history. Until the handshake is over every channel is Free. Of an end that has failed
+-- no channel is looked at any more.
 pub record StandsFor (role : Role) (config : Config role) (failed : Bool) (end : End) (history : History) : Type 0 where
   pub phase : phase_from role failed (entries_on 0 history) ≡ end.phase
   pub agreed : agreed_from role config (entries_on 0 history) ≡ end.agreed
   pub no_channel : end.channels 0 ≡ Free
   pub free_before : (step : Step) → end.phase ≡ Handshake step → (n : ℕ) → end.channels n ≡ Free
-  pub channels : (n : ℕ) → ChannelStandsFor role (end.channels (suc n)) (entries_on (suc n) history)
+  pub channels : failed ≡ false → (n : ℕ) → ChannelStandsFor role (end.channels (suc n)) (entries_on (suc n) history)

@@ -2,7 +2,7 @@
 --
 -- That an end has failed is no function of a history, since a wrong end octet or want of memory leaves it as it was:
 -- a mark stands beside the history and is looked at first.
-use Rattle.std.specs.Prelude.{Bool, false, cond, not, ◌&&◌, ◌||◌, ℕ, zero, suc, List, [], ◌∷◌, Option, Some, None}
+use Rattle.std.specs.Prelude.{Bool, true, false, cond, not, ◌&&◌, ◌||◌, ℕ, zero, suc, List, [], ◌∷◌, Option, Some, None}
 use Rattle.amqp_method.specs.declared.kinds.Kind.TheVariants as kinds
 use Rattle.amqp_model.specs.Notes.{Role, Client, Server}
 use Rattle.amqp_model.specs.States.{State}
@@ -59,11 +59,17 @@ phase_from role failed entries =
 abbrev pub accepted : Config Server → Agreed → Option Agreed
 accepted config agreed = cond (in_range config agreed) (Some agreed) None
 
--- what the newest tune-ok says that the client put, or that the server took and accepted
+-- the server awaits tune-ok
+abbrev pub awaits_tune_ok : Phase → Bool
+awaits_tune_ok (Handshake AwaitsTuneOk) = true
+awaits_tune_ok phase = false
+
+-- what the tune-ok says that the client put, or that the server awaited, took and accepted
 abbrev pub agreed_from : (role : Role) → Config role → List ChannelEntry → Option Agreed
 agreed_from role config [] = None
 agreed_from Client config (PutHere (Calls method) frame ∷ before) = cond (same_kind method.kind kinds.ConnectionTuneOk) (Some (agreed_in method)) (agreed_from Client config before)
-agreed_from Server config (TookHere (Calls method) frame ∷ before) = cond (same_kind method.kind kinds.ConnectionTuneOk) (accepted config (agreed_in method)) (agreed_from Server config before)
+agreed_from Server config (TookHere (Calls method) frame ∷ before) =
+    cond (same_kind method.kind kinds.ConnectionTuneOk && awaits_tune_ok (phase_from Server false before)) (accepted config (agreed_in method)) (agreed_from Server config before)
 agreed_from role config (_ ∷ before) = agreed_from role config before
 
 -- The channels above 0.

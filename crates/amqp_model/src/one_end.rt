@@ -4,16 +4,16 @@
 //! agreed, and a small record of each channel. These laws say that this is enough: the record of a channel follows
 //! each entry of that channel, and what the end does with a frame or with an ask is what its history gives.
 
-ghost use Rattle.std.specs.Prelude.{Bool, ℕ, List};
+ghost use Rattle.std.specs.Prelude.{Bool, ℕ, List, Option};
 ghost use Rattle.amqp_model.specs.Asks.{Ask, first_free};
 ghost use Rattle.amqp_model.specs.Channels.{Channel, End};
-ghost use Rattle.amqp_model.specs.EndLaws.{AskFollows, AskOfHistory, AsksActs, EndFollows, FindsLowest, FollowsPut, FollowsTaken, FrameFollows, LeavesOthers, NewEndStands, ReadsChannel, ReadsState, StaysAtLeaving, StaysLeaving, TakesActs, VerdictAgrees, VerdictOfHistory};
+ghost use Rattle.amqp_model.specs.EndLaws.{AnswersOfHistory, AnyFails, AskFollows, AskOfHistory, AsksActs, EndFollows, FindsLowest, FollowsPut, FollowsTaken, FrameFails, FrameFollows, LawfulStands, LeavesOthers, NewEndStands, ReadsChannel, ReadsState, StaysAtLeaving, StaysLeaving, StepFollows, TakesActs, TooLargeFails, VerdictAgrees, VerdictOfHistory};
 ghost use Rattle.amqp_model.specs.Frame.{Frame};
 ghost use Rattle.amqp_model.specs.FrameVerdict.{Facts};
 ghost use Rattle.amqp_model.specs.Histories.{ChannelEntry, Entry, History};
 ghost use Rattle.amqp_model.specs.Negotiation.{Config};
 ghost use Rattle.amqp_model.specs.Notes.{Client, Note, Role, Server};
-ghost use Rattle.amqp_model.specs.Pairs.{RunsOnEach};
+ghost use Rattle.amqp_model.specs.Pairs.{BothLawful, RunsOnEach};
 ghost use Rattle.amqp_model.specs.Readings.{Reading};
 
 /// What an end keeps of a channel follows from what it kept before, the entry, and the facts that its verdict rests
@@ -57,6 +57,7 @@ pub fn verdict_agrees()
 pub fn history_acts()
     ensures taken { (role : Role) (config : Config role) (history : History) (frame : Frame) (n : ℕ) (theirs : List Note) → TakesActs role config history frame n theirs }
     ensures asked { (role : Role) (config : Config role) (history : History) (ask : Ask) (frames : List Frame) (n : ℕ) (theirs : List Note) → AsksActs role config history ask frames n theirs }
+    ensures lawful { (client_config : Config Client) (server_config : Config Server) (client server : History) → BothLawful client_config server_config client server }
     ensures pair { (client_config : Config Client) (server_config : Config Server) (client server : History) → RunsOnEach client_config server_config client server }
 {}
 
@@ -67,6 +68,26 @@ pub fn end_follows()
     ensures entry { (role : Role) (config : Config role) (end : End) (history : History) (entry : Entry) → EndFollows role config end history entry }
     ensures frame { (role : Role) (config : Config role) (end : End) (history : History) (frame : Frame) → FrameFollows role config end history frame }
     ensures ask { (role : Role) (config : Config role) (end : End) (history : History) (ask : Ask) (frames : List Frame) → AskFollows role config end history ask frames }
+{}
+
+/// What an end that has failed keeps stands for its history too: with the frame that it found fault with and the close
+/// that it put, with that close alone where octets told of a frame above the limit, or with nothing more.
+pub fn failed_follows()
+    ensures frame { (role : Role) (config : Config role) (end : End) (history : History) (frame : Frame) → FrameFails role config end history frame }
+    ensures too_large { (role : Role) (config : Config role) (end : End) (history : History) → TooLargeFails role config end history }
+    ensures other { (role : Role) (config : Config role) (end : End) (history : History) → AnyFails role config end history }
+{}
+
+/// Each lawful history is one that an end stands for: what is read off it, and what an end keeps that goes on with each of
+/// its steps.
+pub fn lawful_stands()
+    ensures read { (role : Role) (config : Config role) (failed : Bool) (history : History) → LawfulStands role config failed history }
+    ensures step { (role : Role) (config : Config role) (end : End) (before : History) (taken : Option Frame) (failed : Bool) (after : History) → StepFollows role config end before taken failed after }
+{}
+
+/// What an end answers of its channels is what every history gives for which it stands.
+pub fn answers_are_of_history()
+    ensures { (role : Role) (config : Config role) (failed : Bool) (end : End) (history : History) (number : ℕ) → AnswersOfHistory role config failed end history number }
 {}
 
 /// The number that an open takes is the lowest that is Free, and there is none where none is found.

@@ -1,8 +1,6 @@
 -- An end that stands for a history is what the history counts to.
-use Rattle.std.proofs.Common.{ap, sym}
-use Rattle.amqp_model.specs.LawfulHistories.{end_verdict}
-use Rattle.amqp_model.proofs.Standing.{end-stands}
+use Rattle.amqp_model.proofs.Standing.{verdict-stands}
 use Rattle.amqp_model.proofs.one_end.verdict_is_of_history.Goals as goal
 
 pub returns : goal.returns
-returns c = λ role config failed end history frame stands. ap (λ end. end_verdict config end frame) (sym (end-stands role config failed end history stands))
+returns c = verdict-stands

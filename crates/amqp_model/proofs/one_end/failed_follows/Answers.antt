@@ -1,0 +1,12 @@
+-- Each clause is a lemma on histories.
+use Rattle.amqp_model.proofs.Failing.{frame-fails, too-large-fails, any-fails}
+use Rattle.amqp_model.proofs.one_end.failed_follows.Goals as goal
+
+pub returns-clause-frame : goal.returns-clause-frame
+returns-clause-frame c = frame-fails
+
+pub returns-clause-too_large : goal.returns-clause-too_large
+returns-clause-too_large c = too-large-fails
+
+pub returns-clause-other : goal.returns-clause-other
+returns-clause-other c = any-fails
