@@ -23,7 +23,7 @@ use Rattle.amqp_model.proofs.Acting.{reads-back}
 use Rattle.amqp_model.proofs.Asking.{Accepted, accepted, accepted-none, not-when, has-life, free-found, is-free, IsPart, AllParts, first-false, part-kind, frame-channel, bodies-are-parts, sent-kind, message-class}
 use Rattle.amqp_model.proofs.EndSteps.{end-follows}
 
-is-running : (phase : Phase) → not (is_running phase) ≡ false → phase ≡ Running
+pub is-running : (phase : Phase) → not (is_running phase) ≡ false → phase ≡ Running
 is-running Running e = refl
 is-running (Handshake step) e = absurd (true≢false e)
 is-running Phase.Closing e = absurd (true≢false e)

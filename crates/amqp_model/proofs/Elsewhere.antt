@@ -1,6 +1,6 @@
 -- What a verdict puts stands on the frame's channel or on channel 0, and is no connection.close where the end goes on.
 use Rattle.std.proofs.Common.{◌≡◌, Bool, true, false, cond, not, ◌&&◌, ℕ, suc, ◌==◌, arith, nat_lt, nat_le, List, [], ◌∷◌, map, length, Option, Some, None, refl, ap, ◌∙◌}
-use Rattle.std.proofs.lemmas.Bool.{false≢true, ne_eqb}
+use Rattle.std.proofs.lemmas.Bool.{false≢true, and_parts, ne_eqb}
 use Rattle.amqp_method.specs.declared.kinds.Kind.TheVariants as kinds
 use Rattle.amqp_model.specs.Notes.{Role, Client, Server, is_client, Kind, OpenOk, Close, CloseOk, FlowOk, Other}
 use Rattle.amqp_model.specs.Verdict as lives
@@ -12,7 +12,7 @@ use Rattle.amqp_model.specs.Histories.{Put, History, closes_connection, entries_
 use Rattle.amqp_model.specs.Channels.{Life, Channel, Free, Opening, Closing, state_of, Phase, Handshake, Running, Closed, Failed, Agreed, AwaitsProtocolHeader, AwaitsStart, AwaitsStartOk, AwaitsTune, AwaitsTuneOk, AwaitsOpen, AwaitsOpenOk}
 use Rattle.amqp_model.specs.Channels as channels
 use Rattle.amqp_model.specs.Negotiation.{Config, Hello, OfClient, start_ok, open_host, tunes_too_small, agreed_in, in_range}
-use Rattle.amqp_model.specs.Closes.{Owed, AllReadBack, frame_of}
+use Rattle.amqp_model.specs.Closes.{Owed, AllReadBack, connection_close_ok, frame_of}
 use Rattle.amqp_model.specs.Events.{FrameVerdict, Faults, Fault}
 use Rattle.amqp_model.specs.FrameVerdict.{Facts, first_of, awaits_in, as_lives, lives_verdict, closed_by, on_awaited, is_awaited, on_connection, by_state, on_open, on_idle, on_matched, part_on, on_part, after_part, on_message, is_no_channel, is_gathering, on_rest, when_over, when_leaving, when_heartbeat, when_closing, when_unread, when_handshake, when_content, when_connection, when_misdirected, when_no_channel, answers_first, MOST_REQUESTS, verdict_on, methods_put}
 use Rattle.amqp_model.specs.LawfulHistories.{goes_on, then_put}
@@ -52,16 +52,33 @@ open_host-quiet config = go config.hello
     go : (hello : Hello Client) → same_kind (open_host (record config { hello = hello })).kind kinds.ConnectionClose ≡ false
     go (OfClient properties mechanism response locale virtual_host) = refl
 
--- Whatever holds of each method that a verdict owes, given that it is no connection.close and stands on the frame's
--- channel or on channel 0.
+start_ok-no-answer : (config : Config Client) → same_kind (start_ok config).kind kinds.ConnectionCloseOk ≡ false
+start_ok-no-answer config = go config.hello
+  where
+    go : (hello : Hello Client) → same_kind (start_ok (record config { hello = hello })).kind kinds.ConnectionCloseOk ≡ false
+    go (OfClient properties mechanism response locale virtual_host) = refl
+
+open_host-no-answer : (config : Config Client) → same_kind (open_host config).kind kinds.ConnectionCloseOk ≡ false
+open_host-no-answer config = go config.hello
+  where
+    go : (hello : Hello Client) → same_kind (open_host (record config { hello = hello })).kind kinds.ConnectionCloseOk ≡ false
+    go (OfClient properties mechanism response locale virtual_host) = refl
+
+-- no connection.close
 abbrev pub IsQuiet : Method → Type 0
 IsQuiet method = same_kind method.kind kinds.ConnectionClose ≡ false
+
+-- and no connection.close-ok
+abbrev pub IsMild : Method → Type 0
+IsMild method = IsQuiet method × (same_kind method.kind kinds.ConnectionCloseOk ≡ false)
 
 abbrev pub Each : (Owed → Type 0) → List Owed → Type 0
 Each P [] = Unit {0}
 Each P (owed ∷ later) = P owed × Each P later
 
-module _ {role : Role} (facts : Facts role) (P : Owed → Type 0) (at_zero : (method : Method) → IsQuiet method → P (record { channel = 0; method = method })) (here : (method : Method) → IsQuiet method → P (record { channel = facts.number; method = method })) where
+-- Whatever holds of each method that a verdict owes, given that it stands on the frame's channel or on channel 0, that
+-- it is no connection.close, and that it is connection.close-ok only as the answer to a close.
+module _ {role : Role} (facts : Facts role) (P : Owed → Type 0) (at_zero : (method : Method) → IsMild method → P (record { channel = 0; method = method })) (here : (method : Method) → IsMild method → P (record { channel = facts.number; method = method })) (said : Reading) (answer : (facts.number == 0) ≡ true → is_call kinds.ConnectionClose said ≡ true → P connection_close_ok) where
   abbrev Away : FrameVerdict → Type 0
   Away v = goes_on v ≡ true → Each P (methods_put facts v)
 
@@ -71,6 +88,11 @@ module _ {role : Role} (facts : Facts role) (P : Owed → Type 0) (at_zero : (me
   either : (b : Bool) (one other : FrameVerdict) → Away one → Away other → Away (cond b one other)
   either true one other h k = h
   either false one other h k = k
+
+  -- what is decided by a test, knowing how it came out
+  on-test : (b : Bool) (one other : FrameVerdict) → (b ≡ true → Away one) → (b ≡ false → Away other) → Away (cond b one other)
+  on-test true one other h k = h refl
+  on-test false one other h k = k refl
 
   abbrev MayAway : Option FrameVerdict → Type 0
   MayAway (Some v) = Away v
@@ -83,9 +105,9 @@ module _ {role : Role} (facts : Facts role) (P : Owed → Type 0) (at_zero : (me
   lives-away : (r : Reading) (v : lives.Verdict) → Away (as_lives facts.number r v)
   lives-away r (lives.Fault code) = λ g. absurd (false≢true g)
   lives-away r (lives.GoesOn event None) = λ g. tt
-  lives-away r (lives.GoesOn event (Some OpenOk)) = λ g. (here _ refl, tt)
-  lives-away r (lives.GoesOn event (Some CloseOk)) = λ g. (here _ refl, tt)
-  lives-away r (lives.GoesOn event (Some (FlowOk active))) = λ g. (here _ refl, tt)
+  lives-away r (lives.GoesOn event (Some OpenOk)) = λ g. (here _ (refl, refl), tt)
+  lives-away r (lives.GoesOn event (Some CloseOk)) = λ g. (here _ (refl, refl), tt)
+  lives-away r (lives.GoesOn event (Some (FlowOk active))) = λ g. (here _ (refl, refl), tt)
   lives-away r (lives.GoesOn event (Some kind)) = λ g. tt
 
   over : (phase : Phase) → MayAway (when_over phase)
@@ -93,13 +115,13 @@ module _ {role : Role} (facts : Facts role) (P : Owed → Type 0) (at_zero : (me
   over Failed = λ g. absurd (false≢true g)
   over phase = tt
 
-  close-away : (method : Method) → Away (closed_by method)
-  close-away method = λ g. (at_zero _ refl, tt)
+  close-away : (method : Method) → said ≡ Calls method → (facts.number == 0) ≡ true → same_kind method.kind kinds.ConnectionClose ≡ true → Away (closed_by method)
+  close-away method is zero closes = λ g. (answer zero (ap (is_call kinds.ConnectionClose) is ∙ closes), tt)
 
-  leaving : (phase : Phase) (r : Reading) → MayAway (when_leaving phase facts.number r)
-  leaving Phase.Closing r =
-      either ((facts.number == 0) && is_call kinds.ConnectionClose r) _ _ (λ g. (at_zero _ refl, tt)) (either ((facts.number == 0) && is_call kinds.ConnectionCloseOk r) _ _ (λ g. tt) (λ g. tt))
-  leaving phase r = tt
+  leaving : (phase : Phase) (r : Reading) → said ≡ r → MayAway (when_leaving phase facts.number r)
+  leaving Phase.Closing r is =
+      on-test ((facts.number == 0) && is_call kinds.ConnectionClose r) _ _ (λ both g. (answer (and_parts _ _ both).0 (ap (is_call kinds.ConnectionClose) is ∙ (and_parts _ _ both).1), tt)) (λ other. either ((facts.number == 0) && is_call kinds.ConnectionCloseOk r) _ _ (λ g. tt) (λ g. tt))
+  leaving phase r is = tt
 
   beat : (r : Reading) → MayAway (when_heartbeat facts.number r)
   beat (Beat empty) = either ((facts.number == 0) && empty) _ _ (λ g. tt) (λ g. absurd (false≢true g))
@@ -115,24 +137,24 @@ module _ {role : Role} (facts : Facts role) (P : Owed → Type 0) (at_zero : (me
   unread r = tt
 
   awaited : (r : Role) (config : Config r) (agreed : Option Agreed) (step : channels.Step) (method : Method) → Away (on_awaited r config agreed step method)
-  awaited Client config agreed AwaitsStart method = λ g. (at_zero (start_ok config) (start_ok-quiet config), tt)
-  awaited Client config agreed AwaitsTune method = either (tunes_too_small method) _ _ (λ g. absurd (false≢true g)) (λ g. (at_zero _ refl, (at_zero (open_host config) (open_host-quiet config), tt)))
+  awaited Client config agreed AwaitsStart method = λ g. (at_zero (start_ok config) (start_ok-quiet config, start_ok-no-answer config), tt)
+  awaited Client config agreed AwaitsTune method = either (tunes_too_small method) _ _ (λ g. absurd (false≢true g)) (λ g. (at_zero _ (refl, refl), (at_zero (open_host config) (open_host-quiet config, open_host-no-answer config), tt)))
   awaited Client config agreed AwaitsOpenOk method = λ g. tt
-  awaited Server config agreed AwaitsStartOk method = λ g. (at_zero _ refl, tt)
+  awaited Server config agreed AwaitsStartOk method = λ g. (at_zero _ (refl, refl), tt)
   awaited Server config agreed AwaitsTuneOk method = either (in_range config (agreed_in method)) _ _ (λ g. tt) (λ g. absurd (false≢true g))
-  awaited Server config agreed AwaitsOpen method = λ g. (at_zero _ refl, tt)
+  awaited Server config agreed AwaitsOpen method = λ g. (at_zero _ (refl, refl), tt)
   awaited Client config agreed step method = λ g. absurd (false≢true g)
   awaited Server config agreed step method = λ g. absurd (false≢true g)
 
-  handshake : (phase : Phase) (r : Reading) → MayAway (when_handshake facts phase r)
-  handshake (Handshake step) (Calls method) =
-      either (facts.number == 0) _ _
-      (either (same_kind method.kind kinds.ConnectionClose) _ _ (close-away method)
-      (either (is_client role && same_kind method.kind kinds.ConnectionSecure) _ _ (λ g. absurd (false≢true g))
+  handshake : (phase : Phase) (r : Reading) → said ≡ r → MayAway (when_handshake facts phase r)
+  handshake (Handshake step) (Calls method) is =
+      on-test (facts.number == 0) _ _
+      (λ zero. on-test (same_kind method.kind kinds.ConnectionClose) _ _ (close-away method is zero)
+      (λ other. either (is_client role && same_kind method.kind kinds.ConnectionSecure) _ _ (λ g. absurd (false≢true g))
       (either (is_awaited step method.kind) _ _ (awaited role facts.config facts.agreed step method) (λ g. absurd (false≢true g)))))
-      (λ g. absurd (false≢true g))
-  handshake (Handshake step) r = λ g. absurd (false≢true g)
-  handshake phase r = tt
+      (λ above g. absurd (false≢true g))
+  handshake (Handshake step) r is = λ g. absurd (false≢true g)
+  handshake phase r is = tt
 
   parted : (s : Step) → Away (after_part facts.number s)
   parted (Completes content) = λ g. tt
@@ -142,7 +164,7 @@ module _ {role : Role} (facts : Facts role) (P : Owed → Type 0) (at_zero : (me
 
   part : (kept : Gathering) (r : Reading) → Away (on_part facts kept r)
   part (HeaderDue method) MalformedHeader = λ g. absurd (false≢true g)
-  part (HeaderDue method) (HeaderOf size properties) = either (nat_lt facts.config.max_body size) _ _ (λ g. (here _ refl, tt)) (parted _)
+  part (HeaderDue method) (HeaderOf size properties) = either (nat_lt facts.config.max_body size) _ _ (λ g. (here _ (refl, refl), tt)) (parted _)
   part kept r = parted (step kept (payload_of r))
 
   part-on : (channel : Channel) (r : Reading) → Away (part_on facts channel r)
@@ -164,10 +186,10 @@ module _ {role : Role} (facts : Facts role) (P : Owed → Type 0) (at_zero : (me
   unless-some true v h = tt
   unless-some false v h = h
 
-  connection : (r : Role) (method : Method) → Away (on_connection r method)
-  connection r method =
-      either (same_kind method.kind kinds.ConnectionClose) _ _ (close-away method)
-      (either (is_client r && same_kind method.kind kinds.ConnectionSecure) _ _ (λ g. absurd (false≢true g))
+  connection : (r : Role) (method : Method) → said ≡ Calls method → (facts.number == 0) ≡ true → Away (on_connection r method)
+  connection r method is zero =
+      on-test (same_kind method.kind kinds.ConnectionClose) _ _ (close-away method is zero)
+      (λ other. either (is_client r && same_kind method.kind kinds.ConnectionSecure) _ _ (λ g. absurd (false≢true g))
       (either (is_client r && same_kind method.kind kinds.ConnectionBlocked) _ _ (λ g. tt)
       (either (is_client r && same_kind method.kind kinds.ConnectionUnblocked) _ _ (λ g. tt) (λ g. absurd (false≢true g)))))
 
@@ -194,22 +216,25 @@ module _ {role : Role} (facts : Facts role) (P : Owed → Type 0) (at_zero : (me
   stated Free method = by-lives (Calls method)
   stated channel method = by-lives (Calls method)
 
-  rest : (r : Reading) → Away (on_rest facts r)
-  rest (Calls method) =
-      after (when_connection role facts.number method) _ _ (if-some (class_of method.kind == 10) _ (either (facts.number == 0) _ _ (connection role method) (λ g. absurd (false≢true g))))
+  rest : (r : Reading) → said ≡ r → Away (on_rest facts r)
+  rest (Calls method) is =
+      after (when_connection role facts.number method) _ _ (if-some (class_of method.kind == 10) _ (on-test (facts.number == 0) _ _ (connection role method is) (λ above g. absurd (false≢true g))))
       (after (when_misdirected role method) _ _ (unless-some (sends (not (is_client role)) method.kind) _ (λ g. absurd (false≢true g)))
       (after (when_no_channel facts) _ _ (if-some (is_no_channel facts) _ (λ g. absurd (false≢true g))) (stated facts.channel method)))
-  rest r = λ g. absurd (false≢true g)
+  rest r is = λ g. absurd (false≢true g)
 
-  pub each-owed : (r : Reading) → Away (verdict_on facts r)
-  each-owed r =
+  each-by : (r : Reading) → said ≡ r → Away (verdict_on facts r)
+  each-by r is =
       after (when_over facts.phase) _ _ (over facts.phase)
-      (after (when_leaving facts.phase facts.number r) _ _ (leaving facts.phase r)
+      (after (when_leaving facts.phase facts.number r) _ _ (leaving facts.phase r is)
       (after (when_heartbeat facts.number r) _ _ (beat r)
       (after (when_closing facts facts.channel r) _ _ (closing facts.channel r)
       (after (when_unread r) _ _ (unread r)
-      (after (when_handshake facts facts.phase r) _ _ (handshake facts.phase r)
-      (after (when_content facts r) _ _ (content r) (rest r)))))))
+      (after (when_handshake facts facts.phase r) _ _ (handshake facts.phase r is)
+      (after (when_content facts r) _ _ (content r) (rest r is)))))))
+
+  pub each-owed : Away (verdict_on facts said)
+  each-owed = each-by said refl
 
 zero-apart : (n : ℕ) → (0 == suc n) ≡ false
 zero-apart n = ne_eqb 0 (suc n) (λ e. let h : 0 ≡ suc n = e in omega arith)
@@ -220,8 +245,8 @@ all-away n (owed ∷ later) each = (each.0, all-away n later each.1)
 
 -- where the frame's channel is another, the channel sees nothing of it
 pub verdict-away : {role : Role} (facts : Facts role) (n : ℕ) → (facts.number == suc n) ≡ false → (r : Reading) → goes_on (verdict_on facts r) ≡ true → AllAway n (methods_put facts (verdict_on facts r))
-verdict-away facts n apart r g = all-away n (methods_put facts (verdict_on facts r)) (each-owed facts (IsAway n) (λ method quiet. (zero-apart n, quiet)) (λ method quiet. (apart, quiet)) r g)
+verdict-away facts n apart r g = all-away n (methods_put facts (verdict_on facts r)) (each-owed facts (IsAway n) (λ method mild. (zero-apart n, mild.0)) (λ method mild. (apart, mild.0)) r (λ zero closes. (zero-apart n, refl)) g)
 
 -- on channel 0 all that is owed stands on channel 0
 pub verdict-zero : {role : Role} (facts : Facts role) → facts.number ≡ 0 → (r : Reading) → goes_on (verdict_on facts r) ≡ true → Each (λ owed. owed.channel ≡ 0) (methods_put facts (verdict_on facts r))
-verdict-zero facts e r g = each-owed facts (λ owed. owed.channel ≡ 0) (λ method quiet. refl) (λ method quiet. e) r g
+verdict-zero facts e r g = each-owed facts (λ owed. owed.channel ≡ 0) (λ method mild. refl) (λ method mild. e) r (λ zero closes. refl) g

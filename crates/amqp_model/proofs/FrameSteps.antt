@@ -38,7 +38,7 @@ zero-follow role config (owed ∷ later) end history zeros back stands =
     zero-follow role config later (end_after role config owed.channel (PutHere (Calls owed.method) (frame_of owed)) end) (Put (frame_of owed) ∷ history) zeros.1 back.1 (owed-follows role config end history owed stands back.0 (inl zeros.0))
 
 -- a verdict that goes on leaves the end as it is
-not-failed : (v : FrameVerdict) (end : End) → goes_on v ≡ true → failed_by v end ≡ end
+pub not-failed : (v : FrameVerdict) (end : End) → goes_on v ≡ true → failed_by v end ≡ end
 not-failed (Proceeds event owed) end g = refl
 not-failed RefusesContent end g = refl
 not-failed (Faults fault) end g = absurd (false≢true g)

@@ -37,6 +37,7 @@ mod Elsewhere
 mod Taking
 mod Asking
 mod VerdictRows
+mod AskRows
 mod Phases
 mod EndSteps
 mod Lowest
@@ -45,4 +46,9 @@ mod Failing
 mod AskSteps
 mod Lawfulness
 mod Pairing
+mod Departures
+mod PutLast
+mod Sent
+mod SentTelling
+mod Carrying
 mod MethodTable

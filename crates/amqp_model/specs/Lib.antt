@@ -37,5 +37,8 @@ pub mod Machine
 pub mod EndLaws
 pub mod Pairs
 pub mod Sent
+pub mod SentLaws
 pub mod Octets
+pub mod LeavingLaws
+pub mod CarryingLaws
 pub mod MethodLaws

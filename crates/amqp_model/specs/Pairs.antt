@@ -27,6 +27,17 @@ pub data Pair (client_config : Config Client) (server_config : Config Server) : 
   client_goes : {client server after : History} {taken : Option Frame} → Pair client_config server_config client server → AllComeNext server client taken → Goes Client client_config client taken false after → Pair client_config server_config after server
   server_goes : {client server after : History} {taken : Option Frame} → Pair client_config server_config client server → AllComeNext client server taken → Goes Server server_config server taken false after → Pair client_config server_config client after
 
+-- the same, as one of the two ends sees it
+abbrev pub PairOf : Role → Config Client → Config Server → (mine theirs : History) → Type 0
+PairOf Client client_config server_config mine theirs = Pair client_config server_config mine theirs
+PairOf Server client_config server_config mine theirs = Pair client_config server_config theirs mine
+
+-- and each of the two writes what reads back
+pub record PairAt (role : Role) (client_config : Config Client) (server_config : Config Server) (mine theirs : History) : Type 0 where
+  pub client_writes : WritesReadBack Client client_config
+  pub server_writes : WritesReadBack Server server_config
+  pub pair : PairOf role client_config server_config mine theirs
+
 -- the two histories are lawful
 abbrev pub BothLawful : Config Client → Config Server → (client server : History) → Type 0
 BothLawful client_config server_config client server =

@@ -11,3 +11,4 @@ pub mod contents;
 pub mod lives;
 pub mod methods;
 pub mod one_end;
+pub mod two_ends;

@@ -11,8 +11,10 @@ ghost use Rattle.amqp_model.specs.EndLaws.{AnswersOfHistory, AnyFails, AskFollow
 ghost use Rattle.amqp_model.specs.Frame.{Frame};
 ghost use Rattle.amqp_model.specs.FrameVerdict.{Facts};
 ghost use Rattle.amqp_model.specs.Histories.{ChannelEntry, Entry, History};
+ghost use Rattle.amqp_model.specs.LeavingLaws.{ClosesArePutLast, OctetsArePutAs};
 ghost use Rattle.amqp_model.specs.Negotiation.{Config};
 ghost use Rattle.amqp_model.specs.Notes.{Client, Note, Role, Server};
+ghost use Rattle.amqp_model.specs.Outputs.{Output};
 ghost use Rattle.amqp_model.specs.Pairs.{BothLawful, RunsOnEach};
 ghost use Rattle.amqp_model.specs.Readings.{Reading};
 
@@ -88,6 +90,13 @@ pub fn lawful_stands()
 /// What an end answers of its channels is what every history gives for which it stands.
 pub fn answers_are_of_history()
     ensures { (role : Role) (config : Config role) (failed : Bool) (end : End) (history : History) (number : ℕ) → AnswersOfHistory role config failed end history number }
+{}
+
+/// Behind a connection.close or close-ok an end puts only these. So the octets that it has put, written or not, hold each
+/// channel's frames in order, and no frame of a channel above 0 behind a close.
+pub fn closes_are_put_last()
+    ensures frames { (role : Role) (config : Config role) (failed : Bool) (history : History) → ClosesArePutLast role config failed history }
+    ensures octets { (role : Role) (config : Config role) (failed : Bool) (history : History) (opening written : List ℕ) (output : Output) → OctetsArePutAs role config failed history opening written output }
 {}
 
 /// The number that an open takes is the lowest that is Free, and there is none where none is found.

@@ -1,0 +1,96 @@
+-- The items that two ends send each other and act on, from the laws of the lives of a channel.
+use Rattle.std.proofs.Common.{◌≡◌, Bool, ℕ, suc, ◌<◌, List, [], ◌∷◌, map, refl, ap, ◌∙◌, subst, arith}
+use Rattle.std.proofs.lemmas.Bool.{ne_eqb}
+use Rattle.std.proofs.lemmas.List.{map-append}
+use Rattle.amqp_model.specs.Frame.{Frame}
+use Rattle.amqp_model.specs.Notes.{Role, Client, Server, Kind, Open, OpenOk, Close, CloseOk, Note, Put}
+use Rattle.amqp_model.specs.States.{State, Free, Opening, Closing}
+use Rattle.amqp_model.specs.Lives.{lives}
+use Rattle.amqp_model.specs.Carried.{puts, sent, acted}
+use Rattle.amqp_model.specs.Runs.{RunAt}
+use Rattle.amqp_model.specs.Fronts.{IsFrontOf}
+use Rattle.amqp_model.specs.Histories.{History}
+use Rattle.amqp_model.specs.Negotiation.{Config}
+use Rattle.amqp_model.specs.EndLaws.{notes_on}
+use Rattle.amqp_model.specs.Sent.{payload_in, items_in}
+use Rattle.amqp_model.specs.Pairs.{PairAt}
+use Rattle.amqp_model.specs.SentLaws.{ActsOnFrontOfItems, AllItemsActedOnAtClose, AllItemsActedOnAtConnectionClose, ItemsSentAreActedOnOrOnTheirWay, NoItemsBeforeFirstLife}
+use Rattle.amqp_model.proofs.Lists.{front_none, messages_other, messages_elsewhere}
+use Rattle.amqp_model.proofs.Ends.{Is, Lawful, begun, has_asked, has_replied, has_taken, has_left_now, lawful_lives, to_open, to_close, to_flow, opens, closes, flows, sends, accepts, begins, ends, pauses, hears, acts, crosses, frees, drops}
+use Rattle.amqp_model.proofs.Runs.{Linked, linked, run_at_linked}
+use Rattle.amqp_model.proofs.Laws.{acts_front, sent_so_far, all_acted, all_acted_connection}
+use Rattle.amqp_model.proofs.ItemLemmas.{items-front}
+use Rattle.amqp_model.proofs.Pairing.{pair-runs}
+
+pub pair-runs_at : (role : Role) (client_config : Config Client) (server_config : Config Server) (mine theirs : History) (n : ℕ) → PairAt role client_config server_config mine theirs → RunAt role (notes_on (suc n) mine) (notes_on (suc n) theirs)
+pair-runs_at Client client_config server_config mine theirs n at = pair-runs client_config server_config mine theirs at.client_writes at.server_writes at.pair n
+pair-runs_at Server client_config server_config mine theirs n at = pair-runs client_config server_config theirs mine at.client_writes at.server_writes at.pair n
+
+-- the items of a front of frames are a front
+items-of-front : (front whole : List Frame) → IsFrontOf front whole → IsFrontOf (items_in front) (items_in whole)
+items-of-front front whole f = items-front (map payload_in front) (map payload_in whole) (map payload_in f.0, ap (map payload_in) f.1 ∙ map-append payload_in front f.0)
+
+pub acts-on-front : (role : Role) (client_config : Config Client) (server_config : Config Server) (mine theirs : History) (n : ℕ) → PairAt role client_config server_config mine theirs → ActsOnFrontOfItems role (suc n) mine theirs
+acts-on-front role client_config server_config mine theirs n pair life = items-of-front _ _ (acts_front role _ _ (pair-runs_at role client_config server_config mine theirs n pair) life)
+
+pub all-at-close : (role : Role) (client_config : Config Client) (server_config : Config Server) (mine theirs : History) (n : ℕ) → PairAt role client_config server_config mine theirs → AllItemsActedOnAtClose role (suc n) mine theirs
+all-at-close role client_config server_config mine theirs n pair life closed = ap items_in (all_acted role _ _ (pair-runs_at role client_config server_config mine theirs n pair) life closed)
+
+pub all-at-connection_close : (role : Role) (client_config : Config Client) (server_config : Config Server) (mine theirs : History) (n : ℕ) → PairAt role client_config server_config mine theirs → AllItemsActedOnAtConnectionClose role (suc n) mine theirs
+all-at-connection_close role client_config server_config mine theirs n pair live all = ap items_in (all_acted_connection role _ _ (pair-runs_at role client_config server_config mine theirs n pair) live all)
+
+pub sent-is-acted-or-coming : (role : Role) (client_config : Config Client) (server_config : Config Server) (mine theirs : History) (n : ℕ) → PairAt role client_config server_config mine theirs → ItemsSentAreActedOnOrOnTheirWay role (suc n) mine theirs
+sent-is-acted-or-coming role client_config server_config mine theirs n pair rest live way = ap items_in (sent_so_far role _ _ (pair-runs_at role client_config server_config mine theirs n pair) rest live way)
+
+-- where a channel is not Free, it has had a life
+abbrev IsInLife : State → ℕ → Type 0
+IsInLife Free n = Unit {0}
+IsInLife Opening n = 0 < n
+IsInLife State.Open n = 0 < n
+IsInLife Closing n = 0 < n
+
+in-life : {role : Role} {history : List Note} {word : State} {n : ℕ} {a : Bool} → Lawful role history (Is word n a) → IsInLife word n
+in-life begun = tt
+in-life (has_asked frame here lawful opens) = omega arith
+in-life (has_asked frame here lawful closes) = in-life lawful
+in-life (has_asked frame here lawful flows) = in-life lawful
+in-life (has_asked frame here lawful sends) = in-life lawful
+in-life (has_replied frame lawful is_reply) = in-life lawful
+in-life (has_taken frame lawful accepts) = omega arith
+in-life (has_taken frame lawful begins) = in-life lawful
+in-life (has_taken frame lawful ends) = tt
+in-life (has_taken frame lawful pauses) = in-life lawful
+in-life (has_taken frame lawful hears) = in-life lawful
+in-life (has_taken frame lawful acts) = in-life lawful
+in-life (has_taken frame lawful crosses) = in-life lawful
+in-life (has_taken frame lawful frees) = tt
+in-life (has_taken frame lawful (drops kind)) = in-life lawful
+in-life (has_left_now lawful) = in-life lawful
+
+-- what is put once there was a life is none of the life 0
+later-life : (role : Role) (history : List Note) (kind : Kind) (frame : Frame) (n : ℕ) → lives role (Put kind frame ∷ history) ≡ n → 0 < n → sent role 0 (Put kind frame ∷ history) ≡ sent role 0 history
+later-life role history kind frame n l some = messages_elsewhere 0 (puts role history) kind _ frame (ne_eqb _ 0 (λ e. absurd (omega arith)))
+
+-- nothing is sent before the first opening note
+none-sent : {role : Role} {history : List Note} {word : State} {n : ℕ} {a : Bool} → Lawful role history (Is word n a) → sent role 0 history ≡ []
+none-sent begun = refl
+none-sent {role} (has_asked {history = h} frame here lawful opens) = messages_other 0 (puts role h) Open _ frame refl ∙ none-sent lawful
+none-sent {role} (has_asked {history = h} frame here lawful closes) = messages_other 0 (puts role h) Close _ frame refl ∙ none-sent lawful
+none-sent {role} (has_asked {history = h} {kind = k} frame here lawful flows) = later-life role h k frame _ (lawful_lives lawful) (in-life lawful) ∙ none-sent lawful
+none-sent {role} (has_asked {history = h} {kind = k} frame here lawful sends) = later-life role h k frame _ (lawful_lives lawful) (in-life lawful) ∙ none-sent lawful
+none-sent {role} (has_replied {history = h} frame lawful to_open) = messages_other 0 (puts role h) OpenOk _ frame refl ∙ none-sent lawful
+none-sent {role} (has_replied {history = h} frame lawful to_close) = messages_other 0 (puts role h) CloseOk _ frame refl ∙ none-sent lawful
+none-sent {role} (has_replied {history = h} {kind = k} frame lawful to_flow) = later-life role h k frame _ (lawful_lives lawful) (in-life lawful) ∙ none-sent lawful
+none-sent (has_taken {before = Is word n a} frame lawful taking) = none-sent lawful
+none-sent (has_left_now lawful) = none-sent lawful
+
+pub none-before-first : (role : Role) (client_config : Config Client) (server_config : Config Server) (mine theirs : History) (n : ℕ) → PairAt role client_config server_config mine theirs → NoItemsBeforeFirstLife role (suc n) mine
+none-before-first role client_config server_config mine theirs n pair = go (run_at_linked role _ _ run)
+  where
+    run : RunAt role (notes_on (suc n) mine) (notes_on (suc n) theirs)
+    run = pair-runs_at role client_config server_config mine theirs n pair
+
+    go : Linked role (notes_on (suc n) mine) (notes_on (suc n) theirs) → NoItemsBeforeFirstLife role (suc n) mine
+    go (linked q r owed owed' s s' e e' w w' joint) =
+        let front = subst (λ l. IsFrontOf (acted role 0 (notes_on (suc n) mine)) l) (none-sent s') (acts_front role _ _ run 0) in
+        (ap items_in (none-sent s), ap items_in (front_none _ front))

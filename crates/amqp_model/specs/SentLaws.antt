@@ -1,0 +1,61 @@
+-- What holds of the items that two ends send each other and act on: the statements that the public laws carry.
+use Rattle.std.specs.Prelude.{◌≡◌, Bool, false, ℕ, List, [], ◌++◌}
+use Rattle.amqp_model.specs.Notes.{Role, other_end}
+use Rattle.amqp_model.specs.Carried.{Carried, message_frames, put_by, taken_by, acted}
+use Rattle.amqp_model.specs.Fronts.{IsFrontOf}
+use Rattle.amqp_model.specs.Laws.{IsLive, EndedByPeer}
+use Rattle.amqp_model.specs.Histories.{History}
+use Rattle.amqp_model.specs.Negotiation.{Config}
+use Rattle.amqp_model.specs.LawfulHistories.{goes_on, end_verdict, then_taken, Lawful}
+use Rattle.amqp_model.specs.StateFromHistory.{end_from}
+use Rattle.amqp_model.specs.Frame.{Frame}
+use Rattle.amqp_model.specs.EndLaws.{notes_on}
+use Rattle.amqp_model.specs.Sent.{items_in, items_sent, items_acted, life_on, told, said, items_of}
+
+-- in each life, the items that an end acted on are a front of those that the other sent
+abbrev pub ActsOnFrontOfItems : Role → (channel : ℕ) → (mine theirs : History) → Type 0
+ActsOnFrontOfItems role channel mine theirs = (life : ℕ) → IsFrontOf (items_acted role channel life mine) (items_sent (other_end role) channel life theirs)
+
+-- all the items that the other sent in a life that its close ended were acted on
+abbrev pub AllItemsActedOnAtClose : Role → (channel : ℕ) → (mine theirs : History) → Type 0
+AllItemsActedOnAtClose role channel mine theirs =
+    (life : ℕ) → EndedByPeer role life (notes_on channel mine) → items_acted role channel life mine ≡ items_sent (other_end role) channel life theirs
+
+-- All the items that the other sent in the life of a live end were acted on, where the end has taken all that the other
+-- put on the channel. So it is as the end takes the other's connection.close, which leaves behind all of that.
+abbrev pub AllItemsActedOnAtConnectionClose : Role → (channel : ℕ) → (mine theirs : History) → Type 0
+AllItemsActedOnAtConnectionClose role channel mine theirs =
+    IsLive role (notes_on channel mine)
+    → put_by (notes_on channel theirs) ≡ taken_by (notes_on channel mine)
+    → items_acted role channel (life_on role channel mine) mine ≡ items_sent (other_end role) channel (life_on role channel mine) theirs
+
+-- the items that the other sent in the life of a live end are those that the frames acted on and then the messages on
+-- their way spell, read one behind the other
+abbrev pub ItemsSentAreActedOnOrOnTheirWay : Role → (channel : ℕ) → (mine theirs : History) → Type 0
+ItemsSentAreActedOnOrOnTheirWay role channel mine theirs =
+    (rest : List Carried)
+    → IsLive role (notes_on channel mine)
+    → put_by (notes_on channel theirs) ≡ taken_by (notes_on channel mine) ++ rest
+    → items_sent (other_end role) channel (life_on role channel mine) theirs ≡ items_in (acted role (life_on role channel mine) (notes_on channel mine) ++ message_frames rest)
+
+-- the end sent nothing, and acted on nothing, before the first life of a channel
+abbrev pub NoItemsBeforeFirstLife : Role → (channel : ℕ) → History → Type 0
+NoItemsBeforeFirstLife role channel history = (items_sent role channel 0 history ≡ []) × (items_acted role channel 0 history ≡ [])
+
+-- the items that an end that has not failed told of a channel and a life are those that it acted on in it
+abbrev pub TellsWhatIsActedOn : (role : Role) → Config role → (channel : ℕ) → History → Type 0
+TellsWhatIsActedOn role config channel history =
+    Lawful role config false history → (life : ℕ) → items_of channel life (told role config history) ≡ items_acted role channel life history
+
+-- a frame that the end finds fault with tells nothing
+abbrev pub FaultTellsNothing : (role : Role) → Config role → History → Frame → Type 0
+FaultTellsNothing role config history frame =
+    goes_on (end_verdict config (end_from role config false history) frame) ≡ false → told role config (then_taken config (end_from role config false history) frame history) ≡ told role config history
+
+-- the items said on a channel in a life are those that the end sent in it
+abbrev pub SaysWhatIsSent : Role → (channel : ℕ) → History → Type 0
+SaysWhatIsSent role channel history = (life : ℕ) → items_of channel life (said role history) ≡ items_sent role channel life history
+
+-- nothing is told or said of channel 0
+abbrev pub NothingOfChannel0 : (role : Role) → Config role → History → Type 0
+NothingOfChannel0 role config history = (life : ℕ) → (items_of 0 life (told role config history) ≡ []) × (items_of 0 life (said role history) ≡ [])

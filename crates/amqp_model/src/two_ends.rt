@@ -1,0 +1,65 @@
+//! What two ends of a connection send each other, and what becomes of it.
+//!
+//! The frames of a channel spell items: methods that are messages of their own, whole contents, flows and flow-oks.
+//! `Pair` is every two histories that two ends come to, in any interleaving, while neither fails. Of these the laws of
+//! the lives of a channel are said once more, of items in place of frames, for each channel above 0 and for both ends
+//! alike: `mine` is the history of the end in that role, `theirs` that of the other. The last law says which frames the
+//! octets of one end carry to the other, channel by channel.
+
+ghost use Rattle.std.specs.Prelude.{ℕ, suc, List};
+ghost use Rattle.amqp_model.specs.CarryingLaws.{AllIsTakenAtLeaving, CompletedComesNext, FramesAreOfChannel, NotesAreOfFrames, OpeningsMeet, TakesFrontOnEach};
+ghost use Rattle.amqp_model.specs.Frame.{Frame};
+ghost use Rattle.amqp_model.specs.Histories.{History};
+ghost use Rattle.amqp_model.specs.Negotiation.{Config};
+ghost use Rattle.amqp_model.specs.Notes.{Client, Role, Server};
+ghost use Rattle.amqp_model.specs.Pairs.{PairAt};
+ghost use Rattle.amqp_model.specs.SentLaws.{ActsOnFrontOfItems, AllItemsActedOnAtClose, AllItemsActedOnAtConnectionClose, FaultTellsNothing, ItemsSentAreActedOnOrOnTheirWay, NoItemsBeforeFirstLife, NothingOfChannel0, SaysWhatIsSent, TellsWhatIsActedOn};
+
+/// In each life of a channel, the items that an end acted on are a front of those that the other sent.
+pub fn items_acted_on_are_front()
+    ensures { (role : Role) (client_config : Config Client) (server_config : Config Server) (mine theirs : History) (n : ℕ) → PairAt role client_config server_config mine theirs → ActsOnFrontOfItems role (suc n) mine theirs }
+{}
+
+/// Where the other's close ended a life, of the channel or of the connection, and was taken before the end put one,
+/// every item sent in that life was acted on.
+pub fn all_items_acted_on_at_close()
+    ensures channel { (role : Role) (client_config : Config Client) (server_config : Config Server) (mine theirs : History) (n : ℕ) → PairAt role client_config server_config mine theirs → AllItemsActedOnAtClose role (suc n) mine theirs }
+    ensures connection { (role : Role) (client_config : Config Client) (server_config : Config Server) (mine theirs : History) (n : ℕ) → PairAt role client_config server_config mine theirs → AllItemsActedOnAtConnectionClose role (suc n) mine theirs }
+{}
+
+/// Where the channel is Opening or Open at an end that has not put connection.close, the items that the other sent in
+/// that life are those that the frames acted on and then the messages on their way spell, read one behind the other.
+pub fn items_on_their_way()
+    ensures { (role : Role) (client_config : Config Client) (server_config : Config Server) (mine theirs : History) (n : ℕ) → PairAt role client_config server_config mine theirs → ItemsSentAreActedOnOrOnTheirWay role (suc n) mine theirs }
+{}
+
+/// Before a channel's first life its end sends nothing, and acts on nothing.
+pub fn no_items_before_first_life()
+    ensures { (role : Role) (client_config : Config Client) (server_config : Config Server) (mine theirs : History) (n : ℕ) → PairAt role client_config server_config mine theirs → NoItemsBeforeFirstLife role (suc n) mine }
+{}
+
+/// What an end that has not failed tells, item by item as they end, is for each channel above 0 and each life what it acted
+/// on; a frame that it finds fault with tells nothing. What it says is what it sent. It tells and says nothing of channel 0.
+pub fn items_are_told_and_said()
+    ensures told { (role : Role) (config : Config role) (n : ℕ) (history : History) → TellsWhatIsActedOn role config (suc n) history }
+    ensures fault { (role : Role) (config : Config role) (history : History) (frame : Frame) → FaultTellsNothing role config history frame }
+    ensures said { (role : Role) (n : ℕ) (history : History) → SaysWhatIsSent role (suc n) history }
+    ensures channel_0 { (role : Role) (config : Config role) (history : History) → NothingOfChannel0 role config history }
+{}
+
+/// The frames that a history puts and takes on a channel are those that the channel's notes put and take, in order, and
+/// each of these notes says what its frame is to the channel.
+pub fn notes_are_of_frames()
+    ensures frames { (channel : ℕ) (history : History) → FramesAreOfChannel channel history }
+    ensures notes { (channel : ℕ) (history : History) → NotesAreOfFrames channel history }
+{}
+
+/// Where the octets that an end was fed are a front of those that the other put, the frames that it took are on each
+/// channel a front of those that the other put. A frame that the next octets complete is the next on its channel; where
+/// it is connection.close or close-ok, the end has taken all that the other put on the channels above 0.
+pub fn octets_carry_channels()
+    ensures opening { (role : Role) → OpeningsMeet role }
+    ensures taken { (role : Role) (limit : ℕ) (mine theirs : History) (put fed unfinished rest : List ℕ) → TakesFrontOnEach role limit mine theirs put fed unfinished rest }
+    ensures next { (role : Role) (limit : ℕ) (mine theirs : History) (put fed unfinished rest : List ℕ) → CompletedComesNext role limit mine theirs put fed unfinished rest }
+    ensures leaving { (role : Role) (limit : ℕ) (mine theirs : History) (put fed unfinished rest : List ℕ) → AllIsTakenAtLeaving role limit mine theirs put fed unfinished rest }
+{}
