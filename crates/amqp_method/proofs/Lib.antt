@@ -3,6 +3,7 @@ pub mod CompleteLemmas
 pub mod FieldFaults
 pub mod FieldLemmas
 pub mod FitLemmas
+pub mod FittingLemmas
 pub mod HeaderFaults
 pub mod HeaderLemmas
 pub mod KindLemmas

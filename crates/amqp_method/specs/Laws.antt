@@ -1,9 +1,13 @@
 -- The laws of methods and headers, as statements.
-use Rattle.std.specs.Prelude.{◌≡◌, ℕ, List, true, false, ◌⊎◌}
-use Rattle.amqp_method.specs.Arguments.{Call}
+use Rattle.std.specs.Prelude.{◌≡◌, ◌<◌, ◌^◌, ℕ, List, true, false, Ok, ◌⊎◌}
+use Rattle.amqp_method.specs.Arguments.{Call, Fits}
+use Rattle.amqp_method.specs.Fitting.{ArgumentsFit, PropertiesFit}
+use Rattle.amqp_method.specs.HeaderReading.{header_at}
 use Rattle.amqp_method.specs.Kinds.{sends, has_content}
 use Rattle.amqp_method.specs.Methods.{row}
-use Rattle.amqp_method.specs.Properties.{ContentHeader, SpellsHeader}
+use Rattle.amqp_method.specs.Plain.{plain_method, plain_header}
+use Rattle.amqp_method.specs.Properties.{ContentHeader, SpellsHeader, HaveKinds, property_kinds}
+use Rattle.amqp_method.specs.Reading.{method_at}
 use Rattle.amqp_method.specs.Spelling.{SpellsMethod}
 use Rattle.amqp_method.specs.declared.kinds.Kind.{Kind}
 use Rattle.amqp_method.specs.declared.kinds.Kind.TheVariants.{ConnectionOpen, ChannelOpen, BasicPublish, BasicReturn, BasicDeliver, BasicGetOk}
@@ -15,6 +19,24 @@ OneMethod = (c d : Call) (octets : List ℕ) → SpellsMethod c octets → Spell
 -- no octets spell two headers
 abbrev pub OneHeader : Type 0
 OneHeader = (h g : ContentHeader) (octets : List ℕ) → SpellsHeader h octets → SpellsHeader g octets → h ≡ g
+
+-- octets that spell a method are read as it
+abbrev pub MethodIsRead : Type 0
+MethodIsRead = (c : Call) (octets : List ℕ) → SpellsMethod c octets → method_at octets ≡ Ok c
+
+-- octets that spell a header are read as it
+abbrev pub HeaderIsRead : Type 0
+HeaderIsRead = (h : ContentHeader) (octets : List ℕ) → SpellsHeader h octets → header_at octets ≡ Ok h
+
+-- what is written of a method spells it, where its arguments are those of its kind, and fit their fields
+abbrev pub MethodIsSpelled : Type 0
+MethodIsSpelled = (c : Call) → Fits c → ArgumentsFit c.args → SpellsMethod c (plain_method c)
+
+-- what is written of a header spells it, where the body's size and the properties fit their fields, and the properties
+-- are of the kinds that their flags say
+abbrev pub HeaderIsSpelled : Type 0
+HeaderIsSpelled =
+    (h : ContentHeader) → h.body_size < 2 ^ 64 → HaveKinds h.properties property_kinds → PropertiesFit h.properties → SpellsHeader h (plain_header h)
 
 -- no two kinds have the same class id and method id
 abbrev pub DistinctIds : Type 0

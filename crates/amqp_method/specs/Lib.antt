@@ -18,4 +18,5 @@ pub mod GatheredView
 pub mod Lent
 pub mod Messages
 pub mod MessageView
+pub mod Fitting
 pub mod Laws

@@ -1,5 +1,5 @@
 //! Laws of methods and headers that the layers above rest on.
-ghost use Rattle.amqp_method.specs.Laws.{OneMethod, OneHeader, DistinctIds, OnlyClientOpens, EachIsSent, ContentKinds};
+ghost use Rattle.amqp_method.specs.Laws.{OneMethod, OneHeader, MethodIsRead, HeaderIsRead, MethodIsSpelled, HeaderIsSpelled, DistinctIds, OnlyClientOpens, EachIsSent, ContentKinds};
 
 /// No octets spell two methods.
 pub fn one_method()
@@ -9,6 +9,19 @@ pub fn one_method()
 /// No octets spell two content headers.
 pub fn one_header()
     ensures { OneHeader }
+{}
+
+/// Octets that spell a method are read as that method, and octets that spell a content header as that header.
+pub fn spelled_is_read()
+    ensures method { MethodIsRead }
+    ensures header { HeaderIsRead }
+{}
+
+/// The octets that are written of a method whose arguments fit their fields spell it, and likewise those of a content
+/// header.
+pub fn plain_is_spelled()
+    ensures method { MethodIsSpelled }
+    ensures header { HeaderIsSpelled }
 {}
 
 /// No two kinds have the same class id and method id.

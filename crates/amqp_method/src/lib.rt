@@ -35,6 +35,7 @@ pub use crate::headers::{Header, Properties};
 pub use crate::kinds::{Kind, schema, sends};
 pub use crate::laws::{
     content_kinds, distinct_ids, each_is_sent, one_header, one_method, only_client_opens,
+    plain_is_spelled, spelled_is_read,
 };
 pub use crate::messages::Message;
 pub use crate::method_octets::{read_method, write_method};

@@ -48,6 +48,10 @@ mod Lawfulness
 mod Pairing
 mod Departures
 mod PutLast
+mod ReadBack
+mod ReadBackOwed
+mod ReadBackFrames
+mod ReadBackSizes
 mod Sent
 mod SentTelling
 mod Carrying

@@ -13,7 +13,7 @@ use Rattle.amqp_model.specs.Negotiation as negotiation
 use Rattle.amqp_model.specs.FrameVerdict.{Facts}
 use Rattle.amqp_model.specs.LawfulHistories.{WritesReadBack, Goes, greets, takes, asks, begun, goes}
 use Rattle.amqp_model.specs.EndLaws.{notes_on, ActsOn, rests, acts, VerdictAgrees}
-use Rattle.amqp_model.specs.Pairs.{AllComeNext, both_begin, client_goes, server_goes, BothLawful, RunsOnEach}
+use Rattle.amqp_model.specs.Pairs.{AllComeNext, both_begin, client_goes, server_goes, NewEndsPair, StepStaysPair, BothLawful, RunsOnEach}
 use Rattle.amqp_model.proofs.Agreeing.{frame-agrees}
 use Rattle.amqp_model.proofs.Taking.{takes-acts}
 use Rattle.amqp_model.proofs.Asking.{asks-act, zero-acts}
@@ -41,6 +41,14 @@ pub pair-runs : (client_config : Config Client) (server_config : Config Server) 
 pair-runs client_config server_config client server mine theirs both_begin n = start
 pair-runs client_config server_config after server mine theirs (client_goes {client = client} pair next step) n = goes-run server n mine next step (pair-runs client_config server_config client server mine theirs pair n)
 pair-runs client_config server_config client after mine theirs (server_goes {server = server} pair next step) n = goes-run client n theirs next step (pair-runs client_config server_config client server mine theirs pair n)
+
+pub new-ends-pair : (role : Role) (client_config : Config Client) (server_config : Config Server) → NewEndsPair role client_config server_config
+new-ends-pair Client client_config server_config = both_begin
+new-ends-pair Server client_config server_config = both_begin
+
+pub step-stays-pair : (role : Role) (client_config : Config Client) (server_config : Config Server) (mine theirs : History) (taken : Option Frame) (after : History) → StepStaysPair role client_config server_config mine theirs taken after
+step-stays-pair Client client_config server_config mine theirs taken after pair next step = client_goes pair next step
+step-stays-pair Server client_config server_config mine theirs taken after pair next step = server_goes pair next step
 
 -- each of the two histories is lawful
 pub pair-lawful : (client_config : Config Client) (server_config : Config Server) (client server : History) → BothLawful client_config server_config client server

@@ -40,5 +40,7 @@ pub mod Sent
 pub mod SentLaws
 pub mod Octets
 pub mod LeavingLaws
+pub mod Fitting
+pub mod FittingLaws
 pub mod CarryingLaws
 pub mod MethodLaws

@@ -38,6 +38,20 @@ pub record PairAt (role : Role) (client_config : Config Client) (server_config :
   pub server_writes : WritesReadBack Server server_config
   pub pair : PairOf role client_config server_config mine theirs
 
+-- the configuration of the end in this role
+abbrev pub config_of : (role : Role) → Config Client → Config Server → Config role
+config_of Client client_config server_config = client_config
+config_of Server client_config server_config = server_config
+
+-- two new ends are a pair
+abbrev pub NewEndsPair : Role → Config Client → Config Server → Type 0
+NewEndsPair role client_config server_config = PairOf role client_config server_config [] []
+
+-- and a pair stays one with each step of an end, where a frame that it takes comes next
+abbrev pub StepStaysPair : (role : Role) → Config Client → Config Server → (mine theirs : History) → Option Frame → (after : History) → Type 0
+StepStaysPair role client_config server_config mine theirs taken after =
+    PairOf role client_config server_config mine theirs → AllComeNext theirs mine taken → Goes role (config_of role client_config server_config) mine taken false after → PairOf role client_config server_config after theirs
+
 -- the two histories are lawful
 abbrev pub BothLawful : Config Client → Config Server → (client server : History) → Type 0
 BothLawful client_config server_config client server =

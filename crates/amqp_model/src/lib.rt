@@ -8,6 +8,7 @@
 
 pub mod arrangement;
 pub mod contents;
+pub mod fitting;
 pub mod lives;
 pub mod methods;
 pub mod one_end;

@@ -1,0 +1,151 @@
+-- Each frame that an end puts fits its fields, and is no longer than the other end takes.
+use Rattle.std.proofs.Common.{◌≡◌, ◌<◌, ◌≤◌, ◌+◌, ◌-◌, ◌/◌, ◌^◌, Bool, true, false, ◌||◌, ℕ, zero, suc, arith, List, [], ◌∷◌, map, length, drop, Option, Some, None, refl, subst, length-append, length-take}
+use Rattle.std.specs.Prelude.{nat_lt}
+use Rattle.std.specs.List.{AllByRecursion}
+use Rattle.std.proofs.lemmas.Bool.{ltb-false, true≢false}
+use Rattle.amqp_frame.specs.Frame.{frame_length}
+use Rattle.amqp_frame.specs.Splitting.{AllFit}
+use Rattle.amqp_method.specs.Methods.{row}
+use Rattle.amqp_method.specs.declared.kinds.Kind.TheVariants as kinds
+use Rattle.amqp_model.specs.Frame.{Frame}
+use Rattle.amqp_model.specs.Notes.{Role, Server}
+use Rattle.amqp_model.specs.Methods.{plain_method, plain_header}
+use Rattle.amqp_model.specs.Contents as contents
+use Rattle.amqp_model.specs.Contents.{Payload, Content, first_pieces, pieces, room_in}
+use Rattle.amqp_model.specs.Readings.{Reading}
+use Rattle.amqp_model.specs.Channels.{End}
+use Rattle.amqp_model.specs.Negotiation.{Config, FRAME_MIN}
+use Rattle.amqp_model.specs.Closes.{FrameError, Owed, without_arguments, flow_as, method_frame, frame_of}
+use Rattle.amqp_model.specs.Events.{Message, Plain, Whole, Peer, Faults}
+use Rattle.amqp_model.specs.FrameVerdict.{Facts, verdict_on, methods_put}
+use Rattle.amqp_model.specs.Asks.{Ask, Open, Send, Flow, CloseChannel, Close, Blocked, Unblocked, Refusal, channel_max, frame_max, lowest_free, refusal, not_running, bad_channel, not_open, paused, not_sendable, too_large, payload_frame, message_payloads, method_asked, opens_on, frames_asked}
+use Rattle.amqp_model.specs.EndLaws.{FindsLowest}
+use Rattle.amqp_model.specs.Fitting.{header_of, FRAME_MOST, PartsFit}
+use Rattle.amqp_model.specs.FittingLaws.{StartFits, OwedFit, CloseFits, AskedFit, AllWithin, OwedAreShort, CloseIsShort, AskedAreWithin}
+use Rattle.amqp_model.proofs.Asking.{none-first, not-when, accepted-none}
+use Rattle.amqp_model.proofs.Lowest.{finds-lowest}
+use Rattle.amqp_model.proofs.ReadBackOwed.{AllSound, fault-sound, owed-sound, connection_close-short, channel_close-short}
+
+-- ---- what verdicts put
+
+all-fit : (number : ℕ) → number < 2 ^ 16 → (owed : List Owed) → AllSound number owed → AllFit (map frame_of owed)
+all-fit number small [] sound = tt
+all-fit number small (first ∷ later) sound = let short = sound.0.short in (record { channel = sound.0.channel small; size = omega arith }, all-fit number small later sound.1)
+
+all-short : (number : ℕ) (owed : List Owed) → AllSound number owed → AllWithin FRAME_MIN (map frame_of owed)
+all-short number [] sound = tt
+all-short number (first ∷ later) sound = (sound.0.short, all-short number later sound.1)
+
+pub start-fits_frame : (config : Config Server) → StartFits config
+start-fits_frame config fits = let short = fits.greeting_short in record { channel = omega arith; size = omega arith }
+
+pub owed-fit : (role : Role) (facts : Facts role) (reading : Reading) → OwedFit role facts reading
+owed-fit role facts reading fits small = all-fit facts.number small (methods_put facts (verdict_on facts reading)) (owed-sound role facts reading fits)
+
+pub close-fits : (role : Role) (facts : Facts role) → CloseFits role facts
+close-fits role facts = all-fit 0 (omega arith) (methods_put facts (Faults (Peer FrameError))) (fault-sound role facts FrameError 0)
+
+pub owed-short : (role : Role) (facts : Facts role) (reading : Reading) → OwedAreShort role facts reading
+owed-short role facts reading fits = all-short facts.number (methods_put facts (verdict_on facts reading)) (owed-sound role facts reading fits)
+
+pub close-short : (role : Role) (facts : Facts role) → CloseIsShort role facts
+close-short role facts = all-short 0 (methods_put facts (Faults (Peer FrameError))) (fault-sound role facts FrameError 0)
+
+-- ---- what asks put: the lengths
+
+fits-size : (role : Role) (end : End) (ask : Ask) → refusal role end ask ≡ None → too_large end ask ≡ None
+fits-size role end ask e =
+    let a = none-first (not_running end) _ e in
+    let b = none-first (bad_channel end ask) _ a.1 in
+    let c = none-first (not_open end ask) _ b.1 in
+    let d = none-first (paused end ask) _ c.1 in
+    let f = none-first (not_sendable role ask) _ d.1 in
+    (none-first (too_large end ask) _ f.1).0
+
+neither : (a b : Bool) → (a || b) ≡ false → (a ≡ false) × (b ≡ false)
+neither true b e = absurd (true≢false e)
+neither false b e = (refl, e)
+
+pieces-within : (limit max : ℕ) → FRAME_MIN ≤ limit → max ≤ limit → (channel n : ℕ) (octets : List ℕ) → AllWithin limit (map (payload_frame channel) (map contents.Body (first_pieces n (room_in max) octets)))
+pieces-within limit max least below channel zero octets = tt
+pieces-within limit max least below channel (suc n) octets = (omega (arith, length-take (room_in max) octets), pieces-within limit max least below channel n (drop (room_in max) octets))
+
+message-within : (limit channel : ℕ) (end : End) (message : Message) → FRAME_MIN ≤ limit → frame_max end.agreed ≤ limit → too_large end (Send channel message) ≡ None → AllWithin limit (frames_asked end (Send channel message))
+message-within limit channel end (Plain method) least below e =
+    let fits : length (plain_method method) + 8 ≤ frame_max end.agreed = ltb-false _ _ (not-when _ Refusal.TooLarge e) in
+    (omega arith, tt)
+message-within limit channel end (Whole content) least below e =
+    let both = neither (nat_lt (frame_max end.agreed) (length (plain_method content.method) + 8)) (nat_lt (frame_max end.agreed) (length (plain_header (header_of content)) + 8)) (not-when _ Refusal.TooLarge e) in
+    let first : length (plain_method content.method) + 8 ≤ frame_max end.agreed = ltb-false _ _ both.0 in
+    let second : length (plain_header (header_of content)) + 8 ≤ frame_max end.agreed = ltb-false _ _ both.1 in
+    (omega arith, (omega arith, pieces-within limit (frame_max end.agreed) least below channel ((length content.body + room_in (frame_max end.agreed) - 1) / room_in (frame_max end.agreed)) content.body))
+
+open-within : (limit : ℕ) (free : Option ℕ) → FRAME_MIN ≤ limit → AllWithin limit (opens_on free)
+unfolding row plain_method
+open-within limit (Some channel) least = (omega arith, tt)
+open-within limit None least = tt
+
+blocked-short : (reason : List ℕ) → length reason < 2 ^ 8 → frame_length (method_frame 0 (method_asked (Blocked reason))) ≤ FRAME_MIN
+unfolding row plain_method
+blocked-short reason small = omega (arith, length-append reason [])
+
+flow-short : (channel : ℕ) (active : Bool) → frame_length (method_frame channel (flow_as kinds.ChannelFlow active)) ≤ FRAME_MIN
+unfolding row plain_method
+flow-short channel active = omega arith
+
+unblocked-short : frame_length (method_frame 0 (without_arguments kinds.ConnectionUnblocked)) ≤ FRAME_MIN
+unfolding row plain_method
+unblocked-short = omega arith
+
+asked-within : (limit : ℕ) (end : End) (ask : Ask) → FRAME_MIN ≤ limit → frame_max end.agreed ≤ limit → PartsFit ask → too_large end ask ≡ None → AllWithin limit (frames_asked end ask)
+asked-within limit end Open least below parts e = open-within limit (lowest_free end) least
+asked-within limit end (Send channel message) least below parts e = message-within limit channel end message least below e
+asked-within limit end (Flow channel active) least below parts e = let short = flow-short channel active in (omega arith, tt)
+asked-within limit end (CloseChannel channel code text) least below parts e = let short = channel_close-short channel code text parts.2.0 in (omega arith, tt)
+asked-within limit end (Close code text) least below parts e = let short = connection_close-short 0 code text parts.1.0 in (omega arith, tt)
+asked-within limit end (Blocked reason) least below parts e = let short = blocked-short reason parts.0 in (omega arith, tt)
+asked-within limit end Unblocked least below parts e = let short = unblocked-short in (omega arith, tt)
+
+pub asked-are-within : (role : Role) (end : End) (ask : Ask) (frames : List Frame) → AskedAreWithin role end ask frames
+asked-are-within role end ask frames fits least e =
+    let put = accepted-none (refusal role end ask) (frames_asked end ask) frames e in
+    subst (AllWithin (frame_max end.agreed)) put.1 (asked-within (frame_max end.agreed) end ask least (omega arith) fits.parts (fits-size role end ask put.0))
+
+-- ---- what asks put: the channels
+
+abbrev AllNumbered : List Frame → Type 0
+AllNumbered frames = AllByRecursion (λ frame. frame.channel < 2 ^ 16) frames
+
+payload-numbered : (channel : ℕ) (payload : Payload) → channel < 2 ^ 16 → (payload_frame channel payload).channel < 2 ^ 16
+payload-numbered channel (contents.Calls method) small = small
+payload-numbered channel (contents.Header size properties) small = small
+payload-numbered channel (contents.Body octets) small = small
+payload-numbered channel contents.Unread small = small
+
+payloads-numbered : (channel : ℕ) (payloads : List Payload) → channel < 2 ^ 16 → AllNumbered (map (payload_frame channel) payloads)
+payloads-numbered channel [] small = tt
+payloads-numbered channel (payload ∷ payloads) small = (payload-numbered channel payload small, payloads-numbered channel payloads small)
+
+open-numbered : (end : End) (free : Option ℕ) → channel_max end.agreed < 2 ^ 16 → FindsLowest end.channels (channel_max end.agreed) 1 free → AllNumbered (opens_on free)
+open-numbered end (Some channel) small found = let below = found.below_end in (omega arith, tt)
+open-numbered end None small found = tt
+
+asked-numbered : (end : End) (ask : Ask) → channel_max end.agreed < 2 ^ 16 → PartsFit ask → AllNumbered (frames_asked end ask)
+asked-numbered end Open small parts = open-numbered end (lowest_free end) small (finds-lowest end.channels (channel_max end.agreed) 1)
+asked-numbered end (Send channel message) small parts = payloads-numbered channel (message_payloads (frame_max end.agreed) message) parts.0
+asked-numbered end (Flow channel active) small parts = (parts, tt)
+asked-numbered end (CloseChannel channel code text) small parts = (parts.0, tt)
+asked-numbered end (Close code text) small parts = (omega arith, tt)
+asked-numbered end (Blocked reason) small parts = (omega arith, tt)
+asked-numbered end Unblocked small parts = (omega arith, tt)
+
+numbered-fit : (frames : List Frame) → AllNumbered frames → AllWithin FRAME_MOST frames → AllFit frames
+numbered-fit [] numbered within = tt
+numbered-fit (frame ∷ frames) numbered within = let short = within.0 in (record { channel = numbered.0; size = omega arith }, numbered-fit frames numbered.1 within.1)
+
+pub asked-fit : (role : Role) (end : End) (ask : Ask) (frames : List Frame) → AskedFit role end ask frames
+asked-fit role end ask frames fits agreed e =
+    let put = accepted-none (refusal role end ask) (frames_asked end ask) frames e in
+    subst AllFit put.1
+    (numbered-fit (frames_asked end ask) (asked-numbered end ask agreed.channel_most fits.parts)
+    (asked-within FRAME_MOST end ask (omega arith) agreed.frame_most fits.parts (fits-size role end ask put.0)))

@@ -1,0 +1,82 @@
+-- What an end writes reads as what it was made of, and fits its fields: the statements.
+use Rattle.std.specs.Prelude.{◌≡◌, ◌<◌, ◌≤◌, ◌^◌, ℕ, List, map, Some}
+use Rattle.std.specs.List.{AllByRecursion}
+use Rattle.amqp_frame.specs.Frame.{Fits, frame_length}
+use Rattle.amqp_frame.specs.Splitting.{AllFit}
+use Rattle.amqp_model.specs.Frame.{Frame}
+use Rattle.amqp_model.specs.Notes.{Role, Server}
+use Rattle.amqp_model.specs.Methods.{Method, Header, ReadsBack, header_at, plain_header}
+use Rattle.amqp_model.specs.Readings.{Reading, reading as reading_of, payload_of}
+use Rattle.amqp_model.specs.Channels.{End}
+use Rattle.amqp_model.specs.Negotiation.{Config, FRAME_MIN, start}
+use Rattle.amqp_model.specs.Closes.{FrameError, AllReadBack, method_frame, frame_of}
+use Rattle.amqp_model.specs.Events.{Message, Peer, Faults}
+use Rattle.amqp_model.specs.FrameVerdict.{Facts, verdict_on, methods_put}
+use Rattle.amqp_model.specs.Asks.{Ask, Send, frame_max, payload_frame, message_payloads, method_asked, Puts, ask_verdict}
+use Rattle.amqp_model.specs.LawfulHistories.{WritesReadBack}
+use Rattle.amqp_model.specs.Fitting.{MethodFits, HeaderFits, ConfigFits, ConfigWrites, AgreedFits, AskFits}
+
+-- what is written of a method that fits its fields reads as the method
+abbrev pub MethodReadsBack : Method → Type 0
+MethodReadsBack method = MethodFits method → ReadsBack method
+
+-- what is written of a content header that fits its fields reads as the header
+abbrev pub HeaderReadsBack : Header → Type 0
+HeaderReadsBack header = HeaderFits header → header_at (plain_header header) ≡ Some header
+
+-- what an end says of itself can be written where its configuration fits its fields
+abbrev pub FittingConfigWrites : (role : Role) → Config role → Type 0
+FittingConfigWrites role config = ConfigFits config → ConfigWrites config
+
+-- what is written of the method that an ask puts reads as that method
+abbrev pub AskedReadsBack : Ask → Type 0
+AskedReadsBack ask = AskFits ask → ReadsBack (method_asked ask)
+
+-- what is written of the methods that a verdict puts reads as they are
+abbrev pub OwedReadBack : (role : Role) → Facts role → Reading → Type 0
+OwedReadBack role facts reading = ConfigWrites facts.config → AllReadBack (methods_put facts (verdict_on facts reading))
+
+-- what is written of the close that an end puts where a frame is above the limit reads as that close
+abbrev pub CloseReadsBack : (role : Role) → Facts role → Type 0
+CloseReadsBack role facts = AllReadBack (methods_put facts (Faults (Peer FrameError)))
+
+-- each frame of a message says the payload that it was made of
+abbrev pub FramesSayPayloads : (max channel : ℕ) → Message → Type 0
+FramesSayPayloads max channel message =
+    AskFits (Send channel message) → map (λ (frame : Frame). payload_of (reading_of frame)) (map (payload_frame channel) (message_payloads max message)) ≡ message_payloads max message
+
+-- so all that an end of such a configuration writes of itself reads back
+abbrev pub AllReadsBack : (role : Role) → Config role → Type 0
+AllReadsBack role config = ConfigWrites config → WritesReadBack role config
+
+-- the frame of a server's start fits its fields
+abbrev pub StartFits : Config Server → Type 0
+StartFits config = ConfigWrites config → Fits (method_frame 0 (start config))
+
+-- the frames of the methods that a verdict puts fit their fields
+abbrev pub OwedFit : (role : Role) → Facts role → Reading → Type 0
+OwedFit role facts reading = ConfigWrites facts.config → facts.number < 2 ^ 16 → AllFit (map frame_of (methods_put facts (verdict_on facts reading)))
+
+-- the frame of the close that an end puts where a frame is above the limit fits its fields
+abbrev pub CloseFits : (role : Role) → Facts role → Type 0
+CloseFits role facts = AllFit (map frame_of (methods_put facts (Faults (Peer FrameError))))
+
+-- the frames that an accepted ask puts fit their fields
+abbrev pub AskedFit : Role → End → Ask → List Frame → Type 0
+AskedFit role end ask frames = AskFits ask → AgreedFits end.agreed → ask_verdict role end ask ≡ Puts frames → AllFit frames
+
+-- no frame has more octets than this
+abbrev pub AllWithin : (limit : ℕ) → List Frame → Type 0
+AllWithin limit frames = AllByRecursion (λ frame. frame_length frame ≤ limit) frames
+
+-- the frames of the methods that a verdict puts have at most 4096 octets, which every end takes
+abbrev pub OwedAreShort : (role : Role) → Facts role → Reading → Type 0
+OwedAreShort role facts reading = ConfigWrites facts.config → AllWithin FRAME_MIN (map frame_of (methods_put facts (verdict_on facts reading)))
+
+-- the frame of the close that an end puts where a frame is above the limit has at most 4096 octets
+abbrev pub CloseIsShort : (role : Role) → Facts role → Type 0
+CloseIsShort role facts = AllWithin FRAME_MIN (map frame_of (methods_put facts (Faults (Peer FrameError))))
+
+-- the frames that an accepted ask puts are no longer than was agreed
+abbrev pub AskedAreWithin : Role → End → Ask → List Frame → Type 0
+AskedAreWithin role end ask frames = AskFits ask → FRAME_MIN ≤ frame_max end.agreed → ask_verdict role end ask ≡ Puts frames → AllWithin (frame_max end.agreed) frames

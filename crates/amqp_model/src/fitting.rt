@@ -1,0 +1,74 @@
+//! What an end writes reads as what it was made of, and fits the fields that it stands in.
+//!
+//! The laws of one end speak of methods whose octets read as the method. Here is when they do: the arguments are those of the
+//! method's kind, numbers fit their fields and strings their lengths. `MethodFits`, `ConfigFits` and `AskFits` say so of a
+//! method, of what an end is set up with and of what an application asks.
+
+ghost use Rattle.std.specs.Prelude.{ℕ, List};
+ghost use Rattle.amqp_model.specs.Asks.{Ask};
+ghost use Rattle.amqp_model.specs.Channels.{End};
+ghost use Rattle.amqp_model.specs.Events.{Message};
+ghost use Rattle.amqp_model.specs.FittingLaws.{AllReadsBack, AskedAreWithin, AskedFit, AskedReadsBack, CloseFits, CloseIsShort, CloseReadsBack, FittingConfigWrites, FramesSayPayloads, HeaderReadsBack, MethodReadsBack, OwedAreShort, OwedFit, OwedReadBack, StartFits};
+ghost use Rattle.amqp_model.specs.Frame.{Frame};
+ghost use Rattle.amqp_model.specs.FrameVerdict.{Facts};
+ghost use Rattle.amqp_model.specs.Methods.{Header, Method};
+ghost use Rattle.amqp_model.specs.Negotiation.{Config};
+ghost use Rattle.amqp_model.specs.Notes.{Role, Server};
+ghost use Rattle.amqp_model.specs.Readings.{Reading};
+
+/// What is written of a method, and of a content header, reads as it, where it fits its fields.
+pub fn written_reads_back()
+    ensures method { (method : Method) → MethodReadsBack method }
+    ensures header { (header : Header) → HeaderReadsBack header }
+{
+    amqp_method::plain_is_spelled();
+    amqp_method::spelled_is_read();
+}
+
+/// What an end says of itself can be written where its configuration fits its fields.
+pub fn fitting_config_writes()
+    ensures { (role : Role) (config : Config role) → FittingConfigWrites role config }
+{
+    written_reads_back();
+}
+
+/// The method that an ask puts reads back.
+pub fn asked_reads_back()
+    ensures { (ask : Ask) → AskedReadsBack ask }
+{
+    written_reads_back();
+}
+
+/// The methods that a verdict puts read back, and so does the close that an end puts where a frame is above the limit:
+/// all that an end writes of itself.
+pub fn owed_read_back()
+    ensures verdict { (role : Role) (facts : Facts role) (reading : Reading) → OwedReadBack role facts reading }
+    ensures too_large { (role : Role) (facts : Facts role) → CloseReadsBack role facts }
+    ensures all { (role : Role) (config : Config role) → AllReadsBack role config }
+{
+    written_reads_back();
+}
+
+/// Each frame of a message says the payload that it was made of.
+pub fn frames_say_payloads()
+    ensures { (max channel : ℕ) (message : Message) → FramesSayPayloads max channel message }
+{
+    written_reads_back();
+}
+
+/// Each frame that an end puts fits its fields: start, what verdicts and a frame above the limit make it put, and what it
+/// puts for an accepted ask.
+pub fn frames_fit()
+    ensures start { (config : Config Server) → StartFits config }
+    ensures verdict { (role : Role) (facts : Facts role) (reading : Reading) → OwedFit role facts reading }
+    ensures too_large { (role : Role) (facts : Facts role) → CloseFits role facts }
+    ensures asked { (role : Role) (end : End) (ask : Ask) (frames : List Frame) → AskedFit role end ask frames }
+{}
+
+/// The frames that verdicts make an end put have at most 4096 octets, which every end takes, and so has the close that it puts
+/// where a frame is above the limit. Those that it puts for an accepted ask have at most the agreed number.
+pub fn frames_are_within()
+    ensures verdict { (role : Role) (facts : Facts role) (reading : Reading) → OwedAreShort role facts reading }
+    ensures too_large { (role : Role) (facts : Facts role) → CloseIsShort role facts }
+    ensures asked { (role : Role) (end : End) (ask : Ask) (frames : List Frame) → AskedAreWithin role end ask frames }
+{}
