@@ -18,7 +18,8 @@ use Rattle.amqp_model.specs.Readings.{reading}
 use Rattle.amqp_model.specs.Histories.{Put, Took, History, PutHere, TookHere, LeftHere, closes_connection, notes, entries_on}
 use Rattle.amqp_model.specs.EndLaws.{notes_on}
 use Rattle.amqp_model.specs.Octets.{frames_taken, frames_put, opening_read, FedAs}
-use Rattle.amqp_model.specs.CarryingLaws.{as_carried, frame_carried, FramesAreOfChannel, NotesAreOfFrames, OpeningsMeet, Carries, TakesFrontOnEach, CompletedComesNext, AllIsTakenAtLeaving}
+use Rattle.amqp_model.specs.Pairs.{ComesNext}
+use Rattle.amqp_model.specs.CarryingLaws.{as_carried, frame_carried, FramesAreOfChannel, NotesAreOfFrames, OpeningsMeet, Carries, TakesFrontOnEach, CompletedComesNext}
 
 -- one more frame, on its channel or on another
 on-more : (channel : ℕ) (frames : List Frame) (frame : Frame) → on channel (frames ++ frame ∷ []) ≡ on channel frames ++ cond (frame.channel == channel) (frame ∷ []) []
@@ -130,17 +131,15 @@ first-frame : (later : List Frame) (f : Frame) (xs : List ℕ) → AllFit later 
 first-frame [] f xs fit fits e = absurd (no-octets f xs e)
 first-frame (g ∷ later) f xs fit fits e = (later, ap (λ h. h ∷ later) (one_frame g f (stream later) xs fit.0 fits e).0)
 
-next-of-channel : (n : ℕ) (f : Frame) (departing behind : List Frame) (mine theirs : History) → departing ≡ frames_taken mine ++ f ∷ behind → on (suc n) departing ≡ on (suc n) (frames_put theirs) → f.channel ≡ suc n → IsNext (notes_on (suc n) theirs) (notes_on (suc n) mine) (as_carried f)
-next-of-channel n f departing behind mine theirs departing_is same here = (map as_carried (on (suc n) behind), puts-carried (suc n) theirs ∙ (ap (map as_carried) (sym same ∙ order) ∙ (map-append as_carried taken _ ∙ ap (λ l. l ++ as_carried f ∷ map as_carried (on (suc n) behind)) (sym (takes-carried (suc n) mine)))))
-  where
-    taken : List Frame
-    taken = on (suc n) (frames_taken mine)
+-- a frame that comes next is the next in the notes of its channel
+pub next-noted : (theirs mine : History) (frame : Frame) (n : ℕ) → ComesNext theirs mine frame → frame.channel ≡ suc n → IsNext (notes_on (suc n) theirs) (notes_on (suc n) mine) (as_carried frame)
+next-noted theirs mine frame n comes here =
+    let next : on (suc n) (frames_put theirs) ≡ on (suc n) (frames_taken mine) ++ frame ∷ comes.later = subst (λ c. on c (frames_put theirs) ≡ on c (frames_taken mine) ++ frame ∷ comes.later) here comes.next in
+    (map as_carried comes.later, puts-carried (suc n) theirs ∙ (ap (map as_carried) next ∙ (map-append as_carried (on (suc n) (frames_taken mine)) _ ∙ ap (λ l. l ++ as_carried frame ∷ map as_carried comes.later) (sym (takes-carried (suc n) mine)))))
 
-    is_here : on (suc n) (f ∷ behind) ≡ f ∷ on (suc n) behind
-    is_here = cond-true (f.channel == suc n) _ _ (eq-eqb f.channel (suc n) here)
-
-    order : on (suc n) departing ≡ taken ++ f ∷ on (suc n) behind
-    order = ap (on (suc n)) departing_is ∙ (filter-append (λ g. g.channel == suc n) (frames_taken mine) (f ∷ behind) ∙ ap (λ l. taken ++ l) is_here)
+-- where all frames of a channel were taken, all its notes were
+pub all-noted : (theirs mine : History) (n : ℕ) → on (suc n) (frames_put theirs) ≡ on (suc n) (frames_taken mine) → put_by (notes_on (suc n) theirs) ≡ taken_by (notes_on (suc n) mine)
+all-noted theirs mine n same = puts-carried (suc n) theirs ∙ (ap (map as_carried) same ∙ sym (takes-carried (suc n) mine))
 
 -- a frame that the octets not yet taken begin with leaves the other end right behind those that were taken
 completed : (role : Role) (limit : ℕ) (mine theirs : History) (put fed unfinished rest : List ℕ) (f : Frame) (front later : List ℕ) (carries : Carries role limit mine theirs put fed unfinished rest) → rest ≡ front ++ later → unfinished ++ front ≡ octets f → Fits f → (behind : List Frame) × (carries.put_as.departing ≡ frames_taken mine ++ f ∷ behind)
@@ -159,19 +158,14 @@ completed role limit mine theirs put fed unfinished rest f front later carries r
         let first = first-frame there.later f later there.fit fits (there.rest_is ∙ octets_next) in
         (first.0, there.departing_is ∙ ap (λ l. frames_taken mine ++ l) first.1)
 
-pub completed-comes-next : (role : Role) (limit : ℕ) (mine theirs : History) (put fed unfinished rest : List ℕ) → CompletedComesNext role limit mine theirs put fed unfinished rest
-completed-comes-next role limit mine theirs put fed unfinished rest f front later carries rest_is whole fits n here =
-    let there = completed role limit mine theirs put fed unfinished rest f front later carries rest_is whole fits in
-    next-of-channel n f carries.put_as.departing there.0 mine theirs there.1 (carries.put_as.each_channel (suc n)) here
-
 -- connection.close and close-ok stand on no channel above 0
 leaving-elsewhere : (n : ℕ) (f : Frame) (behind : List Frame) → is_leaving f ≡ true → on (suc n) (f ∷ behind) ≡ on (suc n) behind
 leaving-elsewhere n f behind leaving =
     let zero_is = eqb-true f.channel 0 (and_parts (f.channel == 0) _ leaving).0 in
     cond-false (f.channel == suc n) _ _ (ne_eqb f.channel (suc n) (λ e. let h : 0 ≡ suc n = sym zero_is ∙ e in absurd (omega arith)))
 
-pub all-taken-at-leaving : (role : Role) (limit : ℕ) (mine theirs : History) (put fed unfinished rest : List ℕ) → AllIsTakenAtLeaving role limit mine theirs put fed unfinished rest
-all-taken-at-leaving role limit mine theirs put fed unfinished rest f front later carries rest_is whole fits leaving n = puts-carried (suc n) theirs ∙ (ap (map as_carried) same ∙ sym (takes-carried (suc n) mine))
+pub completed-comes-next : (role : Role) (limit : ℕ) (mine theirs : History) (put fed unfinished rest : List ℕ) → CompletedComesNext role limit mine theirs put fed unfinished rest
+completed-comes-next role limit mine theirs put fed unfinished rest f front later carries rest_is whole fits = record { later = on f.channel there.0; next = sym (p.each_channel f.channel) ∙ order; at_leaving = all }
   where
     p : PutAs (opening_read role) put (frames_put theirs)
     p = carries.put_as
@@ -179,8 +173,13 @@ all-taken-at-leaving role limit mine theirs put fed unfinished rest f front late
     there : (behind : List Frame) × (p.departing ≡ frames_taken mine ++ f ∷ behind)
     there = completed role limit mine theirs put fed unfinished rest f front later carries rest_is whole fits
 
-    none_behind : on (suc n) (f ∷ there.0) ≡ []
-    none_behind = leaving-elsewhere n f there.0 leaving ∙ p.closes_last (frames_taken mine) there.0 f there.1 leaving (suc n) (omega arith)
+    split : (channel : ℕ) → on channel p.departing ≡ on channel (frames_taken mine) ++ on channel (f ∷ there.0)
+    split channel = ap (on channel) there.1 ∙ filter-append (λ g. g.channel == channel) (frames_taken mine) (f ∷ there.0)
 
-    same : on (suc n) (frames_put theirs) ≡ on (suc n) (frames_taken mine)
-    same = sym (p.each_channel (suc n)) ∙ (ap (on (suc n)) there.1 ∙ (filter-append (λ g. g.channel == suc n) (frames_taken mine) (f ∷ there.0) ∙ (ap (λ l. on (suc n) (frames_taken mine) ++ l) none_behind ∙ append-nil _)))
+    order : on f.channel p.departing ≡ on f.channel (frames_taken mine) ++ f ∷ on f.channel there.0
+    order = split f.channel ∙ ap (λ l. on f.channel (frames_taken mine) ++ l) (cond-true (f.channel == f.channel) _ _ (eq-eqb f.channel f.channel refl))
+
+    all : is_leaving f ≡ true → (n : ℕ) → on (suc n) (frames_put theirs) ≡ on (suc n) (frames_taken mine)
+    all leaving n =
+        let none_behind = leaving-elsewhere n f there.0 leaving ∙ p.closes_last (frames_taken mine) there.0 f there.1 leaving (suc n) (omega arith) in
+        sym (p.each_channel (suc n)) ∙ (split (suc n) ∙ (ap (λ l. on (suc n) (frames_taken mine) ++ l) none_behind ∙ append-nil _))

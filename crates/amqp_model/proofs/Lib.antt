@@ -45,6 +45,7 @@ mod FrameSteps
 mod Failing
 mod AskSteps
 mod Lawfulness
+mod Carrying
 mod Pairing
 mod Departures
 mod PutLast
@@ -53,6 +54,6 @@ mod ReadBackOwed
 mod ReadBackFrames
 mod ReadBackSizes
 mod Sent
+mod ConnectionClosed
 mod SentTelling
-mod Carrying
 mod MethodTable

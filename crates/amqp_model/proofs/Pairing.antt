@@ -14,6 +14,7 @@ use Rattle.amqp_model.specs.FrameVerdict.{Facts}
 use Rattle.amqp_model.specs.LawfulHistories.{WritesReadBack, Goes, greets, takes, asks, begun, goes}
 use Rattle.amqp_model.specs.EndLaws.{notes_on, ActsOn, rests, acts, VerdictAgrees}
 use Rattle.amqp_model.specs.Pairs.{AllComeNext, both_begin, client_goes, server_goes, NewEndsPair, StepStaysPair, BothLawful, RunsOnEach}
+use Rattle.amqp_model.proofs.Carrying.{next-noted}
 use Rattle.amqp_model.proofs.Agreeing.{frame-agrees}
 use Rattle.amqp_model.proofs.Taking.{takes-acts}
 use Rattle.amqp_model.proofs.Asking.{asks-act, zero-acts}
@@ -34,7 +35,7 @@ start-quiet config = go config.hello
 
 goes-run : {role : Role} {config : Config role} {before after : History} {taken : Option Frame} (theirs : History) (n : ℕ) → WritesReadBack role config → AllComeNext theirs before taken → Goes role config before taken false after → RunAt role (notes_on (suc n) before) (notes_on (suc n) theirs) → RunAt role (notes_on (suc n) after) (notes_on (suc n) theirs)
 goes-run {config} theirs n back next greets run = acts-at Server run (zero-acts Server (notes_on (suc n) theirs) [] n (negotiation.start config) back.greeting (start-quiet config))
-goes-run {role} {config} {before} theirs n back next (takes frame p g) run = acts-at role run (takes-acts role config before frame n (notes_on (suc n) theirs) back g (next n))
+goes-run {role} {config} {before} theirs n back next (takes frame p g) run = acts-at role run (takes-acts role config before frame n (notes_on (suc n) theirs) back g (next-noted theirs before frame n next))
 goes-run {role} {config} {before} theirs n back next (asks ask frames made read e) run = acts-at role run (asks-act role config before ask frames n (notes_on (suc n) theirs) read made e)
 
 pub pair-runs : (client_config : Config Client) (server_config : Config Server) (client server : History) → RunsOnEach client_config server_config client server

@@ -92,11 +92,11 @@ parted-last frames p before behind f e l = all-of behind (go p.plain p.none befo
     go (x ∷ plain) none (y ∷ before) e = go plain none.1 before (let h : x ∷ (plain ++ p.leaving) ≡ y ∷ (before ++ f ∷ behind) = e in cc)
 
 -- frames put one behind another
-put-then : (frames : List Frame) (history : History) → frames_put (then_put frames history) ≡ frames_put history ++ frames
+pub put-then : (frames : List Frame) (history : History) → frames_put (then_put frames history) ≡ frames_put history ++ frames
 put-then [] history = sym (append-nil (frames_put history))
 put-then (f ∷ later) history = put-then later (Put f ∷ history) ∙ append_assoc (frames_put history) (f ∷ []) later
 
-leaving-is : (channel : ℕ) (method : Method) → is_leaving (method_frame channel method) ≡ ((channel == 0) && is_departure method.kind)
+pub leaving-is : (channel : ℕ) (method : Method) → is_leaving (method_frame channel method) ≡ ((channel == 0) && is_departure method.kind)
 leaving-is channel method = ap (λ b. (channel == 0) && b) (names-departure method.kind method.args)
 
 never : (b : Bool) → (b && false) ≡ false
@@ -183,7 +183,7 @@ fault-leaves facts (Faults Fault.AlreadyClosed) g = tt
 fault-leaves facts (Faults Fault.AlreadyFailed) g = tt
 
 -- the other's close is answered with close-ok
-kind-closes : (kind : MethodKind) → same_kind kind kinds.ConnectionClose ≡ true → kind ≡ kinds.ConnectionClose
+pub kind-closes : (kind : MethodKind) → same_kind kind kinds.ConnectionClose ≡ true → kind ≡ kinds.ConnectionClose
 kind-closes kinds.ConnectionClose e = refl
 kind-closes kind e = absurd (false≢true e)
 

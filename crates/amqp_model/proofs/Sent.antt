@@ -20,6 +20,7 @@ use Rattle.amqp_model.proofs.Ends.{Is, Lawful, begun, has_asked, has_replied, ha
 use Rattle.amqp_model.proofs.Runs.{Linked, linked, run_at_linked}
 use Rattle.amqp_model.proofs.Laws.{acts_front, sent_so_far, all_acted, all_acted_connection}
 use Rattle.amqp_model.proofs.ItemLemmas.{items-front}
+use Rattle.amqp_model.proofs.Carrying.{all-noted}
 use Rattle.amqp_model.proofs.Pairing.{pair-runs}
 
 pub pair-runs_at : (role : Role) (client_config : Config Client) (server_config : Config Server) (mine theirs : History) (n : ℕ) → PairAt role client_config server_config mine theirs → RunAt role (notes_on (suc n) mine) (notes_on (suc n) theirs)
@@ -37,7 +38,7 @@ pub all-at-close : (role : Role) (client_config : Config Client) (server_config 
 all-at-close role client_config server_config mine theirs n pair life closed = ap items_in (all_acted role _ _ (pair-runs_at role client_config server_config mine theirs n pair) life closed)
 
 pub all-at-connection_close : (role : Role) (client_config : Config Client) (server_config : Config Server) (mine theirs : History) (n : ℕ) → PairAt role client_config server_config mine theirs → AllItemsActedOnAtConnectionClose role (suc n) mine theirs
-all-at-connection_close role client_config server_config mine theirs n pair live all = ap items_in (all_acted_connection role _ _ (pair-runs_at role client_config server_config mine theirs n pair) live all)
+all-at-connection_close role client_config server_config mine theirs n pair frame live comes leaving = ap items_in (all_acted_connection role _ _ (pair-runs_at role client_config server_config mine theirs n pair) live (all-noted theirs mine n (comes.at_leaving leaving n)))
 
 pub sent-is-acted-or-coming : (role : Role) (client_config : Config Client) (server_config : Config Server) (mine theirs : History) (n : ℕ) → PairAt role client_config server_config mine theirs → ItemsSentAreActedOnOrOnTheirWay role (suc n) mine theirs
 sent-is-acted-or-coming role client_config server_config mine theirs n pair rest live way = ap items_in (sent_so_far role _ _ (pair-runs_at role client_config server_config mine theirs n pair) rest live way)

@@ -1,10 +1,10 @@
 -- What octets carry of the channels from one end to the other: the statements that the public laws carry.
-use Rattle.std.specs.Prelude.{◌≡◌, true, ℕ, suc, List, ◌++◌, map}
+use Rattle.std.specs.Prelude.{◌≡◌, ℕ, List, ◌++◌, map}
 use Rattle.amqp_frame.specs.Frame.{Frame, octets, Fits}
 use Rattle.amqp_model.specs.Notes.{Role, other_end}
 use Rattle.amqp_model.specs.Carried.{Carried, Carry, put_by, taken_by}
 use Rattle.amqp_model.specs.Fronts.{IsFrontOf}
-use Rattle.amqp_model.specs.Arrangement.{is_leaving, on}
+use Rattle.amqp_model.specs.Arrangement.{on}
 use Rattle.amqp_model.specs.Departures.{PutAs}
 use Rattle.amqp_model.specs.Readings.{reading, kind_of}
 use Rattle.amqp_model.specs.Histories.{History}
@@ -47,16 +47,9 @@ abbrev pub TakesFrontOnEach : Role → (limit : ℕ) → (mine theirs : History)
 TakesFrontOnEach role limit mine theirs put fed unfinished rest =
     Carries role limit mine theirs put fed unfinished rest → (channel : ℕ) → IsFrontOf (on channel (frames_taken mine)) (on channel (frames_put theirs))
 
--- a frame that the rest completes is the next on its channel
+-- a frame that the rest completes comes next
 abbrev pub CompletedComesNext : Role → (limit : ℕ) → (mine theirs : History) → (put fed unfinished rest : List ℕ) → Type 0
 CompletedComesNext role limit mine theirs put fed unfinished rest =
     (f : Frame) (front later : List ℕ)
     → Carries role limit mine theirs put fed unfinished rest → rest ≡ front ++ later → unfinished ++ front ≡ octets f → Fits f
     → ComesNext theirs mine f
-
--- where the rest completes a connection.close or close-ok, the end has taken all that the other put on each channel above 0
-abbrev pub AllIsTakenAtLeaving : Role → (limit : ℕ) → (mine theirs : History) → (put fed unfinished rest : List ℕ) → Type 0
-AllIsTakenAtLeaving role limit mine theirs put fed unfinished rest =
-    (f : Frame) (front later : List ℕ)
-    → Carries role limit mine theirs put fed unfinished rest → rest ≡ front ++ later → unfinished ++ front ≡ octets f → Fits f
-    → is_leaving f ≡ true → (n : ℕ) → put_by (notes_on (suc n) theirs) ≡ taken_by (notes_on (suc n) mine)

@@ -35,10 +35,10 @@ pub mod Answers
 pub mod LawfulHistories
 pub mod Machine
 pub mod EndLaws
+pub mod Octets
 pub mod Pairs
 pub mod Sent
 pub mod SentLaws
-pub mod Octets
 pub mod LeavingLaws
 pub mod Fitting
 pub mod FittingLaws

@@ -1,20 +1,23 @@
 -- Two ends of a connection: each does what its verdicts and its application's asks make of it, in any interleaving.
--- On each channel above 0 an end takes the frames of the other in the order in which that put them; nothing is said of
--- frames of different channels.
-use Rattle.std.specs.Prelude.{◌≡◌, false, ℕ, suc, [], Option, Some, None}
+-- On each channel an end takes the frames of the other in the order in which that put them. Of frames of different channels
+-- nothing is said, but that a close of the connection comes behind all of the channels above 0.
+use Rattle.std.specs.Prelude.{◌≡◌, true, false, ℕ, suc, List, [], ◌∷◌, ◌++◌, Option, Some, None}
 use Rattle.amqp_model.specs.Frame.{Frame}
 use Rattle.amqp_model.specs.Notes.{Role, Client, Server}
-use Rattle.amqp_model.specs.Carried.{Carry}
-use Rattle.amqp_model.specs.Runs.{IsNext, Run}
-use Rattle.amqp_model.specs.Readings.{reading, kind_of}
+use Rattle.amqp_model.specs.Runs.{Run}
+use Rattle.amqp_model.specs.Arrangement.{is_leaving, on}
 use Rattle.amqp_model.specs.Histories.{History}
 use Rattle.amqp_model.specs.Negotiation.{Config}
 use Rattle.amqp_model.specs.LawfulHistories.{WritesReadBack, Goes, Lawful}
 use Rattle.amqp_model.specs.EndLaws.{notes_on}
+use Rattle.amqp_model.specs.Octets.{frames_taken, frames_put}
 
--- the frame is the next on its channel that the other end put and this one has not taken
-abbrev pub ComesNext : (theirs mine : History) → Frame → Type 0
-ComesNext theirs mine frame = (n : ℕ) → frame.channel ≡ suc n → IsNext (notes_on (suc n) theirs) (notes_on (suc n) mine) (Carry (kind_of (reading frame)) frame)
+-- The frame is the next on its channel that the other end put and this one has not taken. A connection.close or close-ok
+-- comes where all was taken that the other put on the channels above 0.
+pub record ComesNext (theirs mine : History) (frame : Frame) : Type 0 where
+  pub later : List Frame
+  pub next : on frame.channel (frames_put theirs) ≡ on frame.channel (frames_taken mine) ++ frame ∷ later
+  pub at_leaving : is_leaving frame ≡ true → (n : ℕ) → on (suc n) (frames_put theirs) ≡ on (suc n) (frames_taken mine)
 
 abbrev pub AllComeNext : (theirs mine : History) → Option Frame → Type 0
 AllComeNext theirs mine None = Unit {0}

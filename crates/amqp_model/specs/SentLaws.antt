@@ -1,15 +1,17 @@
 -- What holds of the items that two ends send each other and act on: the statements that the public laws carry.
-use Rattle.std.specs.Prelude.{◌≡◌, Bool, false, ℕ, List, [], ◌++◌}
+use Rattle.std.specs.Prelude.{◌≡◌, Bool, true, false, ℕ, List, [], ◌∷◌, ◌++◌}
 use Rattle.amqp_model.specs.Notes.{Role, other_end}
 use Rattle.amqp_model.specs.Carried.{Carried, message_frames, put_by, taken_by, acted}
 use Rattle.amqp_model.specs.Fronts.{IsFrontOf}
 use Rattle.amqp_model.specs.Laws.{IsLive, EndedByPeer}
-use Rattle.amqp_model.specs.Histories.{History}
+use Rattle.amqp_model.specs.Histories.{Took, History, closes_connection}
 use Rattle.amqp_model.specs.Negotiation.{Config}
 use Rattle.amqp_model.specs.LawfulHistories.{goes_on, end_verdict, then_taken, Lawful}
 use Rattle.amqp_model.specs.StateFromHistory.{end_from}
 use Rattle.amqp_model.specs.Frame.{Frame}
 use Rattle.amqp_model.specs.EndLaws.{notes_on}
+use Rattle.amqp_model.specs.Arrangement.{is_leaving}
+use Rattle.amqp_model.specs.Pairs.{ComesNext}
 use Rattle.amqp_model.specs.Sent.{items_in, items_sent, items_acted, life_on, told, said, items_of}
 
 -- in each life, the items that an end acted on are a front of those that the other sent
@@ -21,13 +23,29 @@ abbrev pub AllItemsActedOnAtClose : Role → (channel : ℕ) → (mine theirs : 
 AllItemsActedOnAtClose role channel mine theirs =
     (life : ℕ) → EndedByPeer role life (notes_on channel mine) → items_acted role channel life mine ≡ items_sent (other_end role) channel life theirs
 
--- All the items that the other sent in the life of a live end were acted on, where the end has taken all that the other
--- put on the channel. So it is as the end takes the other's connection.close, which leaves behind all of that.
+-- all the items that the other sent in the life of a live end were acted on, where the other's connection.close comes next
 abbrev pub AllItemsActedOnAtConnectionClose : Role → (channel : ℕ) → (mine theirs : History) → Type 0
 AllItemsActedOnAtConnectionClose role channel mine theirs =
-    IsLive role (notes_on channel mine)
-    → put_by (notes_on channel theirs) ≡ taken_by (notes_on channel mine)
+    (frame : Frame)
+    → IsLive role (notes_on channel mine)
+    → ComesNext theirs mine frame → is_leaving frame ≡ true
     → items_acted role channel (life_on role channel mine) mine ≡ items_sent (other_end role) channel (life_on role channel mine) theirs
+
+-- the end took the other's connection.close in this life of the channel, before it put a close of the channel or the
+-- connection
+pub record EndedByConnectionClose (role : Role) (channel life : ℕ) (history : History) : Type 0 where
+  pub later : History
+  pub frame : Frame
+  pub before : History
+  pub history_is : history ≡ later ++ Took frame ∷ before
+  pub closes : closes_connection frame ≡ true
+  pub live : IsLive role (notes_on channel before)
+  pub life_is : life_on role channel before ≡ life
+
+-- all the items that the other sent in such a life were acted on
+abbrev pub AllItemsActedOnOfEnded : Role → (channel : ℕ) → (mine theirs : History) → Type 0
+AllItemsActedOnOfEnded role channel mine theirs =
+    (life : ℕ) → EndedByConnectionClose role channel life mine → items_acted role channel life mine ≡ items_sent (other_end role) channel life theirs
 
 -- the items that the other sent in the life of a live end are those that the frames acted on and then the messages on
 -- their way spell, read one behind the other

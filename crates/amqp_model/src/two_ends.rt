@@ -7,13 +7,13 @@
 //! octets of one end carry to the other, channel by channel.
 
 ghost use Rattle.std.specs.Prelude.{ℕ, suc, List, Option};
-ghost use Rattle.amqp_model.specs.CarryingLaws.{AllIsTakenAtLeaving, CompletedComesNext, FramesAreOfChannel, NotesAreOfFrames, OpeningsMeet, TakesFrontOnEach};
+ghost use Rattle.amqp_model.specs.CarryingLaws.{CompletedComesNext, FramesAreOfChannel, NotesAreOfFrames, OpeningsMeet, TakesFrontOnEach};
 ghost use Rattle.amqp_model.specs.Frame.{Frame};
 ghost use Rattle.amqp_model.specs.Histories.{History};
 ghost use Rattle.amqp_model.specs.Negotiation.{Config};
 ghost use Rattle.amqp_model.specs.Notes.{Client, Role, Server};
 ghost use Rattle.amqp_model.specs.Pairs.{NewEndsPair, PairAt, StepStaysPair};
-ghost use Rattle.amqp_model.specs.SentLaws.{ActsOnFrontOfItems, AllItemsActedOnAtClose, AllItemsActedOnAtConnectionClose, FaultTellsNothing, ItemsSentAreActedOnOrOnTheirWay, NoItemsBeforeFirstLife, NothingOfChannel0, SaysWhatIsSent, TellsWhatIsActedOn};
+ghost use Rattle.amqp_model.specs.SentLaws.{ActsOnFrontOfItems, AllItemsActedOnAtClose, AllItemsActedOnAtConnectionClose, AllItemsActedOnOfEnded, FaultTellsNothing, ItemsSentAreActedOnOrOnTheirWay, NoItemsBeforeFirstLife, NothingOfChannel0, SaysWhatIsSent, TellsWhatIsActedOn};
 
 /// Two new ends are a pair, and a pair stays one with each step of either end, where a frame that it takes is the next on
 /// its channel.
@@ -32,6 +32,7 @@ pub fn items_acted_on_are_front()
 pub fn all_items_acted_on_at_close()
     ensures channel { (role : Role) (client_config : Config Client) (server_config : Config Server) (mine theirs : History) (n : ℕ) → PairAt role client_config server_config mine theirs → AllItemsActedOnAtClose role (suc n) mine theirs }
     ensures connection { (role : Role) (client_config : Config Client) (server_config : Config Server) (mine theirs : History) (n : ℕ) → PairAt role client_config server_config mine theirs → AllItemsActedOnAtConnectionClose role (suc n) mine theirs }
+    ensures ended { (role : Role) (client_config : Config Client) (server_config : Config Server) (mine theirs : History) (n : ℕ) → PairAt role client_config server_config mine theirs → AllItemsActedOnOfEnded role (suc n) mine theirs }
 {}
 
 /// Where the channel is Opening or Open at an end that has not put connection.close, the items that the other sent in
@@ -62,11 +63,9 @@ pub fn notes_are_of_frames()
 {}
 
 /// Where the octets that an end was fed are a front of those that the other put, the frames that it took are on each
-/// channel a front of those that the other put. A frame that the next octets complete is the next on its channel; where
-/// it is connection.close or close-ok, the end has taken all that the other put on the channels above 0.
+/// channel a front of those that the other put, and a frame that the next octets complete comes next.
 pub fn octets_carry_channels()
     ensures opening { (role : Role) → OpeningsMeet role }
     ensures taken { (role : Role) (limit : ℕ) (mine theirs : History) (put fed unfinished rest : List ℕ) → TakesFrontOnEach role limit mine theirs put fed unfinished rest }
     ensures next { (role : Role) (limit : ℕ) (mine theirs : History) (put fed unfinished rest : List ℕ) → CompletedComesNext role limit mine theirs put fed unfinished rest }
-    ensures leaving { (role : Role) (limit : ℕ) (mine theirs : History) (put fed unfinished rest : List ℕ) → AllIsTakenAtLeaving role limit mine theirs put fed unfinished rest }
 {}

@@ -1,5 +1,5 @@
 -- Each clause is a lemma on octets and histories.
-use Rattle.amqp_model.proofs.Carrying.{openings-meet, takes-front, completed-comes-next, all-taken-at-leaving}
+use Rattle.amqp_model.proofs.Carrying.{openings-meet, takes-front, completed-comes-next}
 use Rattle.amqp_model.proofs.two_ends.octets_carry_channels.Goals as goal
 
 pub returns-clause-opening : goal.returns-clause-opening
@@ -10,6 +10,3 @@ returns-clause-taken c = takes-front
 
 pub returns-clause-next : goal.returns-clause-next
 returns-clause-next c = completed-comes-next
-
-pub returns-clause-leaving : goal.returns-clause-leaving
-returns-clause-leaving c = all-taken-at-leaving
