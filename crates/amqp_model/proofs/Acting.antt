@@ -13,7 +13,7 @@ use Rattle.amqp_model.specs.Runs.{IsNext, asks, takes, replies, may_put}
 use Rattle.amqp_model.specs.Methods.{Method, ReadsBack}
 use Rattle.amqp_model.specs.Readings.{Calls, reading, method_reading, is_call, kind_of}
 use Rattle.amqp_model.specs.Histories.{Put, Took, History, ChannelEntry, PutHere, TookHere, LeftHere, entries_on, notes, entries_before_leaving}
-use Rattle.amqp_model.specs.Channels.{Life, Phase, Handshake, Running, Closed, Step, state_of}
+use Rattle.amqp_model.specs.Channels.{Life, Phase, Handshake, Running, Closed, HandshakeStep, state_of}
 use Rattle.amqp_model.specs.Closes.{ContentTooLarge, AllReadBack, method_frame, frame_of, channel_close, reply_to, without_arguments, flow_as}
 use Rattle.amqp_model.specs.Events.{FrameVerdict}
 use Rattle.amqp_model.specs.LawfulHistories.{then_put}
@@ -50,7 +50,7 @@ left-noted (Put frame ∷ history) n = cases (frame.channel == suc n) refl (fram
     cases false a false z k kk e = e
 
 -- the phases in which the end has not put connection.close, and the one in which it has
-pub not-left : (closed put over : Bool) (step : Step) → is_over (cond closed Closed (cond put Phase.Closing (cond over Running (Handshake step)))) ≡ false → put ≡ false
+pub not-left : (closed put over : Bool) (step : HandshakeStep) → is_over (cond closed Closed (cond put Phase.Closing (cond over Running (Handshake step)))) ≡ false → put ≡ false
 not-left true put over step e = absurd (true≢false e)
 not-left false true over step e = absurd (true≢false e)
 not-left false false over step e = refl

@@ -176,7 +176,7 @@ off-zero true v e g = absurd (true≢false e)
 off-zero false v e g = absurd (false≢true g)
 
 -- In the handshake nothing is taken off channel 0 but on a channel that is Closing.
-pub handshake-stops : {A : Type 0} {role : Role} (config : Config role) (step : channels.Step) (agreed : Option Agreed) (number : ℕ) (channel : Channel) → is_closing channel ≡ false → (number == 0) ≡ false → (r : Reading) → goes_on (verdict_on (facts_in config (Handshake step) agreed number channel) r) ≡ true → A
+pub handshake-stops : {A : Type 0} {role : Role} (config : Config role) (step : channels.HandshakeStep) (agreed : Option Agreed) (number : ℕ) (channel : Channel) → is_closing channel ≡ false → (number == 0) ≡ false → (r : Reading) → goes_on (verdict_on (facts_in config (Handshake step) agreed number channel) r) ≡ true → A
 handshake-stops config step agreed number Closing c above r g = absurd (true≢false c)
 handshake-stops config step agreed number Free c above (Beat empty) g = beat-stops (number == 0) empty _ above g
 handshake-stops config step agreed number Opening c above (Beat empty) g = beat-stops (number == 0) empty _ above g

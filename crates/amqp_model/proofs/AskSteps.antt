@@ -17,7 +17,7 @@ use Rattle.amqp_model.specs.Events.{Message, Plain, Whole, method_of}
 use Rattle.amqp_model.specs.FrameVerdict.{answers_first}
 use Rattle.amqp_model.specs.Asks.{Ask, Refusal, frame_max, is_running, lowest_free, opens_on, channel_max, life_of, in_life, method_asked, refusal, frames_asked, payload_frame, message_payloads, no_such_request}
 use Rattle.amqp_model.specs.LawfulHistories.{then_put}
-use Rattle.amqp_model.specs.Machine.{is_open, life_after, goes_on_putting, channel_after, answers_in_turn, may_put_here, end_after, end_after_put, StandsFor}
+use Rattle.amqp_model.specs.Machine.{is_open, life_after, open_after_putting, channel_after, answers_in_turn, may_put_here, end_after, end_after_put, StandsFor}
 use Rattle.amqp_model.specs.EndLaws.{AskFollows}
 use Rattle.amqp_model.proofs.Acting.{reads-back}
 use Rattle.amqp_model.proofs.Asking.{Accepted, accepted, accepted-none, not-when, has-life, free-found, is-free, IsPart, AllParts, first-false, part-kind, frame-channel, bodies-are-parts, sent-kind, message-class}
@@ -48,7 +48,7 @@ may-close Server life code text = refl
 
 -- an Open channel stays Open where a message is put
 after-message : (role : Role) (r : Reading) (frame : Frame) (life : Life) (begins : Bool) → kind_of r ≡ Other begins → (new : Life) × (channel_after role (PutHere r frame) (channels.Open life) ≡ channels.Open new)
-after-message role r frame life begins e = (life_after role (PutHere r frame) life, ap (goes_on_putting role (PutHere r frame) life) e)
+after-message role r frame life begins e = (life_after role (PutHere r frame) life, ap (open_after_putting role (PutHere r frame) life) e)
 
 -- a reading that is no method
 abbrev calls_one : Reading → Bool

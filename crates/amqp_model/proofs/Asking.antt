@@ -13,7 +13,7 @@ use Rattle.amqp_model.specs.Methods as methods
 use Rattle.amqp_model.specs.Contents.{Payload, pieces, room_in}
 use Rattle.amqp_model.specs.Readings.{Calls, reading, header_reading, is_call, kind_of, kind_of_method}
 use Rattle.amqp_model.specs.Histories.{Put, History, ChannelEntry, PutHere, LeftHere, closes_connection, entries_on, notes, entries_before_leaving}
-use Rattle.amqp_model.specs.Channels.{Life, Channel, Phase, Handshake, Running, Closed, Failed, Step, End}
+use Rattle.amqp_model.specs.Channels.{Life, Channel, Phase, Handshake, Running, Closed, Failed, HandshakeStep, End}
 use Rattle.amqp_model.specs.Channels as channels
 use Rattle.amqp_model.specs.Negotiation.{Config}
 use Rattle.amqp_model.specs.StateFromHistory.{has_put, is_closed, is_negotiated, step_from, life_from, channel_in, channel_from, end_from}

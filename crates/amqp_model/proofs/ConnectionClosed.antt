@@ -1,23 +1,23 @@
 -- What the other sent in a life that its connection.close ended was all acted on.
-use Rattle.std.proofs.Common.{◌≡◌, ◌⊎◌, inl, inr, Bool, true, false, cond, not, ◌&&◌, ◌||◌, ℕ, zero, suc, ◌==◌, arith, List, [], ◌∷◌, ◌++◌, map, filter, Option, Some, None, refl, sym, ap, ◌∙◌, subst, append_assoc, append-nil}
+use Rattle.std.proofs.Common.{◌≡◌, Bool, true, false, cond, ◌&&◌, ◌||◌, ℕ, suc, ◌==◌, arith, List, [], ◌∷◌, ◌++◌, map, Option, Some, None, refl, sym, ap, ◌∙◌, subst, append_assoc, append-nil}
 use Rattle.std.proofs.lemmas.Bool.{false≢true, true≢false, and_parts, eqb-true, eq-eqb, ne_eqb, cond-true, cond-false}
 use Rattle.std.proofs.lemmas.List.Elements.{filter-append}
 use Rattle.amqp_method.specs.declared.kinds.Kind.TheVariants as kinds
 use Rattle.amqp_model.specs.Frame.{Frame}
 use Rattle.amqp_model.specs.Notes.{Role, Client, Server, other_end}
-use Rattle.amqp_model.specs.Lives.{has_left, lives}
+use Rattle.amqp_model.specs.Lives.{lives}
 use Rattle.amqp_model.specs.Laws.{IsLive}
 use Rattle.amqp_model.specs.Arrangement.{is_leaving, on}
-use Rattle.amqp_model.specs.Methods.{MethodKind, Method, ReadsBack, same_kind}
+use Rattle.amqp_model.specs.Methods.{Method, ReadsBack}
 use Rattle.amqp_model.specs.Contents.{Payload}
 use Rattle.amqp_model.specs.Readings.{Reading, Calls, reading, is_call}
-use Rattle.amqp_model.specs.Histories.{Entry, Put, Took, History, ChannelEntry, PutHere, TookHere, LeftHere, closes_connection, entries_on, notes}
+use Rattle.amqp_model.specs.Histories.{Entry, Put, Took, History, PutHere, TookHere, LeftHere, closes_connection, entries_on, notes}
 use Rattle.amqp_model.specs.Channels.{Channel, Agreed, Phase, Handshake, Running, Closed, Failed, End}
 use Rattle.amqp_model.specs.Negotiation.{Config}
 use Rattle.amqp_model.specs.Negotiation as negotiation
-use Rattle.amqp_model.specs.StateFromHistory.{has_put, has_taken, closed_by_peer, is_closed, phase_from, end_from}
-use Rattle.amqp_model.specs.Closes.{FrameError, Owed, AllReadBack, connection_close_ok, method_frame, frame_of}
-use Rattle.amqp_model.specs.Events.{Event, Proceeds, Faults, Peer}
+use Rattle.amqp_model.specs.StateFromHistory.{has_put, closed_by_peer, is_closed, end_from}
+use Rattle.amqp_model.specs.Closes.{Owed, AllReadBack, connection_close_ok, method_frame, frame_of}
+use Rattle.amqp_model.specs.Events.{Event, Proceeds}
 use Rattle.amqp_model.specs.FrameVerdict.{verdict_on, methods_put}
 use Rattle.amqp_model.specs.Asks.{Ask, Refusal, lowest_free, opens_on, payload_frame, message_payloads, frame_max, frames_asked, method_asked, refusal, Puts, ask_verdict}
 use Rattle.amqp_model.specs.LawfulHistories.{facts_at, end_verdict, end_puts, goes_on, takes_frames, then_put, then_taken, too_large_puts, WritesReadBack, Goes, greets, takes, faults, meets_too_large, fails, asks, Lawful, begun, goes}
@@ -87,10 +87,10 @@ goes-written role config before taken failed after back w greets = (frame-writte
 goes-written role config before taken failed after back w (takes frame p g) = more-written _ (Took frame ∷ before) w (owed-written _ (back.owed (end_from role config false before) frame.channel (reading frame)))
 goes-written role config before taken failed after back w (faults frame p g) = more-written _ (Took frame ∷ before) w (owed-written _ (back.owed (end_from role config false before) frame.channel (reading frame)))
 goes-written role config before taken failed after back w (meets_too_large p) = more-written _ before w (owed-written _ (back.too_large (end_from role config false before)))
-goes-written role config before taken failed after back w fails = w
+goes-written role config before taken failed after back w (fails p) = w
 goes-written role config before taken failed after back w (asks ask frames made read e) =
     let parts = accepted-none (refusal role (end_from role config false before) ask) (frames_asked (end_from role config false before) ask) frames e in
-    more-written frames before w (subst AllWritten parts.1 (asked-written role (end_from role config false before) ask read (accepted role (end_from role config false before) ask parts.0)))
+    more-written frames before w (subst AllWritten parts.1 (asked-written role (end_from role config false before) ask read.method (accepted role (end_from role config false before) ask parts.0)))
 
 lawful-written : (role : Role) (config : Config role) (failed : Bool) (history : History) → WritesReadBack role config → Lawful role config failed history → AllWritten (frames_put history)
 lawful-written role config failed history back begun = tt
@@ -191,7 +191,7 @@ goes-extend role config before taken failed after (greets {config = server}) = p
 goes-extend role config before taken failed after (takes frame p g) = took-extends (end_puts config (end_from role config false before) frame) frame before
 goes-extend role config before taken failed after (faults frame p g) = took-extends (end_puts config (end_from role config false before) frame) frame before
 goes-extend role config before taken failed after (meets_too_large p) = put-extends (too_large_puts config (end_from role config false before)) before
-goes-extend role config before taken failed after fails = put-extends [] before
+goes-extend role config before taken failed after (fails p) = put-extends [] before
 goes-extend role config before taken failed after (asks ask frames made read e) = put-extends frames before
 
 -- what an end took on channel 0 is a front of what the other put there
@@ -373,7 +373,7 @@ none-found (x ∷ behind) before frame e = absurd cc
 ended-by-step : (role : Role) (client_config : Config Client) (server_config : Config Server) (config : Config role) (mine theirs : History) (taken : Option Frame) (failed : Bool) (after : History) (n life : ℕ) → failed ≡ false → WritesReadBack role config → PairAt role client_config server_config mine theirs → AllComeNext theirs mine taken → Goes role config mine taken failed after → EndedByConnectionClose role (suc n) life after → Agree role n life after theirs
 ended-by-step role client_config server_config config mine theirs taken failed after n life f back at next (faults frame p g) ended = absurd (true≢false f)
 ended-by-step role client_config server_config config mine theirs taken failed after n life f back at next (meets_too_large p) ended = absurd (true≢false f)
-ended-by-step role client_config server_config config mine theirs taken failed after n life f back at next fails ended = absurd (true≢false f)
+ended-by-step role client_config server_config config mine theirs taken failed after n life f back at next (fails p) ended = absurd (true≢false f)
 ended-by-step role client_config server_config config mine theirs taken failed after n life f back at next (greets {config = server}) ended =
     let found = found-in (method_frame 0 (negotiation.start server) ∷ []) [] ended.later ended.before ended.frame ended.history_is in
     none-found found.0 ended.before ended.frame found.1
@@ -386,7 +386,7 @@ ended-by-step role client_config server_config config mine theirs taken failed a
     by-time (since-when found.0 mine ended.before ended.frame frame found.1)
   where
     by-time : Since ended.frame mine ended.before frame → Agree role n life (then_taken config (end_from role config false mine) frame mine) theirs
-    by-time (earlier behind e) = absurd (closed-takes-none role config mine (closed-by role n life mine (record { later = behind; frame = ended.frame; before = ended.before; history_is = e; closes = ended.closes; live = ended.live; life_is = ended.life_is })) p)
+    by-time (earlier behind e) = absurd (closed-takes-none role config mine (closed-by role n life mine (record { later = behind; frame = ended.frame; before = ended.before; history_is = e; closes = ended.closes; live = ended.live; life_is = ended.life_is })) p.in_phase)
     by-time (just_now same old) =
         let closes : closes_connection frame ≡ true = ap closes_connection same ∙ ended.closes in
         let live : IsLive role (notes_on (suc n) mine) = subst (λ h. IsLive role (notes_on (suc n) h)) (sym old) ended.live in
@@ -416,7 +416,7 @@ sent-beside role life n frame history = cases (frame.channel == suc n)
 left-sends-none : (role : Role) (config : Config role) (before : History) (taken : Option Frame) (failed : Bool) (after : History) (n life : ℕ) → failed ≡ false → WritesReadBack role config → has_put kinds.ConnectionClose (entries_on 0 before) ≡ true → Goes role config before taken failed after → sent role life (notes_on (suc n) after) ≡ sent role life (notes_on (suc n) before)
 left-sends-none role config before taken failed after n life f back left (faults frame p g) = absurd (true≢false f)
 left-sends-none role config before taken failed after n life f back left (meets_too_large p) = absurd (true≢false f)
-left-sends-none role config before taken failed after n life f back left fails = absurd (true≢false f)
+left-sends-none role config before taken failed after n life f back left (fails p) = absurd (true≢false f)
 left-sends-none role config before taken failed after n life f back left greets = absurd (false≢true left)
 left-sends-none role config before taken failed after n life f back left (asks ask frames made read e) = absurd (over-asks-none role config before ask frames (left-phase role config before left) e)
 left-sends-none role config before taken failed after n life f back left (takes frame p g) = by-phase (end_from role config false before).phase refl
@@ -425,8 +425,8 @@ left-sends-none role config before taken failed after n life f back left (takes 
     by-phase Phase.Closing e =
         let away = subst (λ phase. AllAway n (methods_put (facts_in config phase (end_from role config false before).agreed frame.channel ((end_from role config false before).channels frame.channel)) (verdict_on (facts_in config phase (end_from role config false before).agreed frame.channel ((end_from role config false before).channels frame.channel)) (reading frame)))) (sym e) (closing-away config (end_from role config false before).agreed n frame.channel ((end_from role config false before).channels frame.channel) (reading frame)) in
         ap (λ l. sent role life (notes l)) (entries-away n (methods_put (facts_at config (end_from role config false before) frame.channel) (end_verdict config (end_from role config false before) frame)) (Took frame ∷ before) (back.owed (end_from role config false before) frame.channel (reading frame)) away) ∙ sent-beside role life n frame before
-    by-phase Closed e = absurd (false≢true (sym (ap takes_frames e) ∙ p))
-    by-phase Failed e = absurd (false≢true (sym (ap takes_frames e) ∙ p))
+    by-phase Closed e = absurd (false≢true (sym (ap takes_frames e) ∙ p.in_phase))
+    by-phase Failed e = absurd (false≢true (sym (ap takes_frames e) ∙ p.in_phase))
     by-phase Running e = absurd (false≢true (sym (ap is_over e) ∙ left-phase role config before left))
     by-phase (Handshake step) e = absurd (false≢true (sym (ap is_over e) ∙ left-phase role config before left))
 

@@ -11,7 +11,7 @@ use Rattle.amqp_model.specs.Readings.{Reading, Calls, UnknownMethod, MalformedMe
 use Rattle.amqp_model.specs.Histories.{Put, History, closes_connection, entries_on}
 use Rattle.amqp_model.specs.Channels.{Life, Channel, Free, Opening, Closing, state_of, Phase, Handshake, Running, Closed, Failed, Agreed, AwaitsProtocolHeader, AwaitsStart, AwaitsStartOk, AwaitsTune, AwaitsTuneOk, AwaitsOpen, AwaitsOpenOk}
 use Rattle.amqp_model.specs.Channels as channels
-use Rattle.amqp_model.specs.Negotiation.{Config, Hello, OfClient, start_ok, open_host, tunes_too_small, agreed_in, in_range}
+use Rattle.amqp_model.specs.Negotiation.{Config, Hello, OfClient, start_ok, connection_open, tunes_too_small, agreed_in, in_range}
 use Rattle.amqp_model.specs.Closes.{Owed, AllReadBack, connection_close_ok, frame_of}
 use Rattle.amqp_model.specs.Events.{FrameVerdict, Faults, Fault}
 use Rattle.amqp_model.specs.FrameVerdict.{Facts, first_of, awaits_in, as_lives, lives_verdict, closed_by, on_awaited, is_awaited, on_connection, by_state, on_open, on_idle, on_matched, part_on, on_part, after_part, on_message, is_no_channel, is_gathering, on_rest, when_over, when_leaving, when_heartbeat, when_closing, when_unread, when_handshake, when_content, when_connection, when_misdirected, when_no_channel, answers_first, MOST_REQUESTS, verdict_on, methods_put}
@@ -46,10 +46,10 @@ start_ok-quiet config = go config.hello
     go : (hello : Hello Client) → same_kind (start_ok (record config { hello = hello })).kind kinds.ConnectionClose ≡ false
     go (OfClient properties mechanism response locale virtual_host) = refl
 
-open_host-quiet : (config : Config Client) → same_kind (open_host config).kind kinds.ConnectionClose ≡ false
-open_host-quiet config = go config.hello
+connection_open-quiet : (config : Config Client) → same_kind (connection_open config).kind kinds.ConnectionClose ≡ false
+connection_open-quiet config = go config.hello
   where
-    go : (hello : Hello Client) → same_kind (open_host (record config { hello = hello })).kind kinds.ConnectionClose ≡ false
+    go : (hello : Hello Client) → same_kind (connection_open (record config { hello = hello })).kind kinds.ConnectionClose ≡ false
     go (OfClient properties mechanism response locale virtual_host) = refl
 
 start_ok-no-answer : (config : Config Client) → same_kind (start_ok config).kind kinds.ConnectionCloseOk ≡ false
@@ -58,10 +58,10 @@ start_ok-no-answer config = go config.hello
     go : (hello : Hello Client) → same_kind (start_ok (record config { hello = hello })).kind kinds.ConnectionCloseOk ≡ false
     go (OfClient properties mechanism response locale virtual_host) = refl
 
-open_host-no-answer : (config : Config Client) → same_kind (open_host config).kind kinds.ConnectionCloseOk ≡ false
-open_host-no-answer config = go config.hello
+connection_open-no-answer : (config : Config Client) → same_kind (connection_open config).kind kinds.ConnectionCloseOk ≡ false
+connection_open-no-answer config = go config.hello
   where
-    go : (hello : Hello Client) → same_kind (open_host (record config { hello = hello })).kind kinds.ConnectionCloseOk ≡ false
+    go : (hello : Hello Client) → same_kind (connection_open (record config { hello = hello })).kind kinds.ConnectionCloseOk ≡ false
     go (OfClient properties mechanism response locale virtual_host) = refl
 
 -- no connection.close
@@ -136,9 +136,9 @@ module _ {role : Role} (facts : Facts role) (P : Owed → Type 0) (at_zero : (me
   unread MalformedMethod = λ g. absurd (false≢true g)
   unread r = tt
 
-  awaited : (r : Role) (config : Config r) (agreed : Option Agreed) (step : channels.Step) (method : Method) → Away (on_awaited r config agreed step method)
+  awaited : (r : Role) (config : Config r) (agreed : Option Agreed) (step : channels.HandshakeStep) (method : Method) → Away (on_awaited r config agreed step method)
   awaited Client config agreed AwaitsStart method = λ g. (at_zero (start_ok config) (start_ok-quiet config, start_ok-no-answer config), tt)
-  awaited Client config agreed AwaitsTune method = either (tunes_too_small method) _ _ (λ g. absurd (false≢true g)) (λ g. (at_zero _ (refl, refl), (at_zero (open_host config) (open_host-quiet config, open_host-no-answer config), tt)))
+  awaited Client config agreed AwaitsTune method = either (tunes_too_small method) _ _ (λ g. absurd (false≢true g)) (λ g. (at_zero _ (refl, refl), (at_zero (connection_open config) (connection_open-quiet config, connection_open-no-answer config), tt)))
   awaited Client config agreed AwaitsOpenOk method = λ g. tt
   awaited Server config agreed AwaitsStartOk method = λ g. (at_zero _ (refl, refl), tt)
   awaited Server config agreed AwaitsTuneOk method = either (in_range config (agreed_in method)) _ _ (λ g. tt) (λ g. absurd (false≢true g))

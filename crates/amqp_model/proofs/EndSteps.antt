@@ -7,7 +7,7 @@ use Rattle.amqp_model.specs.Notes.{Role, Client, Server}
 use Rattle.amqp_model.specs.Lives.{has_left}
 use Rattle.amqp_model.specs.Readings.{Reading, Calls, reading, is_call}
 use Rattle.amqp_model.specs.Histories.{Entry, Put, Took, History, ChannelEntry, PutHere, TookHere, LeftHere, closes_connection, entries_on, notes}
-use Rattle.amqp_model.specs.Channels.{Channel, Free, Step, Phase, Handshake, Running, Closed, Failed, End}
+use Rattle.amqp_model.specs.Channels.{Channel, Free, HandshakeStep, Phase, Handshake, Running, Closed, Failed, End}
 use Rattle.amqp_model.specs.Negotiation.{Config}
 use Rattle.amqp_model.specs.StateFromHistory.{has_put, is_closed, is_negotiated, step_from, phase_from, agreed_from}
 use Rattle.amqp_model.specs.FrameVerdict.{verdict_on}
@@ -75,7 +75,7 @@ still-put role r Phase.Closing e = e
 still-put role r Closed e = e
 still-put role r Failed e = e
 
-free-still : (end : End) → ((step : Step) → end.phase ≡ Handshake step → (n : ℕ) → end.channels n ≡ Free) → in_handshake end.phase ≡ true → (n : ℕ) → end.channels n ≡ Free
+free-still : (end : End) → ((step : HandshakeStep) → end.phase ≡ Handshake step → (n : ℕ) → end.channels n ≡ Free) → in_handshake end.phase ≡ true → (n : ℕ) → end.channels n ≡ Free
 free-still end free e = by-phase end.phase refl e
   where
     by-phase : (phase : Phase) → end.phase ≡ phase → in_handshake phase ≡ true → (n : ℕ) → end.channels n ≡ Free
@@ -167,7 +167,7 @@ took-here role config end history frame m e stands g Closed p = absurd (false≢
 took-here role config end history frame m e stands g Failed p = absurd (false≢true (subst (λ p. goes_on (verdict_on (facts_in config p end.agreed (suc m) (end.channels (suc m))) (reading frame)) ≡ true) p g))
 
 -- nothing is taken off channel 0 in the handshake
-no-handshake : (role : Role) (config : Config role) (end : End) (history : History) (frame : Frame) (m : ℕ) → StandsFor role config false end history → goes_on (verdict_on (facts_at config end (suc m)) (reading frame)) ≡ true → (step : Step) → end.phase ≡ Handshake step → ⊥
+no-handshake : (role : Role) (config : Config role) (end : End) (history : History) (frame : Frame) (m : ℕ) → StandsFor role config false end history → goes_on (verdict_on (facts_at config end (suc m)) (reading frame)) ≡ true → (step : HandshakeStep) → end.phase ≡ Handshake step → ⊥
 no-handshake role config end history frame m stands g step p =
     handshake-stops config step end.agreed (suc m) (end.channels (suc m)) (ap is_closing (stands.free_before step p (suc m))) (not-zero m) (reading frame) (subst (λ p. goes_on (verdict_on (facts_in config p end.agreed (suc m) (end.channels (suc m))) (reading frame)) ≡ true) p g)
 

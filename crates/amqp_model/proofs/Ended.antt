@@ -5,7 +5,7 @@ use Rattle.amqp_model.specs.Frame.{Frame}
 use Rattle.amqp_model.specs.Notes.{Role, Kind, Open, OpenOk, Close, CloseOk, Flow, FlowOk, Other, Note, Put, is_message}
 use Rattle.amqp_model.specs.States.{State, Free, Opening, Closing}
 use Rattle.amqp_model.specs.Lives.{lives}
-use Rattle.amqp_model.specs.Carried.{Entry, At, puts, messages}
+use Rattle.amqp_model.specs.Carried.{NoteInLife, At, puts, messages}
 use Rattle.amqp_model.proofs.Lists.{snoc_cases, messages_other, messages_elsewhere}
 use Rattle.amqp_model.proofs.Ends.{Is, Lawful, begun, has_asked, has_replied, has_taken, has_left_now, lawful_lives, to_open, to_close, to_flow, opens, closes, flows, sends, Taking, accepts, begins, ends, pauses, hears, acts, crosses, frees, drops}
 
@@ -36,35 +36,35 @@ past_taken frees (closing e) = freed e
 past_taken (drops is_message) past = past
 
 -- what stands behind a close in the notes put holds no message of its life
-pub record Ended (word : State) (n m : ℕ) (behind : List Entry) : Type 0 where
+pub record Ended (word : State) (n m : ℕ) (behind : List NoteInLife) : Type 0 where
   pub past : IsPast m word n
   pub silent : messages m behind ≡ []
 
 -- one more note put
-more_ended : {role : Role} {history : List Note} {word word' : State} {n n' m : ℕ} {a : Bool} {behind : List Entry} (front : List Entry) (close_frame : Frame) (kind : Kind) (frame : Frame) → Lawful role (Put kind frame ∷ history) (Is word' n' a) → (kind ≡ Close → IsPast n' word' n') → (IsPast m word n → IsPast m word' n') → (IsPast m word n → (is_message kind ≡ false) ⊎ (m < n')) → ((behind' : List Entry) → puts role history ≡ front ++ At Close m close_frame ∷ behind' → Ended word n m behind') → puts role (Put kind frame ∷ history) ≡ front ++ At Close m close_frame ∷ behind → Ended word' n' m behind
+more_ended : {role : Role} {history : List Note} {word word' : State} {n n' m : ℕ} {a : Bool} {behind : List NoteInLife} (front : List NoteInLife) (close_frame : Frame) (kind : Kind) (frame : Frame) → Lawful role (Put kind frame ∷ history) (Is word' n' a) → (kind ≡ Close → IsPast n' word' n') → (IsPast m word n → IsPast m word' n') → (IsPast m word n → (is_message kind ≡ false) ⊎ (m < n')) → ((behind' : List NoteInLife) → puts role history ≡ front ++ At Close m close_frame ∷ behind' → Ended word n m behind') → puts role (Put kind frame ∷ history) ≡ front ++ At Close m close_frame ∷ behind → Ended word' n' m behind
 more_ended {role} {history} {word} {word'} {n} {n'} {m} {behind = behind} front close_frame kind frame lawful here moves quiet before e = go (snoc_cases front (At Close m close_frame) behind (puts role history) (At kind (lives role (Put kind frame ∷ history)) frame) e)
   where
     life : lives role (Put kind frame ∷ history) ≡ n'
     life = lawful_lives lawful
 
-    extended : (behind' : List Entry) → messages m behind' ≡ [] → (is_message kind ≡ false) ⊎ (m < n') → messages m (behind' ++ At kind (lives role (Put kind frame ∷ history)) frame ∷ []) ≡ []
+    extended : (behind' : List NoteInLife) → messages m behind' ≡ [] → (is_message kind ≡ false) ⊎ (m < n') → messages m (behind' ++ At kind (lives role (Put kind frame ∷ history)) frame ∷ []) ≡ []
     extended behind' none (inl other) = messages_other m behind' kind _ frame other ∙ none
     extended behind' none (inr lt) = messages_elsewhere m behind' kind _ frame (ne_eqb _ m (λ same. omega (arith, life))) ∙ none
 
-    go : ((behind ≡ []) × (At kind (lives role (Put kind frame ∷ history)) frame ≡ At Close m close_frame) × (puts role history ≡ front)) ⊎ ((behind' : List Entry) × (behind ≡ behind' ++ At kind (lives role (Put kind frame ∷ history)) frame ∷ []) × (puts role history ≡ front ++ At Close m close_frame ∷ behind')) → Ended word' n' m behind
+    go : ((behind ≡ []) × (At kind (lives role (Put kind frame ∷ history)) frame ≡ At Close m close_frame) × (puts role history ≡ front)) ⊎ ((behind' : List NoteInLife) × (behind ≡ behind' ++ At kind (lives role (Put kind frame ∷ history)) frame ∷ []) × (puts role history ≡ front ++ At Close m close_frame ∷ behind')) → Ended word' n' m behind
     go (inl h) =
         let same_kind : kind ≡ Close = let k = h.1 in cc in
         let same_life : n' ≡ m = let k = h.1 in cc life in
         record { past = subst (λ m. IsPast m word' n') same_life (here same_kind); silent = ap (messages m) h.0 }
     go (inr h) = let ended = before h.0 h.2 in record { past = moves ended.past; silent = ap (messages m) h.1 ∙ extended h.0 ended.silent (quiet ended.past) }
 
-same_ended : {word word' : State} {n n' m : ℕ} {behind : List Entry} → (IsPast m word n → IsPast m word' n') → Ended word n m behind → Ended word' n' m behind
+same_ended : {word word' : State} {n n' m : ℕ} {behind : List NoteInLife} → (IsPast m word n → IsPast m word' n') → Ended word n m behind → Ended word' n' m behind
 same_ended moves ended = record { past = moves ended.past; silent = ended.silent }
 
 pub open_beyond : {m n : ℕ} → IsPast m State.Open n → m < n
 open_beyond (beyond lt) = lt
 
-pub lawful_ended : {role : Role} {history : List Note} {word : State} {n : ℕ} {a : Bool} (m : ℕ) (front behind : List Entry) (frame : Frame) → Lawful role history (Is word n a) → puts role history ≡ front ++ At Close m frame ∷ behind → Ended word n m behind
+pub lawful_ended : {role : Role} {history : List Note} {word : State} {n : ℕ} {a : Bool} (m : ℕ) (front behind : List NoteInLife) (frame : Frame) → Lawful role history (Is word n a) → puts role history ≡ front ++ At Close m frame ∷ behind → Ended word n m behind
 lawful_ended m [] behind f begun e = absurd cc
 lawful_ended m (x ∷ front) behind f begun e = absurd cc
 lawful_ended m front behind f (has_asked frame here lawful opens) e = more_ended front f Open frame (has_asked frame here lawful opens) (λ k. absurd cc) past_opens (λ past. inl refl) (λ b. lawful_ended m front b f lawful) e

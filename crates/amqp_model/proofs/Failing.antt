@@ -3,9 +3,9 @@ use Rattle.std.proofs.Common.{◌≡◌, Bool, true, false, ℕ, zero, suc, ◌=
 use Rattle.std.proofs.lemmas.Bool.{true≢false}
 use Rattle.amqp_model.specs.Frame.{Frame}
 use Rattle.amqp_model.specs.Notes.{Role}
-use Rattle.amqp_model.specs.Readings.{Reading, reading}
-use Rattle.amqp_model.specs.Histories.{Entry, Put, Took, History, PutHere, TookHere, channel_of, entries_on}
-use Rattle.amqp_model.specs.Channels.{Free, Step, Phase, Handshake, Failed, End}
+use Rattle.amqp_model.specs.Readings.{reading}
+use Rattle.amqp_model.specs.Histories.{Put, Took, History, PutHere, TookHere, entries_on}
+use Rattle.amqp_model.specs.Channels.{Free, HandshakeStep, Phase, Handshake, Failed, End}
 use Rattle.amqp_model.specs.Negotiation.{Config}
 use Rattle.amqp_model.specs.StateFromHistory.{phase_from, agreed_from}
 use Rattle.amqp_model.specs.Closes.{FrameError, Owed, AllReadBack, frame_of}
@@ -13,7 +13,7 @@ use Rattle.amqp_model.specs.Events.{Peer, FrameVerdict, Proceeds, RefusesContent
 use Rattle.amqp_model.specs.FrameVerdict.{verdict_on, methods_put}
 use Rattle.amqp_model.specs.LawfulHistories.{facts_at, goes_on, then_put}
 use Rattle.amqp_model.specs.Machine.{phase_after, agreed_after, end_after, end_after_owed, as_failed, failed_by, StandsFor}
-use Rattle.amqp_model.specs.EndLaws.{seen_by_channel, FrameFails, TooLargeFails, AnyFails}
+use Rattle.amqp_model.specs.EndLaws.{FrameFails, TooLargeFails, AnyFails}
 use Rattle.amqp_model.proofs.Acting.{reads-back}
 use Rattle.amqp_model.proofs.EndSteps.{not-zero, zero-took, zero-put, agreed-taken, agreed-put, zero-took-others, zero-put-others, set-zero}
 use Rattle.amqp_model.proofs.Phases.{phase-taken, phase-put}
@@ -83,7 +83,7 @@ stands-failed role config end history s = record {
     is_failed Failed = true
     is_failed phase = false
 
-    failed-no-step : (step : Step) → Failed ≡ Handshake step → ⊥
+    failed-no-step : (step : HandshakeStep) → Failed ≡ Handshake step → ⊥
     failed-no-step step p = true≢false (ap is_failed p)
 
 by-fault : (v : FrameVerdict) (end : End) → goes_on v ≡ false → failed_by v end ≡ as_failed end

@@ -14,7 +14,7 @@ use Rattle.amqp_model.specs.Channels as channels
 use Rattle.amqp_model.specs.Negotiation.{Config}
 use Rattle.amqp_model.specs.FrameVerdict.{Facts, answers_first, verdict_on}
 use Rattle.amqp_model.specs.LawfulHistories.{goes_on}
-use Rattle.amqp_model.specs.Machine.{is_open, is_close_ok, opens_with, life_after, is_opened_by, is_answered_by, goes_on_taking, goes_on_putting, channel_after, answers_in_turn, may_put_here, IsAnswerable, HasItsRequest, CountsOpen, Counts, ChannelStandsFor}
+use Rattle.amqp_model.specs.Machine.{is_open, is_close_ok, free_after_putting, life_after, free_after_taking, opening_after_taking, open_after_taking, open_after_putting, channel_after, answers_in_turn, may_put_here, IsAnswerable, HasItsRequest, CountsOpen, Counts, ChannelStandsFor}
 use Rattle.amqp_model.proofs.ChannelSteps.{Matches, stays_open, took-stays_open, put-stays_open, took-open, put-open, took-open_ok, took-close, took-closing, put-close, put-close_ok-free, put-close_ok-closing}
 use Rattle.amqp_model.proofs.Going.{running, running-free, running-opening, running-open, OpenTakes}
 
@@ -25,7 +25,7 @@ free-takes Client config agreed number above r frame entries c g = absurd (let h
 free-takes Server config agreed number above r frame entries c g =
     let h = running-free config agreed number above r g in
     let opened : CountsOpen Server new_life (TookHere (Calls h.0) frame ∷ entries) = took-open h.0 frame entries c.1 h.3 in
-    subst (λ r. Counts Server (channel_after Server (TookHere r frame) Free) (TookHere r frame ∷ entries)) (sym h.1) (subst (λ k. Counts Server (is_opened_by Server k) (TookHere (Calls h.0) frame ∷ entries)) (sym h.3) opened)
+    subst (λ r. Counts Server (channel_after Server (TookHere r frame) Free) (TookHere r frame ∷ entries)) (sym h.1) (subst (λ k. Counts Server (free_after_taking Server k) (TookHere (Calls h.0) frame ∷ entries)) (sym h.3) opened)
 
 opening-takes : (role : Role) (config : Config role) (agreed : Option Agreed) (number : ℕ) → (number == 0) ≡ false → (r : Reading) (frame : Frame) (entries : List ChannelEntry) → Counts role Opening entries → goes_on (verdict_on (running config agreed number Opening) r) ≡ true → Counts role (channel_after role (TookHere r frame) Opening) (TookHere r frame ∷ entries)
 opening-takes Server config agreed number above r frame entries c g = absurd (true≢false c.unopened)
@@ -33,16 +33,16 @@ opening-takes Client config agreed number above r frame entries c g =
     let h = running-opening config agreed number above r g in
     subst (λ r. Counts Client (channel_after Client (TookHere r frame) Opening) (TookHere r frame ∷ entries)) (sym h.1) (go h.0 h.2)
   where
-    go : (method : Method) → (kind_of (Calls method) ≡ OpenOk) ⊎ (kind_of (Calls method) ≡ Close) → Counts Client (is_answered_by Client (kind_of (Calls method))) (TookHere (Calls method) frame ∷ entries)
+    go : (method : Method) → (kind_of (Calls method) ≡ OpenOk) ⊎ (kind_of (Calls method) ≡ Close) → Counts Client (opening_after_taking Client (kind_of (Calls method))) (TookHere (Calls method) frame ∷ entries)
     go method (inl e) =
         let opened : CountsOpen Client new_life (TookHere (Calls method) frame ∷ entries) = took-open_ok method frame entries c e in
-        subst (λ k. Counts Client (is_answered_by Client k) (TookHere (Calls method) frame ∷ entries)) (sym e) opened
+        subst (λ k. Counts Client (opening_after_taking Client k) (TookHere (Calls method) frame ∷ entries)) (sym e) opened
     go method (inr e) =
         let closed : Counts Client Free (TookHere (Calls method) frame ∷ entries) = took-close Client (Calls method) frame entries c.stays e in
-        subst (λ k. Counts Client (is_answered_by Client k) (TookHere (Calls method) frame ∷ entries)) (sym e) closed
+        subst (λ k. Counts Client (opening_after_taking Client k) (TookHere (Calls method) frame ∷ entries)) (sym e) closed
 
 -- a message leaves the channel Open
-message-stays : (role : Role) (entry : ChannelEntry) (life : Life) (kind : Kind) → is_message kind ≡ true → goes_on_taking role entry life kind ≡ channels.Open (life_after role entry life)
+message-stays : (role : Role) (entry : ChannelEntry) (life : Life) (kind : Kind) → is_message kind ≡ true → open_after_taking role entry life kind ≡ channels.Open (life_after role entry life)
 message-stays role entry life Close e = absurd (false≢true e)
 message-stays role entry life kind e = refl
 
@@ -52,7 +52,7 @@ open-takes role config agreed number life above r frame entries c g = go (runnin
     go : OpenTakes role life.content life.requests r → Counts role (channel_after role (TookHere r frame) (channels.Open life)) (TookHere r frame ∷ entries)
     go (inl e) =
         let closed : Counts role Free (TookHere r frame ∷ entries) = took-close role r frame entries c.stays e in
-        subst (λ k. Counts role (goes_on_taking role (TookHere r frame) life k) (TookHere r frame ∷ entries)) (sym e) closed
+        subst (λ k. Counts role (open_after_taking role (TookHere r frame) life k) (TookHere r frame ∷ entries)) (sym e) closed
     go (inr h) =
         let stays : CountsOpen role (life_after role (TookHere r frame) life) (TookHere r frame ∷ entries) = took-stays_open role life r frame entries c h.0 (h.1 frame) in
         subst (λ channel. Counts role channel (TookHere r frame ∷ entries)) (sym (message-stays role (TookHere r frame) life (kind_of r) h.0)) stays
@@ -90,7 +90,7 @@ open-puts role life r frame entries c may = go (kind_of r) refl (and_parts _ _ m
     stays : (answers_in_turn role life.requests r ≡ true) → stays_open (kind_of r) ≡ true → CountsOpen role (life_after role (PutHere r frame) life) (PutHere r frame ∷ entries)
     stays in_turn e = put-stays_open role life r frame entries c e (put-matches role life.content life.requests r frame in_turn c.answerable)
 
-    go : (k : Kind) → kind_of r ≡ k → (not (is_open (kind_of r)) ≡ true) × (answers_in_turn role life.requests r ≡ true) → Counts role (goes_on_putting role (PutHere r frame) life k) (PutHere r frame ∷ entries)
+    go : (k : Kind) → kind_of r ≡ k → (not (is_open (kind_of r)) ≡ true) × (answers_in_turn role life.requests r ≡ true) → Counts role (open_after_putting role (PutHere r frame) life k) (PutHere r frame ∷ entries)
     go Open e h = absurd (true≢false (sym (ap is_open e) ∙ not-true _ h.0))
     go Close e h = put-close role r frame entries c.alive e
     go OpenOk e h = stays h.1 (ap stays_open e)
@@ -102,7 +102,7 @@ open-puts role life r frame entries c may = go (kind_of r) refl (and_parts _ _ m
 free-puts : (role : Role) (r : Reading) (frame : Frame) (entries : List ChannelEntry) → Counts role Free entries → may_put_here role Free r ≡ true → Counts role (channel_after role (PutHere r frame) Free) (PutHere r frame ∷ entries)
 free-puts role r frame entries c may = go role (kind_of r) refl c may
   where
-    go : (role : Role) (k : Kind) → kind_of r ≡ k → Counts role Free entries → may_put_here role Free r ≡ true → Counts role (opens_with role k) (PutHere r frame ∷ entries)
+    go : (role : Role) (k : Kind) → kind_of r ≡ k → Counts role Free entries → may_put_here role Free r ≡ true → Counts role (free_after_putting role k) (PutHere r frame ∷ entries)
     go Client Open e c may = put-open r frame entries c.1 e
     go role CloseOk e c may = put-close_ok-free role r frame entries e c
     go Server Open e c may = absurd (false≢true (sym (ap (λ k. (false && is_open k) || is_close_ok k) e) ∙ may))

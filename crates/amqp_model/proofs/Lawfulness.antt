@@ -1,19 +1,19 @@
 -- Every lawful history is one for which an end stands.
-use Rattle.std.proofs.Common.{◌≡◌, Bool, true, false, List, [], ◌∷◌, Option, inl, refl, sym, ap, subst}
+use Rattle.std.proofs.Common.{◌≡◌, Bool, true, false, [], Option, inl, refl, sym, ap, subst}
 use Rattle.std.proofs.lemmas.Bool.{true≢false}
 use Rattle.amqp_model.specs.Frame.{Frame}
 use Rattle.amqp_model.specs.Notes.{Role, Server}
 use Rattle.amqp_model.specs.Histories.{Put, History}
-use Rattle.amqp_model.specs.Channels.{Step, Phase, Handshake, Failed, End}
+use Rattle.amqp_model.specs.Channels.{HandshakeStep, Phase, Handshake, Failed, End}
 use Rattle.amqp_model.specs.Negotiation.{Config}
 use Rattle.amqp_model.specs.Negotiation as negotiation
 use Rattle.amqp_model.specs.StateFromHistory.{end_from}
 use Rattle.amqp_model.specs.Closes.{method_frame}
 use Rattle.amqp_model.specs.Asks.{Puts, ask_verdict}
 use Rattle.amqp_model.specs.Readings.{reading}
-use Rattle.amqp_model.specs.LawfulHistories.{end_verdict, goes_on, then_put, then_taken, too_large_puts, WritesReadBack, Goes, greets, takes, faults, meets_too_large, fails, asks, Lawful, begun, goes}
+use Rattle.amqp_model.specs.LawfulHistories.{end_verdict, goes_on, then_put, then_taken, too_large_puts, WritesReadBack, Goes, greets, takes, faults, meets_too_large, fails, asks, begun, goes}
 use Rattle.amqp_model.specs.Machine.{end_after_taken, end_after_too_large, end_after_put, as_failed, new_end, StandsFor}
-use Rattle.amqp_model.specs.EndLaws.{LawfulStands, StepFollows}
+use Rattle.amqp_model.specs.EndLaws.{LawfulStands, StepFollows, StepsOfEnd, EndSteps}
 use Rattle.amqp_model.proofs.EndSteps.{end-follows, new-end-stands}
 use Rattle.amqp_model.proofs.FrameSteps.{frame-follows}
 use Rattle.amqp_model.proofs.AskSteps.{asks-follow}
@@ -25,7 +25,7 @@ abbrev is_failed : Phase → Bool
 is_failed Failed = true
 is_failed phase = false
 
-failed-no-step : (step : Step) → Failed ≡ Handshake step → ⊥
+failed-no-step : (step : HandshakeStep) → Failed ≡ Handshake step → ⊥
 failed-no-step step p = true≢false (ap is_failed p)
 
 stands-itself : (role : Role) (config : Config role) (failed : Bool) (end : End) (history : History) → StandsFor role config failed end history → StandsFor role config failed (end_from role config failed history) history
@@ -50,9 +50,9 @@ goes-stand {role} {config} {before} back end e stands (faults frame p g) =
     subst (λ x. Stands role config true (then_taken config x frame before)) (sym e) (end_after_taken role config end (reading frame) frame, frame-fails role config end before frame back stands (subst (λ x. goes_on (end_verdict config x frame) ≡ false) e g))
 goes-stand {role} {config} {before} back end e stands (meets_too_large p) =
     subst (λ x. Stands role config true (then_put (too_large_puts config x) before)) (sym e) (end_after_too_large role config end, too-large-fails role config end before back stands)
-goes-stand {role} {config} {before} back end e stands fails = (as_failed end, any-fails role config end before stands)
+goes-stand {role} {config} {before} back end e stands (fails p) = (as_failed end, any-fails role config end before stands)
 goes-stand {role} {config} {before} back end e stands (asks ask frames made read v) =
-    (end_after_put role config frames end, asks-follow role config end before ask frames stands read made (subst (λ x. ask_verdict role x ask ≡ Puts frames) e v))
+    (end_after_put role config frames end, asks-follow role config end before ask frames stands read.method made (subst (λ x. ask_verdict role x ask ≡ Puts frames) e v))
 
 pub lawful-stands : (role : Role) (config : Config role) (failed : Bool) (history : History) → LawfulStands role config failed history
 lawful-stands role config failed history back begun = stands-itself role config false (new_end role) [] (new-end-stands role config)
@@ -62,3 +62,15 @@ lawful-stands role config failed history back (goes {before = before} lawful ste
 
 pub step-follows : (role : Role) (config : Config role) (end : End) (before : History) (taken : Option Frame) (failed : Bool) (after : History) → StepFollows role config end before taken failed after
 step-follows role config end before taken failed after back stands step = goes-stand back end (end-stands role config end before stands) stands step
+
+-- the steps of an end, by what it keeps
+pub end-steps : (role : Role) (config : Config role) (end : End) (history : History) → EndSteps role config end history
+end-steps role config end history stands =
+    subst (λ e. StepsOfEnd role config e history) (end-stands role config end history stands)
+    (record {
+      takes = λ frame can g. takes frame can g;
+      faults = λ frame can g. faults frame can g;
+      too_large = λ p. meets_too_large p;
+      fails = λ p. fails p;
+      asks = λ ask frames made read v. asks ask frames made read v;
+    })

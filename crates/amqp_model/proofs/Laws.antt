@@ -8,7 +8,7 @@ use Rattle.amqp_model.specs.Notes.{is_message, Role, other_end, Kind, Close, Not
 use Rattle.amqp_model.specs.States.{State, Opening}
 use Rattle.amqp_model.specs.Lives.{lives, has_left}
 use Rattle.amqp_model.specs.Verdict.{Discarded}
-use Rattle.amqp_model.specs.Carried.{message_frames, taken_by, Entry, At, life_of, puts, takes, acts_next, acted_takes, messages, sent, acted}
+use Rattle.amqp_model.specs.Carried.{message_frames, taken_by, NoteInLife, At, life_of, puts, takes, acts_next, acted_takes, messages, sent, acted}
 use Rattle.amqp_model.specs.Runs.{RunAt}
 use Rattle.amqp_model.specs.Laws.{SidesAgree, GoesOnWith, FindsNoFault, ActsOnFront, IsLive, OnItsWayIsOfItsLife, SentIsActedOnOrOnItsWay, AllActedOnAtClose, AllActedOnAtConnectionClose}
 use Rattle.amqp_model.specs.Fronts.{IsFrontOf}
@@ -43,11 +43,11 @@ no_fault role mine theirs run kind frame next = go (run_at_linked role mine thei
     cases true left stays = (Discarded, None, left_verdict role mine kind left)
     cases false stay stays = stays stay
 
-    taken : {word word' : State} {n n' life : ℕ} {a a' : Bool} {q r : List Entry} → Lawful role mine (Is word n a) → Taken role (Is word n a) (Is word' n' a') q r kind life → GoesOnWith role mine kind
+    taken : {word word' : State} {n n' life : ℕ} {a a' : Bool} {q r : List NoteInLife} → Lawful role mine (Is word n a) → Taken role (Is word n a) (Is word' n' a') q r kind life → GoesOnWith role mine kind
     taken s (quietly taking after) = cases (has_left mine) refl (here s taking)
     taken s (answering taking is_reply after) = cases (has_left mine) refl (here s taking)
 
-    first : {word word' : State} {n n' : ℕ} {a a' : Bool} (q r owed' : List Entry) → Lawful role mine (Is word n a) → NextOf kind frame r → JointAt role (Is word n a) (Is word' n' a') q (r ++ owed') → GoesOnWith role mine kind
+    first : {word word' : State} {n n' : ℕ} {a a' : Bool} (q r owed' : List NoteInLife) → Lawful role mine (Is word n a) → NextOf kind frame r → JointAt role (Is word n a) (Is word' n' a') q (r ++ owed') → GoesOnWith role mine kind
     first {word} {word'} {n} {n'} {a} {a'} q r owed' s (next_of life rest e) joint = taken s (joint_take (subst (λ r. JointAt role (Is word n a) (Is word' n' a') q (r ++ owed')) e joint))
 
     go : Linked role mine theirs → GoesOnWith role mine kind
@@ -62,30 +62,30 @@ acts_front role mine theirs run life = go (run_at_linked role mine theirs run)
         let whole = ap (messages life) e' ∙ messages-append life (takes role mine) r in
         subst (λ l. IsFrontOf (acted role life mine) l) (sym whole) (front_more _ _ (messages life r) (lawful_heard life s).front)
 
-abbrev HasLife : ℕ → Entry → Type 0
+abbrev HasLife : ℕ → NoteInLife → Type 0
 HasLife n entry = life_of entry ≡ n
 
 -- each has the life n
-abbrev Own : ℕ → List Entry → Type 0
+abbrev Own : ℕ → List NoteInLife → Type 0
 Own n [] = Unit {0}
 Own n (entry ∷ later) = HasLife n entry × Own n later
 
-own_all : (n : ℕ) (xs : List Entry) → Own n xs → All (HasLife n) xs
+own_all : (n : ℕ) (xs : List NoteInLife) → Own n xs → All (HasLife n) xs
 own_all n [] own = All-nil (HasLife n)
 own_all n (x ∷ xs) own = All-cons (HasLife n) x xs own.0 (own_all n xs own.1)
 
-own_front : (n : ℕ) (xs ys : List Entry) → Own n (xs ++ ys) → Own n xs
+own_front : (n : ℕ) (xs ys : List NoteInLife) → Own n (xs ++ ys) → Own n xs
 own_front n [] ys own = tt
 own_front n (x ∷ xs) ys own = (own.0, own_front n xs ys own.1)
 
-row_own : {n : ℕ} {tail : List Entry} {i j : ℕ} {row : List Entry} → Row n tail i j row → Own n tail → Own n row
+row_own : {n : ℕ} {tail : List NoteInLife} {i j : ℕ} {row : List NoteInLife} → Row n tail i j row → Own n tail → Own n row
 row_own done own = own
 row_own (with_flow row) own = (refl, row_own row own)
 row_own (with_flow_ok row) own = (refl, row_own row own)
 row_own (with_other row) own = (refl, row_own row own)
 
 -- all that comes to a live end is of its life
-joint_own : {role : Role} {word : State} {n : ℕ} {a : Bool} {there : Standing} {q r : List Entry} → JointAt role (Is word n a) there q r → is_live word ≡ true → Own n r
+joint_own : {role : Role} {word : State} {n : ℕ} {a : Bool} {there : Standing} {q r : List NoteInLife} → JointAt role (Is word n a) there q r → is_live word ≡ true → Own n r
 joint_own (at_client opening) live = tt
 joint_own (at_client (reopening q)) live = tt
 joint_own (at_client (opened r le)) live = (refl, row_own r tt)
@@ -114,7 +114,7 @@ on_its_way role mine theirs run rest live way = go (run_at_linked role mine thei
         subst (λ l. All (λ entry. life_of entry ≡ lives role mine) l) same (subst (λ n. All (HasLife n) r) (sym (lawful_lives s)) own)
 
 -- the messages of a row of one life, with their lives or without
-own_messages : (n : ℕ) (xs : List Entry) → Own n xs → messages n xs ≡ message_frames (map carried xs)
+own_messages : (n : ℕ) (xs : List NoteInLife) → Own n xs → messages n xs ≡ message_frames (map carried xs)
 own_messages n [] own = refl
 own_messages n (At kind life frame ∷ xs) own = same (is_message kind) (eq-eqb life n own.0) (own_messages n xs own.1)
   where
@@ -150,7 +150,7 @@ lawful_before (x ∷ later) before (has_left_now lawful) = lawful_before later b
 lawful_first : {role : Role} (history : List Note) (kind : Kind) (frame : Frame) → LawfulAt role (Took kind frame ∷ history) → LawfulAt role history
 lawful_first history kind frame (lawful_at (has_taken {before = Is word n a} frame' lawful taking)) = lawful_at lawful
 
-regroup : (xs : List Entry) (x : Entry) (ys zs : List Entry) → ((xs ++ x ∷ []) ++ ys) ++ zs ≡ xs ++ x ∷ (ys ++ zs)
+regroup : (xs : List NoteInLife) (x : NoteInLife) (ys zs : List NoteInLife) → ((xs ++ x ∷ []) ++ ys) ++ zs ≡ xs ++ x ∷ (ys ++ zs)
 regroup xs x ys zs = simp append_assoc
 
 takes_later : (role : Role) (later before : List Note) → IsFrontOf (takes role before) (takes role (later ++ before))
@@ -169,7 +169,7 @@ acted_later role (Took kind frame ∷ later) before = more (acts_next role (late
 acted_later role (Put kind frame ∷ later) before = acted_later role later before
 acted_later role (Leaving ∷ later) before = acted_later role later before
 
-messages_front : (life : ℕ) (xs ys : List Entry) → IsFrontOf xs ys → IsFrontOf (messages life xs) (messages life ys)
+messages_front : (life : ℕ) (xs ys : List NoteInLife) → IsFrontOf xs ys → IsFrontOf (messages life xs) (messages life ys)
 messages_front life xs ys front = (messages life front.0, ap (messages life) front.1 ∙ messages-append life xs front.0)
 
 -- a list that begins with one that begins with it
@@ -197,7 +197,7 @@ all_acted role mine theirs run life closed = go (run_at_linked role mine theirs 
         (subst (λ h. IsFrontOf (acted role life at_close) (acted role life h)) (sym closed.history_is) (messages_front life _ _ (acted_later role closed.later at_close)))
 
     -- where the close stands in what the other put
-    place : (r : List Entry) → puts (other_end role) theirs ≡ takes role mine ++ r → puts (other_end role) theirs ≡ takes role closed.before ++ At Close life closed.frame ∷ (took.0 ++ r)
+    place : (r : List NoteInLife) → puts (other_end role) theirs ≡ takes role mine ++ r → puts (other_end role) theirs ≡ takes role closed.before ++ At Close life closed.frame ∷ (took.0 ++ r)
     place r e = e ∙ (ap (λ l. l ++ r) took.1 ∙ (regroup (takes role closed.before) _ took.0 r ∙ ap (λ n. takes role closed.before ++ At Close n closed.frame ∷ (took.0 ++ r)) closed.life_is))
 
     go : Linked role mine theirs → acted role life mine ≡ sent (other_end role) life theirs

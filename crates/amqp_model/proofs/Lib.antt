@@ -53,6 +53,12 @@ mod ReadBack
 mod ReadBackOwed
 mod ReadBackFrames
 mod ReadBackSizes
+mod OctetJudging
+mod OctetCuts
+mod OctetHistories
+mod OctetAsks
+mod OctetSteps
+mod OctetRows
 mod Sent
 mod ConnectionClosed
 mod SentTelling

@@ -2,7 +2,7 @@
 use Rattle.std.proofs.Common.{◌≡◌, ℕ, zero, suc, List, [], ◌∷◌, ◌++◌, Some, ◌⊎◌, inl, inr, Bool, true, false, cond, ◌&&◌, refl, ap, ◌∙◌, append_assoc, append-nil, slice_get, ◌==◌}
 use Rattle.amqp_model.specs.Frame.{Frame}
 use Rattle.amqp_model.specs.Notes.{Kind, is_message}
-use Rattle.amqp_model.specs.Carried.{Entry, At, messages}
+use Rattle.amqp_model.specs.Carried.{NoteInLife, At, messages}
 use Rattle.amqp_model.specs.Fronts.{IsFrontOf}
 
 pub slice_get_front : {A : Type 0} (xs ys : List A) (i : ℕ) (x : A) → slice_get xs i ≡ Some x → slice_get (xs ++ ys) i ≡ Some x
@@ -29,7 +29,7 @@ snoc_cases {A} (y ∷ front) c back (z ∷ xs) x e = more (snoc_cases front c ba
     more (inl h) = inl (h.0, h.1, (let k : xs ≡ front = h.2 in cc))
     more (inr h) = inr (h.0, h.1, (let k : xs ≡ front ++ c ∷ h.0 = h.2 in cc))
 
-pub messages-append : (life : ℕ) (xs ys : List Entry) → messages life (xs ++ ys) ≡ messages life xs ++ messages life ys
+pub messages-append : (life : ℕ) (xs ys : List NoteInLife) → messages life (xs ++ ys) ≡ messages life xs ++ messages life ys
 messages-append life [] ys = refl
 messages-append life (At kind n frame ∷ xs) ys = more (is_message kind && (n == life)) (messages-append life xs ys)
   where
@@ -38,11 +38,11 @@ messages-append life (At kind n frame ∷ xs) ys = more (is_message kind && (n =
     more false e = e
 
 -- one more note that is no message
-pub messages_other : (life : ℕ) (xs : List Entry) (kind : Kind) (n : ℕ) (frame : Frame) → is_message kind ≡ false → messages life (xs ++ At kind n frame ∷ []) ≡ messages life xs
+pub messages_other : (life : ℕ) (xs : List NoteInLife) (kind : Kind) (n : ℕ) (frame : Frame) → is_message kind ≡ false → messages life (xs ++ At kind n frame ∷ []) ≡ messages life xs
 messages_other life xs kind n frame e = messages-append life xs _ ∙ (ap (λ l. messages life xs ++ l) (simp e) ∙ append-nil _)
 
 -- one more note of another life
-pub messages_elsewhere : (life : ℕ) (xs : List Entry) (kind : Kind) (n : ℕ) (frame : Frame) → (n == life) ≡ false → messages life (xs ++ At kind n frame ∷ []) ≡ messages life xs
+pub messages_elsewhere : (life : ℕ) (xs : List NoteInLife) (kind : Kind) (n : ℕ) (frame : Frame) → (n == life) ≡ false → messages life (xs ++ At kind n frame ∷ []) ≡ messages life xs
 messages_elsewhere life xs kind n frame e = messages-append life xs _ ∙ (ap (λ l. messages life xs ++ l) (none (is_message kind)) ∙ append-nil _)
   where
     none : (b : Bool) → cond (b && (n == life)) (frame ∷ []) [] ≡ []

@@ -36,7 +36,7 @@ start-quiet config = go config.hello
 goes-run : {role : Role} {config : Config role} {before after : History} {taken : Option Frame} (theirs : History) (n : ℕ) → WritesReadBack role config → AllComeNext theirs before taken → Goes role config before taken false after → RunAt role (notes_on (suc n) before) (notes_on (suc n) theirs) → RunAt role (notes_on (suc n) after) (notes_on (suc n) theirs)
 goes-run {config} theirs n back next greets run = acts-at Server run (zero-acts Server (notes_on (suc n) theirs) [] n (negotiation.start config) back.greeting (start-quiet config))
 goes-run {role} {config} {before} theirs n back next (takes frame p g) run = acts-at role run (takes-acts role config before frame n (notes_on (suc n) theirs) back g (next-noted theirs before frame n next))
-goes-run {role} {config} {before} theirs n back next (asks ask frames made read e) run = acts-at role run (asks-act role config before ask frames n (notes_on (suc n) theirs) read made e)
+goes-run {role} {config} {before} theirs n back next (asks ask frames made read e) run = acts-at role run (asks-act role config before ask frames n (notes_on (suc n) theirs) read.method made e)
 
 pub pair-runs : (client_config : Config Client) (server_config : Config Server) (client server : History) → RunsOnEach client_config server_config client server
 pair-runs client_config server_config client server mine theirs both_begin n = start

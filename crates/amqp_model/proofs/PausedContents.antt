@@ -4,8 +4,8 @@ use Rattle.std.proofs.lemmas.Bool.{true≢false, false≢true}
 use Rattle.amqp_model.specs.Frame.{Frame}
 use Rattle.amqp_model.specs.Notes.{Role, Client, Server, Kind, Other, Note, Put, Took, Leaving, is_content}
 use Rattle.amqp_model.specs.States.{State}
-use Rattle.amqp_model.specs.Lives.{has_paused}
-use Rattle.amqp_model.specs.Carried.{Carry, Entry, At}
+use Rattle.amqp_model.specs.Lives.{pauses_other}
+use Rattle.amqp_model.specs.Carried.{Carry, NoteInLife, At}
 use Rattle.amqp_model.specs.Runs.{IsNext, Acts, asks, leaves, takes as takes_quietly, replies, Run, start, client_acts, server_acts, RunAt}
 use Rattle.amqp_model.specs.Laws.{TakesNoContentPaused, NoPauseBeforeContent}
 use Rattle.amqp_model.proofs.Ends.{Standing}
@@ -16,21 +16,21 @@ use Rattle.amqp_model.proofs.Words.{since_reads}
 -- no content was taken while the end had paused the other
 abbrev NoneTaken : Role → List Note → Type 0
 NoneTaken role [] = Unit {0}
-NoneTaken role (Took kind frame ∷ before) = (is_content kind ≡ true → has_paused role before ≡ false) × NoneTaken role before
+NoneTaken role (Took kind frame ∷ before) = (is_content kind ≡ true → pauses_other role before ≡ false) × NoneTaken role before
 NoneTaken role (_ ∷ before) = NoneTaken role before
 
-hush_free : {n m life : ℕ} {held paused : Bool} {word : State} {q r : List Entry} (kind : Kind) {frame : Frame} → Hush n held word m paused q (At kind life frame ∷ r) → is_content kind ≡ true → held ≡ false
+hush_free : {n m life : ℕ} {held paused : Bool} {word : State} {q r : List NoteInLife} (kind : Kind) {frame : Frame} → Hush n held word m paused q (At kind life frame ∷ r) → is_content kind ≡ true → held ≡ false
 hush_free (Other begins_content) (hush scan silenced) content = scan_content_free scan content
 hush_free kind old content = absurd (false≢true content)
 
 -- what comes next is no content, where the end has paused the other
-next_free : {role : Role} {mine theirs : List Note} (kind : Kind) (frame : Frame) → Linked role mine theirs → IsNext theirs mine (Carry kind frame) → is_content kind ≡ true → has_paused role mine ≡ false
+next_free : {role : Role} {mine theirs : List Note} (kind : Kind) (frame : Frame) → Linked role mine theirs → IsNext theirs mine (Carry kind frame) → is_content kind ≡ true → pauses_other role mine ≡ false
 next_free {role} {mine} {theirs} kind frame (linked {word} {word'} {n} {n'} {a} {a'} q r owed owed' s s' e e' w w' agreed) next content = go (next_entry role mine theirs e' next)
   where
-    hushed : (life : ℕ) (rest : List Entry) {here there : Standing} {q r : List Entry} → r ≡ At kind life frame ∷ rest → Pact role mine theirs here there q r → has_paused role mine ≡ false
-    hushed life rest first (pact joint (hush {out} scan silenced) they) = hush_free kind (hush (subst (λ r. Scan (has_paused role mine) r out) first scan) silenced) content
+    hushed : (life : ℕ) (rest : List NoteInLife) {here there : Standing} {q r : List NoteInLife} → r ≡ At kind life frame ∷ rest → Pact role mine theirs here there q r → pauses_other role mine ≡ false
+    hushed life rest first (pact joint (hush {out} scan silenced) they) = hush_free kind (hush (subst (λ r. Scan (pauses_other role mine) r out) first scan) silenced) content
 
-    go : NextOf kind frame r → has_paused role mine ≡ false
+    go : NextOf kind frame r → pauses_other role mine ≡ false
     go (next_of life rest first) = hushed life (rest ++ owed') (ap (λ l. l ++ owed') first) agreed
 
 act_free : {role : Role} {mine theirs after : List Note} → Acts role theirs mine after → Linked role mine theirs → NoneTaken role mine → NoneTaken role after
@@ -48,7 +48,7 @@ none_taken : (role : Role) (mine theirs : List Note) → RunAt role mine theirs 
 none_taken Client mine theirs run = (run_free run).0
 none_taken Server mine theirs run = (run_free run).1
 
-free_at : (role : Role) (later : List Note) (kind : Kind) (frame : Frame) (before : List Note) → NoneTaken role (later ++ Took kind frame ∷ before) → is_content kind ≡ true → has_paused role before ≡ false
+free_at : (role : Role) (later : List Note) (kind : Kind) (frame : Frame) (before : List Note) → NoneTaken role (later ++ Took kind frame ∷ before) → is_content kind ≡ true → pauses_other role before ≡ false
 free_at role [] kind frame before free content = free.0 content
 free_at role (Put kind' frame' ∷ later) kind frame before free content = free_at role later kind frame before free content
 free_at role (Took kind' frame' ∷ later) kind frame before free content = free_at role later kind frame before free.1 content

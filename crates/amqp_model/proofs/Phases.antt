@@ -5,40 +5,40 @@ use Rattle.amqp_model.specs.Frame.{Frame}
 use Rattle.amqp_model.specs.Notes.{Role, Client, Server}
 use Rattle.amqp_model.specs.Readings.{Reading, is_call}
 use Rattle.amqp_model.specs.Histories.{ChannelEntry, PutHere, TookHere}
-use Rattle.amqp_model.specs.Channels.{Step, AwaitsProtocolHeader, AwaitsStart, AwaitsStartOk, AwaitsTune, AwaitsTuneOk, AwaitsOpen, AwaitsOpenOk, Phase, Handshake, Running, Closed}
+use Rattle.amqp_model.specs.Channels.{HandshakeStep, AwaitsProtocolHeader, AwaitsStart, AwaitsStartOk, AwaitsTune, AwaitsTuneOk, AwaitsOpen, AwaitsOpenOk, Phase, Handshake, Running, Closed}
 use Rattle.amqp_model.specs.StateFromHistory.{has_put, has_taken, closed_by_peer, is_closed, is_negotiated, step_from, phase_from}
 use Rattle.amqp_model.specs.Machine.{taken_ends_handshake, put_ends_handshake, after_start, after_start_ok, after_start_put, step_taken, step_put, phase_taken, phase_put, phase_after}
 
 -- the phase by the words that are counted
-abbrev word : (closed put over : Bool) → Step → Phase
+abbrev word : (closed put over : Bool) → HandshakeStep → Phase
 word closed put over step = cond closed Closed (cond put Phase.Closing (cond over Running (Handshake step)))
 
 -- a frame taken that closes, or answers a close, or ends the handshake
-took-closed : (c put co b over : Bool) (step : Step) → word (((c && not put) || true) || (co || b)) put over step ≡ Closed
+took-closed : (c put co b over : Bool) (step : HandshakeStep) → word (((c && not put) || true) || (co || b)) put over step ≡ Closed
 took-closed false put co b over step = refl
 took-closed true true co b over step = refl
 took-closed true false co b over step = refl
 
-took-answered : (c put co over : Bool) (step : Step) → word (((c && not put) || false) || (co || true)) put over step ≡ Closed
+took-answered : (c put co over : Bool) (step : HandshakeStep) → word (((c && not put) || false) || (co || true)) put over step ≡ Closed
 took-answered true true true over step = refl
 took-answered true true false over step = refl
 took-answered true false co over step = refl
 took-answered false put true over step = refl
 took-answered false put false over step = refl
 
-took-closing : (c co over : Bool) (step : Step) → word (((c && false) || false) || (co || false)) true over step ≡ cond co Closed Phase.Closing
+took-closing : (c co over : Bool) (step : HandshakeStep) → word (((c && false) || false) || (co || false)) true over step ≡ cond co Closed Phase.Closing
 took-closing true true over step = refl
 took-closing true false over step = refl
 took-closing false true over step = refl
 took-closing false false over step = refl
 
-took-running : (c co e : Bool) (step : Step) → word (((c && true) || false) || (co || false)) false (e || true) step ≡ cond (c || co) Closed Running
+took-running : (c co e : Bool) (step : HandshakeStep) → word (((c && true) || false) || (co || false)) false (e || true) step ≡ cond (c || co) Closed Running
 took-running true co e step = refl
 took-running false true e step = refl
 took-running false false true step = refl
 took-running false false false step = refl
 
-took-handshake : (c co e : Bool) (step : Step) → word (((c && true) || false) || (co || false)) false (e || false) step ≡ cond (c || co) Closed (cond e Running (Handshake step))
+took-handshake : (c co e : Bool) (step : HandshakeStep) → word (((c && true) || false) || (co || false)) false (e || false) step ≡ cond (c || co) Closed (cond e Running (Handshake step))
 took-handshake true co e step = refl
 took-handshake false true e step = refl
 took-handshake false false true step = refl
@@ -59,7 +59,7 @@ server-step false true false false true = refl
 server-step false true false false false = refl
 server-step false false ht hs first = refl
 
-took : (role : Role) (r : Reading) (a b put over : Bool) (old new : Step) → new ≡ step_taken role r old → word (((is_call kinds.ConnectionClose r && not put) || a) || (is_call kinds.ConnectionCloseOk r || b)) put (taken_ends_handshake role r || over) new ≡ phase_taken role r (word (a || b) put over old)
+took : (role : Role) (r : Reading) (a b put over : Bool) (old new : HandshakeStep) → new ≡ step_taken role r old → word (((is_call kinds.ConnectionClose r && not put) || a) || (is_call kinds.ConnectionCloseOk r || b)) put (taken_ends_handshake role r || over) new ≡ phase_taken role r (word (a || b) put over old)
 took role r true b put over old new s = took-closed (is_call kinds.ConnectionClose r) put (is_call kinds.ConnectionCloseOk r) b (taken_ends_handshake role r || over) new
 took role r false true put over old new s = took-answered (is_call kinds.ConnectionClose r) put (is_call kinds.ConnectionCloseOk r) (taken_ends_handshake role r || over) new
 took role r false false true over old new s = took-closing (is_call kinds.ConnectionClose r) (is_call kinds.ConnectionCloseOk r) (taken_ends_handshake role r || over) new
@@ -67,16 +67,16 @@ took role r false false false true old new s = took-running (is_call kinds.Conne
 took role r false false false false old new s = took-handshake (is_call kinds.ConnectionClose r) (is_call kinds.ConnectionCloseOk r) (taken_ends_handshake role r) new ∙ ap (λ step. cond (is_call kinds.ConnectionClose r || is_call kinds.ConnectionCloseOk r) Closed (cond (taken_ends_handshake role r) Running (Handshake step))) s
 
 -- a frame put
-put-closing : (c over : Bool) (step : Step) → word false (c || true) over step ≡ Phase.Closing
+put-closing : (c over : Bool) (step : HandshakeStep) → word false (c || true) over step ≡ Phase.Closing
 put-closing true over step = refl
 put-closing false over step = refl
 
-put-running : (c e : Bool) (step : Step) → word false (c || false) (e || true) step ≡ cond c Phase.Closing Running
+put-running : (c e : Bool) (step : HandshakeStep) → word false (c || false) (e || true) step ≡ cond c Phase.Closing Running
 put-running true e step = refl
 put-running false true step = refl
 put-running false false step = refl
 
-put-handshake : (c e : Bool) (step : Step) → word false (c || false) (e || false) step ≡ cond c Phase.Closing (cond e Running (Handshake step))
+put-handshake : (c e : Bool) (step : HandshakeStep) → word false (c || false) (e || false) step ≡ cond c Phase.Closing (cond e Running (Handshake step))
 put-handshake true e step = refl
 put-handshake false true step = refl
 put-handshake false false step = refl
@@ -88,7 +88,7 @@ put-server-step true false false true = refl
 put-server-step true false false false = refl
 put-server-step false ht hs first = refl
 
-puts : (role : Role) (r : Reading) (closed put over : Bool) (old new : Step) → new ≡ step_put role r old → word closed (is_call kinds.ConnectionClose r || put) (put_ends_handshake role r || over) new ≡ phase_put role r (word closed put over old)
+puts : (role : Role) (r : Reading) (closed put over : Bool) (old new : HandshakeStep) → new ≡ step_put role r old → word closed (is_call kinds.ConnectionClose r || put) (put_ends_handshake role r || over) new ≡ phase_put role r (word closed put over old)
 puts role r true put over old new s = refl
 puts role r false true over old new s = put-closing (is_call kinds.ConnectionClose r) (put_ends_handshake role r || over) new
 puts role r false false true old new s = put-running (is_call kinds.ConnectionClose r) (put_ends_handshake role r) new

@@ -1,28 +1,28 @@
 -- Behind a connection.close or close-ok an end puts only these.
-use Rattle.std.proofs.Common.{◌≡◌, ◌⊎◌, inl, inr, Bool, true, false, cond, not, ◌&&◌, ◌||◌, ℕ, zero, suc, ◌==◌, arith, List, [], ◌∷◌, ◌++◌, All, map, Option, Some, None, refl, sym, ap, ◌∙◌, subst, append_assoc, append-nil}
-use Rattle.std.proofs.lemmas.Bool.{false≢true, true≢false, and_parts, eqb-true, eq-eqb}
+use Rattle.std.proofs.Common.{◌≡◌, Bool, true, false, cond, ◌&&◌, ◌||◌, ℕ, zero, suc, ◌==◌, List, [], ◌∷◌, ◌++◌, All, map, Option, Some, None, refl, sym, ap, ◌∙◌, subst, append_assoc, append-nil}
+use Rattle.std.proofs.lemmas.Bool.{false≢true, true≢false, and_parts, eqb-true}
 use Rattle.std.proofs.lemmas.List.Elements.{All-nil, All-cons}
 use Rattle.amqp_method.specs.Arguments.{Argument}
 use Rattle.amqp_method.specs.declared.kinds.Kind.TheVariants as kinds
 use Rattle.amqp_model.specs.Frame.{Frame}
-use Rattle.amqp_model.specs.Notes.{Role, Client, Server}
+use Rattle.amqp_model.specs.Notes.{Role, Server}
 use Rattle.amqp_model.specs.Arrangement.{is_leaving}
 use Rattle.amqp_model.specs.Outputs.{Output}
 use Rattle.amqp_model.specs.Departures.{LeavesLast}
 use Rattle.amqp_model.specs.Methods.{MethodKind, Method, ReadsBack, same_kind}
 use Rattle.amqp_model.specs.Contents.{Payload}
 use Rattle.amqp_model.specs.Readings.{Reading, Calls, reading, is_call}
-use Rattle.amqp_model.specs.Histories.{Put, Took, History, ChannelEntry, PutHere, TookHere, LeftHere}
+use Rattle.amqp_model.specs.Histories.{Put, Took, History, PutHere, TookHere}
 use Rattle.amqp_model.specs.Channels.{Channel, Free, Phase, Handshake, Running, Closed, Failed, Agreed, End}
 use Rattle.amqp_model.specs.Negotiation.{Config, Hello, OfServer}
 use Rattle.amqp_model.specs.Negotiation as negotiation
 use Rattle.amqp_model.specs.StateFromHistory.{end_from}
-use Rattle.amqp_model.specs.Closes.{CloseCode, FrameError, Owed, method_frame, frame_of, connection_close, connection_close_ok}
+use Rattle.amqp_model.specs.Closes.{FrameError, Owed, method_frame, frame_of, connection_close, connection_close_ok}
 use Rattle.amqp_model.specs.Events.{Event, FrameVerdict, Proceeds, RefusesContent, Faults, Fault, Peer}
-use Rattle.amqp_model.specs.FrameVerdict.{Facts, leaving_on, verdict_on, methods_put}
-use Rattle.amqp_model.specs.Asks.{Ask, Refusal, lowest_free, opens_on, payload_frame, message_payloads, frame_max, frames_asked, method_asked, refusal, Puts, ask_verdict}
-use Rattle.amqp_model.specs.LawfulHistories.{facts_at, end_verdict, goes_on, takes_frames, then_put, then_taken, WritesReadBack, Goes, greets, takes, faults, meets_too_large, fails, asks, Lawful, begun, goes}
-use Rattle.amqp_model.specs.Machine.{phase_taken, phase_put, end_after, end_after_owed, end_after_put, end_after_taken, failed_by, StandsFor}
+use Rattle.amqp_model.specs.FrameVerdict.{Facts, verdict_on, methods_put}
+use Rattle.amqp_model.specs.Asks.{Ask, Refusal, lowest_free, opens_on, payload_frame, message_payloads, frame_max, frames_asked, method_asked, refusal, Puts}
+use Rattle.amqp_model.specs.LawfulHistories.{facts_at, end_verdict, goes_on, takes_frames, CanTake, then_put, then_taken, WritesReadBack, Goes, greets, takes, faults, meets_too_large, fails, asks, Lawful, begun, goes}
+use Rattle.amqp_model.specs.Machine.{phase_taken, phase_put, end_after, end_after_owed, end_after_put, StandsFor}
 use Rattle.amqp_model.specs.EndLaws.{is_over}
 use Rattle.amqp_model.specs.Octets.{frames_put}
 use Rattle.amqp_model.specs.LeavingLaws.{ClosesArePutLast, OctetsArePutAs}
@@ -30,7 +30,6 @@ use Rattle.amqp_model.proofs.Acting.{reads-back}
 use Rattle.amqp_model.proofs.Agreeing.{facts_in}
 use Rattle.amqp_model.proofs.Elsewhere.{Each, IsMild, each-owed}
 use Rattle.amqp_model.proofs.Asking.{Accepted, accepted, accepted-none, not-when, first-false, frame-channel}
-use Rattle.amqp_model.proofs.EndSteps.{not-zero}
 use Rattle.amqp_model.proofs.FrameSteps.{not-failed, frame-follows}
 use Rattle.amqp_model.proofs.AskSteps.{is-running, asks-follow}
 use Rattle.amqp_model.proofs.Lawfulness.{lawful-stands}
@@ -219,7 +218,7 @@ stay-more role config failed before history frames none mild e =
     record { parted = parted-none (frames_put history) all; calm = λ goes o. all }
 
 -- A frame is taken, and the end goes on.
-module _ (role : Role) (config : Config role) (back : WritesReadBack role config) (before : History) (stands : StandsFor role config false (end_from role config false before) before) (frame : Frame) (p : takes_frames (end_from role config false before).phase ≡ true) (g : goes_on (end_verdict config (end_from role config false before) frame) ≡ true) (departs : Departs role config false before) where
+module _ (role : Role) (config : Config role) (back : WritesReadBack role config) (before : History) (stands : StandsFor role config false (end_from role config false before) before) (frame : Frame) (p : CanTake (end_from role config false before) frame) (g : goes_on (end_verdict config (end_from role config false before) frame) ≡ true) (departs : Departs role config false before) where
   put-is : frames_put (then_taken config (end_from role config false before) frame before) ≡ frames_put before ++ map frame_of (methods_put (facts_at config (end_from role config false before) frame.channel) (end_verdict config (end_from role config false before) frame))
   put-is = put-then (map frame_of (methods_put (facts_at config (end_from role config false before) frame.channel) (end_verdict config (end_from role config false before) frame))) (Took frame ∷ before)
 
@@ -236,8 +235,8 @@ module _ (role : Role) (config : Config role) (back : WritesReadBack role config
       leave-more role config false before _ _ departs.parted
       (subst (λ phase. AllLeave (map frame_of (methods_put (facts_in config phase (end_from role config false before).agreed frame.channel ((end_from role config false before).channels frame.channel)) (verdict_on (facts_in config phase (end_from role config false before).agreed frame.channel ((end_from role config false before).channels frame.channel)) (reading frame))))) (sym e) (closing-leaves config (end_from role config false before).agreed frame.channel ((end_from role config false before).channels frame.channel) (reading frame)))
       put-is (λ goes. over-then (over-after-taken role config frame.channel (reading frame) frame (end_from role config false before) (ap is_over e)))
-  when-over Closed e o = absurd (false≢true (sym (ap takes_frames e) ∙ p))
-  when-over Failed e o = absurd (false≢true (sym (ap takes_frames e) ∙ p))
+  when-over Closed e o = absurd (false≢true (sym (ap takes_frames e) ∙ p.in_phase))
+  when-over Failed e o = absurd (false≢true (sym (ap takes_frames e) ∙ p.in_phase))
   when-over Running e o = absurd (false≢true o)
   when-over (Handshake step) e o = absurd (false≢true o)
 
@@ -319,11 +318,11 @@ goes-departs role config before taken failed after back stands departs (faults f
     leave-more role config true before _ _ departs.parted (fault-leaves (facts_at config (end_from role config false before) frame.channel) (end_verdict config (end_from role config false before) frame) g) (put-then _ (Took frame ∷ before)) (λ e. absurd (true≢false e))
 goes-departs role config before taken failed after back stands departs (meets_too_large p) =
     leave-more role config true before _ _ departs.parted (fault-leaves (facts_at config (end_from role config false before) 0) (Faults (Peer FrameError)) refl) (put-then _ before) (λ e. absurd (true≢false e))
-goes-departs role config before taken failed after back stands departs fails = record { parted = departs.parted; calm = λ e. absurd (true≢false e) }
+goes-departs role config before taken failed after back stands departs (fails p) = record { parted = departs.parted; calm = λ e. absurd (true≢false e) }
 goes-departs role config before taken failed after back stands departs (asks ask frames made read e) =
     let parts = accepted-none (refusal role (end_from role config false before) ask) (frames_asked (end_from role config false before) ask) frames e in
-    let follows = asks-follow role config (end_from role config false before) before ask (frames_asked (end_from role config false before) ask) stands read made (e ∙ ap Puts (sym parts.1)) in
-    subst (λ frames. Departs role config false (then_put frames before)) parts.1 (asked-departs role config back before stands ask read (accepted role (end_from role config false before) ask parts.0) follows departs)
+    let follows = asks-follow role config (end_from role config false before) before ask (frames_asked (end_from role config false before) ask) stands read.method made (e ∙ ap Puts (sym parts.1)) in
+    subst (λ frames. Departs role config false (then_put frames before)) parts.1 (asked-departs role config back before stands ask read.method (accepted role (end_from role config false before) ask parts.0) follows departs)
 
 lawful-departs : (role : Role) (config : Config role) (failed : Bool) (history : History) → WritesReadBack role config → Lawful role config failed history → Departs role config failed history
 lawful-departs role config failed history back begun = record { parted = parted-none [] tt; calm = λ goes o. tt }

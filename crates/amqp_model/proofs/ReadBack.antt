@@ -1,5 +1,7 @@
 -- What is written of what fits its fields reads as it.
-use Rattle.std.proofs.Common.{◌<◌, ◌^◌, ℕ, List, refl, ap, arith}
+use Rattle.std.proofs.Common.{◌≡◌, ◌≢◌, ◌<◌, ◌^◌, Bool, true, false, cond, ◌||◌, ◌==◌, nat_lt, ℕ, List, Some, None, refl, ap, arith, le-ltb}
+use Rattle.std.proofs.lemmas.Bool.{ltb-false, eqb-false, ne_eqb}
+use Rattle.amqp_frame.specs.Frame.{frame_length}
 use Rattle.amqp_method.specs.Fitting.{FitsShort}
 use Rattle.amqp_method.specs.Laws.{MethodIsRead, HeaderIsRead, MethodIsSpelled, HeaderIsSpelled}
 use Rattle.amqp_method.specs.Methods.{row}
@@ -7,12 +9,13 @@ use Rattle.amqp_method.specs.Plain as plain
 use Rattle.amqp_method.specs.declared.kinds.Kind.TheVariants as kinds
 use Rattle.amqp_model.specs.Notes.{Role, Client, Server}
 use Rattle.amqp_model.specs.Methods.{Method, Header, ReadsBack, method_read, header_read, method_at, header_at, plain_method, plain_header}
-use Rattle.amqp_model.specs.Negotiation.{Hello, OfClient, OfServer, Config, start, start_ok, open_host}
-use Rattle.amqp_model.specs.Closes.{close_as}
+use Rattle.amqp_model.specs.Negotiation.{FRAME_MIN, Hello, OfClient, OfServer, Config, start, start_ok, connection_open}
+use Rattle.amqp_model.specs.Closes.{close_as, method_frame}
 use Rattle.amqp_model.specs.Events.{Message, Plain, Whole}
 use Rattle.amqp_model.specs.Asks.{Ask, Open, Send, Flow, CloseChannel, Close, Blocked, Unblocked, method_asked}
-use Rattle.amqp_model.specs.Fitting.{MethodFits, HelloFits, greeting, HostFits, PartsFit}
-use Rattle.amqp_model.specs.FittingLaws.{MethodReadsBack, HeaderReadsBack, FittingConfigWrites, AskedReadsBack}
+use Rattle.amqp_model.specs.LawfulHistories.{header_of, HeaderAskedReadsBack}
+use Rattle.amqp_model.specs.Fitting.{MethodFits, HelloFits, greeting, HostFits, PartsFit, FRAME_MOST, FrameMax, ChannelMax, HelloTooLong}
+use Rattle.amqp_model.specs.FittingLaws.{MethodReadsBack, HeaderReadsBack, FittingConfigWrites, AskedReadsBack, FaultlessConfigFits, FittingConfigIsFaultless}
 
 pub method-reads : MethodIsSpelled → MethodIsRead → (method : Method) → MethodReadsBack method
 unfolding method_at plain_method
@@ -36,7 +39,7 @@ start_ok-says : (a b c : ℕ) (hello : Hello Client) → HelloFits hello → Met
 unfolding row
 start_ok-says a b c (OfClient properties mechanism response locale virtual_host) fits = record { of_kind = refl; arguments = (fits.0, (fits.1, (fits.2, (fits.3, tt)))) }
 
-open-says : (a b c : ℕ) (hello : Hello Client) → HostFits hello → MethodFits (open_host (configured a b c hello))
+open-says : (a b c : ℕ) (hello : Hello Client) → HostFits hello → MethodFits (connection_open (configured a b c hello))
 unfolding row
 open-says a b c (OfClient properties mechanism response locale virtual_host) fits = record { of_kind = refl; arguments = (fits, tt) }
 
@@ -46,7 +49,7 @@ start-fits config fits = start-says config.frame_max config.channel_max config.m
 pub start_ok-fits : (config : Config Client) → HelloFits config.hello → MethodFits (start_ok config)
 start_ok-fits config fits = start_ok-says config.frame_max config.channel_max config.max_body config.hello fits
 
-pub open-fits : (config : Config Client) → HostFits config.hello → MethodFits (open_host config)
+pub open-fits : (config : Config Client) → HostFits config.hello → MethodFits (connection_open config)
 open-fits config fits = open-says config.frame_max config.channel_max config.max_body config.hello fits
 
 host-fits : (role : Role) (hello : Hello role) → HelloFits hello → HostFits hello
@@ -91,5 +94,45 @@ asked-fits (Close code text) fits = connection_close-fits code text fits.0 fits.
 asked-fits (Blocked reason) fits = record { of_kind = refl; arguments = (fits, tt) }
 asked-fits Unblocked fits = record { of_kind = refl; arguments = tt }
 
-pub asked-reads : ((method : Method) → MethodReadsBack method) → (ask : Ask) → AskedReadsBack ask
-asked-reads reads ask fits = reads (method_asked ask) (asked-fits ask fits.parts)
+header-asked : ((header : Header) → HeaderReadsBack header) → (ask : Ask) → PartsFit ask → HeaderAskedReadsBack ask
+header-asked reads Open fits = tt
+header-asked reads (Send channel (Plain method)) fits = tt
+header-asked reads (Send channel (Whole content)) fits = reads (header_of content) fits.1.header
+header-asked reads (Flow channel active) fits = tt
+header-asked reads (CloseChannel channel code text) fits = tt
+header-asked reads (Close code text) fits = tt
+header-asked reads (Blocked reason) fits = tt
+header-asked reads Unblocked fits = tt
+
+pub asked-reads : ((method : Method) → MethodReadsBack method) → ((header : Header) → HeaderReadsBack header) → (ask : Ask) → AskedReadsBack ask
+asked-reads methods headers ask fits = record { method = methods (method_asked ask) (asked-fits ask fits.parts); header = header-asked headers ask fits.parts }
+
+-- A configuration without a fault.
+faultless : (a b c d : Bool) → cond (a || b) (Some FrameMax) (cond c (Some ChannelMax) (cond d (Some HelloTooLong) None)) ≡ None → (a ≡ false) × (b ≡ false) × (c ≡ false) × (d ≡ false)
+faultless true b c d e = absurd cc
+faultless false true c d e = absurd cc
+faultless false false true d e = absurd cc
+faultless false false false true e = absurd cc
+faultless false false false false e = (refl, refl, refl, refl)
+
+pub faultless-fits : (role : Role) (config : Config role) → FaultlessConfigFits role config
+faultless-fits role config e channels body hello =
+    let none = faultless (nat_lt config.frame_max FRAME_MIN) (nat_lt FRAME_MOST config.frame_max) (config.channel_max == 0) (nat_lt FRAME_MIN (frame_length (method_frame 0 (greeting role config)))) e in
+    let some : config.channel_max ≢ 0 = eqb-false config.channel_max 0 none.2 in
+    record {
+      channel_least = omega arith;
+      channel_most = channels;
+      frame_least = ltb-false config.frame_max FRAME_MIN none.0;
+      frame_most = ltb-false FRAME_MOST config.frame_max none.1;
+      body_most = body;
+      hello = hello;
+      greeting_short = ltb-false FRAME_MIN (frame_length (method_frame 0 (greeting role config))) none.3;
+    }
+
+pub fitting-faultless : (role : Role) (config : Config role) → FittingConfigIsFaultless role config
+fitting-faultless role config fits =
+    let a = le-ltb config.frame_max FRAME_MIN fits.frame_least in
+    let b = le-ltb FRAME_MOST config.frame_max fits.frame_most in
+    let c = ne_eqb config.channel_max 0 (λ e. let h : config.channel_max ≡ 0 = e in let l = fits.channel_least in absurd (omega arith)) in
+    let d = le-ltb FRAME_MIN (frame_length (method_frame 0 (greeting role config))) fits.greeting_short in
+    simp (a, b, c, d)

@@ -14,7 +14,7 @@ use Rattle.amqp_model.specs.Gathering.{Gathering, HeaderDue, Step, Keeps, Comple
 use Rattle.amqp_model.specs.Readings.{Reading, Calls, UnknownMethod, MalformedMethod, HeaderOf, MalformedHeader, BodyOf, Beat, is_call, kind_of, payload_of}
 use Rattle.amqp_model.specs.Channels as channels
 use Rattle.amqp_model.specs.Channels.{Life, Channel, Phase, Handshake, Agreed, AwaitsProtocolHeader, AwaitsStart, AwaitsStartOk, AwaitsTune, AwaitsTuneOk, AwaitsOpen, AwaitsOpenOk}
-use Rattle.amqp_model.specs.Negotiation.{Hello, OfClient, Config, FRAME_MIN, start_ok, tune, settled, smaller, tunes_too_small, tune_ok, agreed_in, in_range, open_host, open_host_ok}
+use Rattle.amqp_model.specs.Negotiation.{Hello, OfClient, Config, FRAME_MIN, start_ok, tune, settled, smaller, tunes_too_small, tune_ok, agreed_in, in_range, connection_open, connection_open_ok}
 use Rattle.amqp_model.specs.Closes.{CloseCode, ContentTooLarge, FrameError, SyntaxError, CommandInvalid, ChannelError, UnexpectedFrame, ResourceError, NotImplemented, number_of, text_of, close_as, Owed, AllReadBack, connection_close, connection_close_ok, channel_close, reply_to, method_frame, frame_of}
 use Rattle.amqp_model.specs.Events.{Peer, FrameVerdict, Proceeds, RefusesContent, Faults}
 use Rattle.amqp_model.specs.FrameVerdict.{Facts, on_zero, on_channel, first_of, when_over, when_leaving, when_heartbeat, as_lives, lives_verdict, when_closing, when_unread, closed_by, is_awaited, on_awaited, in_step, when_handshake, is_no_channel, after_part, on_part, part_on, on_content, when_content, on_connection, when_connection, when_misdirected, when_no_channel, on_message, answers_first, MOST_REQUESTS, on_matched, on_idle, is_gathering, on_open, by_state, on_method, on_rest, verdict_on, methods_put}
@@ -112,14 +112,14 @@ replies-sound number (Some (Other begins)) = tt
 start_ok-sound : (number : ℕ) (config : Config Client) → ConfigWrites config → Sound number (on_zero (start_ok config))
 start_ok-sound number config fits = record { back = λ reads. fits.greeting_back; channel = λ h. omega arith; short = fits.greeting_short }
 
-open-short : (a b c : ℕ) (hello : Hello Client) → HostFits hello → frame_length (method_frame 0 (open_host (configured a b c hello))) ≤ FRAME_MIN
+open-short : (a b c : ℕ) (hello : Hello Client) → HostFits hello → frame_length (method_frame 0 (connection_open (configured a b c hello))) ≤ FRAME_MIN
 unfolding row plain_method
 open-short a b c (OfClient properties mechanism response locale virtual_host) fits = let small = fits.0 in omega (arith, length-append virtual_host (0 ∷ 0 ∷ []))
 
-open-sound : (number : ℕ) (config : Config Client) → ConfigWrites config → Sound number (on_zero (open_host config))
+open-sound : (number : ℕ) (config : Config Client) → ConfigWrites config → Sound number (on_zero (connection_open config))
 open-sound number config fits = record { back = λ reads. reads _ (open-fits config fits.host); channel = λ h. omega arith; short = open-short config.frame_max config.channel_max config.max_body config.hello fits.host }
 
-open_ok-sound : (number : ℕ) → Sound number (on_zero open_host_ok)
+open_ok-sound : (number : ℕ) → Sound number (on_zero connection_open_ok)
 unfolding row plain_method
 open_ok-sound number = record { back = λ reads. reads _ (record { of_kind = refl; arguments = tt }); channel = λ h. omega arith; short = omega arith }
 
@@ -206,7 +206,7 @@ unread-sound number reading = tt
 closed-sound : (number : ℕ) (method : Method) → VerdictSound number (closed_by method)
 closed-sound number method = (connection_close_ok-sound number, tt)
 
-awaited-sound : (number : ℕ) (role : Role) (config : Config role) (agreed : Option Agreed) (step : channels.Step) (method : Method) → ConfigWrites config → VerdictSound number (on_awaited role config agreed step method)
+awaited-sound : (number : ℕ) (role : Role) (config : Config role) (agreed : Option Agreed) (step : channels.HandshakeStep) (method : Method) → ConfigWrites config → VerdictSound number (on_awaited role config agreed step method)
 awaited-sound number Client config agreed AwaitsStart method fits = (start_ok-sound number config fits, tt)
 awaited-sound number Client config agreed AwaitsTune method fits =
     either-sound number (tunes_too_small method) _ _ tt (tune_ok-sound number config method fits, (open-sound number config fits, tt))
@@ -216,7 +216,7 @@ awaited-sound number Server config agreed AwaitsTuneOk method fits = either-soun
 awaited-sound number Server config agreed AwaitsOpen method fits = (open_ok-sound number, tt)
 awaited-sound number role config agreed step method fits = tt
 
-step-sound : (number : ℕ) (role : Role) (config : Config role) (agreed : Option Agreed) (step : channels.Step) (method : Method) → ConfigWrites config → VerdictSound number (in_step role config agreed step method)
+step-sound : (number : ℕ) (role : Role) (config : Config role) (agreed : Option Agreed) (step : channels.HandshakeStep) (method : Method) → ConfigWrites config → VerdictSound number (in_step role config agreed step method)
 step-sound number role config agreed step method fits =
     either-sound number (same_kind method.kind kinds.ConnectionClose) _ _ (closed-sound number method)
     (either-sound number (is_client role && same_kind method.kind kinds.ConnectionSecure) _ _ tt

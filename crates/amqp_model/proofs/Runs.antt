@@ -7,14 +7,14 @@ use Rattle.amqp_model.specs.Notes.{Role, Client, Server, other_end, Kind, Note, 
 use Rattle.amqp_model.specs.States.{State}
 use Rattle.amqp_model.specs.Lives.{has_left, lives, is_paused}
 use Rattle.amqp_model.specs.Verdict.{Event, GoesOn, verdict}
-use Rattle.amqp_model.specs.Carried.{Carried, Carry, put_by, taken_by, Entry, At, puts, takes}
+use Rattle.amqp_model.specs.Carried.{Carried, Carry, put_by, taken_by, NoteInLife, At, puts, takes}
 use Rattle.amqp_model.specs.Runs.{may_ask, may_put, IsNext, Acts, asks, leaves, takes as takes_quietly, replies, Run, start, client_acts, server_acts, RunAt}
 use Rattle.amqp_model.proofs.Ends.{Is, IsReply, Taking, Lawful, begun, has_asked, has_replied, has_taken, has_left_now, lawful_stands, lawful_lives, here_owed, left_owed, Asked, asked, may_asked, may_put_parts, may_content}
 use Rattle.amqp_model.proofs.Joint.{free, at_client, at_server}
 use Rattle.amqp_model.proofs.Pauses.{fresh, Pact, pact, pact_ask, pact_reply, pact_leave, Kept, kept_quietly, kept_answering, pact_take}
 
 -- a note with its life, without it
-abbrev pub carried : Entry → Carried
+abbrev pub carried : NoteInLife → Carried
 carried (At kind life frame) = Carry kind frame
 
 puts-carried : (role : Role) (history : List Note) → map carried (puts role history) ≡ put_by history
@@ -30,35 +30,35 @@ takes-carried role (Put kind frame ∷ before) = takes-carried role before
 takes-carried role (Leaving ∷ before) = takes-carried role before
 
 -- what is on its way, with the lives and without
-pub carried_rest : (role : Role) (mine theirs : List Note) (r : List Entry) → puts (other_end role) theirs ≡ takes role mine ++ r → put_by theirs ≡ taken_by mine ++ map carried r
+pub carried_rest : (role : Role) (mine theirs : List Note) (r : List NoteInLife) → puts (other_end role) theirs ≡ takes role mine ++ r → put_by theirs ≡ taken_by mine ++ map carried r
 carried_rest role mine theirs r e =
     sym (puts-carried (other_end role) theirs) ∙ (ap (map carried) e ∙ (map-append carried (takes role mine) r ∙ ap (λ l. l ++ map carried r) (takes-carried role mine)))
 
 -- Two ends, what is on its way between them, and what an end that left owes and never puts: it replies no more,
 -- and nobody can tell, so that the cases go on as if it did.
 pub data Linked (role : Role) (mine theirs : List Note) : Type 0 where
-  linked : {word word' : State} {n n' : ℕ} {a a' : Bool} (q r owed owed' : List Entry) → Lawful role mine (Is word n a) → Lawful (other_end role) theirs (Is word' n' a') → puts role mine ≡ takes (other_end role) theirs ++ q → puts (other_end role) theirs ≡ takes role mine ++ r → (has_left mine ≡ false → owed ≡ []) → (has_left theirs ≡ false → owed' ≡ []) → Pact role mine theirs (Is word n a) (Is word' n' a') (q ++ owed) (r ++ owed') → Linked role mine theirs
+  linked : {word word' : State} {n n' : ℕ} {a a' : Bool} (q r owed owed' : List NoteInLife) → Lawful role mine (Is word n a) → Lawful (other_end role) theirs (Is word' n' a') → puts role mine ≡ takes (other_end role) theirs ++ q → puts (other_end role) theirs ≡ takes role mine ++ r → (has_left mine ≡ false → owed ≡ []) → (has_left theirs ≡ false → owed' ≡ []) → Pact role mine theirs (Is word n a) (Is word' n' a') (q ++ owed) (r ++ owed') → Linked role mine theirs
 
 pub turned : (role : Role) {mine theirs : List Note} → Linked role mine theirs → Linked (other_end role) theirs mine
 turned Client (linked q r owed owed' s s' e e' w w' (pact (at_client joint) i they)) = linked r q owed' owed s' s e' e w' w (pact (at_server joint) they i)
 turned Server (linked q r owed owed' s s' e e' w w' (pact (at_server joint) i they)) = linked r q owed' owed s' s e' e w' w (pact (at_client joint) they i)
 
 -- the next note of what is on its way, with its life
-pub data NextOf (kind : Kind) (frame : Frame) (r : List Entry) : Type 0 where
-  next_of : (n : ℕ) (rest : List Entry) → r ≡ At kind n frame ∷ rest → NextOf kind frame r
+pub data NextOf (kind : Kind) (frame : Frame) (r : List NoteInLife) : Type 0 where
+  next_of : (n : ℕ) (rest : List NoteInLife) → r ≡ At kind n frame ∷ rest → NextOf kind frame r
 
-first_of : {kind : Kind} {frame : Frame} {later : List Carried} (r : List Entry) → map carried r ≡ Carry kind frame ∷ later → NextOf kind frame r
+first_of : {kind : Kind} {frame : Frame} {later : List Carried} (r : List NoteInLife) → map carried r ≡ Carry kind frame ∷ later → NextOf kind frame r
 first_of [] e = absurd cc
 first_of (At kind n frame ∷ rest) e = next_of n rest cc
 
-pub next_entry : (role : Role) (mine theirs : List Note) {r : List Entry} {kind : Kind} {frame : Frame} → puts (other_end role) theirs ≡ takes role mine ++ r → IsNext theirs mine (Carry kind frame) → NextOf kind frame r
+pub next_entry : (role : Role) (mine theirs : List Note) {r : List NoteInLife} {kind : Kind} {frame : Frame} → puts (other_end role) theirs ≡ takes role mine ++ r → IsNext theirs mine (Carry kind frame) → NextOf kind frame r
 next_entry role mine theirs {r} e next = first_of r (append_cancel_left (taken_by mine) _ _ (sym (carried_rest role mine theirs r e) ∙ next.1))
 
 -- one more note put or taken, with its life
-put_at : (role : Role) (mine : List Note) (q x : List Entry) (kind : Kind) (frame : Frame) {n : ℕ} → puts role mine ≡ x ++ q → lives role (Put kind frame ∷ mine) ≡ n → puts role (Put kind frame ∷ mine) ≡ x ++ (q ++ At kind n frame ∷ [])
+put_at : (role : Role) (mine : List Note) (q x : List NoteInLife) (kind : Kind) (frame : Frame) {n : ℕ} → puts role mine ≡ x ++ q → lives role (Put kind frame ∷ mine) ≡ n → puts role (Put kind frame ∷ mine) ≡ x ++ (q ++ At kind n frame ∷ [])
 put_at role mine q x kind frame e l = ap (λ p. p ++ At kind (lives role (Put kind frame ∷ mine)) frame ∷ []) e ∙ (append_assoc x q _ ∙ ap (λ n. x ++ (q ++ At kind n frame ∷ [])) l)
 
-take_at : (role : Role) (mine : List Note) {r rest x : List Entry} (kind : Kind) (frame : Frame) {n : ℕ} → x ≡ takes role mine ++ r → r ≡ At kind n frame ∷ rest → lives role (Took kind frame ∷ mine) ≡ n → x ≡ takes role (Took kind frame ∷ mine) ++ rest
+take_at : (role : Role) (mine : List Note) {r rest x : List NoteInLife} (kind : Kind) (frame : Frame) {n : ℕ} → x ≡ takes role mine ++ r → r ≡ At kind n frame ∷ rest → lives role (Took kind frame ∷ mine) ≡ n → x ≡ takes role (Took kind frame ∷ mine) ++ rest
 take_at role mine {r} {rest} kind frame e first l =
     e ∙ (ap (λ r. takes role mine ++ r) first ∙ (ap (λ n. takes role mine ++ At kind n frame ∷ rest) (sym l) ∙ sym (append_assoc (takes role mine) (At kind (lives role (Took kind frame ∷ mine)) frame ∷ []) rest)))
 
@@ -81,7 +81,7 @@ asks_linked {role} {mine} {theirs} kind frame ok (linked {word} {word'} {n} {n'}
 takes_linked : {role : Role} {mine theirs : List Note} (kind : Kind) (frame : Frame) (event : Event) → IsNext theirs mine (Carry kind frame) → verdict role mine kind ≡ GoesOn event None → Linked role mine theirs → Linked role (Took kind frame ∷ mine) theirs
 takes_linked {role} {mine} {theirs} kind frame event next ok (linked {word} {word'} {n} {n'} {a} {a'} q r owed owed' s s' e e' w w' agreed) = go (next_entry role mine theirs e' next)
   where
-    taken : (life : ℕ) (rest : List Entry) → r ≡ At kind life frame ∷ rest → (left : Bool) → has_left mine ≡ left → Kept role mine theirs (Is word n a) (Is word' n' a') (q ++ owed) (rest ++ owed') kind frame life → Linked role (Took kind frame ∷ mine) theirs
+    taken : (life : ℕ) (rest : List NoteInLife) → r ≡ At kind life frame ∷ rest → (left : Bool) → has_left mine ≡ left → Kept role mine theirs (Is word n a) (Is word' n' a') (q ++ owed) (rest ++ owed') kind frame life → Linked role (Took kind frame ∷ mine) theirs
     taken life rest first left h (kept_quietly taking after) =
         let took_s = has_taken frame s taking in
         linked q rest owed owed' took_s s' e (take_at role mine kind frame e' first (lawful_lives took_s)) w w' after
@@ -98,7 +98,7 @@ takes_linked {role} {mine} {theirs} kind frame event next ok (linked {word} {wor
 replies_linked : {role : Role} {mine theirs : List Note} (kind : Kind) (frame : Frame) (event : Event) (reply : Kind) (answer : Frame) → IsNext theirs mine (Carry kind frame) → verdict role mine kind ≡ GoesOn event (Some reply) → Linked role mine theirs → Linked role (Put reply answer ∷ Took kind frame ∷ mine) theirs
 replies_linked {role} {mine} {theirs} kind frame event reply answer next ok (linked {word} {word'} {n} {n'} {a} {a'} q r owed owed' s s' e e' w w' agreed) = go (next_entry role mine theirs e' next)
   where
-    put : (life : ℕ) (rest : List Entry) → r ≡ At kind life frame ∷ rest → (word'' : State) (a'' : Bool) → owed ≡ [] → IsReply reply word'' → Taking role (Is word n a) kind (Some reply) (Is word'' life a'') → Pact role (Took kind frame ∷ mine) theirs (Is word'' life a'') (Is word' n' a') ((q ++ owed) ++ At reply life answer ∷ []) (rest ++ owed') → Linked role (Put reply answer ∷ Took kind frame ∷ mine) theirs
+    put : (life : ℕ) (rest : List NoteInLife) → r ≡ At kind life frame ∷ rest → (word'' : State) (a'' : Bool) → owed ≡ [] → IsReply reply word'' → Taking role (Is word n a) kind (Some reply) (Is word'' life a'') → Pact role (Took kind frame ∷ mine) theirs (Is word'' life a'') (Is word' n' a') ((q ++ owed) ++ At reply life answer ∷ []) (rest ++ owed') → Linked role (Put reply answer ∷ Took kind frame ∷ mine) theirs
     put life rest first word'' a'' none is_reply taking after =
         let took_s = has_taken frame s taking in
         let put_s = has_replied answer took_s is_reply in
@@ -107,7 +107,7 @@ replies_linked {role} {mine} {theirs} kind frame event reply answer next ok (lin
         let plain = subst (λ l. there (l ++ At reply life answer ∷ []) (rest ++ owed')) (ap (λ o. q ++ o) none ∙ append-nil q) (pact_reply is_reply answer after) in
         linked q' rest [] owed' put_s s' (put_at role (Took kind frame ∷ mine) q (takes (other_end role) theirs) reply answer e (lawful_lives put_s)) (take_at role mine kind frame e' first (lawful_lives took_s)) (λ h. refl) w' (subst (λ l. there l (rest ++ owed')) (sym (append-nil q')) plain)
 
-    taken : (life : ℕ) (rest : List Entry) → r ≡ At kind life frame ∷ rest → (left : Bool) → has_left mine ≡ left → Kept role mine theirs (Is word n a) (Is word' n' a') (q ++ owed) (rest ++ owed') kind frame life → Linked role (Put reply answer ∷ Took kind frame ∷ mine) theirs
+    taken : (life : ℕ) (rest : List NoteInLife) → r ≡ At kind life frame ∷ rest → (left : Bool) → has_left mine ≡ left → Kept role mine theirs (Is word n a) (Is word' n' a') (q ++ owed) (rest ++ owed') kind frame life → Linked role (Put reply answer ∷ Took kind frame ∷ mine) theirs
     taken life rest first true h _ = let o = left_owed role mine kind h ok in absurd cc
     taken life rest first false h (kept_quietly taking after) = let o = here_owed mine h (lawful_stands s) taking ok in absurd cc
     taken life rest first false h (kept_answering {word = word''} {a = a''} {reply = reply'} taking is_reply after) =

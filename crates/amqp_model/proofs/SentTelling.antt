@@ -8,7 +8,7 @@ use Rattle.amqp_method.specs.declared.kinds.Kind.TheVariants as kinds
 use Rattle.amqp_model.specs.Frame.{Frame}
 use Rattle.amqp_model.specs.Notes.{Role, Note, is_message}
 use Rattle.amqp_model.specs.Lives.{lives}
-use Rattle.amqp_model.specs.Carried.{Entry, At, puts, acts_next, acted_takes, messages, sent, acted}
+use Rattle.amqp_model.specs.Carried.{NoteInLife, At, puts, acts_next, acted_takes, messages, sent, acted}
 use Rattle.amqp_model.specs.Methods.{MethodKind, Method, sort_by, bit_at}
 use Rattle.amqp_model.specs.Gathering.{Gathering, gathering}
 use Rattle.amqp_model.specs.Items.{Item, item_of, item_ended, items}
@@ -60,7 +60,7 @@ and_true true y e = e
 and_true false y e = refl
 
 -- one more frame, put or taken with its life: the items of a life grow by what it ends
-grows : (channel life at_life : ℕ) (entries : List Entry) (frame : Frame) → items_in (messages life (entries ++ At (kind_of (reading frame)) at_life frame ∷ [])) ≡ items_in (messages life entries) ++ items_of channel life (ended_by channel at_life (messages at_life entries) frame)
+grows : (channel life at_life : ℕ) (entries : List NoteInLife) (frame : Frame) → items_in (messages life (entries ++ At (kind_of (reading frame)) at_life frame ∷ [])) ≡ items_in (messages life entries) ++ items_of channel life (ended_by channel at_life (messages at_life entries) frame)
 grows channel life at_life entries frame = cases (cases_eq at_life life)
   where
     earlier : List Frame
@@ -201,7 +201,7 @@ goes-tell role config before taken failed after e (takes frame p g) same =
 goes-tell role config before taken failed after e (asks ask frames made read v) same = told-put role config frames before ∙ (same ∙ sym (all-told-put role frames before))
 goes-tell role config before taken failed after e (faults frame p g) same = absurd (true≢false e)
 goes-tell role config before taken failed after e (meets_too_large p) same = absurd (true≢false e)
-goes-tell role config before taken failed after e fails same = absurd (true≢false e)
+goes-tell role config before taken failed after e (fails p) same = absurd (true≢false e)
 
 lawful-tells : (role : Role) (config : Config role) (failed : Bool) (history : History) → failed ≡ false → Lawful role config failed history → told role config history ≡ all_told role history
 lawful-tells role config failed history e begun = refl

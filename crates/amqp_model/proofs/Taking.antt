@@ -10,7 +10,7 @@ use Rattle.amqp_model.specs.Verdict.{verdict}
 use Rattle.amqp_model.specs.Runs.{takes}
 use Rattle.amqp_model.specs.Readings.{Reading, reading, is_call, kind_of}
 use Rattle.amqp_model.specs.Histories.{Took, History, ChannelEntry, entries_on, notes}
-use Rattle.amqp_model.specs.Channels.{Channel, Step, Phase, Handshake, Running, Closed, Failed, Agreed, End}
+use Rattle.amqp_model.specs.Channels.{Channel, HandshakeStep, Phase, Handshake, Running, Closed, Failed, Agreed, End}
 use Rattle.amqp_model.specs.Negotiation.{Config}
 use Rattle.amqp_model.specs.StateFromHistory.{has_put, is_closed, is_negotiated, step_from, end_from}
 use Rattle.amqp_model.specs.Closes.{AllReadBack, frame_of}
@@ -31,7 +31,7 @@ drops true closes answers one other told e = absurd (true≢false e)
 drops false closes answers one other told e = refl
 
 -- the phase in which it has
-pub has-left : (closed put over : Bool) (step : Step) → cond closed Closed (cond put Phase.Closing (cond over Running (Handshake step))) ≡ Phase.Closing → put ≡ true
+pub has-left : (closed put over : Bool) (step : HandshakeStep) → cond closed Closed (cond put Phase.Closing (cond over Running (Handshake step))) ≡ Phase.Closing → put ≡ true
 has-left true put over step e = absurd cc
 has-left false true over step e = refl
 has-left false false true step e = absurd cc

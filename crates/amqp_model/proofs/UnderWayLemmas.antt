@@ -3,7 +3,7 @@ use Rattle.std.proofs.Common.{◌≡◌, ◌≢◌, true, false, ℕ, ◌-◌, �
 use Rattle.std.specs.List.{concat}
 use Rattle.std.proofs.lemmas.List.{reverse-append, reverse-reverse, length-replicate}
 use Rattle.std.proofs.lemmas.Bool.Decides.{nat_tests}
-use Rattle.amqp_model.specs.Methods.{Method, Properties, no_properties, carries_content}
+use Rattle.amqp_model.specs.Methods.{Method, Properties, carries_content}
 use Rattle.amqp_model.specs.Contents.{Payload, Calls, Header, Body, Content, EndsFull, IsContent, UnderWay}
 use Rattle.amqp_model.specs.Gathering.{Gathering, Nothing, HeaderDue, BodyDue, Keeps, begun, gathered, step, gathering, remains}
 use Rattle.amqp_model.proofs.ContentLemmas.{concat-append, full-behind, full-snoc, full-some, BodiesFront, bodies_front, bodies-front}
@@ -69,10 +69,10 @@ front-under_way {since} before (method_front {method} carries front) = record {
   before = before;
   taken_is = refl;
   begun = λ none. absurd (let h = ap reverse none in cc);
-  content = record { method = method; properties = no_properties; body = [] };
-  next = Header 0 no_properties;
+  content = record { method = method; properties = []; body = [] };
+  next = Header 0 [];
   later = [];
-  content_is = record { carries = carries; parts = []; joined = refl; ends_full = tt; payloads_are = ap (λ l. l ++ Header 0 no_properties ∷ []) front };
+  content_is = record { carries = carries; parts = []; joined = refl; ends_full = tt; payloads_are = ap (λ l. l ++ Header 0 [] ∷ []) front };
 }
 front-under_way {since} before (body_front {method} {size} {properties} {body} parts carries front joined short) = record {
   before = before;

@@ -1,5 +1,5 @@
 -- What an end answers of its channels.
-use Rattle.std.specs.Prelude.{Bool, cond, ◌||◌, ℕ, ◌==◌, nat_lt, List, [], ◌∷◌, length, Option, Some, None}
+use Rattle.std.specs.Prelude.{cond, ◌||◌, ℕ, ◌==◌, nat_lt, List, [], ◌∷◌, length, Option, Some, None}
 use Rattle.amqp_model.specs.States.{State}
 use Rattle.amqp_model.specs.Methods.{MethodKind}
 use Rattle.amqp_model.specs.Gathering.{kept}

@@ -25,20 +25,20 @@ taken_by (Took kind frame ∷ before) = taken_by before ++ Carry kind frame ∷ 
 taken_by (_ ∷ before) = taken_by before
 
 -- a note put or taken, with its life: how many opening notes its end counts up to and with it
-pub data Entry : Type 0 where
-  At : Kind → (life : ℕ) → Frame → Entry
+pub data NoteInLife : Type 0 where
+  At : Kind → (life : ℕ) → Frame → NoteInLife
 
-abbrev pub life_of : Entry → ℕ
+abbrev pub life_of : NoteInLife → ℕ
 life_of (At kind life frame) = life
 
 -- the notes put, each with its life
-abbrev pub puts : Role → List Note → List Entry
+abbrev pub puts : Role → List Note → List NoteInLife
 puts role [] = []
 puts role (Put kind frame ∷ before) = puts role before ++ At kind (lives role (Put kind frame ∷ before)) frame ∷ []
 puts role (_ ∷ before) = puts role before
 
 -- the notes taken, each with its life
-abbrev pub takes : Role → List Note → List Entry
+abbrev pub takes : Role → List Note → List NoteInLife
 takes role [] = []
 takes role (Took kind frame ∷ before) = takes role before ++ At kind (lives role (Took kind frame ∷ before)) frame ∷ []
 takes role (_ ∷ before) = takes role before
@@ -51,8 +51,9 @@ is_open _ = false
 abbrev pub acts_next : Role → List Note → Bool
 acts_next role history = not (has_left history) && is_open (state role history)
 
--- the notes that the end took while it acted on what it takes, each with its life
-abbrev pub acted_takes : Role → List Note → List Entry
+-- The notes that the end took while it acted on what it takes, each with its life. A frame that it finds fault with, behind
+-- which nothing comes, is one of them: in a run there is none.
+abbrev pub acted_takes : Role → List Note → List NoteInLife
 acted_takes role [] = []
 acted_takes role (Took kind frame ∷ before) =
     cond (acts_next role before)
@@ -61,7 +62,7 @@ acted_takes role (Took kind frame ∷ before) =
 acted_takes role (_ ∷ before) = acted_takes role before
 
 -- the frames of a life's messages
-abbrev pub messages : ℕ → List Entry → List Frame
+abbrev pub messages : ℕ → List NoteInLife → List Frame
 messages life [] = []
 messages life (At kind n frame ∷ later) = cond (is_message kind && (n == life)) (frame ∷ messages life later) (messages life later)
 

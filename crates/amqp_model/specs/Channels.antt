@@ -29,11 +29,11 @@ state_of Closing = State.Closing
 state_of (Open life) = State.Open
 
 -- what an end in the handshake awaits: the protocol header or a method of the class connection
-pub data Step : Type 0 where
-  AwaitsProtocolHeader AwaitsStart AwaitsStartOk AwaitsTune AwaitsTuneOk AwaitsOpen AwaitsOpenOk : Step
+pub data HandshakeStep : Type 0 where
+  AwaitsProtocolHeader AwaitsStart AwaitsStartOk AwaitsTune AwaitsTuneOk AwaitsOpen AwaitsOpenOk : HandshakeStep
 
 pub data Phase : Type 0 where
-  Handshake : Step → Phase
+  Handshake : HandshakeStep → Phase
   Running Closing Closed Failed : Phase
 
 -- what tune-ok settles: the greatest channel number, and the size of a frame, which counts all of its octets

@@ -19,7 +19,7 @@ use Rattle.amqp_model.specs.Closes.{reply_to}
 use Rattle.amqp_model.specs.Events.{Event, FrameVerdict, Proceeds, RefusesContent}
 use Rattle.amqp_model.specs.Answers.{channel_state, gathered, reply_due}
 use Rattle.amqp_model.specs.Asks.{is_free, Ask, is_made, method_asked, Puts, ask_verdict}
-use Rattle.amqp_model.specs.LawfulHistories.{end_verdict, goes_on, then_put, then_taken, too_large_puts, WritesReadBack, Goes, Lawful}
+use Rattle.amqp_model.specs.LawfulHistories.{end_verdict, goes_on, then_put, then_taken, too_large_puts, takes_frames, takes_octets, CanTake, AskReadsBack, WritesReadBack, Goes, Lawful}
 use Rattle.amqp_model.specs.Machine.{end_after, end_after_taken, end_after_too_large, end_after_put, as_failed, new_end, channel_after, may_put_here, ChannelStandsFor, StandsFor}
 
 -- A Running end takes a frame on a channel above 0, and goes on: what it keeps of the channel follows from what it
@@ -171,3 +171,14 @@ pub record SameAnswers (end other : End) (number : ℕ) : Type 0 where
 
 abbrev pub AnswersOfHistory : (role : Role) → Config role → (failed : Bool) → End → History → (number : ℕ) → Type 0
 AnswersOfHistory role config failed end history number = StandsFor role config failed end history → SameAnswers end (end_from role config failed history) number
+
+-- The steps of an end that stands for its history, by what it keeps.
+pub record StepsOfEnd (role : Role) (config : Config role) (end : End) (history : History) : Type 0 where
+  pub takes : (frame : Frame) → CanTake end frame → goes_on (end_verdict config end frame) ≡ true → Goes role config history (Some frame) false (then_taken config end frame history)
+  pub faults : (frame : Frame) → CanTake end frame → goes_on (end_verdict config end frame) ≡ false → Goes role config history (Some frame) true (then_taken config end frame history)
+  pub too_large : takes_frames end.phase ≡ true → Goes role config history None true (then_put (too_large_puts config end) history)
+  pub fails : takes_octets end.phase ≡ true → Goes role config history None true history
+  pub asks : (ask : Ask) (frames : List Frame) → is_made ask ≡ true → AskReadsBack ask → ask_verdict role end ask ≡ Puts frames → Goes role config history None false (then_put frames history)
+
+abbrev pub EndSteps : (role : Role) → Config role → End → History → Type 0
+EndSteps role config end history = StandsFor role config false end history → StepsOfEnd role config end history

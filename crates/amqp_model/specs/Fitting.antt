@@ -1,7 +1,7 @@
 -- What fits its fields: methods and content headers, what an end is set up with, what was agreed, and what an application
 -- asks. The fields are those of `amqp0-9-1.xml` and of the AMQP 0-9-1 specification, section 4.2.6.1; the limits of a
 -- configuration are this profile's.
-use Rattle.std.specs.Prelude.{◌≡◌, ◌<◌, ◌≤◌, ◌^◌, true, ℕ, length, Option}
+use Rattle.std.specs.Prelude.{◌≡◌, ◌<◌, ◌≤◌, ◌^◌, true, cond, ◌||◌, ◌==◌, nat_lt, ℕ, Option, Some, None}
 use Rattle.amqp_frame.specs.Frame.{frame_length}
 use Rattle.amqp_method.specs.Arguments.{Fits}
 use Rattle.amqp_method.specs.Fitting.{AreOctets, FitsShort, FitsLong, TableFits, ArgumentsFit, PropertiesFit}
@@ -13,6 +13,7 @@ use Rattle.amqp_model.specs.Channels.{Agreed}
 use Rattle.amqp_model.specs.Negotiation.{Hello, OfClient, OfServer, Config, FRAME_MIN, start, start_ok}
 use Rattle.amqp_model.specs.Closes.{method_frame}
 use Rattle.amqp_model.specs.Events.{Message, Plain, Whole}
+use Rattle.amqp_model.specs.LawfulHistories.{header_of}
 use Rattle.amqp_model.specs.Asks.{Ask, Open, Send, Flow, CloseChannel, Close, Blocked, Unblocked, is_made, channel_max, frame_max}
 
 -- the arguments are those of the method's kind, and each fits its field
@@ -51,6 +52,22 @@ pub record ConfigFits {role : Role} (config : Config role) : Type 0 where
   pub hello : HelloFits config.hello
   pub greeting_short : frame_length (method_frame 0 (greeting role config)) ≤ FRAME_MIN
 
+-- why an end can't be set up so
+pub data ConfigFault : Type 0 where
+  FrameMax ChannelMax HelloTooLong : ConfigFault
+
+abbrev pub config_fault_number : ConfigFault → ℕ
+config_fault_number FrameMax = 1
+config_fault_number ChannelMax = 2
+config_fault_number HelloTooLong = 3
+
+-- the first that applies: the greatest frame is below 4096 octets or above 1048576; there is no channel; the greeting is
+-- longer than a frame of 4096 octets
+abbrev pub config_fault : (role : Role) → Config role → Option ConfigFault
+config_fault role config =
+    cond (nat_lt config.frame_max FRAME_MIN || nat_lt FRAME_MOST config.frame_max) (Some FrameMax)
+    (cond (config.channel_max == 0) (Some ChannelMax) (cond (nat_lt FRAME_MIN (frame_length (method_frame 0 (greeting role config)))) (Some HelloTooLong) None))
+
 -- the client's virtual host fits its field
 abbrev pub HostFits : {role : Role} → Hello role → Type 0
 HostFits (OfClient properties mechanism response locale virtual_host) = FitsShort virtual_host
@@ -69,10 +86,6 @@ pub record ConfigWrites {role : Role} (config : Config role) : Type 0 where
 pub record AgreedFits (agreed : Option Agreed) : Type 0 where
   pub channel_most : channel_max agreed < 2 ^ 16
   pub frame_most : frame_max agreed ≤ FRAME_MOST
-
--- the header that a content is written with: the length of its body, and its properties
-abbrev pub header_of : Content → Header
-header_of content = record { body_size = length content.body; properties = content.properties }
 
 -- the method and the header of a content fit their fields, and its body is octets
 pub record ContentFits (content : Content) : Type 0 where

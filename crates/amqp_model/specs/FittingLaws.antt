@@ -1,5 +1,5 @@
 -- What an end writes reads as what it was made of, and fits its fields: the statements.
-use Rattle.std.specs.Prelude.{◌≡◌, ◌<◌, ◌≤◌, ◌^◌, ℕ, List, map, Some}
+use Rattle.std.specs.Prelude.{◌≡◌, ◌<◌, ◌≤◌, ◌^◌, ℕ, List, map, Some, None}
 use Rattle.std.specs.List.{AllByRecursion}
 use Rattle.amqp_frame.specs.Frame.{Fits, frame_length}
 use Rattle.amqp_frame.specs.Splitting.{AllFit}
@@ -12,9 +12,9 @@ use Rattle.amqp_model.specs.Negotiation.{Config, FRAME_MIN, start}
 use Rattle.amqp_model.specs.Closes.{FrameError, AllReadBack, method_frame, frame_of}
 use Rattle.amqp_model.specs.Events.{Message, Peer, Faults}
 use Rattle.amqp_model.specs.FrameVerdict.{Facts, verdict_on, methods_put}
-use Rattle.amqp_model.specs.Asks.{Ask, Send, frame_max, payload_frame, message_payloads, method_asked, Puts, ask_verdict}
-use Rattle.amqp_model.specs.LawfulHistories.{WritesReadBack}
-use Rattle.amqp_model.specs.Fitting.{MethodFits, HeaderFits, ConfigFits, ConfigWrites, AgreedFits, AskFits}
+use Rattle.amqp_model.specs.Asks.{Ask, Send, frame_max, payload_frame, message_payloads, Puts, ask_verdict}
+use Rattle.amqp_model.specs.LawfulHistories.{AskReadsBack, WritesReadBack}
+use Rattle.amqp_model.specs.Fitting.{MethodFits, HeaderFits, ConfigFits, ConfigWrites, AgreedFits, AskFits, HelloFits, config_fault}
 
 -- what is written of a method that fits its fields reads as the method
 abbrev pub MethodReadsBack : Method → Type 0
@@ -24,13 +24,21 @@ MethodReadsBack method = MethodFits method → ReadsBack method
 abbrev pub HeaderReadsBack : Header → Type 0
 HeaderReadsBack header = HeaderFits header → header_at (plain_header header) ≡ Some header
 
+-- a configuration that has no fault fits its fields, where its numbers and its hello do
+abbrev pub FaultlessConfigFits : (role : Role) → Config role → Type 0
+FaultlessConfigFits role config = config_fault role config ≡ None → config.channel_max < 2 ^ 16 → config.max_body < 2 ^ 64 → HelloFits config.hello → ConfigFits config
+
+-- and one that fits has none
+abbrev pub FittingConfigIsFaultless : (role : Role) → Config role → Type 0
+FittingConfigIsFaultless role config = ConfigFits config → config_fault role config ≡ None
+
 -- what an end says of itself can be written where its configuration fits its fields
 abbrev pub FittingConfigWrites : (role : Role) → Config role → Type 0
 FittingConfigWrites role config = ConfigFits config → ConfigWrites config
 
--- what is written of the method that an ask puts reads as that method
+-- what is written for an ask reads back, where the ask fits its fields
 abbrev pub AskedReadsBack : Ask → Type 0
-AskedReadsBack ask = AskFits ask → ReadsBack (method_asked ask)
+AskedReadsBack ask = AskFits ask → AskReadsBack ask
 
 -- what is written of the methods that a verdict puts reads as they are
 abbrev pub OwedReadBack : (role : Role) → Facts role → Reading → Type 0

@@ -12,7 +12,7 @@ use Rattle.amqp_model.specs.Gathering.{Gathering, Nothing, HeaderDue, PastSize, 
 use Rattle.amqp_model.specs.Readings.{Reading, Calls, UnknownMethod, MalformedMethod, HeaderOf, MalformedHeader, BodyOf, Beat, is_call, kind_of, payload_of}
 use Rattle.amqp_model.specs.Channels as channels
 use Rattle.amqp_model.specs.Channels.{Life, Channel, Closing, state_of, Phase, Handshake, Closed, Failed, Agreed, AwaitsProtocolHeader, AwaitsStart, AwaitsStartOk, AwaitsTune, AwaitsTuneOk, AwaitsOpen, AwaitsOpenOk}
-use Rattle.amqp_model.specs.Negotiation.{Config, start_ok, tune, settled, tunes_too_small, tune_ok, agreed_in, in_range, open_host, open_host_ok}
+use Rattle.amqp_model.specs.Negotiation.{Config, start_ok, tune, settled, tunes_too_small, tune_ok, agreed_in, in_range, connection_open, connection_open_ok}
 use Rattle.amqp_model.specs.Closes.{CloseCode, FrameError, SyntaxError, CommandInvalid, ChannelError, UnexpectedFrame, ResourceError, NotImplemented, ContentTooLarge, Owed, connection_close, connection_close_ok, channel_close, reply_to}
 use Rattle.amqp_model.specs.Events.{Plain, Whole, Reason, reason_in, Event, Negotiated, Opened, Told, Flow, FlowOk, ChannelClosed, ConnectionClosed, Discarded, Blocked, Unblocked, Quiet, Peer, Fatal, AlreadyClosed, AlreadyFailed, FrameVerdict, Proceeds, RefusesContent, Faults}
 
@@ -83,6 +83,7 @@ event_of number reading lives.Acted = None
 abbrev pub on_channel : (number : ℕ) → Method → Owed
 on_channel number method = record { channel = number; method = method }
 
+-- the lives know but two codes
 abbrev code_of : ℕ → CloseCode
 code_of number = cond (number == lives.channel_error) ChannelError CommandInvalid
 
@@ -118,7 +119,7 @@ negotiated (Some agreed) = Some (Negotiated agreed)
 negotiated None = None
 
 -- the method that a step of the handshake awaits
-abbrev pub is_awaited : channels.Step → MethodKind → Bool
+abbrev pub is_awaited : channels.HandshakeStep → MethodKind → Bool
 is_awaited AwaitsProtocolHeader kind = false
 is_awaited AwaitsStart kind = same_kind kind kinds.ConnectionStart
 is_awaited AwaitsStartOk kind = same_kind kind kinds.ConnectionStartOk
@@ -130,24 +131,24 @@ is_awaited AwaitsOpenOk kind = same_kind kind kinds.ConnectionOpenOk
 -- The awaited method: the client answers start with start-ok, tune with tune-ok and open, and a tune with a frame
 -- size too small with a fault; the server answers start-ok with tune and open with open-ok, and a tune-ok past its own
 -- limits can't be answered.
-abbrev pub on_awaited : (role : Role) → Config role → Option Agreed → channels.Step → Method → FrameVerdict
+abbrev pub on_awaited : (role : Role) → Config role → Option Agreed → channels.HandshakeStep → Method → FrameVerdict
 on_awaited Client config agreed AwaitsStart method = Proceeds (Some Quiet) (on_zero (start_ok config) ∷ [])
 on_awaited Client config agreed AwaitsTune method =
-    cond (tunes_too_small method) (fault FrameError) (Proceeds (Some Quiet) (on_zero (tune_ok (settled config method)) ∷ on_zero (open_host config) ∷ []))
+    cond (tunes_too_small method) (fault FrameError) (Proceeds (Some Quiet) (on_zero (tune_ok (settled config method)) ∷ on_zero (connection_open config) ∷ []))
 on_awaited Client config agreed AwaitsOpenOk method = Proceeds (negotiated agreed) []
 on_awaited Server config agreed AwaitsStartOk method = Proceeds (Some Quiet) (on_zero (tune config) ∷ [])
 on_awaited Server config agreed AwaitsTuneOk method = cond (in_range config (agreed_in method)) (Proceeds (Some Quiet) []) (Faults Fatal)
-on_awaited Server config agreed AwaitsOpen method = Proceeds (negotiated agreed) (on_zero open_host_ok ∷ [])
+on_awaited Server config agreed AwaitsOpen method = Proceeds (negotiated agreed) (on_zero connection_open_ok ∷ [])
 on_awaited role config agreed step method = fault CommandInvalid
 
 -- The handshake, on channel 0: a close is answered, secure is not there, and the awaited method does its step.
-abbrev pub in_step : (role : Role) → Config role → Option Agreed → channels.Step → Method → FrameVerdict
+abbrev pub in_step : (role : Role) → Config role → Option Agreed → channels.HandshakeStep → Method → FrameVerdict
 in_step role config agreed step method =
     cond (same_kind method.kind kinds.ConnectionClose) (closed_by method)
     (cond (is_client role && same_kind method.kind kinds.ConnectionSecure) (fault NotImplemented)
     (cond (is_awaited step method.kind) (on_awaited role config agreed step method) (fault CommandInvalid)))
 
-abbrev pub in_handshake : {role : Role} → Facts role → channels.Step → Reading → FrameVerdict
+abbrev pub in_handshake : {role : Role} → Facts role → channels.HandshakeStep → Reading → FrameVerdict
 in_handshake {role} facts step (Calls method) = cond (facts.number == 0) (in_step role facts.config facts.agreed step method) (fault CommandInvalid)
 in_handshake facts step reading = fault CommandInvalid
 

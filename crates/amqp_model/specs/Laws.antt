@@ -4,10 +4,10 @@ use Rattle.amqp_model.specs.Fronts.{IsFrontOf}
 use Rattle.amqp_model.specs.Frame.{Frame}
 use Rattle.amqp_model.specs.Notes.{Role, other_end, Kind, Close, Note, Put, Took, Leaving, is_content}
 use Rattle.amqp_model.specs.States.{State, Opening}
-use Rattle.amqp_model.specs.Lives.{lives, state, has_left, has_paused}
-use Rattle.amqp_model.specs.Sentences.{HasPaused}
+use Rattle.amqp_model.specs.Lives.{lives, state, has_left, pauses_other}
+use Rattle.amqp_model.specs.Sentences.{PausesOther}
 use Rattle.amqp_model.specs.Verdict.{Event, GoesOn, verdict}
-use Rattle.amqp_model.specs.Carried.{Carried, Carry, message_frames, put_by, taken_by, Entry, life_of, puts, takes, sent, acted}
+use Rattle.amqp_model.specs.Carried.{Carried, Carry, message_frames, put_by, taken_by, NoteInLife, life_of, puts, takes, sent, acted}
 use Rattle.amqp_model.specs.Runs.{IsNext}
 
 -- the i-th note that an end took has the life of the i-th note that the other put
@@ -32,7 +32,7 @@ pub record IsLive (role : Role) (history : List Note) : Type 0 where
   pub state_is : (state role history ≡ Opening) ⊎ (state role history ≡ State.Open)
 
 -- what the other put is what the end took, and then what is on its way
-abbrev pub IsOnItsWay : Role → (mine theirs : List Note) → List Entry → Type 0
+abbrev pub IsOnItsWay : Role → (mine theirs : List Note) → List NoteInLife → Type 0
 IsOnItsWay role mine theirs rest = puts (other_end role) theirs ≡ takes role mine ++ rest
 
 -- the end took the other's close in this life, before it put a close of the channel or the connection
@@ -46,7 +46,7 @@ pub record EndedByPeer (role : Role) (life : ℕ) (history : List Note) : Type 0
 
 -- all that is on its way to a live end is of its own life
 abbrev pub OnItsWayIsOfItsLife : Role → (mine theirs : List Note) → Type 0
-OnItsWayIsOfItsLife role mine theirs = (rest : List Entry) → IsLive role mine → IsOnItsWay role mine theirs rest → All (λ entry. life_of entry ≡ lives role mine) rest
+OnItsWayIsOfItsLife role mine theirs = (rest : List NoteInLife) → IsLive role mine → IsOnItsWay role mine theirs rest → All (λ entry. life_of entry ≡ lives role mine) rest
 
 -- what the other sent in the life of a live end is what the end acted on in it, and then the messages on their way
 abbrev pub SentIsActedOnOrOnItsWay : Role → (mine theirs : List Note) → Type 0
@@ -64,12 +64,12 @@ AllActedOnAtConnectionClose role mine theirs = IsLive role mine → put_by their
 -- a content that an end takes comes at no moment at which the end has paused the other: none from where it took
 -- flow-ok with active 0 in a life until it puts flow with active 1
 abbrev pub TakesNoContentPaused : Role → (mine theirs : List Note) → Type 0
-TakesNoContentPaused role mine theirs = (later : List Note) (kind : Kind) (frame : Frame) (before : List Note) → mine ≡ later ++ Took kind frame ∷ before → is_content kind ≡ true → has_paused role before ≡ false
+TakesNoContentPaused role mine theirs = (later : List Note) (kind : Kind) (frame : Frame) (before : List Note) → mine ≡ later ++ Took kind frame ∷ before → is_content kind ≡ true → pauses_other role before ≡ false
 
 -- the same in plain words: there was no flow-ok with active 0 taken behind which came no opening note and no flow
 -- with active 1 put
 abbrev pub NoPauseBeforeContent : Role → (mine theirs : List Note) → Type 0
-NoPauseBeforeContent role mine theirs = (later : List Note) (kind : Kind) (frame : Frame) (before : List Note) → mine ≡ later ++ Took kind frame ∷ before → is_content kind ≡ true → HasPaused role before → ⊥
+NoPauseBeforeContent role mine theirs = (later : List Note) (kind : Kind) (frame : Frame) (before : List Note) → mine ≡ later ++ Took kind frame ∷ before → is_content kind ≡ true → PausesOther role before → ⊥
 
 -- from where the end puts close in a life, it acts on nothing of that life
 abbrev pub ActsOnNothingAfterItsClose : Role → (mine : List Note) → Type 0

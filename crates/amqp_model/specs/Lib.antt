@@ -42,5 +42,7 @@ pub mod SentLaws
 pub mod LeavingLaws
 pub mod Fitting
 pub mod FittingLaws
+pub mod Endpoint
+pub mod OctetLaws
 pub mod CarryingLaws
 pub mod MethodLaws

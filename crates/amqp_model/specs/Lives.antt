@@ -104,6 +104,7 @@ takes_pause _ before = false
 abbrev pub is_paused : Role → List Note → Bool
 is_paused role history = since takes_pause (either (is_opening role) takes_flow) history
 
+-- also one that is dropped: what is said of the time behind it holds then, too
 abbrev pub takes_pause_ok : Test
 takes_pause_ok (Took (FlowOk false) frame) before = true
 takes_pause_ok _ before = false
@@ -112,9 +113,9 @@ abbrev pub puts_restart : Test
 puts_restart (Put (Flow true) frame) before = true
 puts_restart _ before = false
 
--- the end took flow-ok with active 0 in this life, and has put no flow with active 1 since
-abbrev pub has_paused : Role → List Note → Bool
-has_paused role history = since takes_pause_ok (either (is_opening role) puts_restart) history
+-- the end has paused the other: it took flow-ok with active 0 in this life, and has put no flow with active 1 since
+abbrev pub pauses_other : Role → List Note → Bool
+pauses_other role history = since takes_pause_ok (either (is_opening role) puts_restart) history
 
 -- the end put connection.close
 abbrev pub has_left : List Note → Bool

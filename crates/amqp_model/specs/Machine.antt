@@ -11,7 +11,7 @@ use Rattle.amqp_model.specs.Gathering.{Gathering, Nothing, HeaderDue, BodyDue, s
 use Rattle.amqp_model.specs.Readings.{Reading, Calls, is_call, kind_of, payload_of, reading as reading_of}
 use Rattle.amqp_model.specs.Histories.{History, ChannelEntry, PutHere, TookHere, LeftHere, entries_on, notes, under_way, entries_before_leaving}
 use Rattle.amqp_model.specs.Replies.{asked_by, answered_by, requested, replied, unreplied}
-use Rattle.amqp_model.specs.Channels.{Life, Channel, Free, Opening, Closing, Open, new_life, Step, AwaitsProtocolHeader, AwaitsStart, AwaitsStartOk, AwaitsTune, AwaitsTuneOk, AwaitsOpen, AwaitsOpenOk, Phase, Handshake, Running, Closed, Failed, Agreed, End}
+use Rattle.amqp_model.specs.Channels.{Life, Channel, Free, Opening, Closing, Open, new_life, HandshakeStep, AwaitsProtocolHeader, AwaitsStart, AwaitsStartOk, AwaitsTune, AwaitsTuneOk, AwaitsOpen, AwaitsOpenOk, Phase, Handshake, Running, Closed, Failed, Agreed, End}
 use Rattle.amqp_model.specs.Negotiation.{Config, agreed_in}
 use Rattle.amqp_model.specs.StateFromHistory.{accepted, awaits_tune_ok, phase_from, agreed_from}
 use Rattle.amqp_model.specs.Closes.{FrameError, Owed, frame_of}
@@ -59,47 +59,47 @@ life_after role entry life =
 -- What an entry leaves of a channel's record, by what the frame is to the channel.
 
 -- an open put begins a life at a client
-abbrev pub opens_with : Role → Kind → Channel
-opens_with Client Kind.Open = Opening
-opens_with role kind = Free
+abbrev pub free_after_putting : Role → Kind → Channel
+free_after_putting Client Kind.Open = Opening
+free_after_putting role kind = Free
 
 -- a close put waits for close-ok
-abbrev pub goes_on_putting : Role → ChannelEntry → Life → Kind → Channel
-goes_on_putting role entry life Kind.Close = Closing
-goes_on_putting role entry life kind = Open (life_after role entry life)
+abbrev pub open_after_putting : Role → ChannelEntry → Life → Kind → Channel
+open_after_putting role entry life Kind.Close = Closing
+open_after_putting role entry life kind = Open (life_after role entry life)
 
 abbrev pub after_put : Role → ChannelEntry → Channel → Kind → Channel
-after_put role entry Free kind = opens_with role kind
+after_put role entry Free kind = free_after_putting role kind
 after_put role entry Opening kind = Opening
 after_put role entry Closing kind = Closing
-after_put role entry (Open life) kind = goes_on_putting role entry life kind
+after_put role entry (Open life) kind = open_after_putting role entry life kind
 
 -- an open taken begins a life at a server
-abbrev pub is_opened_by : Role → Kind → Channel
-is_opened_by Server Kind.Open = Open new_life
-is_opened_by role kind = Free
+abbrev pub free_after_taking : Role → Kind → Channel
+free_after_taking Server Kind.Open = Open new_life
+free_after_taking role kind = Free
 
 -- open-ok lets a client begin, and a close ends the life before it did
-abbrev pub is_answered_by : Role → Kind → Channel
-is_answered_by role Kind.Close = Free
-is_answered_by Client Kind.OpenOk = Open new_life
-is_answered_by role kind = Opening
+abbrev pub opening_after_taking : Role → Kind → Channel
+opening_after_taking role Kind.Close = Free
+opening_after_taking Client Kind.OpenOk = Open new_life
+opening_after_taking role kind = Opening
 
 -- close-ok frees the number
-abbrev pub is_freed_by : Kind → Channel
-is_freed_by Kind.CloseOk = Free
-is_freed_by kind = Closing
+abbrev pub closing_after_taking : Kind → Channel
+closing_after_taking Kind.CloseOk = Free
+closing_after_taking kind = Closing
 
 -- the other's close ends the life
-abbrev pub goes_on_taking : Role → ChannelEntry → Life → Kind → Channel
-goes_on_taking role entry life Kind.Close = Free
-goes_on_taking role entry life kind = Open (life_after role entry life)
+abbrev pub open_after_taking : Role → ChannelEntry → Life → Kind → Channel
+open_after_taking role entry life Kind.Close = Free
+open_after_taking role entry life kind = Open (life_after role entry life)
 
 abbrev pub after_taken : Role → ChannelEntry → Channel → Kind → Channel
-after_taken role entry Free kind = is_opened_by role kind
-after_taken role entry Opening kind = is_answered_by role kind
-after_taken role entry Closing kind = is_freed_by kind
-after_taken role entry (Open life) kind = goes_on_taking role entry life kind
+after_taken role entry Free kind = free_after_taking role kind
+after_taken role entry Opening kind = opening_after_taking role kind
+after_taken role entry Closing kind = closing_after_taking kind
+after_taken role entry (Open life) kind = open_after_taking role entry life kind
 
 abbrev pub channel_after : Role → ChannelEntry → Channel → Channel
 channel_after role (PutHere reading frame) channel = after_put role (PutHere reading frame) channel (kind_of reading)
@@ -108,25 +108,25 @@ channel_after role LeftHere channel = channel
 
 -- What an entry of channel 0 leaves of the phase and of what was agreed.
 
-abbrev pub after_start : Step → Step
+abbrev pub after_start : HandshakeStep → HandshakeStep
 after_start AwaitsStart = AwaitsTune
 after_start step = step
 
-abbrev pub after_start_ok : Step → Step
+abbrev pub after_start_ok : HandshakeStep → HandshakeStep
 after_start_ok AwaitsProtocolHeader = AwaitsTuneOk
 after_start_ok AwaitsStartOk = AwaitsTuneOk
 after_start_ok step = step
 
-abbrev pub after_start_put : Step → Step
+abbrev pub after_start_put : HandshakeStep → HandshakeStep
 after_start_put AwaitsProtocolHeader = AwaitsStartOk
 after_start_put step = step
 
 -- the client's handshake goes on with start and tune, the server's with start-ok and tune-ok
-abbrev pub step_taken : Role → Reading → Step → Step
+abbrev pub step_taken : Role → Reading → HandshakeStep → HandshakeStep
 step_taken Client reading step = cond (is_call kinds.ConnectionTune reading) AwaitsOpenOk (cond (is_call kinds.ConnectionStart reading) (after_start step) step)
 step_taken Server reading step = cond (is_call kinds.ConnectionTuneOk reading) AwaitsOpen (cond (is_call kinds.ConnectionStartOk reading) (after_start_ok step) step)
 
-abbrev pub step_put : Role → Reading → Step → Step
+abbrev pub step_put : Role → Reading → HandshakeStep → HandshakeStep
 step_put Client reading step = step
 step_put Server reading step = cond (is_call kinds.ConnectionStart reading) (after_start_put step) step
 
@@ -210,7 +210,7 @@ abbrev pub end_after_too_large : (role : Role) → Config role → End → End
 end_after_too_large role config end = as_failed (end_after_owed role config (methods_put (facts_at config end 0) (Faults (Peer FrameError))) end)
 
 -- A new end, and a server that has put start.
-abbrev first_step : Role → Step
+abbrev first_step : Role → HandshakeStep
 first_step Client = AwaitsStart
 first_step Server = AwaitsProtocolHeader
 
@@ -290,5 +290,5 @@ pub record StandsFor (role : Role) (config : Config role) (failed : Bool) (end :
   pub phase : phase_from role failed (entries_on 0 history) ≡ end.phase
   pub agreed : agreed_from role config (entries_on 0 history) ≡ end.agreed
   pub no_channel : end.channels 0 ≡ Free
-  pub free_before : (step : Step) → end.phase ≡ Handshake step → (n : ℕ) → end.channels n ≡ Free
+  pub free_before : (step : HandshakeStep) → end.phase ≡ Handshake step → (n : ℕ) → end.channels n ≡ Free
   pub channels : failed ≡ false → (n : ℕ) → ChannelStandsFor role (end.channels (suc n)) (entries_on (suc n) history)

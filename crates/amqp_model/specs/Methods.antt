@@ -22,9 +22,6 @@ Method = Call
 abbrev pub Properties : Type 0
 Properties = List (Option Argument)
 
-abbrev pub no_properties : Properties
-no_properties = []
-
 abbrev pub MethodKind : Type 0
 MethodKind = Kind
 
@@ -292,7 +289,8 @@ is_wanted method Always = true
 is_wanted method Never = false
 is_wanted method (UnlessNoWait place) = not (bit_at place method)
 
--- a client's method to which the server replies; the opening, the closing and the flow of a channel are none
+-- a client's method to which the server replies; the opening, the closing and the flow of a channel are none. Of a kind that
+-- both ends send, as basic.cancel, it says so whoever sends it: who asks looks at the direction.
 abbrev pub is_request : Method → Bool
 is_request method = is_wanted method (wants method.kind)
 
@@ -323,7 +321,7 @@ abbrev pub is_some_kind : Option Kind → Bool
 is_some_kind (Some kind) = true
 is_some_kind None = false
 
--- a server's method that answers a request
+-- a server's method that answers a request; of basic.cancel-ok, too, whoever sends it
 abbrev pub is_reply : Kind → Bool
 is_reply kind = is_some_kind (answered kind)
 

@@ -78,8 +78,8 @@ in_range config agreed =
 abbrev open_by : Hello Client → Method
 open_by (OfClient properties mechanism response locale virtual_host) = record { kind = kinds.ConnectionOpen; args = short_string virtual_host ∷ [] }
 
-abbrev pub open_host : Config Client → Method
-open_host config = open_by config.hello
+abbrev pub connection_open : Config Client → Method
+connection_open config = open_by config.hello
 
-abbrev pub open_host_ok : Method
-open_host_ok = record { kind = kinds.ConnectionOpenOk; args = [] }
+abbrev pub connection_open_ok : Method
+connection_open_ok = record { kind = kinds.ConnectionOpenOk; args = [] }

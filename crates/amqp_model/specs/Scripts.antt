@@ -5,7 +5,7 @@ use Rattle.std.specs.Prelude.{◌≡◌, true, false, cond, ℕ, zero, suc, List
 use Rattle.amqp_model.specs.Frame.{Frame}
 use Rattle.amqp_model.specs.Notes.{Role, Client, Server, Kind, Open, OpenOk, Close, CloseOk, Flow, FlowOk, Other, Note, Put, Took, Leaving}
 use Rattle.amqp_model.specs.States.{State, Free, Closing}
-use Rattle.amqp_model.specs.Lives.{lives, state, has_paused, is_paused}
+use Rattle.amqp_model.specs.Lives.{lives, state, pauses_other, is_paused}
 use Rattle.amqp_model.specs.Verdict.{Opened, Acted, ClosedByUs, ClosedByPeer, Discarded, Quiet, FlowAsked, FlowAnswered, Verdict, GoesOn, Fault, verdict}
 use Rattle.amqp_model.specs.Carried.{Carried, Carry, put_by, taken_by, sent, acted}
 use Rattle.amqp_model.specs.Runs.{may_put}
@@ -203,7 +203,7 @@ pub record PausedServer (f : ℕ → Frame) : Type 0 where
   pub acted_by_server : acted Server 1 (paused_server f).server ≡ f 4 ∷ []
   pub sent_to_client : sent Server 1 (paused_server f).server ≡ f 4 ∷ f 8 ∷ f 9 ∷ []
   pub acted_by_client : acted Client 1 (paused_server f).client ≡ f 4 ∷ f 8 ∷ f 9 ∷ []
-  pub client_holds : has_paused Client (paused_server f).client ≡ true
+  pub client_holds : pauses_other Client (paused_server f).client ≡ true
   pub server_is : is_paused Server (paused_server f).server ≡ true
 
 -- The same, and the client puts flow with active 1 once its first is answered: contents come again.
@@ -224,7 +224,7 @@ pub record RestartedServer (f : ℕ → Frame) : Type 0 where
   pub refused : (restarted_server f).refused ≡ 8 ∷ []
   pub client_took : verdicts Client (restarted_server f).client ≡ GoesOn Opened None ∷ GoesOn (FlowAnswered false) None ∷ GoesOn (FlowAnswered true) None ∷ GoesOn Acted None ∷ []
   pub acted_by_client : acted Client 1 (restarted_server f).client ≡ f 4 ∷ f 7 ∷ f 10 ∷ []
-  pub client_holds : has_paused Client (restarted_server f).client ≡ false
+  pub client_holds : pauses_other Client (restarted_server f).client ≡ false
   pub server_is : is_paused Server (restarted_server f).server ≡ false
 
 -- The server sends a message and closes right behind it: the client acts on the message.

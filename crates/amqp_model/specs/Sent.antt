@@ -27,7 +27,8 @@ items_in frames = items (map payload_in frames)
 abbrev pub items_sent : Role → (channel life : ℕ) → History → List Item
 items_sent role channel life history = items_in (sent role life (notes_on channel history))
 
--- the items that the end acted on in a life of a channel, in order
+-- the items that the end acted on in a life of a channel, in order; `told` leaves out that of a frame that it found fault
+-- with, where there is one
 abbrev pub items_acted : Role → (channel life : ℕ) → History → List Item
 items_acted role channel life history = items_in (acted role life (notes_on channel history))
 

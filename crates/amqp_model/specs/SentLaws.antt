@@ -1,5 +1,5 @@
 -- What holds of the items that two ends send each other and act on: the statements that the public laws carry.
-use Rattle.std.specs.Prelude.{◌≡◌, Bool, true, false, ℕ, List, [], ◌∷◌, ◌++◌}
+use Rattle.std.specs.Prelude.{◌≡◌, true, false, ℕ, List, [], ◌∷◌, ◌++◌}
 use Rattle.amqp_model.specs.Notes.{Role, other_end}
 use Rattle.amqp_model.specs.Carried.{Carried, message_frames, put_by, taken_by, acted}
 use Rattle.amqp_model.specs.Fronts.{IsFrontOf}

@@ -52,8 +52,8 @@ abbrev pub IsPaused : Role → List Note → Type 0
 IsPaused role history = HasSince takes_pause (either (is_opening role) takes_flow) history
 
 -- the end took flow-ok with active 0, and none of the notes since is an opening note or a flow with active 1 put
-abbrev pub HasPaused : Role → List Note → Type 0
-HasPaused role history = HasSince takes_pause_ok (either (is_opening role) puts_restart) history
+abbrev pub PausesOther : Role → List Note → Type 0
+PausesOther role history = HasSince takes_pause_ok (either (is_opening role) puts_restart) history
 
 -- the state that such notes are in, by cases
 abbrev pub IsInState : Role → List Note → State → Type 0

@@ -11,7 +11,7 @@ use Rattle.amqp_model.specs.Methods.{MethodKind, same_kind}
 use Rattle.amqp_model.specs.Readings.{Calls, is_call}
 use Rattle.amqp_model.specs.Histories.{History, ChannelEntry, PutHere, TookHere, entries_on, notes, under_way, entries_before_leaving}
 use Rattle.amqp_model.specs.Replies.{unreplied}
-use Rattle.amqp_model.specs.Channels.{Life, Channel, Free, Opening, Closing, Open, Step, AwaitsProtocolHeader, AwaitsStart, AwaitsStartOk, AwaitsTune, AwaitsTuneOk, AwaitsOpen, AwaitsOpenOk, Phase, Handshake, Running, Closed, Failed, Agreed, End}
+use Rattle.amqp_model.specs.Channels.{Life, Channel, Free, Opening, Closing, Open, HandshakeStep, AwaitsProtocolHeader, AwaitsStart, AwaitsStartOk, AwaitsTune, AwaitsTuneOk, AwaitsOpen, AwaitsOpenOk, Phase, Handshake, Running, Closed, Failed, Agreed, End}
 use Rattle.amqp_model.specs.Negotiation.{Config, agreed_in, in_range}
 
 -- Channel 0: the connection itself.
@@ -44,7 +44,7 @@ is_negotiated Client entries = has_taken kinds.ConnectionOpenOk entries
 is_negotiated Server entries = has_put kinds.ConnectionOpenOk entries
 
 -- the next step of the handshake, by what has been done of it
-abbrev pub step_from : Role → List ChannelEntry → Step
+abbrev pub step_from : Role → List ChannelEntry → HandshakeStep
 step_from Client entries = cond (has_taken kinds.ConnectionTune entries) AwaitsOpenOk (cond (has_taken kinds.ConnectionStart entries) AwaitsTune AwaitsStart)
 step_from Server entries =
     cond (has_taken kinds.ConnectionTuneOk entries) AwaitsOpen

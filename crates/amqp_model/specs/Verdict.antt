@@ -31,14 +31,15 @@ when_closing Close = GoesOn Quiet (Some CloseOk)
 when_closing CloseOk = GoesOn ClosedByUs None
 when_closing kind = GoesOn Discarded None
 
--- The number is free: only an open begins a life, and only the client puts one.
+-- The number is free: only an open begins a life, and only the client puts one. An open or an open-ok in the wrong direction
+-- is command-invalid, all else channel-error.
 abbrev pub when_free : Role → Kind → Verdict
 when_free Server Open = GoesOn Opened (Some OpenOk)
 when_free Server OpenOk = Fault command_invalid
 when_free Client Open = Fault command_invalid
 when_free role kind = Fault channel_error
 
--- The client has put open and awaits open-ok, which the server may have let a close follow.
+-- The client has put open and awaits open-ok, which the server may have let a close follow. A server has no such channel.
 abbrev pub when_opening : Role → Kind → Verdict
 when_opening role Close = GoesOn ClosedByPeer (Some CloseOk)
 when_opening Client OpenOk = GoesOn Opened None

@@ -8,7 +8,7 @@ ghost use Rattle.std.specs.Prelude.{ℕ, List};
 ghost use Rattle.amqp_model.specs.Asks.{Ask};
 ghost use Rattle.amqp_model.specs.Channels.{End};
 ghost use Rattle.amqp_model.specs.Events.{Message};
-ghost use Rattle.amqp_model.specs.FittingLaws.{AllReadsBack, AskedAreWithin, AskedFit, AskedReadsBack, CloseFits, CloseIsShort, CloseReadsBack, FittingConfigWrites, FramesSayPayloads, HeaderReadsBack, MethodReadsBack, OwedAreShort, OwedFit, OwedReadBack, StartFits};
+ghost use Rattle.amqp_model.specs.FittingLaws.{AllReadsBack, AskedAreWithin, AskedFit, AskedReadsBack, CloseFits, CloseIsShort, CloseReadsBack, FaultlessConfigFits, FittingConfigIsFaultless, FittingConfigWrites, FramesSayPayloads, HeaderReadsBack, MethodReadsBack, OwedAreShort, OwedFit, OwedReadBack, StartFits};
 ghost use Rattle.amqp_model.specs.Frame.{Frame};
 ghost use Rattle.amqp_model.specs.FrameVerdict.{Facts};
 ghost use Rattle.amqp_model.specs.Methods.{Header, Method};
@@ -25,14 +25,17 @@ pub fn written_reads_back()
     amqp_method::spelled_is_read();
 }
 
-/// What an end says of itself can be written where its configuration fits its fields.
+/// A configuration fits its fields just where it has no fault, if its numbers and its hello do. What an end says of itself
+/// can be written then.
 pub fn fitting_config_writes()
-    ensures { (role : Role) (config : Config role) → FittingConfigWrites role config }
+    ensures faultless { (role : Role) (config : Config role) → FaultlessConfigFits role config }
+    ensures no_fault { (role : Role) (config : Config role) → FittingConfigIsFaultless role config }
+    ensures writes { (role : Role) (config : Config role) → FittingConfigWrites role config }
 {
     written_reads_back();
 }
 
-/// The method that an ask puts reads back.
+/// What is written for an ask reads back, where the ask fits its fields: its method, and the header of its content.
 pub fn asked_reads_back()
     ensures { (ask : Ask) → AskedReadsBack ask }
 {

@@ -14,11 +14,11 @@ ghost use Rattle.amqp_model.specs.Connections.{ConnectionNote, ConnectionRun, no
 ghost use Rattle.amqp_model.specs.Frame.{Frame};
 ghost use Rattle.amqp_model.specs.Laws.{ActsOnFront, ActsOnNothingAfterItsClose, ActsOnNothingAfterLeaving, AllActedOnAtClose, AllActedOnAtConnectionClose, FindsNoFault, NoPauseBeforeContent, OnItsWayIsOfItsLife, SentIsActedOnOrOnItsWay, SidesAgree, TakesNoContentPaused};
 ghost use Rattle.amqp_model.specs.Fronts.{IsFrontOf};
-ghost use Rattle.amqp_model.specs.Lives.{awaits_flow_ok, before_leaving, has_left, has_open_ok, has_paused, is_alive, is_opening, is_paused, lives, state, waits};
+ghost use Rattle.amqp_model.specs.Lives.{awaits_flow_ok, before_leaving, has_left, has_open_ok, pauses_other, is_alive, is_opening, is_paused, lives, state, waits};
 ghost use Rattle.amqp_model.specs.Notes.{Note, Role, other_end};
 ghost use Rattle.amqp_model.specs.Runs.{Run, RunAt};
 ghost use Rattle.amqp_model.specs.Scripts.{ClosedAndReopened, ClosedAtOnce, CrossingCloses, DiscardedContents, DroppedClient, MessageThenClose, PausedServer, RestartedServer, ServerLeaves, Step, crossing_closes, replay};
-ghost use Rattle.amqp_model.specs.Sentences.{AwaitsFlowOk, HasLeft, HasOpenOk, HasPaused, IsAlive, IsBeforeLeaving, IsInState, IsPaused, Waits, places_with};
+ghost use Rattle.amqp_model.specs.Sentences.{AwaitsFlowOk, HasLeft, HasOpenOk, PausesOther, IsAlive, IsBeforeLeaving, IsInState, IsPaused, Waits, places_with};
 ghost use Rattle.amqp_model.specs.States.{State};
 
 /// Both ends mean the same life: the i-th note that one took has the life of the i-th note that the other put, and
@@ -81,7 +81,7 @@ pub fn words_read()
     ensures open_ok { (role : Role) (history : List Note) → (has_open_ok role history ≡ true) ↔ HasOpenOk role history }
     ensures awaits_flow_ok { (role : Role) (history : List Note) → (awaits_flow_ok role history ≡ true) ↔ AwaitsFlowOk role history }
     ensures paused { (role : Role) (history : List Note) → (is_paused role history ≡ true) ↔ IsPaused role history }
-    ensures has_paused { (role : Role) (history : List Note) → (has_paused role history ≡ true) ↔ HasPaused role history }
+    ensures pauses_other { (role : Role) (history : List Note) → (pauses_other role history ≡ true) ↔ PausesOther role history }
     ensures left { (history : List Note) → (has_left history ≡ true) ↔ HasLeft history }
     ensures before_leaving { (history : List Note) → IsBeforeLeaving history (before_leaving history) }
     ensures state { (role : Role) (history : List Note) (word : State) → (state role history ≡ word) ↔ IsInState role (before_leaving history) word }

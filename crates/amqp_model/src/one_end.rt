@@ -7,7 +7,7 @@
 ghost use Rattle.std.specs.Prelude.{Bool, ℕ, List, Option};
 ghost use Rattle.amqp_model.specs.Asks.{Ask, first_free};
 ghost use Rattle.amqp_model.specs.Channels.{Channel, End};
-ghost use Rattle.amqp_model.specs.EndLaws.{AnswersOfHistory, AnyFails, AskFollows, AskOfHistory, AsksActs, EndFollows, FindsLowest, FollowsPut, FollowsTaken, FrameFails, FrameFollows, LawfulStands, LeavesOthers, NewEndStands, ReadsChannel, ReadsState, StaysAtLeaving, StaysLeaving, StepFollows, TakesActs, TooLargeFails, VerdictAgrees, VerdictOfHistory};
+ghost use Rattle.amqp_model.specs.EndLaws.{AnswersOfHistory, AnyFails, AskFollows, AskOfHistory, AsksActs, EndFollows, EndSteps, FindsLowest, FollowsPut, FollowsTaken, FrameFails, FrameFollows, LawfulStands, LeavesOthers, NewEndStands, ReadsChannel, ReadsState, StaysAtLeaving, StaysLeaving, StepFollows, TakesActs, TooLargeFails, VerdictAgrees, VerdictOfHistory};
 ghost use Rattle.amqp_model.specs.Frame.{Frame};
 ghost use Rattle.amqp_model.specs.FrameVerdict.{Facts};
 ghost use Rattle.amqp_model.specs.Histories.{ChannelEntry, Entry, History};
@@ -81,10 +81,11 @@ pub fn failed_follows()
 {}
 
 /// Each lawful history is one that an end stands for: what is read off it, and what an end keeps that goes on with each of
-/// its steps.
+/// its steps. Which steps these are is told by what the end keeps.
 pub fn lawful_stands()
     ensures read { (role : Role) (config : Config role) (failed : Bool) (history : History) → LawfulStands role config failed history }
     ensures step { (role : Role) (config : Config role) (end : End) (before : History) (taken : Option Frame) (failed : Bool) (after : History) → StepFollows role config end before taken failed after }
+    ensures steps { (role : Role) (config : Config role) (end : End) (history : History) → EndSteps role config end history }
 {}
 
 /// What an end answers of its channels is what every history gives for which it stands.

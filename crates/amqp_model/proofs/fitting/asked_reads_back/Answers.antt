@@ -3,4 +3,4 @@ use Rattle.amqp_model.proofs.ReadBack.{asked-reads}
 use Rattle.amqp_model.proofs.fitting.asked_reads_back.Goals as goal
 
 pub returns : goal.returns
-returns c = asked-reads c.written_reads_back.ensures.method
+returns c = asked-reads c.written_reads_back.ensures.method c.written_reads_back.ensures.header

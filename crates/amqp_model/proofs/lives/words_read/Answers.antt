@@ -18,8 +18,8 @@ returns-clause-awaits_flow_ok c = λ role history. since_reads _ _ history
 pub returns-clause-paused : goal.returns-clause-paused
 returns-clause-paused c = λ role history. since_reads _ _ history
 
-pub returns-clause-has_paused : goal.returns-clause-has_paused
-returns-clause-has_paused c = λ role history. since_reads _ _ history
+pub returns-clause-pauses_other : goal.returns-clause-pauses_other
+returns-clause-pauses_other c = λ role history. since_reads _ _ history
 
 pub returns-clause-lives : goal.returns-clause-lives
 returns-clause-lives c = λ role history. how_many_reads (is_opening role) history

@@ -1,0 +1,52 @@
+//! One end, octet by octet.
+//!
+//! `after_octet`, of the definitions in `Endpoint`, is one end as a plain machine that takes an octet at a time: a server
+//! compares the first eight with the protocol header, and all others are gathered up to the end of a frame. These laws
+//! say that it is what the definitions over whole frames say: what it keeps stands for a history of whole frames
+//! (`EndpointStandsFor`), the octets fed are those of the frames taken and a rest, and what it writes are the octets of
+//! the frames put.
+
+ghost use Rattle.std.specs.Prelude.{ℕ, List};
+ghost use Rattle.amqp_model.specs.Asks.{Ask, Refusal};
+ghost use Rattle.amqp_model.specs.Endpoint.{Endpoint};
+ghost use Rattle.amqp_model.specs.Frame.{Frame};
+ghost use Rattle.amqp_model.specs.Histories.{History};
+ghost use Rattle.amqp_model.specs.Negotiation.{Config};
+ghost use Rattle.amqp_model.specs.Notes.{Role};
+ghost use Rattle.amqp_model.specs.OctetLaws.{AcceptedFollows, CutGoesOn, CutStops, FailedWrites, FeedFollows, FeedProgresses, FeedStaysClosed, FeedStaysFailed, FeedTakesAll, FeedTakesWithin, JudgedIsSaid, NewStands, OctetFollows, OneIsSaid, RefusedStays, WroteFollows};
+
+use crate::fitting::written_reads_back;
+
+/// Of octets of which no shorter front is a frame or tells a fault, what they are judged to be is what they are: a
+/// frame begun, a whole frame within the limit, or octets of which the last tells a fault. They are but one of these.
+pub fn judged_is_said()
+    ensures said { JudgedIsSaid }
+    ensures one { OneIsSaid }
+{}
+
+/// The same comes of octets however they are cut. Each piece that has octets loses one, none loses more than it has, and
+/// where nothing comes of a piece all of it is taken. An end that is closed, or has failed, takes nothing.
+pub fn cut_changes_nothing()
+    ensures goes_on { (role : Role) (config : Config role) (endpoint : Endpoint) (p q : List ℕ) → CutGoesOn role config endpoint p q }
+    ensures stops { (role : Role) (config : Config role) (endpoint : Endpoint) (p q : List ℕ) → CutStops role config endpoint p q }
+    ensures progress { (role : Role) (config : Config role) (endpoint : Endpoint) (piece : List ℕ) → FeedProgresses role config endpoint piece }
+    ensures within { (role : Role) (config : Config role) (endpoint : Endpoint) (piece : List ℕ) → FeedTakesWithin role config endpoint piece }
+    ensures all { (role : Role) (config : Config role) (endpoint : Endpoint) (piece : List ℕ) → FeedTakesAll role config endpoint piece }
+    ensures closed { (role : Role) (config : Config role) (endpoint : Endpoint) (piece : List ℕ) → FeedStaysClosed role config endpoint piece }
+    ensures failed { (role : Role) (config : Config role) (endpoint : Endpoint) (piece : List ℕ) → FeedStaysFailed role config endpoint piece }
+{}
+
+/// A new end stands for a history of nothing. What an end keeps stands for its history, for all octets fed and for all
+/// octets written, after each octet and each piece by which it does not fail, each ask and each write. Where it fails,
+/// the octets fed tell why, and its output is still that of what it put.
+pub fn octets_follow()
+    ensures new { (role : Role) (config : Config role) → NewStands role config }
+    ensures octet { (role : Role) (config : Config role) (endpoint : Endpoint) (history : History) (fed written : List ℕ) (octet : ℕ) → OctetFollows role config endpoint history fed written octet }
+    ensures feed { (role : Role) (config : Config role) (endpoint : Endpoint) (history : History) (fed written piece : List ℕ) → FeedFollows role config endpoint history fed written piece }
+    ensures accepted { (role : Role) (config : Config role) (endpoint : Endpoint) (history : History) (fed written : List ℕ) (ask : Ask) (frames : List Frame) → AcceptedFollows role config endpoint history fed written ask frames }
+    ensures refused { (role : Role) (config : Config role) (endpoint : Endpoint) (ask : Ask) (refusal : Refusal) → RefusedStays role config endpoint ask refusal }
+    ensures wrote { (role : Role) (config : Config role) (endpoint : Endpoint) (history : History) (fed written : List ℕ) (n : ℕ) → WroteFollows role config endpoint history fed written n }
+    ensures wrote_failed { (role : Role) (config : Config role) (limit : ℕ) (opening : List ℕ) (history : History) (fed written : List ℕ) (endpoint : Endpoint) (n : ℕ) → FailedWrites role config limit opening history fed written endpoint n }
+{
+    written_reads_back();
+}
