@@ -14,7 +14,7 @@ use Rattle.amqp_model.specs.Negotiation.{Config}
 use Rattle.amqp_model.specs.Closes.{CloseCode, CommandInvalid, ChannelError, Owed}
 use Rattle.amqp_model.specs.Events.{FrameVerdict, Proceeds, RefusesContent, Faults, Peer}
 use Rattle.amqp_model.specs.FrameVerdict.{Facts, first_of, awaits_in, as_lives, lives_verdict, on_method, by_state, on_open, on_idle, on_matched, on_content, on_part, after_part, on_message, is_no_channel, is_gathering, answers_first, verdict_on}
-use Rattle.amqp_model.specs.LawfulHistories.{goes_on}
+use Rattle.amqp_model.specs.EndVerdict.{goes_on}
 use Rattle.amqp_model.specs.EndLaws.{is_over, AgreesWithLives, agrees, refuses}
 
 -- the methods that a verdict owes of itself

@@ -20,7 +20,9 @@ use Rattle.amqp_model.specs.Closes.{Owed, AllReadBack, connection_close_ok, meth
 use Rattle.amqp_model.specs.Events.{Event, Proceeds}
 use Rattle.amqp_model.specs.FrameVerdict.{verdict_on, methods_put}
 use Rattle.amqp_model.specs.Asks.{Ask, Refusal, lowest_free, opens_on, payload_frame, message_payloads, frame_max, frames_asked, method_asked, refusal, Puts, ask_verdict}
-use Rattle.amqp_model.specs.LawfulHistories.{facts_at, end_verdict, end_puts, goes_on, takes_frames, then_put, then_taken, too_large_puts, WritesReadBack, Goes, greets, takes, faults, meets_too_large, fails, asks, Lawful, begun, goes}
+use Rattle.amqp_model.specs.EndVerdict.{facts_at, end_verdict, end_puts, goes_on, takes_frames, too_large_puts}
+use Rattle.amqp_model.specs.ReadingBack.{WritesReadBack}
+use Rattle.amqp_model.specs.LawfulHistories.{then_put, then_taken, Goes, greets, takes, faults, meets_too_large, fails, asks, Lawful, begun, goes}
 use Rattle.amqp_model.specs.Octets.{frames_put, frames_taken}
 use Rattle.amqp_model.specs.Fronts.{IsFrontOf}
 use Rattle.amqp_model.specs.EndLaws.{is_over, notes_on}

@@ -15,7 +15,8 @@ use Rattle.amqp_model.specs.Negotiation.{Config, Hello, OfClient, start_ok, conn
 use Rattle.amqp_model.specs.Closes.{Owed, AllReadBack, connection_close_ok, frame_of}
 use Rattle.amqp_model.specs.Events.{FrameVerdict, Faults, Fault}
 use Rattle.amqp_model.specs.FrameVerdict.{Facts, first_of, awaits_in, as_lives, lives_verdict, closed_by, on_awaited, is_awaited, on_connection, by_state, on_open, on_idle, on_matched, part_on, on_part, after_part, on_message, is_no_channel, is_gathering, on_rest, when_over, when_leaving, when_heartbeat, when_closing, when_unread, when_handshake, when_content, when_connection, when_misdirected, when_no_channel, answers_first, MOST_REQUESTS, verdict_on, methods_put}
-use Rattle.amqp_model.specs.LawfulHistories.{goes_on, then_put}
+use Rattle.amqp_model.specs.EndVerdict.{goes_on}
+use Rattle.amqp_model.specs.LawfulHistories.{then_put}
 use Rattle.amqp_model.proofs.Acting.{reads-back}
 
 -- a method that channel n + 1 does not see
@@ -64,13 +65,25 @@ connection_open-no-answer config = go config.hello
     go : (hello : Hello Client) → same_kind (connection_open (record config { hello = hello })).kind kinds.ConnectionCloseOk ≡ false
     go (OfClient properties mechanism response locale virtual_host) = refl
 
+start_ok-plain : (config : Config Client) → carries_content (start_ok config) ≡ false
+start_ok-plain config = go config.hello
+  where
+    go : (hello : Hello Client) → carries_content (start_ok (record config { hello = hello })) ≡ false
+    go (OfClient properties mechanism response locale virtual_host) = refl
+
+connection_open-plain : (config : Config Client) → carries_content (connection_open config) ≡ false
+connection_open-plain config = go config.hello
+  where
+    go : (hello : Hello Client) → carries_content (connection_open (record config { hello = hello })) ≡ false
+    go (OfClient properties mechanism response locale virtual_host) = refl
+
 -- no connection.close
 abbrev pub IsQuiet : Method → Type 0
 IsQuiet method = same_kind method.kind kinds.ConnectionClose ≡ false
 
--- and no connection.close-ok
+-- no connection.close-ok either, and none that carries a content
 abbrev pub IsMild : Method → Type 0
-IsMild method = IsQuiet method × (same_kind method.kind kinds.ConnectionCloseOk ≡ false)
+IsMild method = IsQuiet method × (same_kind method.kind kinds.ConnectionCloseOk ≡ false) × (carries_content method ≡ false)
 
 abbrev pub Each : (Owed → Type 0) → List Owed → Type 0
 Each P [] = Unit {0}
@@ -105,9 +118,9 @@ module _ {role : Role} (facts : Facts role) (P : Owed → Type 0) (at_zero : (me
   lives-away : (r : Reading) (v : lives.Verdict) → Away (as_lives facts.number r v)
   lives-away r (lives.Fault code) = λ g. absurd (false≢true g)
   lives-away r (lives.GoesOn event None) = λ g. tt
-  lives-away r (lives.GoesOn event (Some OpenOk)) = λ g. (here _ (refl, refl), tt)
-  lives-away r (lives.GoesOn event (Some CloseOk)) = λ g. (here _ (refl, refl), tt)
-  lives-away r (lives.GoesOn event (Some (FlowOk active))) = λ g. (here _ (refl, refl), tt)
+  lives-away r (lives.GoesOn event (Some OpenOk)) = λ g. (here _ (refl, refl, refl), tt)
+  lives-away r (lives.GoesOn event (Some CloseOk)) = λ g. (here _ (refl, refl, refl), tt)
+  lives-away r (lives.GoesOn event (Some (FlowOk active))) = λ g. (here _ (refl, refl, refl), tt)
   lives-away r (lives.GoesOn event (Some kind)) = λ g. tt
 
   over : (phase : Phase) → MayAway (when_over phase)
@@ -137,12 +150,12 @@ module _ {role : Role} (facts : Facts role) (P : Owed → Type 0) (at_zero : (me
   unread r = tt
 
   awaited : (r : Role) (config : Config r) (agreed : Option Agreed) (step : channels.HandshakeStep) (method : Method) → Away (on_awaited r config agreed step method)
-  awaited Client config agreed AwaitsStart method = λ g. (at_zero (start_ok config) (start_ok-quiet config, start_ok-no-answer config), tt)
-  awaited Client config agreed AwaitsTune method = either (tunes_too_small method) _ _ (λ g. absurd (false≢true g)) (λ g. (at_zero _ (refl, refl), (at_zero (connection_open config) (connection_open-quiet config, connection_open-no-answer config), tt)))
+  awaited Client config agreed AwaitsStart method = λ g. (at_zero (start_ok config) (start_ok-quiet config, start_ok-no-answer config, start_ok-plain config), tt)
+  awaited Client config agreed AwaitsTune method = either (tunes_too_small method) _ _ (λ g. absurd (false≢true g)) (λ g. (at_zero _ (refl, refl, refl), (at_zero (connection_open config) (connection_open-quiet config, connection_open-no-answer config, connection_open-plain config), tt)))
   awaited Client config agreed AwaitsOpenOk method = λ g. tt
-  awaited Server config agreed AwaitsStartOk method = λ g. (at_zero _ (refl, refl), tt)
+  awaited Server config agreed AwaitsStartOk method = λ g. (at_zero _ (refl, refl, refl), tt)
   awaited Server config agreed AwaitsTuneOk method = either (in_range config (agreed_in method)) _ _ (λ g. tt) (λ g. absurd (false≢true g))
-  awaited Server config agreed AwaitsOpen method = λ g. (at_zero _ (refl, refl), tt)
+  awaited Server config agreed AwaitsOpen method = λ g. (at_zero _ (refl, refl, refl), tt)
   awaited Client config agreed step method = λ g. absurd (false≢true g)
   awaited Server config agreed step method = λ g. absurd (false≢true g)
 
@@ -164,7 +177,7 @@ module _ {role : Role} (facts : Facts role) (P : Owed → Type 0) (at_zero : (me
 
   part : (kept : Gathering) (r : Reading) → Away (on_part facts kept r)
   part (HeaderDue method) MalformedHeader = λ g. absurd (false≢true g)
-  part (HeaderDue method) (HeaderOf size properties) = either (nat_lt facts.config.max_body size) _ _ (λ g. (here _ (refl, refl), tt)) (parted _)
+  part (HeaderDue method) (HeaderOf size properties) = either (nat_lt facts.config.max_body size) _ _ (λ g. (here _ (refl, refl, refl), tt)) (parted _)
   part kept r = parted (step kept (payload_of r))
 
   part-on : (channel : Channel) (r : Reading) → Away (part_on facts channel r)

@@ -11,7 +11,7 @@ use Rattle.amqp_model.specs.Channels.{Channel, Free, HandshakeStep, Phase, Hands
 use Rattle.amqp_model.specs.Negotiation.{Config}
 use Rattle.amqp_model.specs.StateFromHistory.{has_put, is_closed, is_negotiated, step_from, phase_from, agreed_from}
 use Rattle.amqp_model.specs.FrameVerdict.{verdict_on}
-use Rattle.amqp_model.specs.LawfulHistories.{facts_at, goes_on}
+use Rattle.amqp_model.specs.EndVerdict.{facts_at, goes_on}
 use Rattle.amqp_model.specs.Machine.{phase_taken, phase_put, phase_after, agreed_after, set_channel, unless_leaving, channel_after, may_put_here, end_after, ChannelStandsFor, StandsFor}
 use Rattle.amqp_model.specs.EndLaws.{is_over, EndFollows, NewEndStands}
 use Rattle.amqp_model.proofs.Phases.{phase-taken, phase-put}

@@ -11,7 +11,8 @@ use Rattle.amqp_model.specs.StateFromHistory.{phase_from, agreed_from}
 use Rattle.amqp_model.specs.Closes.{FrameError, Owed, AllReadBack, frame_of}
 use Rattle.amqp_model.specs.Events.{Peer, FrameVerdict, Proceeds, RefusesContent, Faults}
 use Rattle.amqp_model.specs.FrameVerdict.{verdict_on, methods_put}
-use Rattle.amqp_model.specs.LawfulHistories.{facts_at, goes_on, then_put}
+use Rattle.amqp_model.specs.EndVerdict.{facts_at, goes_on}
+use Rattle.amqp_model.specs.LawfulHistories.{then_put}
 use Rattle.amqp_model.specs.Machine.{phase_after, agreed_after, end_after, end_after_owed, as_failed, failed_by, StandsFor}
 use Rattle.amqp_model.specs.EndLaws.{FrameFails, TooLargeFails, AnyFails}
 use Rattle.amqp_model.proofs.Acting.{reads-back}

@@ -13,7 +13,7 @@ use Rattle.amqp_model.specs.Channels.{Life, Channel, Free, Opening, Closing, Pha
 use Rattle.amqp_model.specs.Channels as channels
 use Rattle.amqp_model.specs.Negotiation.{Config}
 use Rattle.amqp_model.specs.FrameVerdict.{Facts, answers_first, verdict_on}
-use Rattle.amqp_model.specs.LawfulHistories.{goes_on}
+use Rattle.amqp_model.specs.EndVerdict.{goes_on}
 use Rattle.amqp_model.specs.Machine.{is_open, is_close_ok, free_after_putting, life_after, free_after_taking, opening_after_taking, open_after_taking, open_after_putting, channel_after, answers_in_turn, may_put_here, IsAnswerable, HasItsRequest, CountsOpen, Counts, ChannelStandsFor}
 use Rattle.amqp_model.proofs.ChannelSteps.{Matches, stays_open, took-stays_open, put-stays_open, took-open, put-open, took-open_ok, took-close, took-closing, put-close, put-close_ok-free, put-close_ok-closing}
 use Rattle.amqp_model.proofs.Going.{running, running-free, running-opening, running-open, OpenTakes}

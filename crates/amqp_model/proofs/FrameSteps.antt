@@ -16,7 +16,8 @@ use Rattle.amqp_model.specs.Negotiation.{Config}
 use Rattle.amqp_model.specs.Closes.{ContentTooLarge, Owed, AllReadBack, frame_of, reply_to, channel_close, without_arguments, flow_as}
 use Rattle.amqp_model.specs.Events.{FrameVerdict, Proceeds, RefusesContent, Faults}
 use Rattle.amqp_model.specs.FrameVerdict.{on_channel, awaits_in, verdict_on, methods_put}
-use Rattle.amqp_model.specs.LawfulHistories.{facts_at, goes_on, then_put}
+use Rattle.amqp_model.specs.EndVerdict.{facts_at, goes_on}
+use Rattle.amqp_model.specs.LawfulHistories.{then_put}
 use Rattle.amqp_model.specs.Machine.{after_taken, may_put_here, end_after, end_after_owed, failed_by, StandsFor}
 use Rattle.amqp_model.specs.EndLaws.{is_over, AgreesWithLives, agrees, refuses, FrameFollows}
 use Rattle.amqp_model.proofs.Agreeing.{facts_in, is_closing, handshake-stops, frame-agrees}

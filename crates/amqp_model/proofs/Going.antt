@@ -16,7 +16,7 @@ use Rattle.amqp_model.specs.Negotiation.{Config}
 use Rattle.amqp_model.specs.Closes.{CloseCode, CommandInvalid, ChannelError}
 use Rattle.amqp_model.specs.Events.{FrameVerdict, Faults, Peer}
 use Rattle.amqp_model.specs.FrameVerdict.{Facts, first_of, as_lives, on_method, by_state, on_open, on_idle, on_matched, is_no_channel, answers_first, is_gathering, verdict_on}
-use Rattle.amqp_model.specs.LawfulHistories.{goes_on}
+use Rattle.amqp_model.specs.EndVerdict.{goes_on}
 use Rattle.amqp_model.specs.Machine.{HasItsRequest, IsAnswerable}
 use Rattle.amqp_model.proofs.ClassMethods.{is_class_kind, class-plain}
 use Rattle.amqp_model.proofs.ChannelSteps.{Matches}

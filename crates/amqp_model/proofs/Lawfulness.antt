@@ -11,7 +11,9 @@ use Rattle.amqp_model.specs.StateFromHistory.{end_from}
 use Rattle.amqp_model.specs.Closes.{method_frame}
 use Rattle.amqp_model.specs.Asks.{Puts, ask_verdict}
 use Rattle.amqp_model.specs.Readings.{reading}
-use Rattle.amqp_model.specs.LawfulHistories.{end_verdict, goes_on, then_put, then_taken, too_large_puts, WritesReadBack, Goes, greets, takes, faults, meets_too_large, fails, asks, begun, goes}
+use Rattle.amqp_model.specs.EndVerdict.{end_verdict, goes_on, too_large_puts}
+use Rattle.amqp_model.specs.ReadingBack.{WritesReadBack}
+use Rattle.amqp_model.specs.LawfulHistories.{then_put, then_taken, Goes, greets, takes, faults, meets_too_large, fails, asks, begun, goes}
 use Rattle.amqp_model.specs.Machine.{end_after_taken, end_after_too_large, end_after_put, as_failed, new_end, StandsFor}
 use Rattle.amqp_model.specs.EndLaws.{LawfulStands, StepFollows, StepsOfEnd, EndSteps}
 use Rattle.amqp_model.proofs.EndSteps.{end-follows, new-end-stands}

@@ -62,4 +62,5 @@ mod OctetRows
 mod Sent
 mod ConnectionClosed
 mod SentTelling
+mod WholeMessages
 mod MethodTable

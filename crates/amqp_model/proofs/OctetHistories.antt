@@ -13,7 +13,8 @@ use Rattle.amqp_model.specs.Readings.{Reading, reading, is_call}
 use Rattle.amqp_model.specs.Histories.{Entry, Put, Took, History, ChannelEntry, PutHere, TookHere, LeftHere, entries_on}
 use Rattle.amqp_model.specs.Channels.{HandshakeStep, AwaitsProtocolHeader, AwaitsStart, AwaitsStartOk, AwaitsTune, AwaitsTuneOk, AwaitsOpen, AwaitsOpenOk, Phase, Handshake, Running, Closing, Closed, Failed}
 use Rattle.amqp_model.specs.StateFromHistory.{has_put, has_taken, is_closed, is_negotiated, phase_from}
-use Rattle.amqp_model.specs.LawfulHistories.{then_put, takes_frames}
+use Rattle.amqp_model.specs.EndVerdict.{takes_frames}
+use Rattle.amqp_model.specs.LawfulHistories.{then_put}
 use Rattle.amqp_model.specs.Machine.{after_start_ok, after_start_put, phase_after}
 use Rattle.amqp_model.specs.Octets.{frames_taken, frames_put, has_opened}
 use Rattle.amqp_model.specs.Endpoint.{Differs, compared, refusal_in, awaits_opening}

@@ -21,7 +21,9 @@ use Rattle.amqp_model.specs.Events.{Fault, Peer, AlreadyClosed, FrameVerdict, Pr
 use Rattle.amqp_model.specs.FrameVerdict.{methods_put, event_told}
 use Rattle.amqp_model.specs.Outputs.{Output, after_puts}
 use Rattle.amqp_model.specs.Departures.{IsOutputOf}
-use Rattle.amqp_model.specs.LawfulHistories.{facts_at, end_verdict, end_puts, then_put, then_taken, goes_on, takes_frames, takes_octets, CanTake, WritesReadBack, Goes, goes}
+use Rattle.amqp_model.specs.EndVerdict.{facts_at, end_verdict, end_puts, goes_on, takes_frames, takes_octets, CanTake}
+use Rattle.amqp_model.specs.ReadingBack.{WritesReadBack}
+use Rattle.amqp_model.specs.LawfulHistories.{then_put, then_taken, Goes, goes}
 use Rattle.amqp_model.specs.LawfulHistories as lawful
 use Rattle.amqp_model.specs.Fitting.{ConfigWrites}
 use Rattle.amqp_model.specs.FittingLaws.{MethodReadsBack}

@@ -11,7 +11,8 @@ use Rattle.amqp_model.specs.Histories.{History}
 use Rattle.amqp_model.specs.Negotiation.{Config, OfServer, Hello}
 use Rattle.amqp_model.specs.Negotiation as negotiation
 use Rattle.amqp_model.specs.FrameVerdict.{Facts}
-use Rattle.amqp_model.specs.LawfulHistories.{WritesReadBack, Goes, greets, takes, asks, begun, goes}
+use Rattle.amqp_model.specs.ReadingBack.{WritesReadBack}
+use Rattle.amqp_model.specs.LawfulHistories.{Goes, greets, takes, asks, begun, goes}
 use Rattle.amqp_model.specs.EndLaws.{notes_on, ActsOn, rests, acts, VerdictAgrees}
 use Rattle.amqp_model.specs.Pairs.{AllComeNext, both_begin, client_goes, server_goes, NewEndsPair, StepStaysPair, BothLawful, RunsOnEach}
 use Rattle.amqp_model.proofs.Carrying.{next-noted}

@@ -21,7 +21,9 @@ use Rattle.amqp_model.specs.Closes.{FrameError, Owed, method_frame, frame_of, co
 use Rattle.amqp_model.specs.Events.{Event, FrameVerdict, Proceeds, RefusesContent, Faults, Fault, Peer}
 use Rattle.amqp_model.specs.FrameVerdict.{Facts, verdict_on, methods_put}
 use Rattle.amqp_model.specs.Asks.{Ask, Refusal, lowest_free, opens_on, payload_frame, message_payloads, frame_max, frames_asked, method_asked, refusal, Puts}
-use Rattle.amqp_model.specs.LawfulHistories.{facts_at, end_verdict, goes_on, takes_frames, CanTake, then_put, then_taken, WritesReadBack, Goes, greets, takes, faults, meets_too_large, fails, asks, Lawful, begun, goes}
+use Rattle.amqp_model.specs.EndVerdict.{facts_at, end_verdict, goes_on, takes_frames, CanTake}
+use Rattle.amqp_model.specs.ReadingBack.{WritesReadBack}
+use Rattle.amqp_model.specs.LawfulHistories.{then_put, then_taken, Goes, greets, takes, faults, meets_too_large, fails, asks, Lawful, begun, goes}
 use Rattle.amqp_model.specs.Machine.{phase_taken, phase_put, end_after, end_after_owed, end_after_put, StandsFor}
 use Rattle.amqp_model.specs.EndLaws.{is_over}
 use Rattle.amqp_model.specs.Octets.{frames_put}

@@ -13,7 +13,7 @@ use Rattle.amqp_model.specs.Negotiation.{FRAME_MIN, Hello, OfClient, OfServer, C
 use Rattle.amqp_model.specs.Closes.{close_as, method_frame}
 use Rattle.amqp_model.specs.Events.{Message, Plain, Whole}
 use Rattle.amqp_model.specs.Asks.{Ask, Open, Send, Flow, CloseChannel, Close, Blocked, Unblocked, method_asked}
-use Rattle.amqp_model.specs.LawfulHistories.{header_of, HeaderAskedReadsBack}
+use Rattle.amqp_model.specs.ReadingBack.{header_of, HeaderAskedReadsBack}
 use Rattle.amqp_model.specs.Fitting.{MethodFits, HelloFits, greeting, HostFits, PartsFit, FRAME_MOST, FrameMax, ChannelMax, HelloTooLong}
 use Rattle.amqp_model.specs.FittingLaws.{MethodReadsBack, HeaderReadsBack, FittingConfigWrites, AskedReadsBack, FaultlessConfigFits, FittingConfigIsFaultless}
 

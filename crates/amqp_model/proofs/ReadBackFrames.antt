@@ -7,7 +7,7 @@ use Rattle.amqp_model.specs.Contents.{Payload, Content, pieces, room_in}
 use Rattle.amqp_model.specs.Readings.{method_reading, header_reading, reading, payload_of}
 use Rattle.amqp_model.specs.Events.{Message, Plain, Whole}
 use Rattle.amqp_model.specs.Asks.{Send, payload_frame, message_payloads}
-use Rattle.amqp_model.specs.LawfulHistories.{header_of}
+use Rattle.amqp_model.specs.ReadingBack.{header_of}
 use Rattle.amqp_model.specs.Fitting.{PartsFit}
 use Rattle.amqp_model.specs.FittingLaws.{MethodReadsBack, HeaderReadsBack, FramesSayPayloads}
 

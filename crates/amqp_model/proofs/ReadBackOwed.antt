@@ -18,7 +18,8 @@ use Rattle.amqp_model.specs.Negotiation.{Hello, OfClient, Config, FRAME_MIN, sta
 use Rattle.amqp_model.specs.Closes.{CloseCode, ContentTooLarge, FrameError, SyntaxError, CommandInvalid, ChannelError, UnexpectedFrame, ResourceError, NotImplemented, number_of, text_of, close_as, Owed, AllReadBack, connection_close, connection_close_ok, channel_close, reply_to, method_frame, frame_of}
 use Rattle.amqp_model.specs.Events.{Peer, FrameVerdict, Proceeds, RefusesContent, Faults}
 use Rattle.amqp_model.specs.FrameVerdict.{Facts, on_zero, on_channel, first_of, when_over, when_leaving, when_heartbeat, as_lives, lives_verdict, when_closing, when_unread, closed_by, is_awaited, on_awaited, in_step, when_handshake, is_no_channel, after_part, on_part, part_on, on_content, when_content, on_connection, when_connection, when_misdirected, when_no_channel, on_message, answers_first, MOST_REQUESTS, on_matched, on_idle, is_gathering, on_open, by_state, on_method, on_rest, verdict_on, methods_put}
-use Rattle.amqp_model.specs.LawfulHistories.{facts_at, GreetingReadsBack}
+use Rattle.amqp_model.specs.EndVerdict.{facts_at}
+use Rattle.amqp_model.specs.ReadingBack.{GreetingReadsBack}
 use Rattle.amqp_model.specs.Fitting.{HostFits, ConfigWrites}
 use Rattle.amqp_model.specs.FittingLaws.{MethodReadsBack, OwedReadBack, CloseReadsBack, AllReadsBack}
 use Rattle.amqp_model.proofs.ReadBack.{configured, open-fits, connection_close-fits, channel_close-fits}

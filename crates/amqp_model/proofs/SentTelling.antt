@@ -18,7 +18,8 @@ use Rattle.amqp_model.specs.EndLaws.{notes_on}
 use Rattle.amqp_model.specs.Sent.{payload_in, items_in, items_sent, items_acted, life_on, Telling, ended_by, goes_on_with, told_at, said_at, told, said, items_of}
 use Rattle.amqp_model.specs.Negotiation.{Config}
 use Rattle.amqp_model.specs.StateFromHistory.{end_from}
-use Rattle.amqp_model.specs.LawfulHistories.{end_puts, then_put, Goes, greets, takes, faults, meets_too_large, fails, asks, Lawful, begun, goes}
+use Rattle.amqp_model.specs.EndVerdict.{end_puts}
+use Rattle.amqp_model.specs.LawfulHistories.{then_put, Goes, greets, takes, faults, meets_too_large, fails, asks, Lawful, begun, goes}
 use Rattle.amqp_model.specs.SentLaws.{TellsWhatIsActedOn, FaultTellsNothing, SaysWhatIsSent, NothingOfChannel0}
 use Rattle.amqp_model.proofs.Lists.{messages-append, messages_elsewhere}
 use Rattle.amqp_model.proofs.ItemLemmas.{items-more}

@@ -13,7 +13,7 @@ use Rattle.amqp_model.specs.Events.{Faults, AlreadyFailed}
 use Rattle.amqp_model.specs.FrameVerdict.{verdict_on}
 use Rattle.amqp_model.specs.Answers.{state_in, channel_state, gathered, reply_due}
 use Rattle.amqp_model.specs.Asks.{channel_max, Ask, NotRunning, Refused, ask_verdict}
-use Rattle.amqp_model.specs.LawfulHistories.{end_verdict}
+use Rattle.amqp_model.specs.EndVerdict.{end_verdict}
 use Rattle.amqp_model.specs.Machine.{Counts, CountsOpen, StandsFor}
 use Rattle.amqp_model.specs.EndLaws.{VerdictOfHistory, AskOfHistory, AnswersOfHistory}
 

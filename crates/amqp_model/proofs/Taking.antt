@@ -16,7 +16,8 @@ use Rattle.amqp_model.specs.StateFromHistory.{has_put, is_closed, is_negotiated,
 use Rattle.amqp_model.specs.Closes.{AllReadBack, frame_of}
 use Rattle.amqp_model.specs.Events.{Event, Discarded, FrameVerdict, Proceeds}
 use Rattle.amqp_model.specs.FrameVerdict.{verdict_on, methods_put}
-use Rattle.amqp_model.specs.LawfulHistories.{facts_at, goes_on, then_put}
+use Rattle.amqp_model.specs.EndVerdict.{facts_at, goes_on}
+use Rattle.amqp_model.specs.LawfulHistories.{then_put}
 use Rattle.amqp_model.specs.EndLaws.{is_over, ActsOn, rests, acts, TakesActs}
 use Rattle.amqp_model.proofs.Agreeing.{facts_in, frame-agrees}
 use Rattle.amqp_model.proofs.Acting.{left-noted, not-left, seen-took, acts-here}

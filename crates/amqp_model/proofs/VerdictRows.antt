@@ -13,7 +13,7 @@ use Rattle.amqp_model.specs.Histories.{PutHere}
 use Rattle.amqp_model.specs.Channels.{Opening, Open, Running, Agreed, End}
 use Rattle.amqp_model.specs.Negotiation.{Config, OfClient, OfServer, start, start_ok, tune}
 use Rattle.amqp_model.specs.Closes.{CloseCode, FrameError, SyntaxError, CommandInvalid, ChannelError, UnexpectedFrame, ResourceError, NotImplemented, Owed, close_as, without_arguments, flow_as}
-use Rattle.amqp_model.specs.Events.{Message, Plain, Whole, Negotiated, Opened, Told, Flow, ChannelClosed, Discarded, Blocked, Quiet, Peer, Fatal, FrameVerdict, Proceeds, RefusesContent, Faults}
+use Rattle.amqp_model.specs.Events.{Message, Plain, Whole, Negotiated, Opened, Told, Flow, FlowOk, ChannelClosed, Discarded, Blocked, Quiet, Peer, Fatal, AlreadyClosed, AlreadyFailed, FrameVerdict, Proceeds, RefusesContent, Faults}
 use Rattle.amqp_model.specs.Asks as asks
 use Rattle.amqp_model.specs.Asks.{Refusal, Ask, refusal, paused, flow_pending, reply_pending, no_such_request}
 use Rattle.amqp_model.specs.Machine.{end_after, end_after_taken, taken_verdict, new_end}
@@ -281,3 +281,53 @@ last_request = refl
 
 one_request_too_many : verdicts Server (server_config 8) (busy_server 1024) (calls 1 kinds.TxSelect [] ∷ []) ≡ closed_with ResourceError ∷ []
 one_request_too_many = refl
+
+-- A reply that carries a content is matched at its method; one to another request is not taken, nor is one while none waits.
+abbrev getting_client : End
+getting_client = end_after Client client_config 1 (PutHere (Calls (without_arguments kinds.BasicGet)) (some_frame 1)) open_client
+
+got_one : verdicts Client client_config getting_client (calls 1 kinds.BasicGetOk [] ∷ On 1 (HeaderOf 0 no_properties) ∷ calls 1 kinds.BasicGetEmpty [] ∷ []) ≡
+    silently ∷ Proceeds (Some (Told 1 (Whole (record { method = without_arguments kinds.BasicGetOk; properties = no_properties; body = [] })))) [] ∷ closed_with CommandInvalid ∷ []
+got_one = refl
+
+got_none : verdicts Client client_config getting_client (calls 1 kinds.BasicGetEmpty [] ∷ []) ≡ Proceeds (Some (Told 1 (Plain (without_arguments kinds.BasicGetEmpty)))) [] ∷ []
+got_none = refl
+
+got_another : verdicts Client client_config getting_client (calls 1 kinds.QueueDeclareOk [] ∷ []) ≡ closed_with CommandInvalid ∷ []
+got_another = refl
+
+-- A flow that is unanswered is answered once, whatever the bit, but not inside a content.
+abbrev asking_server : End
+asking_server = end_after Server (server_config 8) 1 (PutHere (Calls (flow_as kinds.ChannelFlow false)) (some_frame 1)) (running 8)
+
+flow_heard : verdicts Server (server_config 8) asking_server (calls 1 kinds.ChannelFlowOk (bit true ∷ []) ∷ calls 1 kinds.ChannelFlowOk (bit false ∷ []) ∷ []) ≡ Proceeds (Some (FlowOk 1 true)) [] ∷ closed_with CommandInvalid ∷ []
+flow_heard = refl
+
+flow_inside_content : verdicts Server (server_config 8) asking_server (On 1 (Calls publish) ∷ calls 1 kinds.ChannelFlowOk (bit true ∷ []) ∷ []) ≡ silently ∷ closed_with UnexpectedFrame ∷ []
+flow_inside_content = refl
+
+-- The class connection off channel 0, other classes on channel 0, and content above the greatest number.
+connection_elsewhere : server_says (calls 1 kinds.ConnectionClose bye ∷ []) ≡ closed_with CommandInvalid ∷ []
+connection_elsewhere = refl
+
+class_on_zero : server_says (calls 0 kinds.TxSelect [] ∷ []) ≡ closed_with ChannelError ∷ []
+class_on_zero = refl
+
+misdirected_above_limit : server_says (calls 2048 kinds.BasicDeliver [] ∷ []) ≡ closed_with CommandInvalid ∷ []
+misdirected_above_limit = refl
+
+body_above_limit : server_says (On 2048 (BodyOf []) ∷ []) ≡ closed_with ChannelError ∷ []
+body_above_limit = refl
+
+-- An end that is closed, or has failed, says so of every frame.
+abbrev closed_server : End
+closed_server = after_all Server (server_config 8) (running 8) (calls 0 kinds.ConnectionClose bye ∷ [])
+
+closed_says : verdicts Server (server_config 8) closed_server (calls 1 kinds.TxSelect [] ∷ []) ≡ Faults AlreadyClosed ∷ []
+closed_says = refl
+
+closed_says_of_heartbeat : verdicts Server (server_config 8) closed_server (On 0 (Beat true) ∷ []) ≡ Faults AlreadyClosed ∷ []
+closed_says_of_heartbeat = refl
+
+failed_says : verdicts Server (server_config 8) (running 8) (On 0 MalformedMethod ∷ On 0 (Beat true) ∷ []) ≡ closed_with SyntaxError ∷ Faults AlreadyFailed ∷ []
+failed_says = refl

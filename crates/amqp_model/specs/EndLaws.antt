@@ -19,7 +19,9 @@ use Rattle.amqp_model.specs.Closes.{reply_to}
 use Rattle.amqp_model.specs.Events.{Event, FrameVerdict, Proceeds, RefusesContent}
 use Rattle.amqp_model.specs.Answers.{channel_state, gathered, reply_due}
 use Rattle.amqp_model.specs.Asks.{is_free, Ask, is_made, method_asked, Puts, ask_verdict}
-use Rattle.amqp_model.specs.LawfulHistories.{end_verdict, goes_on, then_put, then_taken, too_large_puts, takes_frames, takes_octets, CanTake, AskReadsBack, WritesReadBack, Goes, Lawful}
+use Rattle.amqp_model.specs.EndVerdict.{end_verdict, goes_on, too_large_puts, takes_frames, takes_octets, CanTake}
+use Rattle.amqp_model.specs.ReadingBack.{AskReadsBack, WritesReadBack}
+use Rattle.amqp_model.specs.LawfulHistories.{then_put, then_taken, Goes, Lawful}
 use Rattle.amqp_model.specs.Machine.{end_after, end_after_taken, end_after_too_large, end_after_put, as_failed, new_end, channel_after, may_put_here, ChannelStandsFor, StandsFor}
 
 -- A Running end takes a frame on a channel above 0, and goes on: what it keeps of the channel follows from what it

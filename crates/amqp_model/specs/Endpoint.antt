@@ -18,7 +18,7 @@ use Rattle.amqp_model.specs.Events.{Event, Quiet, Fault, Peer, Fatal, WrongProto
 use Rattle.amqp_model.specs.FrameVerdict.{Facts, on_zero, methods_put, event_told}
 use Rattle.amqp_model.specs.Asks.{Ask, AskVerdict, Refused, Puts, ask_verdict}
 use Rattle.amqp_model.specs.Outputs.{Output, after_puts, after_writing}
-use Rattle.amqp_model.specs.LawfulHistories.{facts_at, end_verdict, end_puts}
+use Rattle.amqp_model.specs.EndVerdict.{facts_at, end_verdict, end_puts}
 use Rattle.amqp_model.specs.Machine.{end_after_owed, end_after_put, end_after_taken, failed_by, new_end}
 use Rattle.amqp_model.specs.Octets.{opening_read, opening_written}
 

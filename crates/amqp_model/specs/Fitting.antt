@@ -13,7 +13,7 @@ use Rattle.amqp_model.specs.Channels.{Agreed}
 use Rattle.amqp_model.specs.Negotiation.{Hello, OfClient, OfServer, Config, FRAME_MIN, start, start_ok}
 use Rattle.amqp_model.specs.Closes.{method_frame}
 use Rattle.amqp_model.specs.Events.{Message, Plain, Whole}
-use Rattle.amqp_model.specs.LawfulHistories.{header_of}
+use Rattle.amqp_model.specs.ReadingBack.{header_of}
 use Rattle.amqp_model.specs.Asks.{Ask, Open, Send, Flow, CloseChannel, Close, Blocked, Unblocked, is_made, channel_max, frame_max}
 
 -- the arguments are those of the method's kind, and each fits its field

@@ -13,7 +13,7 @@ use Rattle.amqp_model.specs.Closes.{FrameError, AllReadBack, method_frame, frame
 use Rattle.amqp_model.specs.Events.{Message, Peer, Faults}
 use Rattle.amqp_model.specs.FrameVerdict.{Facts, verdict_on, methods_put}
 use Rattle.amqp_model.specs.Asks.{Ask, Send, frame_max, payload_frame, message_payloads, Puts, ask_verdict}
-use Rattle.amqp_model.specs.LawfulHistories.{AskReadsBack, WritesReadBack}
+use Rattle.amqp_model.specs.ReadingBack.{AskReadsBack, WritesReadBack}
 use Rattle.amqp_model.specs.Fitting.{MethodFits, HeaderFits, ConfigFits, ConfigWrites, AgreedFits, AskFits, HelloFits, config_fault}
 
 -- what is written of a method that fits its fields reads as the method

@@ -5,7 +5,8 @@ use Rattle.amqp_model.specs.Outputs.{Output, output_octets}
 use Rattle.amqp_model.specs.Departures.{IsOutputOf, LeavesLast, PutAs}
 use Rattle.amqp_model.specs.Histories.{History}
 use Rattle.amqp_model.specs.Negotiation.{Config}
-use Rattle.amqp_model.specs.LawfulHistories.{WritesReadBack, Lawful}
+use Rattle.amqp_model.specs.ReadingBack.{WritesReadBack}
+use Rattle.amqp_model.specs.LawfulHistories.{Lawful}
 use Rattle.amqp_model.specs.Octets.{frames_put}
 
 -- an end puts nothing but connection.close and close-ok behind one of these

@@ -32,6 +32,8 @@ pub mod Events
 pub mod FrameVerdict
 pub mod Asks
 pub mod Answers
+pub mod EndVerdict
+pub mod ReadingBack
 pub mod LawfulHistories
 pub mod Machine
 pub mod EndLaws
@@ -39,6 +41,7 @@ pub mod Octets
 pub mod Pairs
 pub mod Sent
 pub mod SentLaws
+pub mod WholeMessages
 pub mod LeavingLaws
 pub mod Fitting
 pub mod FittingLaws

@@ -17,7 +17,7 @@ use Rattle.amqp_model.specs.StateFromHistory.{accepted, awaits_tune_ok, phase_fr
 use Rattle.amqp_model.specs.Closes.{FrameError, Owed, frame_of}
 use Rattle.amqp_model.specs.Events.{Peer, FrameVerdict, Faults}
 use Rattle.amqp_model.specs.FrameVerdict.{answers_first, verdict_on, methods_put}
-use Rattle.amqp_model.specs.LawfulHistories.{facts_at}
+use Rattle.amqp_model.specs.EndVerdict.{facts_at}
 
 -- What an entry leaves of each part of a life.
 
@@ -196,7 +196,8 @@ abbrev pub failed_by : FrameVerdict → End → End
 failed_by (Faults fault) end = as_failed end
 failed_by verdict end = end
 
--- An end takes a frame that says this: its verdict, and what the end keeps then.
+-- An end takes a frame that says this: its verdict, and what the end keeps then. An end that is closed or has failed takes no
+-- frame, so this says nothing of it.
 abbrev pub taken_verdict : {role : Role} → Config role → End → (number : ℕ) → Reading → FrameVerdict
 taken_verdict config end number reading = verdict_on (facts_at config end number) reading
 

@@ -15,7 +15,9 @@ use Rattle.amqp_model.specs.Asks.{Ask, Refusal, is_made, Refused, Puts, ask_verd
 use Rattle.amqp_model.specs.Outputs.{output_octets}
 use Rattle.amqp_model.specs.Departures.{IsOutputOf}
 use Rattle.amqp_model.specs.Fitting.{ConfigWrites}
-use Rattle.amqp_model.specs.LawfulHistories.{AskReadsBack, Lawful, facts_at, end_verdict, then_put, then_taken, goes_on, takes_frames}
+use Rattle.amqp_model.specs.EndVerdict.{facts_at, end_verdict, goes_on, takes_frames}
+use Rattle.amqp_model.specs.ReadingBack.{AskReadsBack}
+use Rattle.amqp_model.specs.LawfulHistories.{Lawful, then_put, then_taken}
 use Rattle.amqp_model.specs.Machine.{StandsFor}
 use Rattle.amqp_model.specs.Octets.{frames_put, opening_written, has_opened, FedAs, FailedAt}
 use Rattle.amqp_model.specs.Endpoint.{Judgement, Begun, Whole, Wrong, judged, Endpoint, Feeding, Unfinished, Finished, Found, new_endpoint, awaits_opening, greeting, fault_told, owed_at_fault, after_octet, after_feed, after_ask, after_wrote}

@@ -8,7 +8,8 @@ use Rattle.amqp_model.specs.Runs.{Run}
 use Rattle.amqp_model.specs.Arrangement.{is_leaving, on}
 use Rattle.amqp_model.specs.Histories.{History}
 use Rattle.amqp_model.specs.Negotiation.{Config}
-use Rattle.amqp_model.specs.LawfulHistories.{WritesReadBack, Goes, Lawful}
+use Rattle.amqp_model.specs.ReadingBack.{WritesReadBack}
+use Rattle.amqp_model.specs.LawfulHistories.{Goes, Lawful}
 use Rattle.amqp_model.specs.EndLaws.{notes_on}
 use Rattle.amqp_model.specs.Octets.{frames_taken, frames_put}
 

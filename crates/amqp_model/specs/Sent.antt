@@ -12,7 +12,7 @@ use Rattle.amqp_model.specs.Readings.{reading, payload_of}
 use Rattle.amqp_model.specs.Histories.{Put, Took, History}
 use Rattle.amqp_model.specs.Negotiation.{Config}
 use Rattle.amqp_model.specs.StateFromHistory.{end_from}
-use Rattle.amqp_model.specs.LawfulHistories.{goes_on, end_verdict}
+use Rattle.amqp_model.specs.EndVerdict.{goes_on, end_verdict}
 use Rattle.amqp_model.specs.EndLaws.{notes_on}
 
 -- what a frame is to the contents of its channel

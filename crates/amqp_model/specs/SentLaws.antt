@@ -6,7 +6,8 @@ use Rattle.amqp_model.specs.Fronts.{IsFrontOf}
 use Rattle.amqp_model.specs.Laws.{IsLive, EndedByPeer}
 use Rattle.amqp_model.specs.Histories.{Took, History, closes_connection}
 use Rattle.amqp_model.specs.Negotiation.{Config}
-use Rattle.amqp_model.specs.LawfulHistories.{goes_on, end_verdict, then_taken, Lawful}
+use Rattle.amqp_model.specs.EndVerdict.{goes_on, end_verdict}
+use Rattle.amqp_model.specs.LawfulHistories.{then_taken, Lawful}
 use Rattle.amqp_model.specs.StateFromHistory.{end_from}
 use Rattle.amqp_model.specs.Frame.{Frame}
 use Rattle.amqp_model.specs.EndLaws.{notes_on}

@@ -6,20 +6,29 @@
 //! alike: `mine` is the history of the end in that role, `theirs` that of the other. The last law says which frames the
 //! octets of one end carry to the other, channel by channel.
 
-ghost use Rattle.std.specs.Prelude.{ℕ, suc, List, Option};
+ghost use Rattle.std.specs.Prelude.{Bool, ℕ, suc, List, Option};
 ghost use Rattle.amqp_model.specs.CarryingLaws.{CompletedComesNext, FramesAreOfChannel, NotesAreOfFrames, OpeningsMeet, TakesFrontOnEach};
+ghost use Rattle.amqp_model.specs.Contents.{Payload};
 ghost use Rattle.amqp_model.specs.Frame.{Frame};
 ghost use Rattle.amqp_model.specs.Histories.{History};
 ghost use Rattle.amqp_model.specs.Negotiation.{Config};
 ghost use Rattle.amqp_model.specs.Notes.{Client, Role, Server};
 ghost use Rattle.amqp_model.specs.Pairs.{NewEndsPair, PairAt, StepStaysPair};
 ghost use Rattle.amqp_model.specs.SentLaws.{ActsOnFrontOfItems, AllItemsActedOnAtClose, AllItemsActedOnAtConnectionClose, AllItemsActedOnOfEnded, FaultTellsNothing, ItemsSentAreActedOnOrOnTheirWay, NoItemsBeforeFirstLife, NothingOfChannel0, SaysWhatIsSent, TellsWhatIsActedOn};
+ghost use Rattle.amqp_model.specs.WholeMessages.{EachFitsNext, PutsWholeMessages};
 
 /// Two new ends are a pair, and a pair stays one with each step of either end, where a frame that it takes is the next on
 /// its channel.
 pub fn steps_stay_pairs()
     ensures new { (role : Role) (client_config : Config Client) (server_config : Config Server) → NewEndsPair role client_config server_config }
     ensures step { (role : Role) (client_config : Config Client) (server_config : Config Server) (mine theirs : History) (taken : Option Frame) (after : History) → StepStaysPair role client_config server_config mine theirs taken after }
+{}
+
+/// What an end puts on a channel in a life is whole messages, one behind another; so of such payloads each can come next
+/// behind those before it.
+pub fn whole_messages_are_put()
+    ensures whole { (role : Role) (config : Config role) (failed : Bool) (history : History) (n life : ℕ) → PutsWholeMessages role config failed history n life }
+    ensures each { (front : List Payload) (payload : Payload) (later : List Payload) → EachFitsNext front payload later }
 {}
 
 /// In each life of a channel, the items that an end acted on are a front of those that the other sent.

@@ -1,0 +1,38 @@
+-- What is written reads as what it was made of: premises of the laws that speak of what an end puts. `Fitting` says when they
+-- hold.
+use Rattle.std.specs.Prelude.{◌≡◌, ℕ, length, Some}
+use Rattle.amqp_model.specs.Notes.{Role, Client, Server}
+use Rattle.amqp_model.specs.Methods.{Header, ReadsBack, header_at, plain_header}
+use Rattle.amqp_model.specs.Contents.{Content}
+use Rattle.amqp_model.specs.Readings.{Reading}
+use Rattle.amqp_model.specs.Channels.{End}
+use Rattle.amqp_model.specs.Negotiation.{Config, start}
+use Rattle.amqp_model.specs.Closes.{FrameError, AllReadBack}
+use Rattle.amqp_model.specs.Events.{Whole, Peer, Faults}
+use Rattle.amqp_model.specs.FrameVerdict.{verdict_on, methods_put}
+use Rattle.amqp_model.specs.Asks.{Ask, Send, method_asked}
+use Rattle.amqp_model.specs.EndVerdict.{facts_at}
+
+-- the header of a content, as it is written
+abbrev pub header_of : Content → Header
+header_of content = record { body_size = length content.body; properties = content.properties }
+
+abbrev pub HeaderAskedReadsBack : Ask → Type 0
+HeaderAskedReadsBack (Send channel (Whole content)) = header_at (plain_header (header_of content)) ≡ Some (header_of content)
+HeaderAskedReadsBack ask = Unit {0}
+
+-- what is written for an ask reads back: its method, and the header of its content
+pub record AskReadsBack (ask : Ask) : Type 0 where
+  pub method : ReadsBack (method_asked ask)
+  pub header : HeaderAskedReadsBack ask
+
+abbrev pub GreetingReadsBack : (role : Role) → Config role → Type 0
+GreetingReadsBack Client config = Unit {0}
+GreetingReadsBack Server config = ReadsBack (start config)
+
+-- What an end of this configuration writes of itself reads back: what its verdicts put, and a server's start. It does
+-- where the configuration fits its fields, which is a law.
+pub record WritesReadBack (role : Role) (config : Config role) : Type 0 where
+  pub owed : (end : End) (number : ℕ) (reading : Reading) → AllReadBack (methods_put (facts_at config end number) (verdict_on (facts_at config end number) reading))
+  pub too_large : (end : End) → AllReadBack (methods_put (facts_at config end 0) (Faults (Peer FrameError)))
+  pub greeting : GreetingReadsBack role config

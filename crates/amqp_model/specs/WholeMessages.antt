@@ -1,0 +1,37 @@
+-- Whole messages: AMQP 0-9-1 specification, section 4.2.6, "Content Framing". Payloads stand in their order here, the oldest
+-- first.
+use Rattle.std.specs.Prelude.{◌≡◌, Bool, ℕ, suc, List, [], ◌∷◌, ◌++◌, map, reverse}
+use Rattle.amqp_model.specs.Notes.{Role}
+use Rattle.amqp_model.specs.Carried.{sent}
+use Rattle.amqp_model.specs.Contents.{Payload}
+use Rattle.amqp_model.specs.Gathering.{Gathering, Nothing, Step, Keeps, Completes, Breaks, step, remains, gathering}
+use Rattle.amqp_model.specs.Histories.{History}
+use Rattle.amqp_model.specs.Negotiation.{Config}
+use Rattle.amqp_model.specs.ReadingBack.{WritesReadBack}
+use Rattle.amqp_model.specs.LawfulHistories.{Lawful}
+use Rattle.amqp_model.specs.EndLaws.{notes_on}
+use Rattle.amqp_model.specs.Sent.{payload_in}
+
+-- the payload can come next
+abbrev pub FitsNext : Step → Type 0
+FitsNext (Keeps kept) = Unit {0}
+FitsNext (Completes content) = Unit {0}
+FitsNext (Breaks misfit) = ⊥
+
+-- where such is kept, each of these payloads can come next in turn, and nothing is under way behind them
+abbrev pub FitBehind : Gathering → List Payload → Type 0
+FitBehind kept [] = kept ≡ Nothing
+FitBehind kept (payload ∷ later) = FitsNext (step kept payload) × FitBehind (remains (step kept payload) payload) later
+
+-- the payloads are whole messages, one behind another
+abbrev pub AreWholeMessages : List Payload → Type 0
+AreWholeMessages payloads = FitBehind Nothing payloads
+
+-- where payloads are whole messages, each can come next behind those before it
+abbrev pub EachFitsNext : (front : List Payload) → Payload → (later : List Payload) → Type 0
+EachFitsNext front payload later = AreWholeMessages (front ++ payload ∷ later) → FitsNext (step (gathering (reverse front)) payload)
+
+-- what an end puts on a channel in a life is whole messages
+abbrev pub PutsWholeMessages : (role : Role) → Config role → (failed : Bool) → History → (n life : ℕ) → Type 0
+PutsWholeMessages role config failed history n life =
+    WritesReadBack role config → Lawful role config failed history → AreWholeMessages (map payload_in (sent role life (notes_on (suc n) history)))
