@@ -70,7 +70,7 @@ accepted role end ask e =
 
 -- What an Open channel's entries count to.
 
-open-reads : (role : Role) (entries : List ChannelEntry) (life : Life) → has_left (notes entries) ≡ false → channel_from role entries ≡ channels.Open life → (state role (notes entries) ≡ State.Open) × (is_paused role (notes entries) ≡ life.paused) × (awaits_flow_ok role (notes entries) ≡ life.awaits)
+pub open-reads : (role : Role) (entries : List ChannelEntry) (life : Life) → has_left (notes entries) ≡ false → channel_from role entries ≡ channels.Open life → (state role (notes entries) ≡ State.Open) × (is_paused role (notes entries) ≡ life.paused) × (awaits_flow_ok role (notes entries) ≡ life.awaits)
 open-reads role entries life stays e =
     let lives-same = by-word (state_by role (notes (entries_before_leaving entries))) (life_from role (entries_before_leaving entries)) e in
     let same = all-before entries stays in (
@@ -92,7 +92,7 @@ has-life channels.Opening e = absurd (true≢false e)
 has-life channels.Closing e = absurd (true≢false e)
 
 -- an end that is Running has not put connection.close
-running-stays : (role : Role) (config : Config role) (history : History) (n : ℕ) → not_running (end_from role config false history) ≡ None → has_left (notes (entries_on (suc n) history)) ≡ false
+pub running-stays : (role : Role) (config : Config role) (history : History) (n : ℕ) → not_running (end_from role config false history) ≡ None → has_left (notes (entries_on (suc n) history)) ≡ false
 running-stays role config history n e =
     left-noted history n ∙ not-left (is_closed (entries_on 0 history)) (has_put kinds.ConnectionClose (entries_on 0 history)) (is_negotiated role (entries_on 0 history)) (step_from role (entries_on 0 history)) (here (end_from role config false history).phase (not-when _ Refusal.NotRunning e))
   where

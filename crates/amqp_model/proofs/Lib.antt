@@ -63,4 +63,5 @@ mod Sent
 mod ConnectionClosed
 mod SentTelling
 mod WholeMessages
+mod KeptContents
 mod MethodTable

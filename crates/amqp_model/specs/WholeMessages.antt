@@ -1,14 +1,18 @@
 -- Whole messages: AMQP 0-9-1 specification, section 4.2.6, "Content Framing". Payloads stand in their order here, the oldest
 -- first.
-use Rattle.std.specs.Prelude.{◌≡◌, Bool, ℕ, suc, List, [], ◌∷◌, ◌++◌, map, reverse}
-use Rattle.amqp_model.specs.Notes.{Role}
+use Rattle.std.specs.Prelude.{◌≡◌, Bool, true, ℕ, suc, List, [], ◌∷◌, ◌++◌, map, reverse}
+use Rattle.amqp_model.specs.Frame.{Frame}
+use Rattle.amqp_model.specs.Notes.{Role, Client, Server, is_message}
 use Rattle.amqp_model.specs.Carried.{sent}
 use Rattle.amqp_model.specs.Contents.{Payload}
 use Rattle.amqp_model.specs.Gathering.{Gathering, Nothing, Step, Keeps, Completes, Breaks, step, remains, gathering}
+use Rattle.amqp_model.specs.Readings.{reading, kind_of}
 use Rattle.amqp_model.specs.Histories.{History}
+use Rattle.amqp_model.specs.Channels.{Life, Open, Running}
 use Rattle.amqp_model.specs.Negotiation.{Config}
 use Rattle.amqp_model.specs.ReadingBack.{WritesReadBack}
-use Rattle.amqp_model.specs.LawfulHistories.{Lawful}
+use Rattle.amqp_model.specs.LawfulHistories.{end_of, Lawful}
+use Rattle.amqp_model.specs.Pairs.{ComesNext, PairAt, config_of}
 use Rattle.amqp_model.specs.EndLaws.{notes_on}
 use Rattle.amqp_model.specs.Sent.{payload_in}
 
@@ -35,3 +39,12 @@ EachFitsNext front payload later = AreWholeMessages (front ++ payload ∷ later)
 abbrev pub PutsWholeMessages : (role : Role) → Config role → (failed : Bool) → History → (n life : ℕ) → Type 0
 PutsWholeMessages role config failed history n life =
     WritesReadBack role config → Lawful role config failed history → AreWholeMessages (map payload_in (sent role life (notes_on (suc n) history)))
+
+-- a message that comes next to a Running end, on a channel that it has Open, fits behind the content that it keeps
+abbrev pub FitsWhatIsKept : Role → Config Client → Config Server → (mine theirs : History) → (n : ℕ) → Frame → Type 0
+FitsWhatIsKept role client_config server_config mine theirs n frame =
+    PairAt role client_config server_config mine theirs
+    → (end_of (config_of role client_config server_config) mine).phase ≡ Running
+    → ComesNext theirs mine frame → frame.channel ≡ suc n → is_message (kind_of (reading frame)) ≡ true
+    → (life : Life) → (end_of (config_of role client_config server_config) mine).channels (suc n) ≡ Open life
+    → FitsNext (step life.content (payload_in frame))

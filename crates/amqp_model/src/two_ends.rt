@@ -15,7 +15,7 @@ ghost use Rattle.amqp_model.specs.Negotiation.{Config};
 ghost use Rattle.amqp_model.specs.Notes.{Client, Role, Server};
 ghost use Rattle.amqp_model.specs.Pairs.{NewEndsPair, PairAt, StepStaysPair};
 ghost use Rattle.amqp_model.specs.SentLaws.{ActsOnFrontOfItems, AllItemsActedOnAtClose, AllItemsActedOnAtConnectionClose, AllItemsActedOnOfEnded, FaultTellsNothing, ItemsSentAreActedOnOrOnTheirWay, NoItemsBeforeFirstLife, NothingOfChannel0, SaysWhatIsSent, TellsWhatIsActedOn};
-ghost use Rattle.amqp_model.specs.WholeMessages.{EachFitsNext, PutsWholeMessages};
+ghost use Rattle.amqp_model.specs.WholeMessages.{EachFitsNext, FitsWhatIsKept, PutsWholeMessages};
 
 /// Two new ends are a pair, and a pair stays one with each step of either end, where a frame that it takes is the next on
 /// its channel.
@@ -24,11 +24,13 @@ pub fn steps_stay_pairs()
     ensures step { (role : Role) (client_config : Config Client) (server_config : Config Server) (mine theirs : History) (taken : Option Frame) (after : History) → StepStaysPair role client_config server_config mine theirs taken after }
 {}
 
-/// What an end puts on a channel in a life is whole messages, one behind another; so of such payloads each can come next
-/// behind those before it.
+/// What an end puts on a channel in a life is whole messages, one behind another, so that each of their payloads can come
+/// next behind those before it. And so it is taken: what comes next to a Running end, on a channel that it has Open, fits
+/// behind the content that it keeps. No part of a content is out of place, and no message stands inside one.
 pub fn whole_messages_are_put()
     ensures whole { (role : Role) (config : Config role) (failed : Bool) (history : History) (n life : ℕ) → PutsWholeMessages role config failed history n life }
     ensures each { (front : List Payload) (payload : Payload) (later : List Payload) → EachFitsNext front payload later }
+    ensures taken { (role : Role) (client_config : Config Client) (server_config : Config Server) (mine theirs : History) (n : ℕ) (frame : Frame) → FitsWhatIsKept role client_config server_config mine theirs n frame }
 {}
 
 /// In each life of a channel, the items that an end acted on are a front of those that the other sent.

@@ -1,4 +1,5 @@
 -- Each clause is a lemma on histories.
+use Rattle.amqp_model.proofs.KeptContents.{fits-what-is-kept}
 use Rattle.amqp_model.proofs.WholeMessages.{puts-whole-messages, each-fits-next}
 use Rattle.amqp_model.proofs.two_ends.whole_messages_are_put.Goals as goal
 
@@ -7,3 +8,6 @@ returns-clause-whole c = puts-whole-messages
 
 pub returns-clause-each : goal.returns-clause-each
 returns-clause-each c = each-fits-next
+
+pub returns-clause-taken : goal.returns-clause-taken
+returns-clause-taken c = fits-what-is-kept
