@@ -331,3 +331,19 @@ closed_says_of_heartbeat = refl
 
 failed_says : verdicts Server (server_config 8) (running 8) (On 0 MalformedMethod ∷ On 0 (Beat true) ∷ []) ≡ closed_with SyntaxError ∷ Faults AlreadyFailed ∷ []
 failed_says = refl
+
+-- What was agreed stays: a tune-ok that comes once the server has put its close is dropped.
+abbrev leaving_server : End
+leaving_server = end_after Server (server_config 8) 0 (PutHere (Calls (close_as kinds.ConnectionClose 200 (codes "bye"))) (some_frame 0)) (running 8)
+
+abbrev late_tune_ok : List Came
+late_tune_ok = calls 0 kinds.ConnectionTuneOk (short 1 ∷ long 4096 ∷ short 0 ∷ []) ∷ []
+
+tune_ok_dropped : verdicts Server (server_config 8) leaving_server late_tune_ok ≡ Proceeds (Some (Discarded 0)) [] ∷ []
+tune_ok_dropped = refl
+
+agreed_stays : (after_all Server (server_config 8) leaving_server late_tune_ok).agreed ≡ Some default_limits
+agreed_stays = refl
+
+agreed_at_first : (running 8).agreed ≡ Some default_limits
+agreed_at_first = refl
