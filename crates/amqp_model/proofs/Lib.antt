@@ -59,6 +59,7 @@ mod OctetHistories
 mod OctetAsks
 mod OctetSteps
 mod OctetRows
+mod OctetScripts
 mod Sent
 mod ConnectionClosed
 mod SentTelling
