@@ -34,8 +34,8 @@ as-lives-agrees : {role : Role} (facts : Facts role) (r : Reading) (v : lives.Ve
 as-lives-agrees facts r (lives.GoesOn event owed) e g = agrees event owed _ e refl
 as-lives-agrees facts r (lives.Fault code) e g = absurd (false≢true g)
 
-lives-agrees : {role : Role} (facts : Facts role) (r : Reading) → goes_on (lives_verdict facts r) ≡ true → Agrees role facts.number facts.channel r (lives_verdict facts r)
-lives-agrees {role} facts r g = as-lives-agrees facts r (verdict_at role (state_of facts.channel) (awaits_in facts.channel) (kind_of r)) refl g
+lives-agrees : {role : Role} (facts : Facts role) (r : Reading) (kind : Kind) → kind_of r ≡ kind → goes_on (lives_verdict facts r kind) ≡ true → Agrees role facts.number facts.channel r (lives_verdict facts r kind)
+lives-agrees {role} facts r kind k g = as-lives-agrees facts r (verdict_at role (state_of facts.channel) (awaits_in facts.channel) kind) (ap (verdict_at role (state_of facts.channel) (awaits_in facts.channel)) k) g
 
 -- no rule before the last has stopped the method
 peel : (is_connection at_zero may_send no_channel : Bool) (on_zero last : FrameVerdict) → at_zero ≡ false → goes_on (first_of (cond is_connection (Some (cond at_zero on_zero (Faults (Peer CommandInvalid)))) None ∷ cond may_send None (Some (Faults (Peer CommandInvalid))) ∷ cond no_channel (Some (Faults (Peer ChannelError))) None ∷ []) last) ≡ true → first_of (cond is_connection (Some (cond at_zero on_zero (Faults (Peer CommandInvalid)))) None ∷ cond may_send None (Some (Faults (Peer CommandInvalid))) ∷ cond no_channel (Some (Faults (Peer ChannelError))) None ∷ []) last ≡ last
@@ -83,14 +83,14 @@ idle-agrees : {role : Role} (config : Config role) (agreed : Option Agreed) (num
 idle-agrees {role} config agreed number life method (Other begins) e g =
     let acted : verdict_at role State.Open life.awaits (kind_of (Calls method)) ≡ lives.GoesOn lives.Acted None = ap (verdict_at role State.Open life.awaits) e in
     owes-nothing number (channels.Open life) (Calls method) (on_matched role number life.requests method) acted g (matched-owes role number life.requests method)
-idle-agrees {role} config agreed number life method kind e g = lives-agrees (facts_in config Running agreed number (channels.Open life)) (Calls method) g
+idle-agrees {role} config agreed number life method kind e g = lives-agrees (facts_in config Running agreed number (channels.Open life)) (Calls method) kind e g
 
 not-inside : (b : Bool) (last : FrameVerdict) → goes_on (cond b (Faults (Peer CloseCode.UnexpectedFrame)) last) ≡ true → cond b (Faults (Peer CloseCode.UnexpectedFrame)) last ≡ last
 not-inside true last g = absurd (false≢true g)
 not-inside false last g = refl
 
 open-agrees : {role : Role} (config : Config role) (agreed : Option Agreed) (number : ℕ) (life : Life) (method : Method) (kind : Kind) → kind_of (Calls method) ≡ kind → goes_on (on_open (facts_in config Running agreed number (channels.Open life)) life method kind) ≡ true → Agrees role number (channels.Open life) (Calls method) (on_open (facts_in config Running agreed number (channels.Open life)) life method kind)
-open-agrees {role} config agreed number life method Close e g = lives-agrees (facts_in config Running agreed number (channels.Open life)) (Calls method) g
+open-agrees {role} config agreed number life method Close e g = lives-agrees (facts_in config Running agreed number (channels.Open life)) (Calls method) Close e g
 open-agrees {role} config agreed number life method kind e g =
     let idle = on_idle (facts_in config Running agreed number (channels.Open life)) life method kind in
     let same = not-inside (is_gathering life.content) idle g in
@@ -98,9 +98,9 @@ open-agrees {role} config agreed number life method kind e g =
 
 state-agrees : {role : Role} (config : Config role) (agreed : Option Agreed) (number : ℕ) (channel : Channel) (method : Method) → goes_on (by_state (facts_in config Running agreed number channel) channel method) ≡ true → Agrees role number channel (Calls method) (by_state (facts_in config Running agreed number channel) channel method)
 state-agrees config agreed number (channels.Open life) method g = open-agrees config agreed number life method (kind_of (Calls method)) refl g
-state-agrees config agreed number Free method g = lives-agrees (facts_in config Running agreed number Free) (Calls method) g
-state-agrees config agreed number Opening method g = lives-agrees (facts_in config Running agreed number Opening) (Calls method) g
-state-agrees config agreed number Closing method g = lives-agrees (facts_in config Running agreed number Closing) (Calls method) g
+state-agrees config agreed number Free method g = lives-agrees (facts_in config Running agreed number Free) (Calls method) (kind_of (Calls method)) refl g
+state-agrees config agreed number Opening method g = lives-agrees (facts_in config Running agreed number Opening) (Calls method) (kind_of (Calls method)) refl g
+state-agrees config agreed number Closing method g = lives-agrees (facts_in config Running agreed number Closing) (Calls method) (kind_of (Calls method)) refl g
 
 -- A part of a content on an Open channel.
 part-agrees : {role : Role} (config : Config role) (agreed : Option Agreed) (number : ℕ) (life : Life) (r : Reading) → kind_of r ≡ Other false → goes_on (cond (is_no_channel (facts_in config Running agreed number (channels.Open life))) (Faults (Peer ChannelError)) (on_part (facts_in config Running agreed number (channels.Open life)) life.content r)) ≡ true → Agrees role number (channels.Open life) r (cond (is_no_channel (facts_in config Running agreed number (channels.Open life))) (Faults (Peer ChannelError)) (on_part (facts_in config Running agreed number (channels.Open life)) life.content r))
@@ -146,8 +146,8 @@ closing-agrees config Running agreed number above here (Beat empty) g = beat-sto
 closing-agrees config Phase.Closing agreed number above here r g = absurd (true≢false here)
 closing-agrees config Phase.Closed agreed number above here r g = absurd (true≢false here)
 closing-agrees config Phase.Failed agreed number above here r g = absurd (true≢false here)
-closing-agrees config (Handshake step) agreed number above here r g = lives-agrees (facts_in config (Handshake step) agreed number Closing) r g
-closing-agrees config Running agreed number above here r g = lives-agrees (facts_in config Running agreed number Closing) r g
+closing-agrees config (Handshake step) agreed number above here r g = lives-agrees (facts_in config (Handshake step) agreed number Closing) r (kind_of r) refl g
+closing-agrees config Running agreed number above here r g = lives-agrees (facts_in config Running agreed number Closing) r (kind_of r) refl g
 
 -- an end that is Running
 running-agrees : {role : Role} (config : Config role) (agreed : Option Agreed) (number : ℕ) (channel : Channel) → is_closing channel ≡ false → (number == 0) ≡ false → (r : Reading) → goes_on (verdict_on (facts_in config Running agreed number channel) r) ≡ true → Agrees role number channel r (verdict_on (facts_in config Running agreed number channel) r)

@@ -213,21 +213,21 @@ module _ {role : Role} (facts : Facts role) (P : Owed → Type 0) (at_zero : (me
   matched Client requests method = either (is_reply method.kind && not (answers_first method.kind requests)) _ _ (λ g. absurd (false≢true g)) (message method)
   matched Server requests method = either (is_request method && nat_le MOST_REQUESTS (length requests)) _ _ (λ g. absurd (false≢true g)) (message method)
 
-  by-lives : (r : Reading) → Away (lives_verdict facts r)
-  by-lives r = lives-away r (verdict_at role (state_of facts.channel) (awaits_in facts.channel) (kind_of r))
+  by-lives : (r : Reading) (kind : Kind) → Away (lives_verdict facts r kind)
+  by-lives r kind = lives-away r (verdict_at role (state_of facts.channel) (awaits_in facts.channel) kind)
 
   idle : (life : Life) (method : Method) (kind : Kind) → Away (on_idle facts life method kind)
   idle life method (Other begins) = matched role life.requests method
-  idle life method kind = by-lives (Calls method)
+  idle life method kind = by-lives (Calls method) kind
 
   opened : (life : Life) (method : Method) (kind : Kind) → Away (on_open facts life method kind)
-  opened life method Close = by-lives (Calls method)
+  opened life method Close = by-lives (Calls method) Close
   opened life method kind = either (is_gathering life.content) _ _ (λ g. absurd (false≢true g)) (idle life method kind)
 
   stated : (channel : Channel) (method : Method) → Away (by_state facts channel method)
   stated (channels.Open life) method = opened life method (kind_of (Calls method))
-  stated Free method = by-lives (Calls method)
-  stated channel method = by-lives (Calls method)
+  stated Free method = by-lives (Calls method) (kind_of (Calls method))
+  stated channel method = by-lives (Calls method) (kind_of (Calls method))
 
   rest : (r : Reading) → said ≡ r → Away (on_rest facts r)
   rest (Calls method) is =

@@ -178,7 +178,7 @@ idle-goes {role} config agreed number life method (Flow active) e f g = inr (ap 
 idle-goes {role} config agreed number life method (FlowOk active) e f g = inr (ap is_message e, λ frame. call-matches role life.requests method frame (λ _. class-answerable method life.requests (ap is_class_kind e)))
 idle-goes {role} config agreed number life method Close e f g = absurd (true≢false f)
 idle-goes {role} config agreed number life method kind e f g =
-    absurd (no-more-opening role life.awaits number (Calls method) (kind_of (Calls method)) (ap is_message e) (ap is_close e) g)
+    absurd (no-more-opening role life.awaits number (Calls method) kind refl refl g)
 
 idle : (kept : Gathering) → is_gathering kept ≡ false → kept ≡ Nothing
 idle Nothing e = refl

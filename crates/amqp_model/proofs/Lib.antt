@@ -58,6 +58,7 @@ mod OctetCuts
 mod OctetHistories
 mod OctetAsks
 mod OctetSteps
+mod Settling
 mod OctetRows
 mod OctetScripts
 mod Sent

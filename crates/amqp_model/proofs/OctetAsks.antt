@@ -34,14 +34,14 @@ use Rattle.amqp_model.proofs.OctetSteps.{no-octets, is-opened, ReadsFrames, read
 -- No ask changes what was agreed.
 
 -- a frame put leaves what was agreed
-abbrev Keeps : (role : Role) → Config role → Frame → Type 0
+abbrev pub Keeps : (role : Role) → Config role → Frame → Type 0
 Keeps role config frame = (end : End) → (end_after role config frame.channel (PutHere (reading frame) frame) end).agreed ≡ end.agreed
 
-abbrev AllKeep : (role : Role) → Config role → List Frame → Type 0
+abbrev pub AllKeep : (role : Role) → Config role → List Frame → Type 0
 AllKeep role config [] = Unit {0}
 AllKeep role config (frame ∷ later) = Keeps role config frame × AllKeep role config later
 
-all-keep : (role : Role) (config : Config role) (frames : List Frame) (end : End) → AllKeep role config frames → (end_after_put role config frames end).agreed ≡ end.agreed
+pub all-keep : (role : Role) (config : Config role) (frames : List Frame) (end : End) → AllKeep role config frames → (end_after_put role config frames end).agreed ≡ end.agreed
 all-keep role config [] end keep = refl
 all-keep role config (frame ∷ later) end keep = all-keep role config later (end_after role config frame.channel (PutHere (reading frame) frame) end) keep.1 ∙ keep.0 end
 
@@ -65,7 +65,7 @@ open-keeps : (role : Role) (config : Config role) (free : Option ℕ) → ReadsB
 open-keeps role config None back = tt
 open-keeps role config (Some k) back = (method-keeps role config k (without_arguments kinds.ChannelOpen) back refl, tt)
 
-ask-keeps : (role : Role) (config : Config role) (end : End) (ask : Ask) → ReadsBack (method_asked ask) → Accepted role end ask → AllKeep role config (frames_asked end ask)
+pub ask-keeps : (role : Role) (config : Config role) (end : End) (ask : Ask) → ReadsBack (method_asked ask) → Accepted role end ask → AllKeep role config (frames_asked end ask)
 ask-keeps role config end Ask.Open back a = open-keeps role config (lowest_free end) back
 ask-keeps role config end (Ask.Send c message) back a = by-channel c refl
   where

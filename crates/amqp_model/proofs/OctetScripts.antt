@@ -1,6 +1,6 @@
 -- What one end makes of octets that are fed to it, from octets to octets: each piece with what comes of it and what the end
 -- then has to write, computed.
-use Rattle.std.proofs.Common.{◌≡◌, Bool, true, false, cond, ℕ, ◌+◌, ◌-◌, ◌*◌, nat_lt, List, [], ◌∷◌, ◌++◌, replicate, codes, length, Some, None, refl}
+use Rattle.std.proofs.Common.{◌≡◌, false, cond, ℕ, ◌+◌, ◌-◌, ◌*◌, nat_lt, List, [], ◌∷◌, ◌++◌, replicate, codes, length, Some, None, refl}
 use Rattle.amqp_frame.specs.Frame as frames
 use Rattle.amqp_method.specs.declared.kinds.Kind.TheVariants as kinds
 use Rattle.amqp_method.specs.Arguments.{bit, short_string}
@@ -12,10 +12,9 @@ use Rattle.amqp_value.specs.Reading.{table_at, elements, many, named, behind_tag
 use Rattle.amqp_value.specs.Values.{no_pairs}
 use Rattle.amqp_model.specs.Methods.{Method, method_at, header_at, plain_method, plain_header}
 use Rattle.amqp_model.specs.Notes.{Role, Client, Server}
-use Rattle.amqp_model.specs.Channels.{Agreed}
 use Rattle.amqp_model.specs.Negotiation.{Config, OfClient, OfServer}
 use Rattle.amqp_model.specs.Closes.{FrameError, NotImplemented}
-use Rattle.amqp_model.specs.Events.{Whole, Event, Negotiated, Opened, Told, Discarded, ChannelClosed, Blocked, Quiet, Peer, Fatal, WrongProtocolHeader}
+use Rattle.amqp_model.specs.Events.{Whole, Negotiated, Opened, Told, Discarded, Blocked, Quiet, Peer, Fatal, WrongProtocolHeader}
 use Rattle.amqp_model.specs.Outputs.{output_octets}
 use Rattle.amqp_model.specs.Endpoint.{Endpoint, Feeding, Outcome, Unfinished, Finished, Found, new_endpoint, after_feed, after_wrote}
 

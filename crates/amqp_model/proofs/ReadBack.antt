@@ -63,7 +63,9 @@ greeting-reads reads Server config fits = reads (start config) (start-fits confi
 pub config-writes : ((method : Method) → MethodReadsBack method) → (role : Role) (config : Config role) → FittingConfigWrites role config
 config-writes reads role config fits =
     record {
+      channel_least = fits.channel_least;
       channel_most = fits.channel_most;
+      frame_least = fits.frame_least;
       frame_most = fits.frame_most;
       host = host-fits role config.hello fits.hello;
       greeting_back = greeting-reads reads role config fits.hello;

@@ -1,8 +1,8 @@
 -- Each method that a verdict puts fits its fields, its channel does, and its frame is short.
-use Rattle.std.proofs.Common.{◌≡◌, ◌<◌, ◌≤◌, ◌^◌, ◌==◌, Bool, true, false, cond, not, ◌&&◌, min, ℕ, arith, List, [], ◌∷◌, map, length, Option, Some, None, refl, length-append}
+use Rattle.std.proofs.Common.{◌≡◌, ◌≢◌, ◌<◌, ◌≤◌, ◌^◌, ◌==◌, Bool, true, false, cond, not, ◌&&◌, min, ℕ, arith, List, [], ◌∷◌, map, length, Option, Some, None, refl, length-append}
 use Rattle.std.specs.Prelude.{nat_lt, nat_le}
 use Rattle.std.specs.List.{AllByRecursion}
-use Rattle.std.proofs.lemmas.Bool.{ltb-true, false≢true}
+use Rattle.std.proofs.lemmas.Bool.{ltb-true, ltb-false, eqb-false, false≢true, true≢false}
 use Rattle.amqp_frame.specs.Frame.{frame_length}
 use Rattle.amqp_method.specs.Fitting.{AreOctets, FitsShort}
 use Rattle.amqp_method.specs.Methods.{row}
@@ -20,7 +20,7 @@ use Rattle.amqp_model.specs.Events.{Peer, FrameVerdict, Proceeds, RefusesContent
 use Rattle.amqp_model.specs.FrameVerdict.{Facts, on_zero, on_channel, first_of, when_over, when_leaving, when_heartbeat, as_lives, lives_verdict, when_closing, when_unread, closed_by, is_awaited, on_awaited, in_step, when_handshake, is_no_channel, after_part, on_part, part_on, on_content, when_content, on_connection, when_connection, when_misdirected, when_no_channel, on_message, answers_first, MOST_REQUESTS, on_matched, on_idle, is_gathering, on_open, by_state, on_method, on_rest, verdict_on, methods_put}
 use Rattle.amqp_model.specs.EndVerdict.{facts_at}
 use Rattle.amqp_model.specs.ReadingBack.{GreetingReadsBack}
-use Rattle.amqp_model.specs.Fitting.{HostFits, ConfigWrites}
+use Rattle.amqp_model.specs.Fitting.{FRAME_MOST, HostFits, ConfigWrites, SettledFits}
 use Rattle.amqp_model.specs.FittingLaws.{MethodReadsBack, OwedReadBack, CloseReadsBack, AllReadsBack}
 use Rattle.amqp_model.proofs.ReadBack.{configured, open-fits, connection_close-fits, channel_close-fits}
 
@@ -29,6 +29,7 @@ pub record Sound (number : ℕ) (owed : Owed) : Type 0 where
   pub back : ((method : Method) → MethodReadsBack method) → ReadsBack owed.method
   pub channel : number < 2 ^ 16 → owed.channel < 2 ^ 16
   pub short : frame_length (frame_of owed) ≤ FRAME_MIN
+  pub settles : same_kind owed.method.kind kinds.ConnectionTuneOk ≡ true → SettledFits (agreed_in owed.method)
 
 abbrev pub AllSound : (number : ℕ) → List Owed → Type 0
 AllSound number owed = AllByRecursion (Sound number) owed
@@ -82,6 +83,7 @@ connection_close-sound number code =
       back = λ reads. reads _ (connection_close-fits (number_of code) (text_of code) (code-fits code) (text-fits code));
       channel = λ h. omega arith;
       short = connection_close-short 0 (number_of code) (text_of code) (text-fits code).0;
+      settles = λ e. absurd (false≢true e);
     }
 
 channel_close-sound : (number : ℕ) (code : CloseCode) → Sound number (channel_close number code)
@@ -90,46 +92,59 @@ channel_close-sound number code =
       back = λ reads. reads _ (channel_close-fits (number_of code) (text_of code) (code-fits code) (text-fits code));
       channel = λ h. h;
       short = channel_close-short number (number_of code) (text_of code) (text-fits code).0;
+      settles = λ e. absurd (false≢true e);
     }
 
 connection_close_ok-sound : (number : ℕ) → Sound number connection_close_ok
 unfolding row plain_method
-connection_close_ok-sound number = record { back = λ reads. reads _ (record { of_kind = refl; arguments = tt }); channel = λ h. omega arith; short = omega arith }
+connection_close_ok-sound number = record { back = λ reads. reads _ (record { of_kind = refl; arguments = tt }); channel = λ h. omega arith; short = omega arith; settles = λ e. absurd (false≢true e) }
 
 -- the replies to open, close and flow
 replies-sound : (number : ℕ) (owed : Option Kind) → AllSound number (map (on_channel number) (reply_to owed))
 unfolding row plain_method
 replies-sound number None = tt
 replies-sound number (Some Open) = tt
-replies-sound number (Some OpenOk) = (record { back = λ reads. reads _ (record { of_kind = refl; arguments = tt }); channel = λ h. h; short = omega arith }, tt)
+replies-sound number (Some OpenOk) = (record { back = λ reads. reads _ (record { of_kind = refl; arguments = tt }); channel = λ h. h; short = omega arith; settles = λ e. absurd (false≢true e) }, tt)
 replies-sound number (Some Close) = tt
-replies-sound number (Some CloseOk) = (record { back = λ reads. reads _ (record { of_kind = refl; arguments = tt }); channel = λ h. h; short = omega arith }, tt)
+replies-sound number (Some CloseOk) = (record { back = λ reads. reads _ (record { of_kind = refl; arguments = tt }); channel = λ h. h; short = omega arith; settles = λ e. absurd (false≢true e) }, tt)
 replies-sound number (Some (Flow active)) = tt
-replies-sound number (Some (FlowOk active)) = (record { back = λ reads. reads _ (record { of_kind = refl; arguments = (tt, tt) }); channel = λ h. h; short = omega arith }, tt)
+replies-sound number (Some (FlowOk active)) = (record { back = λ reads. reads _ (record { of_kind = refl; arguments = (tt, tt) }); channel = λ h. h; short = omega arith; settles = λ e. absurd (false≢true e) }, tt)
 replies-sound number (Some (Other begins)) = tt
 
 -- ---- the handshake
 
+start_ok-settles : (config : Config Client) → same_kind (start_ok config).kind kinds.ConnectionTuneOk ≡ true → ⊥
+start_ok-settles config e = go config.hello e
+  where
+    go : (hello : Hello Client) → same_kind (start_ok (record config { hello = hello })).kind kinds.ConnectionTuneOk ≡ true → ⊥
+    go (OfClient properties mechanism response locale virtual_host) e = false≢true e
+
+connection_open-settles : (config : Config Client) → same_kind (connection_open config).kind kinds.ConnectionTuneOk ≡ true → ⊥
+connection_open-settles config e = go config.hello e
+  where
+    go : (hello : Hello Client) → same_kind (connection_open (record config { hello = hello })).kind kinds.ConnectionTuneOk ≡ true → ⊥
+    go (OfClient properties mechanism response locale virtual_host) e = false≢true e
+
 start_ok-sound : (number : ℕ) (config : Config Client) → ConfigWrites config → Sound number (on_zero (start_ok config))
-start_ok-sound number config fits = record { back = λ reads. fits.greeting_back; channel = λ h. omega arith; short = fits.greeting_short }
+start_ok-sound number config fits = record { back = λ reads. fits.greeting_back; channel = λ h. omega arith; short = fits.greeting_short; settles = λ e. absurd (start_ok-settles config e) }
 
 open-short : (a b c : ℕ) (hello : Hello Client) → HostFits hello → frame_length (method_frame 0 (connection_open (configured a b c hello))) ≤ FRAME_MIN
 unfolding row plain_method
 open-short a b c (OfClient properties mechanism response locale virtual_host) fits = let small = fits.0 in omega (arith, length-append virtual_host (0 ∷ 0 ∷ []))
 
 open-sound : (number : ℕ) (config : Config Client) → ConfigWrites config → Sound number (on_zero (connection_open config))
-open-sound number config fits = record { back = λ reads. reads _ (open-fits config fits.host); channel = λ h. omega arith; short = open-short config.frame_max config.channel_max config.max_body config.hello fits.host }
+open-sound number config fits = record { back = λ reads. reads _ (open-fits config fits.host); channel = λ h. omega arith; short = open-short config.frame_max config.channel_max config.max_body config.hello fits.host; settles = λ e. absurd (connection_open-settles config e) }
 
 open_ok-sound : (number : ℕ) → Sound number (on_zero connection_open_ok)
 unfolding row plain_method
-open_ok-sound number = record { back = λ reads. reads _ (record { of_kind = refl; arguments = tt }); channel = λ h. omega arith; short = omega arith }
+open_ok-sound number = record { back = λ reads. reads _ (record { of_kind = refl; arguments = tt }); channel = λ h. omega arith; short = omega arith; settles = λ e. absurd (false≢true e) }
 
 tune-sound : (number : ℕ) (config : Config Server) → ConfigWrites config → Sound number (on_zero (tune config))
 unfolding row plain_method
 tune-sound number config fits =
     let channels = fits.channel_most in
     let most = fits.frame_most in
-    record { back = λ reads. reads _ (record { of_kind = refl; arguments = (channels, (omega arith, (omega arith, tt))) }); channel = λ h. omega arith; short = omega arith }
+    record { back = λ reads. reads _ (record { of_kind = refl; arguments = (channels, (omega arith, (omega arith, tt))) }); channel = λ h. omega arith; short = omega arith; settles = λ e. absurd (false≢true e) }
 
 smaller-below : (own others limit : ℕ) → own < limit → smaller own others < limit
 smaller-below own others limit below = at (others == 0)
@@ -138,14 +153,45 @@ smaller-below own others limit below = at (others == 0)
     at true = below
     at false = omega arith
 
-tune_ok-sound : (number : ℕ) (config : Config Client) (method : Method) → ConfigWrites config → Sound number (on_zero (tune_ok (settled config method)))
+-- the smaller of two limits is no less than both, where the other's 0 means none
+smaller-above : (own others limit : ℕ) → limit ≤ own → ((others == 0) ≡ false → limit ≤ others) → limit ≤ smaller own others
+smaller-above own others limit above more = at (others == 0) refl
+  where
+    at : (b : Bool) → (others == 0) ≡ b → limit ≤ cond b own (min own others)
+    at true e = above
+    at false e = let h = more e in omega (arith, above, h)
+
+smaller-within : (own others limit : ℕ) → own ≤ limit → smaller own others ≤ limit
+smaller-within own others limit below = at (others == 0)
+  where
+    at : (b : Bool) → cond b own (min own others) ≤ limit
+    at true = below
+    at false = omega (arith, below)
+
+not-small : (b : Bool) (n : ℕ) → (not b && nat_lt n FRAME_MIN) ≡ false → b ≡ false → FRAME_MIN ≤ n
+not-small false n e z = ltb-false n FRAME_MIN e
+not-small true n e z = absurd (true≢false z)
+
+above-zero : (n : ℕ) → (n == 0) ≡ false → 1 ≤ n
+above-zero n e = let some : n ≢ 0 = eqb-false n 0 e in omega (arith, some)
+
+settled-fits : (config : Config Client) (method : Method) → tunes_too_small method ≡ false → ConfigWrites config → SettledFits (settled config method)
+settled-fits config method large fits = record {
+  channel_least = smaller-above config.channel_max (number_at 0 method) 1 fits.channel_least (λ e. above-zero (number_at 0 method) e);
+  channel_most = smaller-below config.channel_max (number_at 0 method) (2 ^ 16) fits.channel_most;
+  frame_least = smaller-above config.frame_max (number_at 1 method) FRAME_MIN fits.frame_least (λ e. not-small (number_at 1 method == 0) (number_at 1 method) large e);
+  frame_most = smaller-within config.frame_max (number_at 1 method) FRAME_MOST fits.frame_most;
+}
+
+tune_ok-sound : (number : ℕ) (config : Config Client) (method : Method) → tunes_too_small method ≡ false → ConfigWrites config → Sound number (on_zero (tune_ok (settled config method)))
 unfolding row plain_method
-tune_ok-sound number config method fits =
+tune_ok-sound number config method large fits =
     let most = fits.frame_most in
     record {
       back = λ reads. reads _ (record { of_kind = refl; arguments = (smaller-below config.channel_max (number_at 0 method) (2 ^ 16) fits.channel_most, (smaller-below config.frame_max (number_at 1 method) (2 ^ 32) (omega arith), (omega arith, tt))) });
       channel = λ h. omega arith;
       short = omega arith;
+      settles = λ e. settled-fits config method large fits;
     }
 
 -- ---- verdicts
@@ -192,11 +238,11 @@ lives-sound : (number : ℕ) (reading : Reading) (verdict : lives.Verdict) → V
 lives-sound number reading (lives.GoesOn event owed) = replies-sound number owed
 lives-sound number reading (lives.Fault code) = tt
 
-by_lives-sound : {role : Role} (facts : Facts role) (reading : Reading) → VerdictSound facts.number (lives_verdict facts reading)
-by_lives-sound facts reading = lives-sound facts.number reading _
+by_lives-sound : {role : Role} (facts : Facts role) (reading : Reading) (kind : Kind) → VerdictSound facts.number (lives_verdict facts reading kind)
+by_lives-sound facts reading kind = lives-sound facts.number reading _
 
 closing-sound : {role : Role} (facts : Facts role) (channel : Channel) (reading : Reading) → RuleSound facts.number (when_closing facts channel reading)
-closing-sound facts channels.Closing reading = by_lives-sound facts reading
+closing-sound facts channels.Closing reading = by_lives-sound facts reading (kind_of reading)
 closing-sound facts channel reading = tt
 
 unread-sound : (number : ℕ) (reading : Reading) → RuleSound number (when_unread reading)
@@ -207,10 +253,15 @@ unread-sound number reading = tt
 closed-sound : (number : ℕ) (method : Method) → VerdictSound number (closed_by method)
 closed-sound number method = (connection_close_ok-sound number, tt)
 
+-- what is decided by a test, knowing how it came out
+test-sound : (number : ℕ) (b : Bool) (one other : FrameVerdict) → (b ≡ true → VerdictSound number one) → (b ≡ false → VerdictSound number other) → VerdictSound number (cond b one other)
+test-sound number true one other h k = h refl
+test-sound number false one other h k = k refl
+
 awaited-sound : (number : ℕ) (role : Role) (config : Config role) (agreed : Option Agreed) (step : channels.HandshakeStep) (method : Method) → ConfigWrites config → VerdictSound number (on_awaited role config agreed step method)
 awaited-sound number Client config agreed AwaitsStart method fits = (start_ok-sound number config fits, tt)
 awaited-sound number Client config agreed AwaitsTune method fits =
-    either-sound number (tunes_too_small method) _ _ tt (tune_ok-sound number config method fits, (open-sound number config fits, tt))
+    test-sound number (tunes_too_small method) _ _ (λ small. tt) (λ large. (tune_ok-sound number config method large fits, (open-sound number config fits, tt)))
 awaited-sound number Client config agreed AwaitsOpenOk method fits = tt
 awaited-sound number Server config agreed AwaitsStartOk method fits = (tune-sound number config fits, tt)
 awaited-sound number Server config agreed AwaitsTuneOk method fits = either-sound number (in_range config (agreed_in method)) _ _ tt tt
@@ -274,15 +325,15 @@ matched-sound Server number requests method = either-sound number (is_request me
 
 idle-sound : {role : Role} (facts : Facts role) (life : Life) (method : Method) (kind : Kind) → VerdictSound facts.number (on_idle facts life method kind)
 idle-sound {role} facts life method (Other begins) = matched-sound role facts.number life.requests method
-idle-sound facts life method kind = by_lives-sound facts (Calls method)
+idle-sound facts life method kind = by_lives-sound facts (Calls method) kind
 
 open_channel-sound : {role : Role} (facts : Facts role) (life : Life) (method : Method) (kind : Kind) → VerdictSound facts.number (on_open facts life method kind)
-open_channel-sound facts life method Close = by_lives-sound facts (Calls method)
+open_channel-sound facts life method Close = by_lives-sound facts (Calls method) Close
 open_channel-sound facts life method kind = either-sound facts.number (is_gathering life.content) _ _ tt (idle-sound facts life method kind)
 
 state-sound : {role : Role} (facts : Facts role) (channel : Channel) (method : Method) → VerdictSound facts.number (by_state facts channel method)
 state-sound facts (channels.Open life) method = open_channel-sound facts life method (kind_of (Calls method))
-state-sound facts channel method = by_lives-sound facts (Calls method)
+state-sound facts channel method = by_lives-sound facts (Calls method) (kind_of (Calls method))
 
 method-sound : {role : Role} (facts : Facts role) (method : Method) → VerdictSound facts.number (on_method facts method)
 method-sound {role} facts method =

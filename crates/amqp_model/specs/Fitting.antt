@@ -76,7 +76,9 @@ HostFits (OfServer properties mechanisms locales) = Unit {0}
 -- What an end says of itself can be written: its greeting reads back, and the rest fits its fields. So it is where the
 -- configuration fits its fields; and where the greeting was written once, since what was written is spelled.
 pub record ConfigWrites {role : Role} (config : Config role) : Type 0 where
+  pub channel_least : 1 ≤ config.channel_max
   pub channel_most : config.channel_max < 2 ^ 16
+  pub frame_least : FRAME_MIN ≤ config.frame_max
   pub frame_most : config.frame_max ≤ FRAME_MOST
   pub host : HostFits config.hello
   pub greeting_back : ReadsBack (greeting role config)
@@ -86,6 +88,18 @@ pub record ConfigWrites {role : Role} (config : Config role) : Type 0 where
 pub record AgreedFits (agreed : Option Agreed) : Type 0 where
   pub channel_most : channel_max agreed < 2 ^ 16
   pub frame_most : frame_max agreed ≤ FRAME_MOST
+
+-- what two ends may settle: some channel, as many as fit their field, and a frame size within the limits
+pub record SettledFits (agreed : Agreed) : Type 0 where
+  pub channel_least : 1 ≤ agreed.channel_max
+  pub channel_most : agreed.channel_max < 2 ^ 16
+  pub frame_least : FRAME_MIN ≤ agreed.frame_max
+  pub frame_most : agreed.frame_max ≤ FRAME_MOST
+
+-- the same, where anything is agreed yet
+abbrev pub IfAgreedFits : Option Agreed → Type 0
+IfAgreedFits None = Unit {0}
+IfAgreedFits (Some agreed) = SettledFits agreed
 
 -- the method and the header of a content fit their fields, and its body is octets
 pub record ContentFits (content : Content) : Type 0 where

@@ -1,5 +1,5 @@
 -- What an end writes reads as what it was made of, and fits its fields: the statements.
-use Rattle.std.specs.Prelude.{◌≡◌, ◌<◌, ◌≤◌, ◌^◌, ℕ, List, map, Some, None}
+use Rattle.std.specs.Prelude.{◌≡◌, ◌<◌, ◌≤◌, ◌^◌, ℕ, List, map, Some, None, Bool}
 use Rattle.std.specs.List.{AllByRecursion}
 use Rattle.amqp_frame.specs.Frame.{Fits, frame_length}
 use Rattle.amqp_frame.specs.Splitting.{AllFit}
@@ -14,7 +14,10 @@ use Rattle.amqp_model.specs.Events.{Message, Peer, Faults}
 use Rattle.amqp_model.specs.FrameVerdict.{Facts, verdict_on, methods_put}
 use Rattle.amqp_model.specs.Asks.{Ask, Send, frame_max, payload_frame, message_payloads, Puts, ask_verdict}
 use Rattle.amqp_model.specs.ReadingBack.{AskReadsBack, WritesReadBack}
-use Rattle.amqp_model.specs.Fitting.{MethodFits, HeaderFits, ConfigFits, ConfigWrites, AgreedFits, AskFits, HelloFits, config_fault}
+use Rattle.amqp_model.specs.Histories.{History}
+use Rattle.amqp_model.specs.StateFromHistory.{end_from}
+use Rattle.amqp_model.specs.LawfulHistories.{Lawful}
+use Rattle.amqp_model.specs.Fitting.{MethodFits, HeaderFits, ConfigFits, ConfigWrites, AgreedFits, AskFits, HelloFits, config_fault, IfAgreedFits}
 
 -- what is written of a method that fits its fields reads as the method
 abbrev pub MethodReadsBack : Method → Type 0
@@ -88,3 +91,7 @@ CloseIsShort role facts = AllWithin FRAME_MIN (map frame_of (methods_put facts (
 -- the frames that an accepted ask puts are no longer than was agreed
 abbrev pub AskedAreWithin : Role → End → Ask → List Frame → Type 0
 AskedAreWithin role end ask frames = AskFits ask → FRAME_MIN ≤ frame_max end.agreed → ask_verdict role end ask ≡ Puts frames → AllWithin (frame_max end.agreed) frames
+
+-- what was agreed in a lawful history is within the limits
+abbrev pub AgreedIsWithin : (role : Role) → Config role → (failed : Bool) → History → Type 0
+AgreedIsWithin role config failed history = ConfigWrites config → Lawful role config failed history → IfAgreedFits (end_from role config failed history).agreed

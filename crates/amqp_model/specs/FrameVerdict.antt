@@ -95,13 +95,14 @@ abbrev pub awaits_in : Channel → Bool
 awaits_in (channels.Open life) = life.awaits
 awaits_in channel = false
 
-abbrev pub lives_verdict : {role : Role} → Facts role → Reading → FrameVerdict
-lives_verdict {role} facts reading = as_lives facts.number reading (verdict_at role (state_of facts.channel) (awaits_in facts.channel) (kind_of reading))
+-- the frame is of this kind to its channel
+abbrev pub lives_verdict : {role : Role} → Facts role → Reading → Kind → FrameVerdict
+lives_verdict {role} facts reading kind = as_lives facts.number reading (verdict_at role (state_of facts.channel) (awaits_in facts.channel) kind)
 
 -- The end has put channel.close on the channel: it answers a close that crosses its own, and close-ok frees the
 -- number. All else it drops, also what does not parse.
 abbrev pub when_closing : {role : Role} → Facts role → Channel → Reading → Option FrameVerdict
-when_closing facts Closing reading = Some (lives_verdict facts reading)
+when_closing facts Closing reading = Some (lives_verdict facts reading (kind_of reading))
 when_closing facts channel reading = None
 
 -- A method has to be one that there is, and to parse.
@@ -231,7 +232,7 @@ on_matched Server number requests method = cond (is_request method && nat_le MOS
 -- messages.
 abbrev pub on_idle : {role : Role} → Facts role → Life → Method → Kind → FrameVerdict
 on_idle {role} facts life method (Other begins_content) = on_matched role facts.number life.requests method
-on_idle facts life method kind = lives_verdict facts (Calls method)
+on_idle facts life method kind = lives_verdict facts (Calls method) kind
 
 abbrev pub is_gathering : Gathering → Bool
 is_gathering Nothing = false
@@ -239,13 +240,13 @@ is_gathering kept = true
 
 -- A close ends the life at any place; no other method stands inside a content.
 abbrev pub on_open : {role : Role} → Facts role → Life → Method → Kind → FrameVerdict
-on_open facts life method Close = lives_verdict facts (Calls method)
+on_open facts life method Close = lives_verdict facts (Calls method) Close
 on_open facts life method kind = cond (is_gathering life.content) (fault UnexpectedFrame) (on_idle facts life method kind)
 
 -- A method on a channel that is Open; on one that is Free or Opening the lives of a channel say all.
 abbrev pub by_state : {role : Role} → Facts role → Channel → Method → FrameVerdict
 by_state facts (channels.Open life) method = on_open facts life method (kind_of (Calls method))
-by_state facts channel method = lives_verdict facts (Calls method)
+by_state facts channel method = lives_verdict facts (Calls method) (kind_of (Calls method))
 
 -- a method on a connection that is Running
 abbrev pub on_method : {role : Role} → Facts role → Method → FrameVerdict

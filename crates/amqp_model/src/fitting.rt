@@ -4,13 +4,14 @@
 //! method's kind, numbers fit their fields and strings their lengths. `MethodFits`, `ConfigFits` and `AskFits` say so of a
 //! method, of what an end is set up with and of what an application asks.
 
-ghost use Rattle.std.specs.Prelude.{ℕ, List};
+ghost use Rattle.std.specs.Prelude.{Bool, ℕ, List};
 ghost use Rattle.amqp_model.specs.Asks.{Ask};
 ghost use Rattle.amqp_model.specs.Channels.{End};
 ghost use Rattle.amqp_model.specs.Events.{Message};
-ghost use Rattle.amqp_model.specs.FittingLaws.{AllReadsBack, AskedAreWithin, AskedFit, AskedReadsBack, CloseFits, CloseIsShort, CloseReadsBack, FaultlessConfigFits, FittingConfigIsFaultless, FittingConfigWrites, FramesSayPayloads, HeaderReadsBack, MethodReadsBack, OwedAreShort, OwedFit, OwedReadBack, StartFits};
+ghost use Rattle.amqp_model.specs.FittingLaws.{AgreedIsWithin, AllReadsBack, AskedAreWithin, AskedFit, AskedReadsBack, CloseFits, CloseIsShort, CloseReadsBack, FaultlessConfigFits, FittingConfigIsFaultless, FittingConfigWrites, FramesSayPayloads, HeaderReadsBack, MethodReadsBack, OwedAreShort, OwedFit, OwedReadBack, StartFits};
 ghost use Rattle.amqp_model.specs.Frame.{Frame};
 ghost use Rattle.amqp_model.specs.FrameVerdict.{Facts};
+ghost use Rattle.amqp_model.specs.Histories.{History};
 ghost use Rattle.amqp_model.specs.Methods.{Header, Method};
 ghost use Rattle.amqp_model.specs.Negotiation.{Config};
 ghost use Rattle.amqp_model.specs.Notes.{Role, Server};
@@ -67,6 +68,14 @@ pub fn frames_fit()
     ensures too_large { (role : Role) (facts : Facts role) → CloseFits role facts }
     ensures asked { (role : Role) (end : End) (ask : Ask) (frames : List Frame) → AskedFit role end ask frames }
 {}
+
+/// What was agreed in a lawful history has a channel at least, fits its fields, and has a frame size of 4096 to 1048576
+/// octets.
+pub fn agreed_is_within()
+    ensures { (role : Role) (config : Config role) (failed : Bool) (history : History) → AgreedIsWithin role config failed history }
+{
+    written_reads_back();
+}
 
 /// The frames that verdicts make an end put have at most 4096 octets, which every end takes, and so has the close that it puts
 /// where a frame is above the limit. Those that it puts for an accepted ask have at most the agreed number.
