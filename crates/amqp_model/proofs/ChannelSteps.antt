@@ -1,5 +1,5 @@
 -- An entry moves what an end keeps of its channel just as it moves what the entries count to.
-use Rattle.std.proofs.Common.{◌≡◌, ◌≤◌, Bool, true, false, ◌||◌, ℕ, zero, suc, ◌+◌, ◌-◌, arith, List, [], ◌∷◌, ◌++◌, drop, length, refl, sym, ap, ◌∙◌, subst}
+use Rattle.std.proofs.Common.{◌≡◌, ◌≤◌, Bool, true, false, ◌||◌, ℕ, zero, suc, ◌+◌, ◌-◌, arith, List, [], ◌∷◌, ◌++◌, drop, length, refl, sym, ap, ◌∙◌, subst, append-nil}
 use Rattle.std.proofs.lemmas.Bool.{false≢true, true≢false}
 use Rattle.std.proofs.lemmas.List.{drop-append-le, drop-drop, length-append, length-drop}
 use Rattle.amqp_model.specs.Frame.{Frame}
@@ -12,7 +12,7 @@ use Rattle.amqp_model.specs.Readings.{Reading, Calls, kind_of}
 use Rattle.amqp_model.specs.Histories.{ChannelEntry, PutHere, TookHere, LeftHere, note_of, notes, under_way}
 use Rattle.amqp_model.specs.Replies.{asked_by, answered_by, requested, replied}
 use Rattle.amqp_model.specs.Channels.{Life, Free, Closing, new_life}
-use Rattle.amqp_model.specs.Machine.{paused_by, asks_flow, hears_flow_ok, content_after, paused_after, awaits_after, requests_after, life_after, after_taken, channel_after, HasItsRequest, CountsOpen, CountsOpening, Counts}
+use Rattle.amqp_model.specs.Machine.{paused_by, asks_flow, hears_flow_ok, content_after, paused_after, awaits_after, with_asked, requests_after, life_after, after_taken, channel_after, HasItsRequest, CountsOpen, CountsOpening, Counts}
 use Rattle.amqp_model.proofs.ClassMethods.{is_class_kind, class-plain}
 
 -- what a note does to an Open channel that stays Open
@@ -29,6 +29,10 @@ pub record Moves (role : Role) (note : Note) (before : List Note) (p a : Bool) :
 pub record Matches (role : Role) (kept : Gathering) (requests : List MethodKind) (entry : ChannelEntry) : Type 0 where
   pub room : answered_by role entry kept ≤ length requests
   pub answerable : HasItsRequest role (content_after entry kept) (requests_after role entry kept requests)
+
+with-asked : (asked requests : List MethodKind) → with_asked asked requests ≡ requests ++ asked
+with-asked [] requests = sym (append-nil requests)
+with-asked (kind ∷ later) requests = refl
 
 content-moves : (entry : ChannelEntry) (entries : List ChannelEntry) → under_way (entry ∷ entries) ≡ content_after entry (under_way entries)
 content-moves (PutHere reading frame) entries = refl
@@ -76,8 +80,9 @@ stays-open role life entry entries c m r =
     fits : n + j ≤ length (xs ++ ys)
     fits = let e : length (xs ++ ys) ≡ length xs + length ys = length-append xs ys in let h : n + j ≤ length xs = enough in omega arith
 
-    moved : drop (n + j) (xs ++ ys) ≡ drop j life.requests ++ ys
-    moved = drop-append-le (n + j) xs ys enough ∙ ap (λ l. l ++ ys) (sym (drop-drop j n xs) ∙ ap (drop j) c.requests)
+    moved : drop (n + j) (xs ++ ys) ≡ requests_after role entry life.content life.requests
+    moved =
+        drop-append-le (n + j) xs ys enough ∙ (ap (λ l. l ++ ys) (sym (drop-drop j n xs) ∙ ap (drop j) c.requests) ∙ sym (with-asked ys (drop j life.requests)))
 
 -- a message that an Open channel takes
 took-moves : (role : Role) (kind : Kind) (frame : Frame) (ns : List Note) (paused awaits : Bool) → is_message kind ≡ true → is_alive role ns ≡ true → waits ns ≡ false → (is_server role || has_open_ok role ns) ≡ true → is_paused role ns ≡ paused → awaits_flow_ok role ns ≡ awaits → Moves role (Took kind frame) ns (paused_by kind paused) (hears_flow_ok kind awaits)

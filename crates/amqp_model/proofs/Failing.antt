@@ -14,7 +14,7 @@ use Rattle.amqp_model.specs.FrameVerdict.{verdict_on, methods_put}
 use Rattle.amqp_model.specs.EndVerdict.{facts_at, goes_on}
 use Rattle.amqp_model.specs.LawfulHistories.{then_put}
 use Rattle.amqp_model.specs.Machine.{phase_after, agreed_after, end_after, end_after_owed, as_failed, failed_by, StandsFor}
-use Rattle.amqp_model.specs.EndLaws.{FrameFails, TooLargeFails, AnyFails}
+use Rattle.amqp_model.specs.EndLaws.{FrameFails, TooLargeFails, AnyFails, FailedIsRead}
 use Rattle.amqp_model.proofs.Acting.{reads-back}
 use Rattle.amqp_model.proofs.EndSteps.{not-zero, zero-took, zero-put, agreed-taken, agreed-put, zero-took-others, zero-put-others, set-zero}
 use Rattle.amqp_model.proofs.Phases.{phase-taken, phase-put}
@@ -70,6 +70,13 @@ owed-on-zero role config [] end history back s = s
 owed-on-zero role config (owed ∷ later) end history back s =
     owed-on-zero role config later _ (Put (frame_of owed) ∷ history) back.1 (subst (λ r. StandsOnZero role config (end_after role config owed.channel (PutHere r (frame_of owed)) end) (Put (frame_of owed) ∷ history)) (reads-back owed.channel owed.method back.0) (put-on-zero role config end history (frame_of owed) s))
 
+abbrev is_failed : Phase → Bool
+is_failed Failed = true
+is_failed phase = false
+
+failed-no-step : (step : HandshakeStep) → Failed ≡ Handshake step → ⊥
+failed-no-step step p = true≢false (ap is_failed p)
+
 -- an end that has failed stands for what it put and took
 stands-failed : (role : Role) (config : Config role) (end : End) (history : History) → StandsOnZero role config end history → StandsFor role config true (as_failed end) history
 stands-failed role config end history s = record {
@@ -79,13 +86,6 @@ stands-failed role config end history s = record {
   free_before = λ step p. absurd (failed-no-step step p);
   channels = λ e. absurd (true≢false e);
 }
-  where
-    is_failed : Phase → Bool
-    is_failed Failed = true
-    is_failed phase = false
-
-    failed-no-step : (step : HandshakeStep) → Failed ≡ Handshake step → ⊥
-    failed-no-step step p = true≢false (ap is_failed p)
 
 by-fault : (v : FrameVerdict) (end : End) → goes_on v ≡ false → failed_by v end ≡ as_failed end
 by-fault (Faults fault) end g = refl
@@ -103,3 +103,12 @@ too-large-fails role config end history back stands = stands-failed role config 
 
 pub any-fails : (role : Role) (config : Config role) (end : End) (history : History) → AnyFails role config end history
 any-fails role config end history stands = stands-failed role config end history (on-zero role config end history stands)
+
+pub failed-is-read : (role : Role) (config : Config role) (end next : End) (history : History) → FailedIsRead role config end next history
+failed-is-read role config end next history stands p a free = record {
+  phase = stands.phase ∙ sym p;
+  agreed = stands.agreed ∙ sym a;
+  no_channel = free;
+  free_before = λ step at. absurd (failed-no-step step (stands.phase ∙ sym p ∙ at));
+  channels = λ e. absurd (true≢false e);
+}

@@ -14,7 +14,7 @@ use Rattle.amqp_model.specs.Channels as channels
 use Rattle.amqp_model.specs.Negotiation.{Config}
 use Rattle.amqp_model.specs.FrameVerdict.{Facts, answers_first, verdict_on}
 use Rattle.amqp_model.specs.EndVerdict.{goes_on}
-use Rattle.amqp_model.specs.Machine.{is_open, is_close_ok, free_after_putting, life_after, free_after_taking, opening_after_taking, open_after_taking, open_after_putting, channel_after, answers_in_turn, may_put_here, IsAnswerable, HasItsRequest, CountsOpen, Counts, ChannelStandsFor}
+use Rattle.amqp_model.specs.Machine.{with_asked, is_open, is_close_ok, free_after_putting, life_after, free_after_taking, opening_after_taking, open_after_taking, open_after_putting, channel_after, answers_in_turn, may_put_here, IsAnswerable, HasItsRequest, CountsOpen, Counts, ChannelStandsFor}
 use Rattle.amqp_model.proofs.ChannelSteps.{Matches, stays_open, took-stays_open, put-stays_open, took-open, put-open, took-open_ok, took-close, took-closing, put-close, put-close_ok-free, put-close_ok-closing}
 use Rattle.amqp_model.proofs.Going.{running, running-free, running-opening, running-open, OpenTakes}
 
@@ -69,10 +69,11 @@ answerable-append : (method : Method) (requests more : List MethodKind) → IsAn
 answerable-append method [] more h e = absurd (false≢true (h e))
 answerable-append method (request ∷ requests) more h e = h e
 
-has-request-append : (kept : Gathering) (requests more : List MethodKind) → HasItsRequest Client kept requests → HasItsRequest Client kept (requests ++ more)
-has-request-append Nothing requests more h = tt
-has-request-append (HeaderDue method) requests more h = answerable-append method requests more h
-has-request-append (BodyDue method size properties body) requests more h = answerable-append method requests more h
+has-request-with : (kept : Gathering) (asked requests : List MethodKind) → HasItsRequest Client kept requests → HasItsRequest Client kept (with_asked asked requests)
+has-request-with kept [] requests h = h
+has-request-with Nothing (kind ∷ more) requests h = tt
+has-request-with (HeaderDue method) (kind ∷ more) requests h = answerable-append method requests (kind ∷ more) h
+has-request-with (BodyDue method size properties body) (kind ∷ more) requests h = answerable-append method requests (kind ∷ more) h
 
 room-in-turn : (kind : MethodKind) (requests : List MethodKind) (b : Bool) → (not b || answers_first kind requests) ≡ true → one_if b ≤ length requests
 room-in-turn kind requests false e = omega arith
@@ -80,7 +81,7 @@ room-in-turn kind [] true e = absurd (false≢true e)
 room-in-turn kind (request ∷ requests) true e = omega arith
 
 put-matches : (role : Role) (kept : Gathering) (requests : List MethodKind) (r : Reading) (frame : Frame) → answers_in_turn role requests r ≡ true → HasItsRequest role kept requests → Matches role kept requests (PutHere r frame)
-put-matches Client kept requests r frame e h = record { room = omega arith; answerable = has-request-append kept requests _ h }
+put-matches Client kept requests r frame e h = record { room = omega arith; answerable = has-request-with kept _ requests h }
 put-matches Server kept requests (Calls method) frame e h = record { room = room-in-turn method.kind requests (is_reply method.kind) e; answerable = tt }
 put-matches Server kept requests r frame e h = record { room = omega arith; answerable = tt }
 

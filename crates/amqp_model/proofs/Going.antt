@@ -1,5 +1,5 @@
 -- What a frame has to be, where the verdict on it lets the end go on.
-use Rattle.std.proofs.Common.{◌≡◌, ◌≤◌, ◌⊎◌, inl, inr, Bool, true, false, cond, not, ◌&&◌, ℕ, ◌==◌, arith, List, [], ◌∷◌, ◌++◌, drop, length, Option, Some, None, refl, sym, ap, ◌∙◌, subst, append-nil}
+use Rattle.std.proofs.Common.{◌≡◌, ◌≤◌, ◌⊎◌, inl, inr, Bool, true, false, cond, not, ◌&&◌, ℕ, ◌==◌, arith, List, [], ◌∷◌, ◌++◌, drop, length, Option, Some, None, refl, sym, ap, ◌∙◌, subst}
 use Rattle.std.proofs.lemmas.Bool.{false≢true, true≢false}
 use Rattle.amqp_model.specs.Frame.{Frame}
 use Rattle.amqp_model.specs.Notes.{Role, Client, Server, is_client, Kind, Open, OpenOk, Close, CloseOk, Flow, FlowOk, Other, is_message}
@@ -102,7 +102,7 @@ room-plain kind requests true false e answerable = room-for kind requests true e
 
 -- a client takes a payload that is no method: what it does to what is kept
 abbrev Kept : Step → Payload → List MethodKind → Type 0
-Kept step payload requests = (one_if (completes_reply step) ≤ length requests) × HasItsRequest Client (remains step payload) (drop (one_if (completes_reply step)) requests ++ [])
+Kept step payload requests = (one_if (completes_reply step) ≤ length requests) × HasItsRequest Client (remains step payload) (drop (one_if (completes_reply step)) requests)
 
 abbrev is_part : Payload → Bool
 is_part (Payload.Calls method) = false
@@ -114,7 +114,7 @@ broken misfit payload requests e = (omega arith, tt)
 
 whole-or-more : (method : Method) (size : ℕ) (properties : Properties) (body : List ℕ) (payload : Payload) (requests : List MethodKind) → is_part payload ≡ true → IsAnswerable method requests → (whole short : Bool) → Kept (cond whole (Completes (record { method = method; properties = properties; body = body })) (cond short (Keeps (BodyDue method size properties body)) (Breaks Misfit.PastSize))) payload requests
 whole-or-more method size properties body payload requests e answerable true short = (room-for method.kind requests (is_reply method.kind) refl answerable, tt)
-whole-or-more method size properties body payload requests e answerable false true = (omega arith, subst (IsAnswerable method) (sym (append-nil requests)) answerable)
+whole-or-more method size properties body payload requests e answerable false true = (omega arith, answerable)
 whole-or-more method size properties body payload requests e answerable false false = broken Misfit.PastSize payload requests e
 
 part-kept : (kept : Gathering) (payload : Payload) (requests : List MethodKind) → is_part payload ≡ true → HasItsRequest Client kept requests → Kept (step kept payload) payload requests
@@ -134,10 +134,10 @@ part-matches Client kept requests (Calls method) frame e h = absurd (false≢tru
 part-matches Client kept requests reading frame e h = let k = part-kept kept (payload_of reading) requests e h in record { room = k.0; answerable = k.1 }
 
 -- a method, with nothing under way
-begun-answerable : (method : Method) (requests : List MethodKind) (replies carries : Bool) → IsAnswerable method requests → HasItsRequest Client (cond carries (HeaderDue method) Nothing) (drop (one_if (replies && not carries)) requests ++ [])
+begun-answerable : (method : Method) (requests : List MethodKind) (replies carries : Bool) → IsAnswerable method requests → HasItsRequest Client (cond carries (HeaderDue method) Nothing) (drop (one_if (replies && not carries)) requests)
 begun-answerable method requests replies false answerable = tt
-begun-answerable method requests true true answerable = subst (IsAnswerable method) (sym (append-nil requests)) answerable
-begun-answerable method requests false true answerable = subst (IsAnswerable method) (sym (append-nil requests)) answerable
+begun-answerable method requests true true answerable = answerable
+begun-answerable method requests false true answerable = answerable
 
 call-matches : (role : Role) (requests : List MethodKind) (method : Method) (frame : Frame) → (role ≡ Client → IsAnswerable method requests) → Matches role Nothing requests (TookHere (Calls method) frame)
 call-matches Server requests method frame answerable = record { room = omega arith; answerable = tt }

@@ -11,7 +11,7 @@ use Rattle.amqp_model.specs.Runs.{IsNext, Acts}
 use Rattle.amqp_model.specs.Methods.{ReadsBack}
 use Rattle.amqp_model.specs.Readings.{Reading, kind_of, reading as reading_of}
 use Rattle.amqp_model.specs.Histories.{Entry, Put, Took, History, ChannelEntry, PutHere, TookHere, LeftHere, channel_of, entries_on, notes}
-use Rattle.amqp_model.specs.Channels.{Channel, Phase, Handshake, Running, End, state_of}
+use Rattle.amqp_model.specs.Channels.{Free, Channel, Phase, Handshake, Running, End, state_of}
 use Rattle.amqp_model.specs.Negotiation.{Config}
 use Rattle.amqp_model.specs.StateFromHistory.{channel_from, end_from}
 use Rattle.amqp_model.specs.FrameVerdict.{Facts, on_channel, awaits_in, verdict_on}
@@ -155,6 +155,11 @@ TooLargeFails role config end history =
 -- and where nothing is put
 abbrev pub AnyFails : (role : Role) → Config role → End → History → Type 0
 AnyFails role config end history = StandsFor role config false end history → StandsFor role config true (as_failed end) history
+
+-- Of an end that has failed only its phase, what was agreed and channel 0 are looked at: it may keep the rest as it likes.
+abbrev pub FailedIsRead : (role : Role) → Config role → (end next : End) → History → Type 0
+FailedIsRead role config end next history =
+    StandsFor role config true end history → next.phase ≡ end.phase → next.agreed ≡ end.agreed → next.channels 0 ≡ Free → StandsFor role config true next history
 
 -- What is read off a lawful history stands for it.
 abbrev pub LawfulStands : (role : Role) → Config role → (failed : Bool) → History → Type 0

@@ -49,8 +49,12 @@ awaits_after (TookHere reading frame) awaits = hears_flow_ok (kind_of reading) a
 awaits_after LeftHere awaits = awaits
 
 -- a reply takes the oldest request away, and a request comes last
+abbrev pub with_asked : List MethodKind → List MethodKind → List MethodKind
+with_asked [] requests = requests
+with_asked asked requests = requests ++ asked
+
 abbrev pub requests_after : Role → ChannelEntry → Gathering → List MethodKind → List MethodKind
-requests_after role entry kept requests = drop (answered_by role entry kept) requests ++ asked_by role entry
+requests_after role entry kept requests = with_asked (asked_by role entry) (drop (answered_by role entry kept) requests)
 
 abbrev pub life_after : Role → ChannelEntry → Life → Life
 life_after role entry life =

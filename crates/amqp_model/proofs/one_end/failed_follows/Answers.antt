@@ -1,5 +1,5 @@
 -- Each clause is a lemma on histories.
-use Rattle.amqp_model.proofs.Failing.{frame-fails, too-large-fails, any-fails}
+use Rattle.amqp_model.proofs.Failing.{frame-fails, too-large-fails, any-fails, failed-is-read}
 use Rattle.amqp_model.proofs.one_end.failed_follows.Goals as goal
 
 pub returns-clause-frame : goal.returns-clause-frame
@@ -10,3 +10,6 @@ returns-clause-too_large c = too-large-fails
 
 pub returns-clause-other : goal.returns-clause-other
 returns-clause-other c = any-fails
+
+pub returns-clause-read : goal.returns-clause-read
+returns-clause-read c = failed-is-read
