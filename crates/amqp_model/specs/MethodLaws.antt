@@ -1,9 +1,17 @@
--- What `Methods` says of a kind is what the table of methods says: the statement.
+-- What `Methods` says of a kind is what the table of methods says: the statements.
 use Rattle.std.specs.Prelude.{◌≡◌, Bool, true, false, cond, ◌&&◌, ◌||◌, ℕ, suc, ◌==◌, nat_lt, List, [], ◌∷◌, codes, Option, Some, None}
 use Rattle.amqp_method.specs.Kinds as table
 use Rattle.amqp_method.specs.Methods.{FieldRow, row}
 use Rattle.amqp_method.specs.declared.kinds.Kind.{Kind}
 use Rattle.amqp_model.specs.Methods.{class_of, id_of, is_kind, sends, sort_by, begins_content, Wanted, Always, Never, UnlessNoWait, wants, answered}
+
+-- the class and the number, who sends it, and whether content follows
+pub record SaysAsTable (kind : Kind) : Type 0 where
+  pub class : class_of kind ≡ (row kind).class
+  pub id : id_of kind ≡ (row kind).id
+  pub client : sends true kind ≡ table.sends true kind
+  pub server : sends false kind ≡ table.sends false kind
+  pub content : (active : Bool) → begins_content (sort_by kind active) ≡ table.has_content kind
 
 -- the same octets
 abbrev same_octets : List ℕ → List ℕ → Bool
@@ -35,12 +43,7 @@ wanted_in_table kind = cond (nat_lt 20 (row kind).class && is_answered_by kind t
 abbrev pub answered_in_table : Kind → Option Kind
 answered_in_table kind = cond (nat_lt 20 (row kind).class) (row kind).answers None
 
--- the class and the number, who sends it, whether content follows, what it asks for, and which request it answers
-pub record SaysAsTable (kind : Kind) : Type 0 where
-  pub class : class_of kind ≡ (row kind).class
-  pub id : id_of kind ≡ (row kind).id
-  pub client : sends true kind ≡ table.sends true kind
-  pub server : sends false kind ≡ table.sends false kind
-  pub content : (active : Bool) → begins_content (sort_by kind active) ≡ table.has_content kind
+-- what it asks for, and which request it answers
+pub record AsksAsTable (kind : Kind) : Type 0 where
   pub wanted : wants kind ≡ wanted_in_table kind
   pub reply : answered kind ≡ answered_in_table kind
