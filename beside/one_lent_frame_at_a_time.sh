@@ -36,6 +36,6 @@ if ! echo "$held" | grep -qF 'src/held.rt:5:18: error[borrow-e0499]'; then
 fi
 if echo "$given_up" | grep -qF 'error['; then
     echo "$given_up"
-    echo "two calls one behind the other were refused"
+    echo "two calls one after the other were refused"
     exit 1
 fi

@@ -1,4 +1,4 @@
--- What a text spells as hexadecimal, line by line.
+-- What a text encodes as hexadecimal, line by line.
 use Rattle.std.specs.Prelude.{◌≡◌, ℕ, ◌+◌, ◌==◌, ◌||◌, Bool, not, filter, List, [], ◌∷◌, ◌++◌, length, Option, Some, None, Ok, IsErr}
 use Rattle.std.specs.List.{slice_split}
 use Rattle.hex.specs.Hex.{decode_of}
@@ -18,18 +18,18 @@ is_line_feed x = x == 10
 abbrev pub lines : List ℕ → List (List ℕ)
 lines text = slice_split is_line_feed text
 
--- the lines behind a line, if a line feed ended it
+-- the lines after a line, if a line feed ended it
 abbrev pub lines_after : Option (List ℕ) → List (List ℕ)
 lines_after None = []
 lines_after (Some text) = lines text
 
 -- the octets of the lines, joined in order
-abbrev pub SpellOctets : List (List ℕ) → List ℕ → Type 0
-SpellOctets [] octets = octets ≡ []
-SpellOctets (line ∷ others) octets =
-    (front : List ℕ) × (rest : List ℕ) × (decode_of (bare line) ≡ Ok front) × SpellOctets others rest × (octets ≡ front ++ rest)
+abbrev pub EncodeOctets : List (List ℕ) → List ℕ → Type 0
+EncodeOctets [] octets = octets ≡ []
+EncodeOctets (line ∷ others) octets =
+    (prefix : List ℕ) × (rest : List ℕ) × (decode_of (bare line) ≡ Ok prefix) × EncodeOctets others rest × (octets ≡ prefix ++ rest)
 
--- Line n, counted from 1, spells no octets, and each line before it does.
+-- Line n, counted from 1, encodes no octets, and each line before it does.
 pub record IsFirstWrong (all : List (List ℕ)) (n : ℕ) : Type 0 where
   pub before : List (List ℕ)
   pub line : List ℕ
@@ -37,9 +37,9 @@ pub record IsFirstWrong (all : List (List ℕ)) (n : ℕ) : Type 0 where
   pub lines_are : all ≡ before ++ line ∷ others
   pub number : n ≡ length before + 1
   pub octets : List ℕ
-  pub spelled : SpellOctets before octets
+  pub encoded : EncodeOctets before octets
   pub wrong : IsErr (decode_of (bare line))
 
--- the octets of a line stand behind the old ones
+-- the octets of a line stand after the old ones
 abbrev pub AppendsLine : List ℕ → List ℕ → List ℕ → Type 0
 AppendsLine line old new = (octets : List ℕ) × (decode_of (bare line) ≡ Ok octets) × (new ≡ old ++ octets)

@@ -21,19 +21,19 @@ abbrev pub AllWithin : List Frame → Type 0
 AllWithin [] = Unit {0}
 AllWithin (f ∷ frames) = (frame_length f ≤ LIMIT) × AllWithin frames
 
--- a fault stands behind so many octets
-abbrev pub FaultBehind : ℕ → List ℕ → FrameFaultKind → ℕ → Type 0
-FaultBehind taken rest UnknownType at = (place : ℕ) × TellsFirst LIMIT rest UnknownType place × (at ≡ place_after taken place)
-FaultBehind taken rest TooLarge at = (place : ℕ) × TellsFirst LIMIT rest TooLarge place × (at ≡ place_after taken place)
-FaultBehind taken rest BadEnd at = (place : ℕ) × TellsFirst LIMIT rest BadEnd place × (at ≡ place_after taken place)
-FaultBehind taken rest OutOfMemory at = at ≡ place_after taken 0
-FaultBehind taken rest Failed at = ⊥
+-- a fault stands after so many octets
+abbrev pub FaultAfter : ℕ → List ℕ → FrameFaultKind → ℕ → Type 0
+FaultAfter taken rest UnknownType at = (place : ℕ) × TellsFirst LIMIT rest UnknownType place × (at ≡ place_after taken place)
+FaultAfter taken rest TooLarge at = (place : ℕ) × TellsFirst LIMIT rest TooLarge place × (at ≡ place_after taken place)
+FaultAfter taken rest BadEnd at = (place : ℕ) × TellsFirst LIMIT rest BadEnd place × (at ≡ place_after taken place)
+FaultAfter taken rest OutOfMemory at = at ≡ place_after taken 0
+FaultAfter taken rest Failed at = ⊥
 
--- what follows the frames, behind so many octets
+-- what follows the frames, after so many octets
 abbrev pub EndsWith : ℕ → List ℕ → Ending → Type 0
 EndsWith taken rest Whole = rest ≡ []
 EndsWith taken rest (Rest n) = (n ≡ length rest) × (0 < n) × IsRest LIMIT rest
-EndsWith taken rest (Fault fault) = FaultBehind taken rest fault.kind fault.at
+EndsWith taken rest (Fault fault) = FaultAfter taken rest fault.kind fault.at
 
 -- the octets are those of the frames, and then what the listing says
 pub record IsListing (octets : List ℕ) (listing : Listing) : Type 0 where

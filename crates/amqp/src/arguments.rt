@@ -28,7 +28,7 @@ in the payload:
     2.2  a value in a field table has no known tag
     2.3  an element of a field table passes the table's end
     2.4  a field table nests deeper than 32
-    3    octets stand behind the last field
+    3    octets stand after the last field
     4    a header's weight isn't 0
     5    a header's flags go on
 
@@ -42,7 +42,7 @@ Where the octets stop being frames it prints `fault N at A`, with A the place of
 and where they end inside a frame `rest N`, the number of octets that were left. A line that isn't hexadecimal of whole
 octets is answered with `line N: not hex` alone. Each fault, rest and such line ends with status 1; status 0 says that all was well.";
 
-/// The request that the words spell. The first word is the program's name.
+/// The request that the words encode. The first word is the program's name.
 ///
 /// An error carries the text to print, also where help or the version was asked for.
 pub fn request_of<'a>(alloc: Global, words: &'a [String]) -> Result<Request, Error> {

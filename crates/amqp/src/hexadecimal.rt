@@ -2,7 +2,7 @@
 ghost use Rattle.std.specs.Prelude.{◌≡◌, ◌+◌, ◌≤◌, ◌∷◌, ℕ, length, Err, IsErr, IfOk, IfSome, OnOk, position};
 ghost use Rattle.std.specs.Option.{option_copied};
 ghost use Rattle.hex.specs.Hex.{decode_of};
-ghost use Rattle.amqp.specs.Hexadecimal.{is_space, is_line_feed, bare, lines, lines_after, SpellOctets, IsFirstWrong, AppendsLine};
+ghost use Rattle.amqp.specs.Hexadecimal.{is_space, is_line_feed, bare, lines, lines_after, EncodeOctets, IsFirstWrong, AppendsLine};
 
 use hex::FromHexError;
 use std::alloc::Global;
@@ -18,9 +18,9 @@ pub enum HexFault {
     OutOfMemory,
 }
 
-/// The octets that the lines of a text spell, joined. Spaces, tabs and carriage returns are skipped.
+/// The octets that the lines of a text encode, joined. Spaces, tabs and carriage returns are skipped.
 pub fn octets_of(alloc: Global, text: &[u8]) -> Result<Vec<u8>, HexFault>
-    ensures octets { IfOk result (λ octets. SpellOctets (lines text.now) octets.items) }
+    ensures octets { IfOk result (λ octets. EncodeOctets (lines text.now) octets.items) }
     ensures wrong { (n : ℕ) → result ≡ Err (HexFault.NotHex n) → IsFirstWrong (lines text.now) n }
 {
     let mut octets = Vec::new(alloc);
@@ -48,7 +48,7 @@ fn line_end(text: &[u8]) -> Option<usize>
     text.iter().position(|octet| *octet == b'\n')
 }
 
-/// A line, and the text behind the line feed that ends it.
+/// A line, and the text after the line feed that ends it.
 fn cut_line(text: &[u8]) -> (&[u8], Option<&[u8]>)
     ensures lines { lines text.now ≡ result.0.now ∷ lines_after (option_copied result.1) }
     ensures shorter { IfSome result.1 (λ after. length result.0.now + 1 + length after.now ≡ length text.now) }
@@ -73,7 +73,7 @@ fn is_skipped(octet: u8) -> bool
     octet == b' ' || octet == b'\t' || octet == b'\r'
 }
 
-/// Appends the octets that a line spells.
+/// Appends the octets that a line encodes.
 fn append_line(alloc: Global, line: &[u8], octets: &mut Vec<u8>) -> Result<(), LineFault>
     ensures ok { OnOk result (AppendsLine line.now octets.old.items octets.new.items) }
     ensures wrong { result ≡ Err LineFault.NotHex → IsErr (decode_of (bare line.now)) }

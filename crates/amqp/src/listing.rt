@@ -10,7 +10,7 @@ use std::alloc::Global;
 /// How many octets a frame may have.
 pub const LIMIT: u32 = 1_048_576;
 
-/// How octets end behind their frames.
+/// How octets end after their frames.
 #[derive(Clone, Copy, PartialEq, Eq, Debug)]
 pub enum Ending {
     /// With the last frame.

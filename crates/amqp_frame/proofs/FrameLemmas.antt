@@ -29,32 +29,32 @@ one_kind Heartbeat Heartbeat e = refl
 one_kind _ _ e = absurd (omega arith)
 
 -- the type octet stands first
-pub type-in_front : (f : Frame) (tail : List ℕ) → get_or (octets f ++ tail) 0 0 ≡ type_octet f.kind
+pub type-at_start : (f : Frame) (tail : List ℕ) → get_or (octets f ++ tail) 0 0 ≡ type_octet f.kind
 unfolding octets
-type-in_front f tail = refl
+type-at_start f tail = refl
 
 -- the channel stands in the second and the third octet
-pub channel-in_front : (f : Frame) (tail : List ℕ) → Fits f → big_number 2 (drop 1 (octets f ++ tail)) ≡ f.channel
+pub channel-at_start : (f : Frame) (tail : List ℕ) → Fits f → big_number 2 (drop 1 (octets f ++ tail)) ≡ f.channel
 unfolding octets
-channel-in_front f tail fits =
+channel-at_start f tail fits =
     big_number-reads_back 2 f.channel (big_bytes 4 (length f.payload) ++ (f.payload ++ END ∷ []) ++ tail) fits.channel
 
 -- the size stands in the fourth to the seventh
-pub size-in_front : (f : Frame) (tail : List ℕ) → Fits f → size_of (octets f ++ tail) ≡ length f.payload
+pub size-at_start : (f : Frame) (tail : List ℕ) → Fits f → size_of (octets f ++ tail) ≡ length f.payload
 unfolding octets
-size-in_front f tail fits =
+size-at_start f tail fits =
     big_number-reads_back 4 (length f.payload) ((f.payload ++ END ∷ []) ++ tail) fits.size
 
--- the payload stands behind the seventh
-pub payload-in_front : (f : Frame) (tail : List ℕ) → take (length f.payload) (drop 7 (octets f ++ tail)) ≡ f.payload
+-- the payload stands after the seventh
+pub payload-at_start : (f : Frame) (tail : List ℕ) → take (length f.payload) (drop 7 (octets f ++ tail)) ≡ f.payload
 unfolding octets
-payload-in_front f tail =
+payload-at_start f tail =
     rw (append_assoc f.payload (END ∷ []) tail) (take_at f.payload (END ∷ tail) (length f.payload) refl)
 
 -- the end octet stands last
-pub end-in_front : (f : Frame) (tail : List ℕ) → get_or (octets f ++ tail) (length f.payload + 7) 0 ≡ END
+pub end-at_start : (f : Frame) (tail : List ℕ) → get_or (octets f ++ tail) (length f.payload + 7) 0 ≡ END
 unfolding octets
-end-in_front f tail =
+end-at_start f tail =
     rw (append_assoc f.payload (END ∷ []) tail) (get_or_at (type_octet f.kind ∷ (big_bytes 2 f.channel ++ (big_bytes 4 (length f.payload) ++ f.payload))) END tail 0 (length f.payload + 7) (omega arith))
 
 -- a frame of its parts
@@ -74,11 +74,11 @@ same_frame f g kinds channels payloads =
 -- Octets that begin with two frames begin with the same one, and the same octets follow it.
 pub one_frame : (f g : Frame) (xs ys : List ℕ) → Fits f → Fits g → octets f ++ xs ≡ octets g ++ ys → (f ≡ g) × (xs ≡ ys)
 one_frame f g xs ys f_fits g_fits e =
-    let kinds : f.kind ≡ g.kind = one_kind f.kind g.kind (sym (type-in_front f xs) ∙ ap (λ (zs : List ℕ). get_or zs 0 0) e ∙ type-in_front g ys) in
-    let channels : f.channel ≡ g.channel = sym (channel-in_front f xs f_fits) ∙ ap (λ (zs : List ℕ). big_number 2 (drop 1 zs)) e ∙ channel-in_front g ys g_fits in
-    let sizes : length f.payload ≡ length g.payload = sym (size-in_front f xs f_fits) ∙ ap size_of e ∙ size-in_front g ys g_fits in
+    let kinds : f.kind ≡ g.kind = one_kind f.kind g.kind (sym (type-at_start f xs) ∙ ap (λ (zs : List ℕ). get_or zs 0 0) e ∙ type-at_start g ys) in
+    let channels : f.channel ≡ g.channel = sym (channel-at_start f xs f_fits) ∙ ap (λ (zs : List ℕ). big_number 2 (drop 1 zs)) e ∙ channel-at_start g ys g_fits in
+    let sizes : length f.payload ≡ length g.payload = sym (size-at_start f xs f_fits) ∙ ap size_of e ∙ size-at_start g ys g_fits in
     let payloads : f.payload ≡ g.payload =
-    sym (payload-in_front f xs) ∙ rw sizes (ap (λ (zs : List ℕ). take (length g.payload) (drop 7 zs)) e ∙ payload-in_front g ys) in
+    sym (payload-at_start f xs) ∙ rw sizes (ap (λ (zs : List ℕ). take (length g.payload) (drop 7 zs)) e ∙ payload-at_start g ys) in
     let same = same_frame f g kinds channels payloads in
     (same, append_cancel_left (octets g) xs ys (rw same at e))
 

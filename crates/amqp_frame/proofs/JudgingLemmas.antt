@@ -20,16 +20,16 @@ get_or_take_lt (suc n) [] i small = small
 get_or_take_lt (suc n) (x ∷ xs) zero small = small
 get_or_take_lt (suc n) (x ∷ xs) (suc i) small = get_or_take_lt n xs i small
 
--- octets apart from what is behind them
-front_octets : (n : ℕ) (xs : List ℕ) → AreOctets xs → AreOctets (take n xs)
-front_octets n xs are i = get_or_take_lt n xs i (are i)
+-- octets apart from what is after them
+prefix_octets : (n : ℕ) (xs : List ℕ) → AreOctets xs → AreOctets (take n xs)
+prefix_octets n xs are i = get_or_take_lt n xs i (are i)
 
 -- a number of two octets, written again
 big_bytes_2 : (ys : List ℕ) → AreOctets ys → 2 ≤ length ys → big_bytes 2 (big_number 2 ys) ≡ take 2 ys
 big_bytes_2 [] are long = absurd (omega arith)
 big_bytes_2 (a ∷ []) are long = absurd (omega arith)
 big_bytes_2 (a ∷ b ∷ ys) are long =
-    be_bytes_2 (a ∷ b ∷ []) (big_number 2 (a ∷ b ∷ ys)) refl (front_octets 2 (a ∷ b ∷ ys) are) (omega arith)
+    be_bytes_2 (a ∷ b ∷ []) (big_number 2 (a ∷ b ∷ ys)) refl (prefix_octets 2 (a ∷ b ∷ ys) are) (omega arith)
 
 -- a number of four octets, written again
 big_bytes_4 : (ys : List ℕ) → AreOctets ys → 4 ≤ length ys → big_bytes 4 (big_number 4 ys) ≡ take 4 ys
@@ -38,9 +38,9 @@ big_bytes_4 (a ∷ []) are long = absurd (omega arith)
 big_bytes_4 (a ∷ b ∷ []) are long = absurd (omega arith)
 big_bytes_4 (a ∷ b ∷ c ∷ []) are long = absurd (omega arith)
 big_bytes_4 (a ∷ b ∷ c ∷ d ∷ ys) are long =
-    be_bytes_4 (a ∷ b ∷ c ∷ d ∷ []) (big_number 4 (a ∷ b ∷ c ∷ d ∷ ys)) refl (front_octets 4 (a ∷ b ∷ c ∷ d ∷ ys) are) (omega arith)
+    be_bytes_4 (a ∷ b ∷ c ∷ d ∷ []) (big_number 4 (a ∷ b ∷ c ∷ d ∷ ys)) refl (prefix_octets 4 (a ∷ b ∷ c ∷ d ∷ ys) are) (omega arith)
 
--- the seven octets in front of a payload
+-- the seven octets before a payload
 header_octets : (xs : List ℕ) → AreOctets xs → 7 ≤ length xs → take 7 xs ≡ get_or xs 0 0 ∷ (big_bytes 2 (big_number 2 (drop 1 xs)) ++ big_bytes 4 (size_of xs))
 header_octets [] are long = absurd (omega arith)
 header_octets (x ∷ xs) are long =
@@ -49,7 +49,7 @@ header_octets (x ∷ xs) are long =
     let parts : take 2 xs ++ take 4 (drop 2 xs) ≡ big_bytes 2 (big_number 2 xs) ++ big_bytes 4 (big_number 4 (drop 2 xs)) = rw (← channel, ← size) refl in
     ap (λ (ys : List ℕ). x ∷ ys) (take-add 2 4 xs ∙ parts)
 
--- Octets that are long enough, with the type octet of a kind in front and the end octet in its place, begin with a frame.
+-- Octets that are long enough, with the type octet of a kind at the start and the end octet in its place, begin with a frame.
 pub judged_whole : (limit : ℕ) (xs : List ℕ) (f : Frame) (n : ℕ)
     → AreOctets xs → 7 ≤ length xs → n ≡ size_of xs + 8 → n ≤ limit → n ≤ length xs
     → type_octet f.kind ≡ get_or xs 0 0 → f.channel ≡ big_number 2 (drop 1 xs) → f.payload ≡ take (n - 1 - 7) (drop 7 xs) → get_or xs (n - 1) 0 ≡ END

@@ -5,22 +5,22 @@ use Rattle.std.proofs.lemmas.Bool.{cases_lt}
 use Rattle.amqp_frame.specs.Frame.{Frame, octets, Fits, frame_length}
 use Rattle.amqp_frame.specs.Splitting.{size_of, TellsFirst}
 use Rattle.amqp_frame.specs.Stream.{Stream}
-use Rattle.amqp_frame.specs.Splitter.{place_after, Completes, Waits, ToldAt, FirstFault, Faults, HasFrameInFront}
+use Rattle.amqp_frame.specs.Splitter.{place_after, Completes, Waits, ToldAt, FirstFault, Faults, HasFrameAtStart}
 use Rattle.amqp_frame.specs.Judging.{IsBegun, IsFilled}
 use Rattle.amqp_frame.specs.declared.faults.FrameFaultKind.{FrameFaultKind}
 use Rattle.amqp_frame.specs.declared.faults.FrameFaultKind.TheVariants.{UnknownType, TooLarge, BadEnd, OutOfMemory, Failed}
-use Rattle.amqp_frame.proofs.FrameLemmas.{size-in_front}
-use Rattle.amqp_frame.proofs.SplittingLemmas.{begun_front_tells_none, begun_tells_none, begun_front, begun_is_rest}
+use Rattle.amqp_frame.proofs.FrameLemmas.{size-at_start}
+use Rattle.amqp_frame.proofs.SplittingLemmas.{begun_prefix_tells_none, begun_tells_none, begun_prefix, begun_is_rest}
 
--- where a frame within the limit stands in front, nothing tells a fault
-pub told_without_frame : (limit : ℕ) (xs : List ℕ) (kind : FrameFaultKind) (place : ℕ) → TellsFirst limit xs kind place → HasFrameInFront limit xs → ⊥
+-- where a frame within the limit stands at the start, nothing tells a fault
+pub told_without_frame : (limit : ℕ) (xs : List ℕ) (kind : FrameFaultKind) (place : ℕ) → TellsFirst limit xs kind place → HasFrameAtStart limit xs → ⊥
 told_without_frame limit xs kind place told here =
-    begun_front_tells_none limit here.f (take (place + 1) xs) (drop (place + 1) xs) here.tail kind here.fits here.within
-    (sym here.in_front ∙ sym (take-append-drop (place + 1) xs)) told.told
+    begun_prefix_tells_none limit here.f (take (place + 1) xs) (drop (place + 1) xs) here.tail kind here.fits here.within
+    (sym here.at_start ∙ sym (take-append-drop (place + 1) xs)) told.told
 
 -- and the octets are more than a frame begun
-pub begun_without_frame : (limit : ℕ) (xs : List ℕ) → IsBegun limit xs → HasFrameInFront limit xs → ⊥
-begun_without_frame limit xs begun here = (begun_is_rest limit xs begun).no_frame (here.f, here.tail, here.fits, here.in_front)
+pub begun_without_frame : (limit : ℕ) (xs : List ℕ) → IsBegun limit xs → HasFrameAtStart limit xs → ⊥
+begun_without_frame limit xs begun here = (begun_is_rest limit xs begun).no_frame (here.f, here.tail, here.fits, here.at_start)
 
 -- a first teller stays the first, whatever follows
 pub told_before : (limit : ℕ) (xs ys : List ℕ) (kind : FrameFaultKind) (place : ℕ) → TellsFirst limit xs kind place → TellsFirst limit (xs ++ ys) kind place
@@ -37,14 +37,14 @@ pub whole_piece : (old piece buffer : List ℕ) (taken : ℕ) → buffer ≡ old
 whole_piece old piece buffer taken joined =
     rw joined (append_assoc old (take taken piece) (drop taken piece) ∙ ap (λ (zs : List ℕ). old ++ zs) (take-append-drop taken piece))
 
--- what the buffer tells is told behind the octets that were pending
-pub told_behind : (limit : ℕ) (old piece buffer : List ℕ) (taken : ℕ) (kind : FrameFaultKind) (place : ℕ)
+-- what the buffer tells is told after the octets that were pending
+pub told_after : (limit : ℕ) (old piece buffer : List ℕ) (taken : ℕ) (kind : FrameFaultKind) (place : ℕ)
     → IsBegun limit old → IsFilled limit old piece buffer taken → TellsFirst limit buffer kind place → length old ≤ place
-told_behind limit old piece buffer taken kind place begun filled told = elim (cases_lt place (length old)) [
+told_after limit old piece buffer taken kind place begun filled told = elim (cases_lt place (length old)) [
   | inl before ↦
-      let front : take (place + 1) buffer ≡ take (place + 1) old = ap (take (place + 1)) filled.joined ∙ take-append-le (place + 1) old (take taken piece) (omega arith) in
-      absurd (begun_tells_none limit (take (place + 1) old) kind (begun_front limit (place + 1) old (omega arith) begun) (rw front at told.told))
-  | inr behind ↦ behind
+      let prefix : take (place + 1) buffer ≡ take (place + 1) old = ap (take (place + 1)) filled.joined ∙ take-append-le (place + 1) old (take taken piece) (omega arith) in
+      absurd (begun_tells_none limit (take (place + 1) old) kind (begun_prefix limit (place + 1) old (omega arith) begun) (rw prefix at told.told))
+  | inr after ↦ after
 ]
 
 -- a place and a kind that the octets tell are the fault
@@ -58,8 +58,8 @@ first_fault old piece Failed at told = absurd told.told.told
 pub fault_of : (fault : Option ℕ) (old : Stream) (piece : List ℕ) (kind : FrameFaultKind) (place at : ℕ)
     → fault ≡ None → TellsFirst old.limit (old.pending ++ piece) kind place → length old.pending ≤ place → at ≡ place_after old.taken (place - length old.pending)
     → Faults fault old piece (record { at = at; kind = kind })
-fault_of fault old piece kind place at running told behind at_is =
-    rw running (first_fault old piece kind at (record { place = place; told = told; behind = behind; at_is = at_is }))
+fault_of fault old piece kind place at running told after at_is =
+    rw running (first_fault old piece kind at (record { place = place; told = told; after = after; at_is = at_is }))
 
 -- the frame that the buffer holds is the frame that the piece completes
 pub completed : (old : Stream) (piece buffer : List ℕ) (taken : ℕ) (f : Frame)
@@ -67,8 +67,8 @@ pub completed : (old : Stream) (piece buffer : List ℕ) (taken : ℕ) (f : Fram
     → frame_length f ≤ length buffer → frame_length f ≤ old.limit → Fits f → take (frame_length f) buffer ≡ octets f
     → Completes old (take taken piece) f
 completed old piece buffer taken f begun filled long within fits is_frame =
-    let in_front : buffer ≡ octets f ++ drop (frame_length f) buffer = sym (take-append-drop (frame_length f) buffer) ∙ ap (λ (zs : List ℕ). zs ++ drop (frame_length f) buffer) is_frame in
-    let size : size_of buffer ≡ length f.payload = ap size_of in_front ∙ size-in_front f (drop (frame_length f) buffer) fits in
+    let at_start : buffer ≡ octets f ++ drop (frame_length f) buffer = sym (take-append-drop (frame_length f) buffer) ∙ ap (λ (zs : List ℕ). zs ++ drop (frame_length f) buffer) is_frame in
+    let size : size_of buffer ≡ length f.payload = ap size_of at_start ∙ size-at_start f (drop (frame_length f) buffer) fits in
     let short = filled.no_further (omega arith) (omega arith) in
     record {
       is_frame = sym filled.joined ∙ sym (take_all (frame_length f) buffer (omega arith)) ∙ is_frame;

@@ -39,7 +39,7 @@ pub record Fits (f : Frame) : Type 0 where
   pub channel : f.channel < 2 ^ 16
   pub size : length f.payload < 2 ^ 32
 
--- how many octets a frame has: seven in front of the payload, and the end octet
+-- how many octets a frame has: seven before the payload, and the end octet
 abbrev pub frame_length : Frame → ℕ
 frame_length f = length f.payload + 8
 

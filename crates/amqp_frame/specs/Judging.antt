@@ -31,5 +31,5 @@ pub record IsFilled (limit : ℕ) (old piece new : List ℕ) (taken : ℕ) : Typ
   pub sized : taken < length piece → 7 ≤ length new
   pub no_further : 7 ≤ length new → size_of new + 8 ≤ limit → length new ≤ size_of new + 8
   pub up_to_end : taken < length piece → size_of new + 8 ≤ limit → length new ≡ size_of new + 8
-  -- of a frame that is too long no octet is added behind its size
+  -- of a frame that is too long no octet is added after its size
   pub too_long : limit < size_of new + 8 → length new ≤ 7

@@ -11,12 +11,12 @@ OneSplit =
     → SplitsInto xs frames rest → SplitsInto xs others other → (frames ≡ others) × (rest ≡ other)
 
 -- octets that begin with two frames begin with the same one, and the same octets follow it
-abbrev pub OneFrameInFront : Type 0
-OneFrameInFront =
+abbrev pub OneFrameAtStart : Type 0
+OneFrameAtStart =
     (f g : Frame) (xs ys : List ℕ) → Fits f → Fits g → octets f ++ xs ≡ octets g ++ ys → (f ≡ g) × (xs ≡ ys)
 
--- a front of a frame that is no longer than the limit tells no fault
-abbrev pub FrontTellsNoFault : Type 0
-FrontTellsNoFault =
-    (limit : ℕ) (f : Frame) (front tail : List ℕ) (kind : FrameFaultKind)
-    → Fits f → frame_length f ≤ limit → octets f ≡ front ++ tail → Tells limit front kind → ⊥
+-- a prefix of a frame that is no longer than the limit tells no fault
+abbrev pub PrefixHasNoFault : Type 0
+PrefixHasNoFault =
+    (limit : ℕ) (f : Frame) (prefix tail : List ℕ) (kind : FrameFaultKind)
+    → Fits f → frame_length f ≤ limit → octets f ≡ prefix ++ tail → Tells limit prefix kind → ⊥

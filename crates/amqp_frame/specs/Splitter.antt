@@ -27,11 +27,11 @@ pub record Waits (old : Stream) (piece : List ℕ) (taken : ℕ) : Type 0 where
   pub all : taken ≡ length piece
   pub rest : IsRest old.limit (old.pending ++ piece)
 
--- The octet of the piece that tells the fault stands behind the pending octets, which tell none.
+-- The octet of the piece that tells the fault stands after the pending octets, which tell none.
 pub record ToldAt (old : Stream) (piece : List ℕ) (kind : FrameFaultKind) (at : ℕ) : Type 0 where
   pub place : ℕ
   pub told : TellsFirst old.limit (old.pending ++ piece) kind place
-  pub behind : length old.pending ≤ place
+  pub after : length old.pending ≤ place
   pub at_is : at ≡ place_after old.taken (place - length old.pending)
 
 -- a splitter that has told no fault tells this one
@@ -42,20 +42,20 @@ FirstFault old piece BadEnd at = ToldAt old piece BadEnd at
 FirstFault old piece OutOfMemory at = at ≡ old.taken
 FirstFault old piece Failed at = ⊥
 
--- The fault is the one that the octets tell, or want of memory; behind a fault it is Failed, at the first one's place.
+-- The fault is the one that the octets tell, or want of memory; after a fault it is Failed, at the first one's place.
 abbrev pub Faults : Option ℕ → Stream → List ℕ → FrameFault → Type 0
 Faults None old piece fault = FirstFault old piece fault.kind fault.at
 Faults (Some place) old piece fault = (fault.kind ≡ Failed) × (fault.at ≡ place)
 
--- a whole frame within the limit stands in front
-pub record HasFrameInFront (limit : ℕ) (piece : List ℕ) : Type 0 where
+-- a whole frame within the limit stands at the start
+pub record HasFrameAtStart (limit : ℕ) (piece : List ℕ) : Type 0 where
   pub f : Frame
   pub tail : List ℕ
   pub fits : Fits f
   pub within : frame_length f ≤ limit
-  pub in_front : piece ≡ octets f ++ tail
+  pub at_start : piece ≡ octets f ++ tail
 
--- after octets were taken: behind a frame nothing is pending
+-- after octets were taken: after a frame nothing is pending
 abbrev pub after_taking : {A : Type 0} → Stream → List ℕ → ℕ → Option A → Stream
 after_taking old piece taken None = record old { pending = old.pending ++ piece; taken = place_after old.taken taken }
 after_taking old piece taken (Some f) = record old { pending = []; taken = place_after old.taken taken }

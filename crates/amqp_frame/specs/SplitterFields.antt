@@ -7,7 +7,7 @@ use Rattle.amqp_frame.specs.declared.splitting.Splitter.TheInside.{Inside}
 abbrev pub stream_of : Inside → Stream
 stream_of s = record { pending = pending_of s.spent s.buffer.items; limit = s.limit; taken = s.taken; fault = s.fault }
 
--- Behind a fault the buffer is spent.
+-- After a fault the buffer is spent.
 abbrev pub IsSpentAt : Option ℕ → Bool → Type 0
 IsSpentAt None spent = Unit {0}
 IsSpentAt (Some place) spent = spent ≡ true

@@ -5,7 +5,7 @@ use Rattle.amqp_frame.specs.Frame.{Frame, octets, Fits, END}
 use Rattle.amqp_frame.specs.declared.faults.FrameFaultKind.{FrameFaultKind}
 use Rattle.amqp_frame.specs.declared.faults.FrameFaultKind.TheVariants.{UnknownType, TooLarge, BadEnd, OutOfMemory, Failed}
 
--- the octets of the frames, one frame behind another
+-- the octets of the frames, one frame after another
 abbrev pub stream : List Frame → List ℕ
 stream [] = []
 stream (f ∷ frames) = octets f ++ stream frames
@@ -15,11 +15,11 @@ abbrev pub AllFit : List Frame → Type 0
 AllFit [] = Unit {0}
 AllFit (f ∷ frames) = Fits f × AllFit frames
 
--- a front of the octets is a frame
+-- a prefix of the octets is a frame
 abbrev pub BeginsWithFrame : List ℕ → Type 0
 BeginsWithFrame xs = (f : Frame) × (tail : List ℕ) × Fits f × (xs ≡ octets f ++ tail)
 
--- the octets are those of the frames, and then a rest of which no front is a frame
+-- the octets are those of the frames, and then a rest of which no prefix is a frame
 pub record SplitsInto (xs : List ℕ) (frames : List Frame) (rest : List ℕ) : Type 0 where
   pub joined : xs ≡ stream frames ++ rest
   pub fit : AllFit frames
@@ -44,13 +44,13 @@ Tells limit xs BadEnd = (size_of xs + 8 ≤ length xs) × (slice_index xs (size_
 Tells limit xs OutOfMemory = ⊥
 Tells limit xs Failed = ⊥
 
--- The octet at a place tells the fault: the octets up to and with it tell it, and no shorter front tells any.
+-- The octet at a place tells the fault: the octets up to and with it tell it, and no shorter prefix tells any.
 pub record TellsFirst (limit : ℕ) (xs : List ℕ) (kind : FrameFaultKind) (place : ℕ) : Type 0 where
   pub within : place < length xs
   pub told : Tells limit (take (place + 1) xs) kind
   pub first : (n : ℕ) (other : FrameFaultKind) → n ≤ place → Tells limit (take n xs) other → ⊥
 
--- a frame begun: no front of the octets is a frame, and they tell no fault
+-- a frame begun: no prefix of the octets is a frame, and they tell no fault
 pub record IsRest (limit : ℕ) (xs : List ℕ) : Type 0 where
   pub no_frame : BeginsWithFrame xs → ⊥
   pub no_fault : (kind : FrameFaultKind) → Tells limit xs kind → ⊥

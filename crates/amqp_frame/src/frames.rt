@@ -9,10 +9,10 @@ use byteorder::{BigEndian, ByteOrder};
 use std::alloc::Global;
 use std::fmt;
 
-/// How many octets stand in front of a payload: the type, the channel and the payload's size.
+/// How many octets stand before a payload: the type, the channel and the payload's size.
 pub(crate) const HEADER_LENGTH: usize = 7;
 
-/// How many octets a frame has beside its payload: those in front of it, and the end octet.
+/// How many octets a frame has beside its payload: those before it, and the end octet.
 pub(crate) const OVERHEAD: usize = 8;
 
 /// The octet that ends each frame (section 4.2.3, "frame-end").
@@ -94,7 +94,7 @@ impl FrameRef<'_> {
     }
 }
 
-/// The octets in front of a payload.
+/// The octets before a payload.
 fn header_octets(kind: FrameKind, channel: u16, size: u32) -> [u8; HEADER_LENGTH]
     ensures { result ≡ type_octet kind ∷ (big_bytes 2 channel ++ big_bytes 4 size) }
 {

@@ -1,5 +1,5 @@
 //! Laws of frames that the layers above rest on.
-ghost use Rattle.amqp_frame.specs.Laws.{OneSplit, OneFrameInFront, FrontTellsNoFault};
+ghost use Rattle.amqp_frame.specs.Laws.{OneSplit, OneFrameAtStart, PrefixHasNoFault};
 
 /// Octets split into frames and a rest in one way only.
 pub fn one_split()
@@ -8,11 +8,11 @@ pub fn one_split()
 
 /// Octets that begin with two frames begin with the same one: its kind, its channel, its payload and what follows it
 /// are equal.
-pub fn one_frame_in_front()
-    ensures { OneFrameInFront }
+pub fn one_frame_at_start()
+    ensures { OneFrameAtStart }
 {}
 
-/// A front of a frame that is no longer than the limit tells no fault.
-pub fn front_tells_no_fault()
-    ensures { FrontTellsNoFault }
+/// A prefix of a frame that is no longer than the limit tells no fault.
+pub fn prefix_has_no_fault()
+    ensures { PrefixHasNoFault }
 {}

@@ -19,5 +19,5 @@ mod tests;
 
 pub use crate::faults::{FrameFault, FrameFaultKind, OutOfMemory};
 pub use crate::frames::{FrameKind, FrameRef, RawFrame, write_frame};
-pub use crate::laws::{front_tells_no_fault, one_frame_in_front, one_split};
+pub use crate::laws::{one_frame_at_start, one_split, prefix_has_no_fault};
 pub use crate::splitting::{Fed, FedRef, Splitter};

@@ -2,7 +2,7 @@
 ghost use Rattle.std.specs.Prelude.{◌≡◌, ◌≢◌, ◌+◌, ◌<◌, ◌≤◌, [], ◌++◌, length, take, None, IsOk, IfOk, IfErr, IfSome, IfNone};
 ghost use Rattle.std.specs.Borrow.{sem};
 ghost use Rattle.amqp_frame.specs.Frame.{owned, lent};
-ghost use Rattle.amqp_frame.specs.Splitter.{Completes, Waits, Faults, HasFrameInFront, after_feed, LeavesAfter};
+ghost use Rattle.amqp_frame.specs.Splitter.{Completes, Waits, Faults, HasFrameAtStart, after_feed, LeavesAfter};
 
 use crate::faults::{FrameFault, FrameFaultKind};
 use crate::frames::{FrameRef, OVERHEAD, RawFrame};
@@ -69,7 +69,7 @@ impl Splitter {
         }
     }
 
-    /// How many octets were taken of a frame that isn't whole yet. Behind a fault it is 0.
+    /// How many octets were taken of a frame that isn't whole yet. After a fault it is 0.
     pub fn pending(&self) -> usize
         ensures value { result ≡ length self.now.pending }
         ensures below_limit { result < self.now.limit }
@@ -89,8 +89,8 @@ impl Splitter {
     /// Takes octets up to the end of the next frame and no further, and lends that frame.
     ///
     /// The payload is a part of the piece where the frame lies whole in it, and of the splitter's buffer otherwise. Where
-    /// nothing is pending and a whole frame within the limit stands in front, no memory is taken. An empty piece gives
-    /// no frame. Behind a fault each call answers [`FrameFaultKind::Failed`].
+    /// nothing is pending and a whole frame within the limit stands at the start, no memory is taken. An empty piece gives
+    /// no frame. After a fault each call answers [`FrameFaultKind::Failed`].
     #[inline]
     pub fn feed_ref<'a>(&'a mut self, piece: &'a [u8]) -> Result<FedRef<'a>, FrameFault>
         // With a frame, the octets pending and taken are that frame, no longer than the limit.
@@ -99,13 +99,13 @@ impl Splitter {
         ensures rest { IfOk result (λ fed. IfNone fed.frame (Waits self.old piece.now fed.taken)) }
         // A fault is told by the stream, at the first octet that tells it, or it is want of memory.
         ensures fault { IfErr result (λ fault. Faults self.old.fault self.old piece.now fault) }
-        // Behind a fault there is no other answer.
+        // After a fault there is no other answer.
         ensures running { IsOk result → self.old.fault ≡ None }
 
         ensures within { IfOk result (λ fed. fed.taken ≤ length piece.now) }
         ensures progress { IfOk result (λ fed. piece.now ≢ [] → 0 < fed.taken) }
         ensures in_place { self.old.fault ≡ None → self.old.pending ≡ []
-            → HasFrameInFront self.old.limit piece.now → IsOk result }
+            → HasFrameAtStart self.old.limit piece.now → IsOk result }
         ensures* after { sem 𝓛 (LeavesAfter self.entry piece.now result) }
     {
         if let Some(at) = self.fault {

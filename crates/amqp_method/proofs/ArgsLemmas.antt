@@ -1,44 +1,44 @@
--- The arguments of a method: what is read is spelled so, and what is spelled so is read.
+-- The arguments of a method: what is read is encoded so, and what is encoded so is read.
 use Rattle.std.proofs.Common.{◌≡◌, ℕ, zero, suc, ◌/◌, ◌<◌, List, [], ◌∷◌, ◌++◌, map, Bool, Ok, refl, sym, ap, subst, ◌∙◌, append_assoc, arith}
 use Rattle.std.proofs.Math.Nat.{mod-eq_of_lt}
 use Rattle.byteorder.specs.Endian.{big_bytes}
 use Rattle.amqp_value.proofs.Elements.{bind_ok}
 use Rattle.amqp_value.proofs.Numbers.{IsBytes}
-use Rattle.amqp_value.specs.Fields.{SpellsNumber}
+use Rattle.amqp_value.specs.Fields.{EncodesNumber}
 use Rattle.amqp_method.specs.Arguments.{Argument, bit, octet, short, long, long_long, short_string, long_string, table, kind_of, keep, kept}
 use Rattle.amqp_method.specs.Methods.{FieldRow}
 use Rattle.amqp_method.specs.Reading.{Read, Bits, no_bits, number_at, short_string_at, long_string_at, field_table_at, bit_at, ends_run, field_at, args_at}
-use Rattle.amqp_method.specs.Spelling.{SpellsArgument, one, parts_of, SpellsParts}
+use Rattle.amqp_method.specs.Encoding.{EncodesArgument, one, parts_of, EncodesParts}
 use Rattle.amqp_method.specs.declared.fields.FieldKind.{FieldKind}
 use Rattle.amqp_method.specs.declared.fields.FieldKind.TheVariants.{Bit, Octet, Short, Long, LongLong, ShortStr, LongStr, Table}
 use Rattle.amqp_method.proofs.FieldLemmas.{same_ok, Takes, number_at-takes, number_at-again, short_string_at-takes, short_string_at-again, long_string_at-takes, long_string_at-again, field_table_at-takes, field_table_at-again}
-use Rattle.amqp_method.proofs.RunLemmas.{SpellsOn, on_parts, off_parts, on_bit, off_bit, on_octet, off_octet}
+use Rattle.amqp_method.proofs.RunLemmas.{EncodesOn, on_parts, off_parts, on_bit, off_bit, on_octet, off_octet}
 
--- an octet is the spelling of its number
+-- an octet is the encoding of its number
 octet_of : (n : ℕ) → n < 256 → n ∷ [] ≡ big_bytes 1 n
 octet_of n h = ap (λ (m : ℕ). m ∷ []) (sym (mod-eq_of_lt h))
 
--- ---- what is read is spelled so
+-- ---- what is read is encoded so
 
--- a value that was read, in front of values that are spelled
-pub record TakesField (kind : FieldKind) (bits : Bits) (octets : List ℕ) (value : Argument) (others : Bits) (behind : List ℕ) : Type 0 where
+-- a value that was read, before values that are encoded
+pub record TakesField (kind : FieldKind) (bits : Bits) (octets : List ℕ) (value : Argument) (others : Bits) (beyond : List ℕ) : Type 0 where
   pub kind_is : kind_of value ≡ kind
-  pub spelled : (values : List Argument) (front after : List ℕ) → behind ≡ front ++ after → SpellsOn others.left others.packed (parts_of values) front
-      → (whole : List ℕ) × (octets ≡ whole ++ after) × SpellsOn bits.left bits.packed (parts_of (value ∷ values)) whole
-  pub behind_fits : IsBytes behind
+  pub encoded : (values : List Argument) (prefix after : List ℕ) → beyond ≡ prefix ++ after → EncodesOn others.left others.packed (parts_of values) prefix
+      → (whole : List ℕ) × (octets ≡ whole ++ after) × EncodesOn bits.left bits.packed (parts_of (value ∷ values)) whole
+  pub after_fits : IsBytes beyond
 
 -- a field that has octets of its own ends the run before it
-takes_one : (kind : FieldKind) (bits : Bits) (octets : List ℕ) (value : Argument) (behind : List ℕ) → kind_of value ≡ kind
+takes_one : (kind : FieldKind) (bits : Bits) (octets : List ℕ) (value : Argument) (beyond : List ℕ) → kind_of value ≡ kind
     → ((values : List Argument) → parts_of (value ∷ values) ≡ one value ∷ parts_of values)
-    → Takes (SpellsArgument value) octets behind → TakesField kind bits octets value no_bits behind
-takes_one kind bits octets value behind kind_is alone takes = record {
+    → Takes (EncodesArgument value) octets beyond → TakesField kind bits octets value no_bits beyond
+takes_one kind bits octets value beyond kind_is alone takes = record {
   kind_is = kind_is;
-  spelled = λ values front after e h. (
-    takes.front ++ front,
-    takes.parts ∙ ap (λ (o : List ℕ). takes.front ++ o) e ∙ sym (append_assoc takes.front front after),
-    rw (alone values) (takes.front, front, refl, takes.spells, off_parts 0 (parts_of values) front h),
+  encoded = λ values prefix after e h. (
+    takes.prefix ++ prefix,
+    takes.parts ∙ ap (λ (o : List ℕ). takes.prefix ++ o) e ∙ sym (append_assoc takes.prefix prefix after),
+    rw (alone values) (takes.prefix, prefix, refl, takes.encodes, off_parts 0 (parts_of values) prefix h),
   );
-  behind_fits = takes.behind_fits;
+  after_fits = takes.after_fits;
 }
 
 pub record TakesStep (kind : FieldKind) (bits : Bits) (octets : List ℕ) (x : (Argument × Bits) × List ℕ) : Type 0 where
@@ -46,7 +46,7 @@ pub record TakesStep (kind : FieldKind) (bits : Bits) (octets : List ℕ) (x : (
 
 takes_run : {X : Type 0} (kind : FieldKind) (bits : Bits) (octets : List ℕ) (make : X → Argument) (read : Read X) (x : (Argument × Bits) × List ℕ)
     → ((v : X) → kind_of (make v) ≡ kind) → ((v : X) (values : List Argument) → parts_of (make v ∷ values) ≡ one (make v) ∷ parts_of values)
-    → ((y : X × List ℕ) → read ≡ Ok y → Takes (SpellsArgument (make y.0)) octets y.1)
+    → ((y : X × List ℕ) → read ≡ Ok y → Takes (EncodesArgument (make y.0)) octets y.1)
     → ends_run make read ≡ Ok x → TakesStep kind bits octets x
 takes_run kind bits octets make read x kind_is alone takes e =
     let b = bind_ok read _ x e in
@@ -58,22 +58,22 @@ takes_bit zero packed end octets x fits e =
     let b = bind_ok (number_at 1 end octets) _ x e in
     let takes = number_at-takes 1 end octets b.0 fits b.1 in
     let n = b.0.0 in
-    let below : n < 256 = omega (arith, takes.spells.fits) in
-    let alone : takes.front ≡ n ∷ [] = takes.spells.octets_are ∙ sym (octet_of n below) in
+    let below : n < 256 = omega (arith, takes.encodes.fits) in
+    let alone : takes.prefix ≡ n ∷ [] = takes.encodes.octets_are ∙ sym (octet_of n below) in
     subst (TakesStep Bit (record { left = zero; packed = packed }) octets) (same_ok _ _ b.2) (record {
       takes = record {
         kind_is = refl;
-        spelled = λ values front after e h.
-            (n ∷ front, takes.parts ∙ rw (alone, e) refl, on_octet packed n (parts_of values) front below h);
-        behind_fits = takes.behind_fits;
+        encoded = λ values prefix after e h.
+            (n ∷ prefix, takes.parts ∙ rw (alone, e) refl, on_octet packed n (parts_of values) prefix below h);
+        after_fits = takes.after_fits;
       };
     })
 takes_bit (suc left) packed end octets x fits e =
     subst (TakesStep Bit (record { left = suc left; packed = packed }) octets) (same_ok _ _ e) (record {
       takes = record {
         kind_is = refl;
-        spelled = λ values front after e h. (front, e, on_bit left packed (parts_of values) front h);
-        behind_fits = fits;
+        encoded = λ values prefix after e h. (prefix, e, on_bit left packed (parts_of values) prefix h);
+        after_fits = fits;
       };
     })
 
@@ -96,48 +96,48 @@ kinds_of fields = map (λ (f : FieldRow). f.kind) fields
 -- arguments that were read
 pub record TakesArgs (fields : List FieldRow) (bits : Bits) (octets : List ℕ) (x : List Argument × List ℕ) : Type 0 where
   pub values : List Argument
-  pub front : List ℕ
-  pub parts : octets ≡ front ++ x.1
+  pub prefix : List ℕ
+  pub parts : octets ≡ prefix ++ x.1
   pub kinds_are : map kind_of values ≡ kinds_of fields
   pub args_are : x.0 ≡ kept fields values
-  pub spelled : SpellsOn bits.left bits.packed (parts_of values) front
-  pub behind_fits : IsBytes x.1
+  pub encoded : EncodesOn bits.left bits.packed (parts_of values) prefix
+  pub after_fits : IsBytes x.1
 
 pub args_at-takes : (fields : List FieldRow) (bits : Bits) (end : ℕ) (octets : List ℕ) (x : List Argument × List ℕ) → IsBytes octets → args_at fields bits end octets ≡ Ok x
     → TakesArgs fields bits octets x
 unfolding args_at
 args_at-takes [] bits end octets x fits e =
-    subst (TakesArgs [] bits octets) (same_ok _ _ e) (record { values = []; front = []; parts = refl; kinds_are = refl; args_are = refl; spelled = refl; behind_fits = fits })
+    subst (TakesArgs [] bits octets) (same_ok _ _ e) (record { values = []; prefix = []; parts = refl; kinds_are = refl; args_are = refl; encoded = refl; after_fits = fits })
 args_at-takes (f ∷ fields) bits end octets x fits e =
     let b = bind_ok (field_at f.kind bits end octets) _ x e in
     let step = (field_at-takes f.kind bits end octets b.0 fits b.1).takes in
     let d = bind_ok (args_at fields b.0.0.1 end b.0.1) _ x b.2 in
-    let inside = args_at-takes fields b.0.0.1 end b.0.1 d.0 step.behind_fits d.1 in
-    let all = step.spelled inside.values inside.front d.0.1 inside.parts inside.spelled in
+    let inside = args_at-takes fields b.0.0.1 end b.0.1 d.0 step.after_fits d.1 in
+    let all = step.encoded inside.values inside.prefix d.0.1 inside.parts inside.encoded in
     subst (TakesArgs (f ∷ fields) bits octets) (same_ok _ _ d.2) (record {
       values = b.0.0.0 ∷ inside.values;
-      front = all.0;
+      prefix = all.0;
       parts = all.1;
       kinds_are = rw (step.kind_is, inside.kinds_are) refl;
       args_are = ap (keep f.reserved b.0.0.0) inside.args_are;
-      spelled = all.2;
-      behind_fits = inside.behind_fits;
+      encoded = all.2;
+      after_fits = inside.after_fits;
     })
 
--- ---- what is spelled so is read
+-- ---- what is encoded so is read
 
--- a value in front of the octets is read, and leaves the others
-pub record ReadsField (bits : Bits) (front : List ℕ) (value : Argument) (values : List Argument) : Type 0 where
+-- a value before the octets is read, and leaves the others
+pub record ReadsField (bits : Bits) (prefix : List ℕ) (value : Argument) (values : List Argument) : Type 0 where
   pub others : Bits
   pub rest : List ℕ
-  pub reads : (end : ℕ) (after : List ℕ) → field_at (kind_of value) bits end (front ++ after) ≡ Ok ((value, others), rest ++ after)
-  pub goes_on : SpellsOn others.left others.packed (parts_of values) rest
+  pub reads : (end : ℕ) (after : List ℕ) → field_at (kind_of value) bits end (prefix ++ after) ≡ Ok ((value, others), rest ++ after)
+  pub goes_on : EncodesOn others.left others.packed (parts_of values) rest
 
 -- a field that has octets of its own
-reads_one : (bits : Bits) (front : List ℕ) (value : Argument) (values : List Argument)
-    → ((end : ℕ) (first behind : List ℕ) → SpellsArgument value first → field_at (kind_of value) bits end (first ++ behind) ≡ Ok ((value, no_bits), behind))
-    → ((first rest : List ℕ) × (front ≡ first ++ rest) × SpellsArgument value first × SpellsParts (parts_of values) rest) → ReadsField bits front value values
-reads_one bits front value values again h = record {
+reads_one : (bits : Bits) (prefix : List ℕ) (value : Argument) (values : List Argument)
+    → ((end : ℕ) (first beyond : List ℕ) → EncodesArgument value first → field_at (kind_of value) bits end (first ++ beyond) ≡ Ok ((value, no_bits), beyond))
+    → ((first rest : List ℕ) × (prefix ≡ first ++ rest) × EncodesArgument value first × EncodesParts (parts_of values) rest) → ReadsField bits prefix value values
+reads_one bits prefix value values again h = record {
   others = no_bits;
   rest = h.1;
   reads = λ end after.
@@ -146,51 +146,51 @@ reads_one bits front value values again h = record {
   goes_on = on_parts 0 (parts_of values) h.1 h.4;
 }
 
-reads_bit : (left packed : ℕ) (front : List ℕ) (holds : Bool) (values : List Argument) → SpellsOn left packed (parts_of (bit holds ∷ values)) front
-    → ReadsField (record { left = left; packed = packed }) front (bit holds) values
+reads_bit : (left packed : ℕ) (prefix : List ℕ) (holds : Bool) (values : List Argument) → EncodesOn left packed (parts_of (bit holds ∷ values)) prefix
+    → ReadsField (record { left = left; packed = packed }) prefix (bit holds) values
 unfolding field_at
-reads_bit zero packed front holds values h =
-    let o = off_octet packed holds (parts_of values) front h in
+reads_bit zero packed prefix holds values h =
+    let o = off_octet packed holds (parts_of values) prefix h in
     record {
       others = record { left = 7; packed = o.first / 2 };
       rest = o.others;
       reads = λ end after.
-          let spelled : SpellsNumber 1 o.first (o.first ∷ []) = record { fits = o.fits; octets_are = octet_of o.first o.fits } in
-          let is = number_at-again 1 end o.first (o.first ∷ []) (o.others ++ after) spelled in
+          let encoded : EncodesNumber 1 o.first (o.first ∷ []) = record { fits = o.fits; octets_are = octet_of o.first o.fits } in
+          let is = number_at-again 1 end o.first (o.first ∷ []) (o.others ++ after) encoded in
           ap (λ (p : List ℕ). bit_at zero packed end (p ++ after)) o.octets_are ∙ rw (is, o.bit_is) refl;
       goes_on = o.goes_on;
     }
-reads_bit (suc left) packed front holds values h =
-    let o = off_bit left packed holds (parts_of values) front h in
+reads_bit (suc left) packed prefix holds values h =
+    let o = off_bit left packed holds (parts_of values) prefix h in
     record {
       others = record { left = left; packed = packed / 2 };
-      rest = front;
+      rest = prefix;
       reads = λ end after. rw o.0 refl;
       goes_on = o.1;
     }
 
-pub field_at-again : (value : Argument) (values : List Argument) (bits : Bits) (front : List ℕ) → SpellsOn bits.left bits.packed (parts_of (value ∷ values)) front → ReadsField bits front value values
+pub field_at-again : (value : Argument) (values : List Argument) (bits : Bits) (prefix : List ℕ) → EncodesOn bits.left bits.packed (parts_of (value ∷ values)) prefix → ReadsField bits prefix value values
 unfolding field_at
-field_at-again (bit holds) values bits front h = reads_bit bits.left bits.packed front holds values h
-field_at-again (octet n) values bits front h = reads_one bits front (octet n) values (λ end first behind s. rw (number_at-again 1 end n first behind s) refl) h
-field_at-again (short n) values bits front h = reads_one bits front (short n) values (λ end first behind s. rw (number_at-again 2 end n first behind s) refl) h
-field_at-again (long n) values bits front h = reads_one bits front (long n) values (λ end first behind s. rw (number_at-again 4 end n first behind s) refl) h
-field_at-again (long_long n) values bits front h = reads_one bits front (long_long n) values (λ end first behind s. rw (number_at-again 8 end n first behind s) refl) h
-field_at-again (short_string t) values bits front h = reads_one bits front (short_string t) values (λ end first behind s. rw (short_string_at-again end t first behind s) refl) h
-field_at-again (long_string t) values bits front h = reads_one bits front (long_string t) values (λ end first behind s. rw (long_string_at-again end t first behind s) refl) h
-field_at-again (table t) values bits front h = reads_one bits front (table t) values (λ end first behind s. rw (field_table_at-again end t first behind s) refl) h
+field_at-again (bit holds) values bits prefix h = reads_bit bits.left bits.packed prefix holds values h
+field_at-again (octet n) values bits prefix h = reads_one bits prefix (octet n) values (λ end first beyond s. rw (number_at-again 1 end n first beyond s) refl) h
+field_at-again (short n) values bits prefix h = reads_one bits prefix (short n) values (λ end first beyond s. rw (number_at-again 2 end n first beyond s) refl) h
+field_at-again (long n) values bits prefix h = reads_one bits prefix (long n) values (λ end first beyond s. rw (number_at-again 4 end n first beyond s) refl) h
+field_at-again (long_long n) values bits prefix h = reads_one bits prefix (long_long n) values (λ end first beyond s. rw (number_at-again 8 end n first beyond s) refl) h
+field_at-again (short_string t) values bits prefix h = reads_one bits prefix (short_string t) values (λ end first beyond s. rw (short_string_at-again end t first beyond s) refl) h
+field_at-again (long_string t) values bits prefix h = reads_one bits prefix (long_string t) values (λ end first beyond s. rw (long_string_at-again end t first beyond s) refl) h
+field_at-again (table t) values bits prefix h = reads_one bits prefix (table t) values (λ end first beyond s. rw (field_table_at-again end t first beyond s) refl) h
 
-pub args_at-again : (fields : List FieldRow) (values : List Argument) (bits : Bits) (end : ℕ) (front after : List ℕ) → map kind_of values ≡ kinds_of fields → SpellsOn bits.left bits.packed (parts_of values) front
-    → args_at fields bits end (front ++ after) ≡ Ok (kept fields values, after)
+pub args_at-again : (fields : List FieldRow) (values : List Argument) (bits : Bits) (end : ℕ) (prefix after : List ℕ) → map kind_of values ≡ kinds_of fields → EncodesOn bits.left bits.packed (parts_of values) prefix
+    → args_at fields bits end (prefix ++ after) ≡ Ok (kept fields values, after)
 unfolding args_at
-args_at-again [] [] bits end front after kinds h = rw h refl
-args_at-again [] (value ∷ values) bits end front after kinds h = absurd cc
-args_at-again (f ∷ fields) [] bits end front after kinds h = absurd cc
-args_at-again (f ∷ fields) (value ∷ values) bits end front after kinds h =
-    let r = field_at-again value values bits front h in
+args_at-again [] [] bits end prefix after kinds h = rw h refl
+args_at-again [] (value ∷ values) bits end prefix after kinds h = absurd cc
+args_at-again (f ∷ fields) [] bits end prefix after kinds h = absurd cc
+args_at-again (f ∷ fields) (value ∷ values) bits end prefix after kinds h =
+    let r = field_at-again value values bits prefix h in
     let first : kind_of value ≡ f.kind = cc in
     let others : map kind_of values ≡ kinds_of fields = cc in
-    let is : field_at f.kind bits end (front ++ after) ≡ Ok ((value, r.others), r.rest ++ after) = rw (← first) (r.reads end after) in
+    let is : field_at f.kind bits end (prefix ++ after) ≡ Ok ((value, r.others), r.rest ++ after) = rw (← first) (r.reads end after) in
     let inside = args_at-again fields values r.others end r.rest after others r.goes_on in
     rw (is, inside) refl
 
@@ -199,10 +199,10 @@ args_at-again (f ∷ fields) (value ∷ values) bits end front after kinds h =
 -- a value that was read of octets of its own
 pub record TakesAlone (kind : FieldKind) (octets : List ℕ) (x : (Argument × Bits) × List ℕ) : Type 0 where
   pub kind_is : kind_of x.0.0 ≡ kind
-  pub takes : Takes (SpellsArgument x.0.0) octets x.1
+  pub takes : Takes (EncodesArgument x.0.0) octets x.1
 
 alone : {X : Type 0} (kind : FieldKind) (octets : List ℕ) (make : X → Argument) (read : Read X) (x : (Argument × Bits) × List ℕ)
-    → ((v : X) → kind_of (make v) ≡ kind) → ((y : X × List ℕ) → read ≡ Ok y → Takes (SpellsArgument (make y.0)) octets y.1)
+    → ((v : X) → kind_of (make v) ≡ kind) → ((y : X × List ℕ) → read ≡ Ok y → Takes (EncodesArgument (make y.0)) octets y.1)
     → ends_run make read ≡ Ok x → TakesAlone kind octets x
 alone kind octets make read x kind_is takes e =
     let b = bind_ok read _ x e in
@@ -231,13 +231,13 @@ field_alone-takes ShortStr bits end octets x own fits e = alone ShortStr octets 
 field_alone-takes LongStr bits end octets x own fits e = alone LongStr octets long_string (long_string_at end octets) x (λ v. refl) (λ y. long_string_at-takes end octets y fits) e
 field_alone-takes Table bits end octets x own fits e = alone Table octets table (field_table_at end octets) x (λ v. refl) (λ y. field_table_at-takes end octets y fits) e
 
-pub field_alone-again : (value : Argument) (bits : Bits) (end : ℕ) (front behind : List ℕ) → SpellsArgument value front → field_at (kind_of value) bits end (front ++ behind) ≡ Ok ((value, no_bits), behind)
+pub field_alone-again : (value : Argument) (bits : Bits) (end : ℕ) (prefix beyond : List ℕ) → EncodesArgument value prefix → field_at (kind_of value) bits end (prefix ++ beyond) ≡ Ok ((value, no_bits), beyond)
 unfolding field_at
-field_alone-again (bit holds) bits end front behind s = absurd s
-field_alone-again (octet n) bits end front behind s = rw (number_at-again 1 end n front behind s) refl
-field_alone-again (short n) bits end front behind s = rw (number_at-again 2 end n front behind s) refl
-field_alone-again (long n) bits end front behind s = rw (number_at-again 4 end n front behind s) refl
-field_alone-again (long_long n) bits end front behind s = rw (number_at-again 8 end n front behind s) refl
-field_alone-again (short_string t) bits end front behind s = rw (short_string_at-again end t front behind s) refl
-field_alone-again (long_string t) bits end front behind s = rw (long_string_at-again end t front behind s) refl
-field_alone-again (table t) bits end front behind s = rw (field_table_at-again end t front behind s) refl
+field_alone-again (bit holds) bits end prefix beyond s = absurd s
+field_alone-again (octet n) bits end prefix beyond s = rw (number_at-again 1 end n prefix beyond s) refl
+field_alone-again (short n) bits end prefix beyond s = rw (number_at-again 2 end n prefix beyond s) refl
+field_alone-again (long n) bits end prefix beyond s = rw (number_at-again 4 end n prefix beyond s) refl
+field_alone-again (long_long n) bits end prefix beyond s = rw (number_at-again 8 end n prefix beyond s) refl
+field_alone-again (short_string t) bits end prefix beyond s = rw (short_string_at-again end t prefix beyond s) refl
+field_alone-again (long_string t) bits end prefix beyond s = rw (long_string_at-again end t prefix beyond s) refl
+field_alone-again (table t) bits end prefix beyond s = rw (field_table_at-again end t prefix beyond s) refl

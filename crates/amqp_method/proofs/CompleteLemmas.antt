@@ -5,12 +5,12 @@ use Rattle.amqp_method.specs.Arguments.{Argument, short, nothing, kind_of, keep,
 use Rattle.amqp_method.specs.Kinds.{fields_of}
 use Rattle.amqp_method.specs.Methods.{FieldRow, row}
 use Rattle.amqp_method.specs.Plain.{plain_values, plain_method, value_for, left_by, complete, CountFits, CountsAllFit}
-use Rattle.amqp_method.specs.Spelling.{SpellsMethod}
+use Rattle.amqp_method.specs.Encoding.{EncodesMethod}
 use Rattle.amqp_method.specs.Writing.{none_gathered, written_values, Fitting, AllFitting}
 use Rattle.amqp_method.specs.declared.fields.FieldKind.{FieldKind}
 use Rattle.amqp_method.specs.declared.fields.FieldKind.TheVariants.{Bit, Octet, Short, Long, LongLong, ShortStr, LongStr, Table}
 use Rattle.amqp_method.proofs.ArgsLemmas.{kinds_of}
-use Rattle.amqp_method.proofs.PlainLemmas.{plain_values-spell, written_values-plain}
+use Rattle.amqp_method.proofs.PlainLemmas.{plain_values-encode, written_values-plain}
 
 nothing-kind : (kind : FieldKind) → kind_of (nothing kind) ≡ kind
 nothing-kind Bit = refl
@@ -85,11 +85,11 @@ method_written c old first second new class id fields args class_is id_is fields
     let grouped = append_assoc (old ++ big_bytes 2 class) (big_bytes 2 id) rest ∙ append_assoc old (big_bytes 2 class) (big_bytes 2 id ++ rest) in
     whole ∙ grouped ∙ ap (λ (n : ℕ). old ++ (big_bytes 2 n ++ (big_bytes 2 id ++ rest))) class_is ∙ ap (λ (n : ℕ). old ++ (big_bytes 2 (row c.kind).class ++ (big_bytes 2 n ++ rest))) id_is
 
--- the plain spelling of a method is a spelling of it
-pub method_spelled : (c : Call) (class id : ℕ) (fields : List FieldRow) (args : List Argument)
+-- the plain encoding of a method is a encoding of it
+pub method_encoded : (c : Call) (class id : ℕ) (fields : List FieldRow) (args : List Argument)
     → class ≡ (row c.kind).class → id ≡ (row c.kind).id → fields ≡ fields_of c.kind → args ≡ c.args
-    → Fits c → Fitting (short class) → Fitting (short id) → AllFitting (complete fields args) → SpellsMethod c (plain_method c)
-method_spelled c class id fields args class_is id_is fields_are args_are fit class_fits id_fits fitting =
+    → Fits c → Fitting (short class) → Fitting (short id) → AllFitting (complete fields args) → EncodesMethod c (plain_method c)
+method_encoded c class id fields args class_is id_is fields_are args_are fit class_fits id_fits fitting =
     let all : AllFitting (complete (fields_of c.kind) c.args) = rw (fields_are, args_are) at fitting in
     record {
       class = big_bytes 2 (row c.kind).class;
@@ -102,6 +102,6 @@ method_spelled c class id fields args class_is id_is fields_are args_are fit cla
         values = complete (fields_of c.kind) c.args;
         kinds_are = complete-kinds (fields_of c.kind) c.args fit;
         args_are = complete-kept (fields_of c.kind) c.args fit;
-        spelled = plain_values-spell (complete (fields_of c.kind) c.args) all;
+        encoded = plain_values-encode (complete (fields_of c.kind) c.args) all;
       };
     }

@@ -1,14 +1,14 @@
 -- Arguments that fit their fields, and what is written of them.
 use Rattle.std.proofs.Common.{ℕ, ◌<◌, ◌^◌, List, [], ◌∷◌, length, Bool, true, false, Option, Some, None, refl, arith}
 use Rattle.byteorder.specs.Endian.{big_bytes}
-use Rattle.amqp_value.specs.Fields.{SpellsNumber}
+use Rattle.amqp_value.specs.Fields.{EncodesNumber}
 use Rattle.amqp_value.specs.Plain.{plain_scalar, plain_field, plain_items, plain_pairs}
-use Rattle.amqp_value.specs.Spelling.{SpellsScalar, SpellsField, SpellsItems, SpellsPairs}
+use Rattle.amqp_value.specs.Encoding.{EncodesScalar, EncodesField, EncodesItems, EncodesPairs}
 use Rattle.amqp_value.specs.Values.{Scalar, boolean, short_short_int, short_short_uint, errata_short_int, short_int, short_uint, long_int, long_uint, errata_long_long_int, long_long_int, float, double, decimal, timestamp, void, Datum, scalar, long_string as long_string_datum, byte_array, array, table as table_datum, Items, no_items, item, Pairs, no_pairs, pair}
 use Rattle.amqp_method.specs.Arguments.{Argument, bit, octet, short, long, long_long, short_string, long_string, table, nothing}
 use Rattle.amqp_method.specs.Kinds.{fields_of}
 use Rattle.amqp_method.specs.Fitting.{ScalarFits, DatumFits, ItemsFit, PairsFit, ArgumentFits, ArgumentsFit, PropertiesFit}
-use Rattle.amqp_method.specs.Laws.{MethodIsSpelled, HeaderIsSpelled}
+use Rattle.amqp_method.specs.Laws.{MethodIsEncoded, HeaderIsEncoded}
 use Rattle.amqp_method.specs.Methods.{FieldRow, row}
 use Rattle.amqp_method.specs.Plain.{value_for, left_by, complete}
 use Rattle.amqp_method.specs.Writing.{Fitting, AllFitting, PresentFitting}
@@ -16,60 +16,60 @@ use Rattle.amqp_method.specs.declared.fields.FieldKind.{FieldKind}
 use Rattle.amqp_method.specs.declared.fields.FieldKind.TheVariants.{Bit, Octet, Short, Long, LongLong, ShortStr, LongStr, Table}
 use Rattle.amqp_method.specs.declared.kinds.Kind.{Kind}
 use Rattle.amqp_method.specs.declared.kinds.Kind.TheVariants.{ConnectionStart, ConnectionStartOk, ConnectionSecure, ConnectionSecureOk, ConnectionTune, ConnectionTuneOk, ConnectionOpen, ConnectionOpenOk, ConnectionClose, ConnectionCloseOk, ConnectionBlocked, ConnectionUnblocked, ChannelOpen, ChannelOpenOk, ChannelFlow, ChannelFlowOk, ChannelClose, ChannelCloseOk, ExchangeDeclare, ExchangeDeclareOk, ExchangeDelete, ExchangeDeleteOk, ExchangeBind, ExchangeBindOk, ExchangeUnbind, ExchangeUnbindOk, QueueDeclare, QueueDeclareOk, QueueBind, QueueBindOk, QueueUnbind, QueueUnbindOk, QueuePurge, QueuePurgeOk, QueueDelete, QueueDeleteOk, BasicQos, BasicQosOk, BasicConsume, BasicConsumeOk, BasicCancel, BasicCancelOk, BasicPublish, BasicReturn, BasicDeliver, BasicGet, BasicGetOk, BasicGetEmpty, BasicAck, BasicReject, BasicRecoverAsync, BasicRecover, BasicRecoverOk, BasicNack, TxSelect, TxSelectOk, TxCommit, TxCommitOk, TxRollback, TxRollbackOk, ConfirmSelect, ConfirmSelectOk}
-use Rattle.amqp_method.proofs.CompleteLemmas.{method_spelled}
-use Rattle.amqp_method.proofs.HeaderLemmas.{header_spelled}
+use Rattle.amqp_method.proofs.CompleteLemmas.{method_encoded}
+use Rattle.amqp_method.proofs.HeaderLemmas.{header_encoded}
 
-number-spelled : (n number : ℕ) → number < 256 ^ n → SpellsNumber n number (big_bytes n number)
-number-spelled n number fits = record { fits = fits; octets_are = refl }
+number-encoded : (n number : ℕ) → number < 256 ^ n → EncodesNumber n number (big_bytes n number)
+number-encoded n number fits = record { fits = fits; octets_are = refl }
 
 -- ---- the values of a table
 
-scalar-spelled : (s : Scalar) → ScalarFits s → SpellsScalar s (plain_scalar s)
-scalar-spelled (boolean false) fits = refl
-scalar-spelled (boolean true) fits = (1, omega arith, omega arith, refl)
-scalar-spelled (short_short_int n) fits = record { fits = fits; octets_are = refl }
-scalar-spelled (short_short_uint n) fits = number-spelled 1 n (omega arith)
-scalar-spelled (errata_short_int n) fits = record { fits = fits; octets_are = refl }
-scalar-spelled (short_int n) fits = record { fits = fits; octets_are = refl }
-scalar-spelled (short_uint n) fits = number-spelled 2 n (omega arith)
-scalar-spelled (long_int n) fits = record { fits = fits; octets_are = refl }
-scalar-spelled (long_uint n) fits = number-spelled 4 n (omega arith)
-scalar-spelled (errata_long_long_int n) fits = record { fits = fits; octets_are = refl }
-scalar-spelled (long_long_int n) fits = record { fits = fits; octets_are = refl }
-scalar-spelled (float octets) fits = record { fits = fits.0; octets_are = refl }
-scalar-spelled (double octets) fits = record { fits = fits.0; octets_are = refl }
-scalar-spelled (decimal scale number) fits = (big_bytes 1 scale, big_bytes 4 number, refl, number-spelled 1 scale (omega arith), number-spelled 4 number (omega arith))
-scalar-spelled (timestamp n) fits = number-spelled 8 n (omega arith)
-scalar-spelled void fits = refl
+scalar-encoded : (s : Scalar) → ScalarFits s → EncodesScalar s (plain_scalar s)
+scalar-encoded (boolean false) fits = refl
+scalar-encoded (boolean true) fits = (1, omega arith, omega arith, refl)
+scalar-encoded (short_short_int n) fits = record { fits = fits; octets_are = refl }
+scalar-encoded (short_short_uint n) fits = number-encoded 1 n (omega arith)
+scalar-encoded (errata_short_int n) fits = record { fits = fits; octets_are = refl }
+scalar-encoded (short_int n) fits = record { fits = fits; octets_are = refl }
+scalar-encoded (short_uint n) fits = number-encoded 2 n (omega arith)
+scalar-encoded (long_int n) fits = record { fits = fits; octets_are = refl }
+scalar-encoded (long_uint n) fits = number-encoded 4 n (omega arith)
+scalar-encoded (errata_long_long_int n) fits = record { fits = fits; octets_are = refl }
+scalar-encoded (long_long_int n) fits = record { fits = fits; octets_are = refl }
+scalar-encoded (float octets) fits = record { fits = fits.0; octets_are = refl }
+scalar-encoded (double octets) fits = record { fits = fits.0; octets_are = refl }
+scalar-encoded (decimal scale number) fits = (big_bytes 1 scale, big_bytes 4 number, refl, number-encoded 1 scale (omega arith), number-encoded 4 number (omega arith))
+scalar-encoded (timestamp n) fits = number-encoded 8 n (omega arith)
+scalar-encoded void fits = refl
 
 mutual
-  field-spelled : (value : Datum) → DatumFits value → SpellsField value (plain_field value)
-  field-spelled (scalar s) fits = scalar-spelled s fits
-  field-spelled (long_string_datum text) fits = record { fits = fits.0; octets_are = refl }
-  field-spelled (byte_array octets) fits = record { fits = fits.0; octets_are = refl }
-  field-spelled (array items) fits = (plain_items items, record { fits = fits.0; octets_are = refl }, items-spelled items fits.1)
-  field-spelled (table_datum pairs) fits = (plain_pairs pairs, record { fits = fits.0; octets_are = refl }, pairs-spelled pairs fits.1)
+  field-encoded : (value : Datum) → DatumFits value → EncodesField value (plain_field value)
+  field-encoded (scalar s) fits = scalar-encoded s fits
+  field-encoded (long_string_datum text) fits = record { fits = fits.0; octets_are = refl }
+  field-encoded (byte_array octets) fits = record { fits = fits.0; octets_are = refl }
+  field-encoded (array items) fits = (plain_items items, record { fits = fits.0; octets_are = refl }, items-encoded items fits.1)
+  field-encoded (table_datum pairs) fits = (plain_pairs pairs, record { fits = fits.0; octets_are = refl }, pairs-encoded pairs fits.1)
 
-  items-spelled : (items : Items) → ItemsFit items → SpellsItems items (plain_items items)
-  items-spelled no_items fits = refl
-  items-spelled (item value items) fits = (plain_field value, plain_items items, refl, field-spelled value fits.0, items-spelled items fits.1)
+  items-encoded : (items : Items) → ItemsFit items → EncodesItems items (plain_items items)
+  items-encoded no_items fits = refl
+  items-encoded (item value items) fits = (plain_field value, plain_items items, refl, field-encoded value fits.0, items-encoded items fits.1)
 
-  pairs-spelled : (pairs : Pairs) → PairsFit pairs → SpellsPairs pairs (plain_pairs pairs)
-  pairs-spelled no_pairs fits = refl
-  pairs-spelled (pair name value pairs) fits =
-      (length name ∷ name, plain_field value, plain_pairs pairs, refl, record { fits = fits.0.0; octets_are = refl }, field-spelled value fits.1, pairs-spelled pairs fits.2)
+  pairs-encoded : (pairs : Pairs) → PairsFit pairs → EncodesPairs pairs (plain_pairs pairs)
+  pairs-encoded no_pairs fits = refl
+  pairs-encoded (pair name value pairs) fits =
+      (length name ∷ name, plain_field value, plain_pairs pairs, refl, record { fits = fits.0.0; octets_are = refl }, field-encoded value fits.1, pairs-encoded pairs fits.2)
 
 -- ---- arguments and properties
 
 argument-fitting : (value : Argument) → ArgumentFits value → Fitting value
 argument-fitting (bit holds) fits = tt
-argument-fitting (octet n) fits = number-spelled 1 n (omega arith)
-argument-fitting (short n) fits = number-spelled 2 n (omega arith)
-argument-fitting (long n) fits = number-spelled 4 n (omega arith)
-argument-fitting (long_long n) fits = number-spelled 8 n (omega arith)
+argument-fitting (octet n) fits = number-encoded 1 n (omega arith)
+argument-fitting (short n) fits = number-encoded 2 n (omega arith)
+argument-fitting (long n) fits = number-encoded 4 n (omega arith)
+argument-fitting (long_long n) fits = number-encoded 8 n (omega arith)
 argument-fitting (short_string text) fits = record { fits = fits.0; octets_are = refl }
 argument-fitting (long_string text) fits = record { fits = fits.0; octets_are = refl }
-argument-fitting (table pairs) fits = (fits.0, field-spelled (table_datum pairs) fits.1)
+argument-fitting (table pairs) fits = (fits.0, field-encoded (table_datum pairs) fits.1)
 
 nothing-fits : (kind : FieldKind) → ArgumentFits (nothing kind)
 nothing-fits Bit = tt
@@ -169,11 +169,11 @@ ids-fit TxRollbackOk = (omega arith, omega arith)
 ids-fit ConfirmSelect = (omega arith, omega arith)
 ids-fit ConfirmSelectOk = (omega arith, omega arith)
 
-pub plain_method-spelled : MethodIsSpelled
-plain_method-spelled c fit arguments =
+pub plain_method-encoded : MethodIsEncoded
+plain_method-encoded c fit arguments =
     let ids = ids-fit c.kind in
-    method_spelled c (row c.kind).class (row c.kind).id (fields_of c.kind) c.args refl refl refl refl fit
+    method_encoded c (row c.kind).class (row c.kind).id (fields_of c.kind) c.args refl refl refl refl fit
     (argument-fitting (short (row c.kind).class) ids.0) (argument-fitting (short (row c.kind).id) ids.1) (complete-fitting (fields_of c.kind) c.args arguments)
 
-pub plain_header-spelled : HeaderIsSpelled
-plain_header-spelled h size kinds properties = header_spelled h size kinds (present-fitting h.properties properties)
+pub plain_header-encoded : HeaderIsEncoded
+plain_header-encoded h size kinds properties = header_encoded h size kinds (present-fitting h.properties properties)

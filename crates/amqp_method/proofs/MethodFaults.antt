@@ -3,15 +3,15 @@ use Rattle.std.proofs.Common.{◌≡◌, ℕ, ◌+◌, ◌<◌, List, [], ◌∷
 use Rattle.std.specs.Prelude.{IfErr, ◌⊎◌}
 use Rattle.byteorder.specs.Numbers.{length-bytes_high_first}
 use Rattle.amqp_value.proofs.Numbers.{IsBytes}
-use Rattle.amqp_value.specs.Fields.{SpellsNumber}
+use Rattle.amqp_value.specs.Fields.{EncodesNumber}
 use Rattle.amqp_value.specs.declared.fault.ValueFaultKind.TheVariants.{Ends}
 use Rattle.amqp_method.specs.Arguments.{Argument, kind_of, kept, Call, call}
 use Rattle.amqp_method.specs.Faults.{fault_at, out_of_memory}
-use Rattle.amqp_method.specs.FirstFault.{left_behind, FaultInField, FirstFaultOfMethod, class_ends, id_ends, unknown, in_argument, method_trailing}
+use Rattle.amqp_method.specs.FirstFault.{left_after, FaultInField, FirstFaultOfMethod, class_ends, id_ends, unknown, in_argument, method_trailing}
 use Rattle.amqp_method.specs.Kinds.{HasIds, kind_with, fields_of}
 use Rattle.amqp_method.specs.Methods.{FieldRow, row}
 use Rattle.amqp_method.specs.Reading.{Gives, Bits, no_bits, number_at, field_at, args_at, whole, call_at, method_at}
-use Rattle.amqp_method.specs.Spelling.{parts_of}
+use Rattle.amqp_method.specs.Encoding.{parts_of}
 use Rattle.amqp_method.specs.declared.faults.MethodFault.{MethodFault}
 use Rattle.amqp_method.specs.declared.faults.MethodFaultKind.{MethodFaultKind}
 use Rattle.amqp_method.specs.declared.faults.MethodFaultKind.TheVariants.{Value, Trailing}
@@ -20,16 +20,16 @@ use Rattle.amqp_method.proofs.ArgsLemmas.{kinds_of, field_at-takes, field_at-aga
 use Rattle.amqp_method.proofs.FieldFaults.{err_is, bind_err, no_err, place, number_at-err, number_at-fails, field_at-err, field_at-fails, field_at-left}
 use Rattle.amqp_method.proofs.FieldLemmas.{number_at-takes, number_at-again}
 use Rattle.amqp_method.proofs.KindLemmas.{kind_with-named, kind_with-own}
-use Rattle.amqp_method.proofs.RunLemmas.{SpellsOn, on_parts, off_parts}
+use Rattle.amqp_method.proofs.RunLemmas.{EncodesOn, on_parts, off_parts}
 
 -- ---- places
 
-pub number_long : (n number : ℕ) (octets : List ℕ) → SpellsNumber n number octets → length octets ≡ n
+pub number_long : (n number : ℕ) (octets : List ℕ) → EncodesNumber n number octets → length octets ≡ n
 number_long n number octets s = ap length s.octets_are ∙ length-bytes_high_first n number
 
--- behind these octets
-pub place_behind : (octets front rest : List ℕ) → octets ≡ front ++ rest → place (length octets) rest ≡ length front
-place_behind octets front rest is = let whole : length octets ≡ length front + length rest = ap length is ∙ length-append front rest in omega arith
+-- after these octets
+pub place_after : (octets prefix rest : List ℕ) → octets ≡ prefix ++ rest → place (length octets) rest ≡ length prefix
+place_after octets prefix rest is = let whole : length octets ≡ length prefix + length rest = ap length is ∙ length-append prefix rest in omega arith
 
 pub place_second : (octets first second rest : List ℕ) → octets ≡ first ++ (second ++ rest) → place (length octets) rest ≡ length first + length second
 place_second octets first second rest is =
@@ -42,19 +42,19 @@ fault_place at end octets kind is = ap (λ p. fault_at p kind) is
 
 -- ---- arguments
 
--- whole values for the fields in front, of which the first bits are those left of an octet, and then a field at fault
+-- whole values for the fields at the start, of which the first bits are those left of an octet, and then a field at fault
 record FailsIn (fields : List FieldRow) (bits : Bits) (end : ℕ) (octets : List ℕ) (e : MethodFault) : Type 0 where
   before : List FieldRow
   here : FieldRow
   after : List FieldRow
   values : List Argument
-  front : List ℕ
+  prefix : List ℕ
   rest : List ℕ
   fields_are : fields ≡ before ++ (here ∷ after)
   kinds_are : map kind_of values ≡ kinds_of before
-  octets_are : octets ≡ front ++ rest
-  spelled : SpellsOn bits.left bits.packed (parts_of values) front
-  fault_is : FaultInField here.kind (left_behind before bits.left) (place end rest) rest e
+  octets_are : octets ≡ prefix ++ rest
+  encoded : EncodesOn bits.left bits.packed (parts_of values) prefix
+  fault_is : FaultInField here.kind (left_after before bits.left) (place end rest) rest e
 
 args_at-err : (fields : List FieldRow) (bits : Bits) (end : ℕ) (octets : List ℕ) (e : MethodFault) → IsBytes octets → args_at fields bits end octets ≡ Err e → FailsIn fields bits end octets e
 unfolding args_at
@@ -66,55 +66,55 @@ args_at-err (f ∷ fields) bits end octets e fits h =
         here = f;
         after = fields;
         values = [];
-        front = [];
+        prefix = [];
         rest = octets;
         fields_are = refl;
         kinds_are = refl;
         octets_are = refl;
-        spelled = refl;
+        encoded = refl;
         fault_is = field_at-err f.kind bits end octets e fits is;
       }
       | inr b ↦ (
           let step = (field_at-takes f.kind bits end octets b.0 fits b.1).takes in
           elim (bind_err (args_at fields b.0.0.1 end b.0.1) _ e b.2) [
             | inl later ↦ (
-                let t = args_at-err fields b.0.0.1 end b.0.1 e step.behind_fits later in
-                let all = step.spelled t.values t.front t.rest t.octets_are t.spelled in
+                let t = args_at-err fields b.0.0.1 end b.0.1 e step.after_fits later in
+                let all = step.encoded t.values t.prefix t.rest t.octets_are t.encoded in
                 record {
                   before = f ∷ t.before;
                   here = t.here;
                   after = t.after;
                   values = b.0.0.0 ∷ t.values;
-                  front = all.0;
+                  prefix = all.0;
                   rest = t.rest;
                   fields_are = ap (λ (o : List FieldRow). f ∷ o) t.fields_are;
                   kinds_are = rw (step.kind_is, t.kinds_are) refl;
                   octets_are = all.1;
-                  spelled = all.2;
-                  fault_is = subst (λ n. FaultInField t.here.kind (left_behind t.before n) (place end t.rest) t.rest e) (field_at-left f.kind bits end octets b.0 b.1) t.fault_is;
+                  encoded = all.2;
+                  fault_is = subst (λ n. FaultInField t.here.kind (left_after t.before n) (place end t.rest) t.rest e) (field_at-left f.kind bits end octets b.0 b.1) t.fault_is;
                 })
             | inr none ↦ no_err _ e none.2
           ])
     ]
 
-args_at-fails : (before : List FieldRow) (here : FieldRow) (after : List FieldRow) (values : List Argument) (bits : Bits) (end : ℕ) (front rest : List ℕ) (e : MethodFault)
-    → map kind_of values ≡ kinds_of before → SpellsOn bits.left bits.packed (parts_of values) front → FaultInField here.kind (left_behind before bits.left) (place end rest) rest e
-    → args_at (before ++ (here ∷ after)) bits end (front ++ rest) ≡ Err e
+args_at-fails : (before : List FieldRow) (here : FieldRow) (after : List FieldRow) (values : List Argument) (bits : Bits) (end : ℕ) (prefix rest : List ℕ) (e : MethodFault)
+    → map kind_of values ≡ kinds_of before → EncodesOn bits.left bits.packed (parts_of values) prefix → FaultInField here.kind (left_after before bits.left) (place end rest) rest e
+    → args_at (before ++ (here ∷ after)) bits end (prefix ++ rest) ≡ Err e
 unfolding args_at
-args_at-fails [] here after [] bits end front rest e kinds spelled fault = rw (spelled, field_at-fails here.kind bits end rest e fault) refl
-args_at-fails [] here after (value ∷ values) bits end front rest e kinds spelled fault = absurd cc
-args_at-fails (f ∷ before) here after [] bits end front rest e kinds spelled fault = absurd cc
-args_at-fails (f ∷ before) here after (value ∷ values) bits end front rest e kinds spelled fault =
-    let r = field_at-again value values bits front spelled in
+args_at-fails [] here after [] bits end prefix rest e kinds encoded fault = rw (encoded, field_at-fails here.kind bits end rest e fault) refl
+args_at-fails [] here after (value ∷ values) bits end prefix rest e kinds encoded fault = absurd cc
+args_at-fails (f ∷ before) here after [] bits end prefix rest e kinds encoded fault = absurd cc
+args_at-fails (f ∷ before) here after (value ∷ values) bits end prefix rest e kinds encoded fault =
+    let r = field_at-again value values bits prefix encoded in
     let first : kind_of value ≡ f.kind = cc in
     let others : map kind_of values ≡ kinds_of before = cc in
-    let is : field_at f.kind bits end (front ++ rest) ≡ Ok ((value, r.others), r.rest ++ rest) = rw (← first) (r.reads end rest) in
-    let left = field_at-left f.kind bits end (front ++ rest) ((value, r.others), r.rest ++ rest) is in
-    let later = subst (λ n. FaultInField here.kind (left_behind before n) (place end rest) rest e) (sym left) fault in
+    let is : field_at f.kind bits end (prefix ++ rest) ≡ Ok ((value, r.others), r.rest ++ rest) = rw (← first) (r.reads end rest) in
+    let left = field_at-left f.kind bits end (prefix ++ rest) ((value, r.others), r.rest ++ rest) is in
+    let later = subst (λ n. FaultInField here.kind (left_after before n) (place end rest) rest e) (sym left) fault in
     let inside = args_at-fails before here after values r.others end r.rest rest e others r.goes_on later in
     rw (is, inside) refl
 
--- ---- nothing behind
+-- ---- nothing after
 
 pub whole-err : {X : Type 0} (end : ℕ) (x : X) (octets : List ℕ) (e : MethodFault) → whole end x octets ≡ Err e → (0 < length octets) × (e ≡ fault_at (place end octets) Trailing)
 whole-err end x [] e h = no_err _ e h
@@ -126,34 +126,34 @@ whole-fails end x (first ∷ others) long = refl
 
 -- ---- methods
 
-args_told : (kind : Kind) (octets first second rest : List ℕ) (e : MethodFault) → octets ≡ first ++ (second ++ rest) → SpellsNumber 2 (row kind).class first → SpellsNumber 2 (row kind).id second
+args_told : (kind : Kind) (octets first second rest : List ℕ) (e : MethodFault) → octets ≡ first ++ (second ++ rest) → EncodesNumber 2 (row kind).class first → EncodesNumber 2 (row kind).id second
     → FailsIn (fields_of kind) no_bits (length octets) rest e → FirstFaultOfMethod octets e
 args_told kind octets first second rest e is class_is id_is t =
     let class_long = number_long 2 _ first class_is in
     let id_long = number_long 2 _ second id_is in
     let whole = place_second octets first second rest is in
-    let behind : length rest ≡ length t.front + length t.rest = ap length t.octets_are ∙ length-append t.front t.rest in
+    let beyond : length rest ≡ length t.prefix + length t.rest = ap length t.octets_are ∙ length-append t.prefix t.rest in
     let total : length octets ≡ length first + length (second ++ rest) = ap length is ∙ length-append first (second ++ rest) in
     let parts = length-append second rest in
-    let at : place (length octets) t.rest ≡ 4 + length t.front = omega arith in
+    let at : place (length octets) t.rest ≡ 4 + length t.prefix = omega arith in
     in_argument kind first second rest is class_is id_is (record {
       before = t.before;
       here = t.here;
       after = t.after;
       values = t.values;
-      front = t.front;
+      prefix = t.prefix;
       rest = t.rest;
       fields_are = t.fields_are;
       kinds_are = t.kinds_are;
       octets_are = t.octets_are;
-      spelled = off_parts 0 (parts_of t.values) t.front t.spelled;
-      fault_is = subst (λ p. FaultInField t.here.kind (left_behind t.before 0) p t.rest e) at t.fault_is;
+      encoded = off_parts 0 (parts_of t.values) t.prefix t.encoded;
+      fault_is = subst (λ p. FaultInField t.here.kind (left_after t.before 0) p t.rest e) at t.fault_is;
     })
 
 none_not_some : (kind : Kind) → None ≡ Some kind → ⊥
 none_not_some kind h = cc
 
-call_told : (class id : ℕ) (octets first second rest : List ℕ) (found : Option Kind) (e : MethodFault) → octets ≡ first ++ (second ++ rest) → SpellsNumber 2 class first → SpellsNumber 2 id second → IsBytes rest
+call_told : (class id : ℕ) (octets first second rest : List ℕ) (found : Option Kind) (e : MethodFault) → octets ≡ first ++ (second ++ rest) → EncodesNumber 2 class first → EncodesNumber 2 id second → IsBytes rest
     → kind_with class id ≡ found → call_at (length octets) rest found ≡ Err e → FirstFaultOfMethod octets e
 call_told class id octets first second rest None e is class_is id_is fits found h =
     unknown class id first second rest is class_is id_is
@@ -161,26 +161,26 @@ call_told class id octets first second rest None e is class_is id_is fits found 
     (sym (err_is {A = Call} _ e h))
 call_told class id octets first second rest (Some kind) e is class_is id_is fits found h =
     let named = kind_with-named class id kind found in
-    let class_own = subst (λ n. SpellsNumber 2 n first) (sym named.class_is) class_is in
-    let id_own = subst (λ n. SpellsNumber 2 n second) (sym named.id_is) id_is in
+    let class_own = subst (λ n. EncodesNumber 2 n first) (sym named.class_is) class_is in
+    let id_own = subst (λ n. EncodesNumber 2 n second) (sym named.id_is) id_is in
     elim (bind_err (args_at (fields_of kind) no_bits (length octets) rest) _ e h) [
       | inl failed ↦ args_told kind octets first second rest e is class_own id_own (args_at-err (fields_of kind) no_bits (length octets) rest e fits failed)
       | inr b ↦ (
           let t = args_at-takes (fields_of kind) no_bits (length octets) rest b.0 fits b.1 in
           let w = whole-err (length octets) (call kind b.0.0) b.0.1 e b.2 in
-          let front = first ++ (second ++ t.front) in
-          let parts : octets ≡ front ++ b.0.1 = is ∙ ap (λ (o : List ℕ). first ++ (second ++ o)) t.parts ∙ simp append_assoc in
-          method_trailing (call kind b.0.0) front b.0.1 parts
+          let prefix = first ++ (second ++ t.prefix) in
+          let parts : octets ≡ prefix ++ b.0.1 = is ∙ ap (λ (o : List ℕ). first ++ (second ++ o)) t.parts ∙ simp append_assoc in
+          method_trailing (call kind b.0.0) prefix b.0.1 parts
           (record {
             class = first;
             id = second;
-            arguments = t.front;
+            arguments = t.prefix;
             octets_are = refl;
             class_is = class_own;
             id_is = id_own;
-            args = record { values = t.values; kinds_are = t.kinds_are; args_are = t.args_are; spelled = off_parts 0 (parts_of t.values) t.front t.spelled };
+            args = record { values = t.values; kinds_are = t.kinds_are; args_are = t.args_are; encoded = off_parts 0 (parts_of t.values) t.prefix t.encoded };
           })
-          w.0 (w.1 ∙ fault_place (length front) (length octets) b.0.1 Trailing (place_behind octets front b.0.1 parts)))
+          w.0 (w.1 ∙ fault_place (length prefix) (length octets) b.0.1 Trailing (place_after octets prefix b.0.1 parts)))
     ]
 
 pub method_at-told : (octets : List ℕ) (e : MethodFault) → IsBytes octets → method_at octets ≡ Err e → FirstFaultOfMethod octets e
@@ -188,17 +188,17 @@ unfolding method_at
 method_at-told octets e fits h =
     let end = length octets in
     elim (bind_err (number_at 2 end octets) _ e h) [
-      | inl is ↦ (let n = number_at-err 2 end octets e is in class_ends n.0 (n.1 ∙ fault_place 0 end octets (Value Ends) (place_behind octets [] octets refl)))
+      | inl is ↦ (let n = number_at-err 2 end octets e is in class_ends n.0 (n.1 ∙ fault_place 0 end octets (Value Ends) (place_after octets [] octets refl)))
       | inr a ↦ (
           let class = number_at-takes 2 end octets a.0 fits a.1 in
           elim (bind_err (number_at 2 end a.0.1) _ e a.2) [
             | inl is ↦ (
                 let n = number_at-err 2 end a.0.1 e is in
-                id_ends a.0.0 class.front a.0.1 class.parts class.spells n.0
-                (n.1 ∙ fault_place 2 end a.0.1 (Value Ends) (place_behind octets class.front a.0.1 class.parts ∙ number_long 2 _ class.front class.spells)))
+                id_ends a.0.0 class.prefix a.0.1 class.parts class.encodes n.0
+                (n.1 ∙ fault_place 2 end a.0.1 (Value Ends) (place_after octets class.prefix a.0.1 class.parts ∙ number_long 2 _ class.prefix class.encodes)))
             | inr b ↦ (
-                let id = number_at-takes 2 end a.0.1 b.0 class.behind_fits b.1 in
-                call_told a.0.0 b.0.0 octets class.front id.front b.0.1 (kind_with a.0.0 b.0.0) e (class.parts ∙ ap (λ (o : List ℕ). class.front ++ o) id.parts) class.spells id.spells id.behind_fits refl b.2)
+                let id = number_at-takes 2 end a.0.1 b.0 class.after_fits b.1 in
+                call_told a.0.0 b.0.0 octets class.prefix id.prefix b.0.1 (kind_with a.0.0 b.0.0) e (class.parts ∙ ap (λ (o : List ℕ). class.prefix ++ o) id.parts) class.encodes id.encodes id.after_fits refl b.2)
           ])
     ]
 
@@ -208,8 +208,8 @@ kind_with-none : (class id : ℕ) (found : Option Kind) → kind_with class id �
 kind_with-none class id None is none = refl
 kind_with-none class id (Some kind) is none = absurd (none kind (kind_with-named class id kind is))
 
--- two ids in front
-ids_read : (class id : ℕ) (octets first second rest : List ℕ) → octets ≡ first ++ (second ++ rest) → SpellsNumber 2 class first → SpellsNumber 2 id second
+-- two ids at the start
+ids_read : (class id : ℕ) (octets first second rest : List ℕ) → octets ≡ first ++ (second ++ rest) → EncodesNumber 2 class first → EncodesNumber 2 id second
     → method_at octets ≡ call_at (length octets) rest (kind_with class id)
 unfolding method_at
 ids_read class id octets first second rest is class_is id_is =
@@ -222,12 +222,12 @@ pub first_fault_of_method : (octets : List ℕ) (e : MethodFault) → FirstFault
 unfolding method_at
 first_fault_of_method octets e (class_ends short is) =
     let end = length octets in
-    rw (number_at-fails 2 end octets short) (ap (λ d. Err d) (fault_place 0 end octets (Value Ends) (place_behind octets [] octets refl) ∙ sym is))
+    rw (number_at-fails 2 end octets short) (ap (λ d. Err d) (fault_place 0 end octets (Value Ends) (place_after octets [] octets refl) ∙ sym is))
 first_fault_of_method octets e (id_ends class first rest parts class_is short is) =
     let end = length octets in
     let one : number_at 2 end octets ≡ Ok (class, rest) = ap (number_at 2 end) parts ∙ number_at-again 2 end class first rest class_is in
     rw (one, number_at-fails 2 end rest short)
-    (ap (λ d. Err d) (fault_place 2 end rest (Value Ends) (place_behind octets first rest parts ∙ number_long 2 class first class_is) ∙ sym is))
+    (ap (λ d. Err d) (fault_place 2 end rest (Value Ends) (place_after octets first rest parts ∙ number_long 2 class first class_is) ∙ sym is))
 first_fault_of_method octets e (unknown class id first second rest parts class_is id_is none is) =
     ids_read class id octets first second rest parts class_is id_is
     ∙ rw (kind_with-none class id (kind_with class id) refl none) (ap (λ d. Err d) (sym is))
@@ -235,22 +235,22 @@ first_fault_of_method octets e (in_argument kind first second rest parts class_i
     let end = length octets in
     let class_long = number_long 2 _ first class_is in
     let id_long = number_long 2 _ second id_is in
-    let behind : length rest ≡ length t.front + length t.rest = ap length t.octets_are ∙ length-append t.front t.rest in
+    let beyond : length rest ≡ length t.prefix + length t.rest = ap length t.octets_are ∙ length-append t.prefix t.rest in
     let total : length octets ≡ length first + length (second ++ rest) = ap length parts ∙ length-append first (second ++ rest) in
     let both = length-append second rest in
-    let at : 4 + length t.front ≡ place end t.rest = omega arith in
-    let fault = subst (λ p. FaultInField t.here.kind (left_behind t.before 0) p t.rest e) at t.fault_is in
+    let at : 4 + length t.prefix ≡ place end t.rest = omega arith in
+    let fault = subst (λ p. FaultInField t.here.kind (left_after t.before 0) p t.rest e) at t.fault_is in
     let fails : args_at (fields_of kind) no_bits end rest ≡ Err e =
-    ap (λ (o : List ℕ). args_at (fields_of kind) no_bits end o) t.octets_are ∙ ap (λ (f : List FieldRow). args_at f no_bits end (t.front ++ t.rest)) t.fields_are
-    ∙ args_at-fails t.before t.here t.after t.values no_bits end t.front t.rest e t.kinds_are (on_parts 0 (parts_of t.values) t.front t.spelled) fault in
+    ap (λ (o : List ℕ). args_at (fields_of kind) no_bits end o) t.octets_are ∙ ap (λ (f : List FieldRow). args_at f no_bits end (t.prefix ++ t.rest)) t.fields_are
+    ∙ args_at-fails t.before t.here t.after t.values no_bits end t.prefix t.rest e t.kinds_are (on_parts 0 (parts_of t.values) t.prefix t.encoded) fault in
     ids_read (row kind).class (row kind).id octets first second rest parts class_is id_is ∙ rw (kind_with-own kind, fails) refl
-first_fault_of_method octets e (method_trailing c front rest parts s long is) =
+first_fault_of_method octets e (method_trailing c prefix rest parts s long is) =
     let end = length octets in
     let all : octets ≡ s.class ++ (s.id ++ (s.arguments ++ rest)) = parts ∙ ap (λ (o : List ℕ). o ++ rest) s.octets_are ∙ simp append_assoc in
-    let args = args_at-again (fields_of c.kind) s.args.values no_bits end s.arguments rest s.args.kinds_are (on_parts 0 (parts_of s.args.values) s.arguments s.args.spelled) in
+    let args = args_at-again (fields_of c.kind) s.args.values no_bits end s.arguments rest s.args.kinds_are (on_parts 0 (parts_of s.args.values) s.arguments s.args.encoded) in
     ids_read (row c.kind).class (row c.kind).id octets s.class s.id (s.arguments ++ rest) all s.class_is s.id_is
     ∙ rw (kind_with-own c.kind, args, whole-fails end (call c.kind (kept (fields_of c.kind) s.args.values)) rest long)
-    (ap (λ d. Err d) (fault_place (length front) end rest Trailing (place_behind octets front rest parts) ∙ sym is))
+    (ap (λ d. Err d) (fault_place (length prefix) end rest Trailing (place_after octets prefix rest parts) ∙ sym is))
 
 -- ---- as clauses of a call that gives what reading gives
 

@@ -1,4 +1,4 @@
--- What is written value by value is the plain spelling, and the plain spelling is a spelling.
+-- What is written value by value is the plain encoding, and the plain encoding is a encoding.
 use Rattle.std.proofs.Common.{◌≡◌, ◌≢◌, ℕ, zero, suc, ◌+◌, ◌*◌, ◌/◌, ◌%◌, ◌^◌, ◌==◌, ◌<◌, ◌≤◌, cond, List, [], ◌∷◌, ◌++◌, length, take, drop, Bool, true, false, refl, sym, ap, ◌∙◌, append_assoc, arith, length-take, length-drop}
 use Rattle.std.proofs.lemmas.Bool.{eqb-true, ne_eqb}
 use Rattle.std.proofs.lemmas.List.{append-nil}
@@ -6,10 +6,10 @@ use Rattle.std.proofs.lemmas.Nat.{pow-add}
 use Rattle.std.proofs.Math.Nat.{pow-le-pow_right}
 use Rattle.amqp_method.specs.Arguments.{Argument, bit, octet, short, long, long_long, short_string, long_string, table}
 use Rattle.amqp_method.specs.Plain.{plain_argument, bit_value, packed, in_octets, plain_bits, plain_parts, plain_values}
-use Rattle.amqp_method.specs.Spelling.{SpellsArgument, HasLowBits, SpellsBits, Part, one, run, with_bit, parts_of, SpellsParts, SpellsValues}
+use Rattle.amqp_method.specs.Encoding.{EncodesArgument, HasLowBits, EncodesBits, Part, one, run, with_bit, parts_of, EncodesParts, EncodesValues}
 use Rattle.amqp_method.specs.Writing.{Gathered, none_gathered, gathered_octets, written_for, gathered_after, written_values, AllFitting}
 
--- ---- the plain spelling of bits spells them
+-- ---- the plain encoding of bits encodes them
 
 low_bit : (holds : Bool) (x : ℕ) → ((bit_value holds + 2 * x) % 2 == 1) ≡ holds
 low_bit false x = let e : (0 + 2 * x) % 2 ≡ 0 = omega arith in rw e refl
@@ -46,30 +46,30 @@ some_bits : (bits : List Bool) → 0 < length bits → bits ≢ []
 some_bits [] h = λ _. absurd (omega arith)
 some_bits (holds ∷ bits) h = λ e. cc
 
-in_octets-spell : (n : ℕ) (bits : List Bool) → n ≡ (length bits + 7) / 8 → SpellsBits bits (in_octets n bits)
-in_octets-spell zero [] e = refl
-in_octets-spell zero (holds ∷ bits) e = absurd (omega arith)
-in_octets-spell (suc n) bits e =
+in_octets-encode : (n : ℕ) (bits : List Bool) → n ≡ (length bits + 7) / 8 → EncodesBits bits (in_octets n bits)
+in_octets-encode zero [] e = refl
+in_octets-encode zero (holds ∷ bits) e = absurd (omega arith)
+in_octets-encode (suc n) bits e =
     let some : 0 < length bits = omega arith in
     let short : length (take 8 bits) ≤ 8 = omega (arith, length-take 8 bits) in
     let others : n ≡ (length (drop 8 bits) + 7) / 8 = omega (arith, length-drop 8 bits) in
-    (some_bits bits some, packed_octet-lt (take 8 bits) short, packed-has (take 8 bits), in_octets-spell n (drop 8 bits) others)
+    (some_bits bits some, packed_octet-lt (take 8 bits) short, packed-has (take 8 bits), in_octets-encode n (drop 8 bits) others)
 
-plain_bits-spell : (bits : List Bool) → SpellsBits bits (plain_bits bits)
-plain_bits-spell bits = in_octets-spell ((length bits + 7) / 8) bits refl
+plain_bits-encode : (bits : List Bool) → EncodesBits bits (plain_bits bits)
+plain_bits-encode bits = in_octets-encode ((length bits + 7) / 8) bits refl
 
--- ---- the plain spelling of values spells them
+-- ---- the plain encoding of values encodes them
 
 -- each value that stands alone fits its field
 abbrev PartsFit : List Part → Type 0
 PartsFit [] = Unit {0}
-PartsFit (one value ∷ parts) = SpellsArgument value (plain_argument value) × PartsFit parts
+PartsFit (one value ∷ parts) = EncodesArgument value (plain_argument value) × PartsFit parts
 PartsFit (run bits ∷ parts) = PartsFit parts
 
-plain_parts-spell : (parts : List Part) → PartsFit parts → SpellsParts parts (plain_parts parts)
-plain_parts-spell [] h = refl
-plain_parts-spell (one value ∷ parts) h = (plain_argument value, plain_parts parts, refl, h.0, plain_parts-spell parts h.1)
-plain_parts-spell (run bits ∷ parts) h = (plain_bits bits, plain_parts parts, refl, plain_bits-spell bits, plain_parts-spell parts h)
+plain_parts-encode : (parts : List Part) → PartsFit parts → EncodesParts parts (plain_parts parts)
+plain_parts-encode [] h = refl
+plain_parts-encode (one value ∷ parts) h = (plain_argument value, plain_parts parts, refl, h.0, plain_parts-encode parts h.1)
+plain_parts-encode (run bits ∷ parts) h = (plain_bits bits, plain_parts parts, refl, plain_bits-encode bits, plain_parts-encode parts h)
 
 with_bit-fits : (holds : Bool) (parts : List Part) → PartsFit parts → PartsFit (with_bit holds parts)
 with_bit-fits holds [] h = tt
@@ -87,38 +87,38 @@ parts_of-fit (short_string t ∷ values) h = (h.0, parts_of-fit values h.1)
 parts_of-fit (long_string t ∷ values) h = (h.0, parts_of-fit values h.1)
 parts_of-fit (table p ∷ values) h = (h.0, parts_of-fit values h.1)
 
-pub plain_values-spell : (values : List Argument) → AllFitting values → SpellsValues values (plain_values values)
-plain_values-spell values h = plain_parts-spell (parts_of values) (parts_of-fit values h)
+pub plain_values-encode : (values : List Argument) → AllFitting values → EncodesValues values (plain_values values)
+plain_values-encode values h = plain_parts-encode (parts_of values) (parts_of-fit values h)
 
--- ---- what is written value by value is the plain spelling
+-- ---- what is written value by value is the plain encoding
 
--- the bits that parts begin with, and the parts behind them
+-- the bits that parts begin with, and the parts after them
 abbrev head_bits : List Part → List Bool
 head_bits [] = []
 head_bits (one value ∷ parts) = []
 head_bits (run bits ∷ parts) = bits
 
-abbrev behind_head : List Part → List Part
-behind_head [] = []
-behind_head (one value ∷ parts) = one value ∷ parts
-behind_head (run bits ∷ parts) = parts
+abbrev after_head : List Part → List Part
+after_head [] = []
+after_head (one value ∷ parts) = one value ∷ parts
+after_head (run bits ∷ parts) = parts
 
 head_with_bit : (holds : Bool) (parts : List Part) → head_bits (with_bit holds parts) ≡ holds ∷ head_bits parts
 head_with_bit holds [] = refl
 head_with_bit holds (one value ∷ parts) = refl
 head_with_bit holds (run bits ∷ parts) = refl
 
-behind_with_bit : (holds : Bool) (parts : List Part) → behind_head (with_bit holds parts) ≡ behind_head parts
-behind_with_bit holds [] = refl
-behind_with_bit holds (one value ∷ parts) = refl
-behind_with_bit holds (run bits ∷ parts) = refl
+after_with_bit : (holds : Bool) (parts : List Part) → after_head (with_bit holds parts) ≡ after_head parts
+after_with_bit holds [] = refl
+after_with_bit holds (one value ∷ parts) = refl
+after_with_bit holds (run bits ∷ parts) = refl
 
-head_joined : (parts : List Part) → plain_bits (head_bits parts) ++ plain_parts (behind_head parts) ≡ plain_parts parts
+head_joined : (parts : List Part) → plain_bits (head_bits parts) ++ plain_parts (after_head parts) ≡ plain_parts parts
 head_joined [] = refl
 head_joined (one value ∷ parts) = refl
 head_joined (run bits ∷ parts) = refl
 
--- bits behind some that were gathered, so many of which go into the same octet
+-- bits after some that were gathered, so many of which go into the same octet
 abbrev run_on : ℕ → Gathered → List Bool → List ℕ
 run_on left g bits = cond (g.count == 0) (plain_bits bits) ((g.number + 2 ^ g.count * packed (take left bits)) ∷ plain_bits (drop left bits))
 
@@ -157,11 +157,11 @@ below_one false number count h = let up = pow-add 2 count 1 in omega arith
 below_one true number count h = let up = pow-add 2 count 1 in omega arith
 
 -- a value that stands alone ends the run
-written_alone : (front : List ℕ) (values : List Argument) (left : ℕ) (g : Gathered) → written_values values none_gathered ≡ plain_bits (head_bits (parts_of values)) ++ plain_parts (behind_head (parts_of values))
-    → (gathered_octets g ++ front) ++ written_values values none_gathered ≡ run_on left g [] ++ (front ++ plain_parts (parts_of values))
-written_alone front values left g inside =
-    rw (run_on-none left g) (append_assoc (gathered_octets g) front (written_values values none_gathered)
-    ∙ ap (λ (o : List ℕ). gathered_octets g ++ (front ++ o)) (inside ∙ head_joined (parts_of values)))
+written_alone : (prefix : List ℕ) (values : List Argument) (left : ℕ) (g : Gathered) → written_values values none_gathered ≡ plain_bits (head_bits (parts_of values)) ++ plain_parts (after_head (parts_of values))
+    → (gathered_octets g ++ prefix) ++ written_values values none_gathered ≡ run_on left g [] ++ (prefix ++ plain_parts (parts_of values))
+written_alone prefix values left g inside =
+    rw (run_on-none left g) (append_assoc (gathered_octets g) prefix (written_values values none_gathered)
+    ∙ ap (λ (o : List ℕ). gathered_octets g ++ (prefix ++ o)) (inside ∙ head_joined (parts_of values)))
 
 -- one bit more, in the octet begun or in a new one
 bit_on : (holds : Bool) (left : ℕ) (g : Gathered) (bits : List Bool) → left + g.count ≡ 8 → g.number < 2 ^ g.count
@@ -205,17 +205,17 @@ bit_on holds (suc left) g bits sum below = begun (g.count == 0) refl
             rw (e2, e1) refl
 
 written_on : (values : List Argument) (left : ℕ) (g : Gathered) → left + g.count ≡ 8 → g.number < 2 ^ g.count
-    → written_values values g ≡ run_on left g (head_bits (parts_of values)) ++ plain_parts (behind_head (parts_of values))
+    → written_values values g ≡ run_on left g (head_bits (parts_of values)) ++ plain_parts (after_head (parts_of values))
 unfolding written_values
 written_on [] left g sum below = rw (run_on-none left g) (sym (append-nil (gathered_octets g)))
 written_on (bit holds ∷ values) left g sum below =
     let b = bit_on holds left g (head_bits (parts_of values)) sum below in
     let inside = written_on values b.0 (gathered_after (bit holds) g) b.1 b.2 in
     let parts = parts_of values in
-    rw (head_with_bit holds parts, behind_with_bit holds parts)
+    rw (head_with_bit holds parts, after_with_bit holds parts)
     (ap (λ (o : List ℕ). written_for (bit holds) g ++ o) inside
-    ∙ sym (append_assoc (written_for (bit holds) g) (run_on b.0 (gathered_after (bit holds) g) (head_bits parts)) (plain_parts (behind_head parts)))
-    ∙ ap (λ (o : List ℕ). o ++ plain_parts (behind_head parts)) b.3)
+    ∙ sym (append_assoc (written_for (bit holds) g) (run_on b.0 (gathered_after (bit holds) g) (head_bits parts)) (plain_parts (after_head parts)))
+    ∙ ap (λ (o : List ℕ). o ++ plain_parts (after_head parts)) b.3)
 written_on (octet n ∷ values) left g sum below = written_alone (plain_argument (octet n)) values left g (written_on values 8 none_gathered refl (omega arith))
 written_on (short n ∷ values) left g sum below = written_alone (plain_argument (short n)) values left g (written_on values 8 none_gathered refl (omega arith))
 written_on (long n ∷ values) left g sum below = written_alone (plain_argument (long n)) values left g (written_on values 8 none_gathered refl (omega arith))

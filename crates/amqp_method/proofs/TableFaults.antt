@@ -2,7 +2,7 @@
 use Rattle.std.proofs.Common.{◌≡◌, ℕ, zero, suc, ◌+◌, ◌-◌, ◌≤◌, cond, ltb, List, [], ◌∷◌, length, take, drop, Bool, true, false, Option, Some, None, Result, Ok, Err, refl, arith}
 use Rattle.std.proofs.lemmas.Bool.{ltb-false}
 use Rattle.byteorder.specs.Endian.{big_number}
-use Rattle.amqp_value.specs.Reading.{◌>>=◌, Reader, fault_here, front_of, counted, name_at, tag_of, width_of, many, elements, named, behind_tag, tagged, value_at, table_at}
+use Rattle.amqp_value.specs.Reading.{◌>>=◌, Reader, fault_here, prefix_of, counted, name_at, tag_of, width_of, many, elements, named, after_tag, tagged, value_at, table_at}
 use Rattle.amqp_value.specs.Values.{Datum}
 use Rattle.amqp_value.specs.declared.fault.ValueFault.{ValueFault}
 use Rattle.amqp_value.specs.declared.fault.ValueFaultKind.{ValueFaultKind}
@@ -34,8 +34,8 @@ further m n (Err e) le h = omega arith
 here_within : (end : ℕ) (octets : List ℕ) (kind : ValueFaultKind) → (fault_here end octets kind).at ≤ end
 here_within end octets kind = omega arith
 
-front_of-within : (n end : ℕ) (octets : List ℕ) → IsWithin end (front_of n end octets)
-front_of-within n end octets = cond_within end (ltb (length octets) n) _ _ (here_within end octets PassesItsEnd) tt
+prefix_of-within : (n end : ℕ) (octets : List ℕ) → IsWithin end (prefix_of n end octets)
+prefix_of-within n end octets = cond_within end (ltb (length octets) n) _ _ (here_within end octets PassesItsEnd) tt
 
 counted-within : (end : ℕ) (octets : List ℕ) → IsWithin end (counted end octets)
 counted-within end octets =
@@ -68,19 +68,19 @@ named-stays read stays = record {
       bind_within end (name_at end octets) _ (name_at-within end octets) (λ name. bind_within end (read end name.1) _ (stays.within end name.1) (λ value. tt));
 }
 
-bare_within : (end : ℕ) (octets rest : List ℕ) (found : Option Tag) → IsWithin end (behind_tag None end octets rest found)
-unfolding behind_tag
+bare_within : (end : ℕ) (octets rest : List ℕ) (found : Option Tag) → IsWithin end (after_tag None end octets rest found)
+unfolding after_tag
 bare_within end octets rest None = here_within end octets UnknownTag
-bare_within end octets rest (Some (Fixed tag)) = bind_within end (front_of (width_of tag) end rest) _ (front_of-within (width_of tag) end rest) (λ field. tt)
+bare_within end octets rest (Some (Fixed tag)) = bind_within end (prefix_of (width_of tag) end rest) _ (prefix_of-within (width_of tag) end rest) (λ field. tt)
 bare_within end octets rest (Some LongString) = bind_within end (counted end rest) _ (counted-within end rest) (λ text. tt)
 bare_within end octets rest (Some ByteArray) = bind_within end (counted end rest) _ (counted-within end rest) (λ text. tt)
 bare_within end octets rest (Some Array) = here_within end octets TooDeep
 bare_within end octets rest (Some Table) = here_within end octets TooDeep
 
-nested_within : (read : Reader Datum) → Stays read → (end : ℕ) (octets rest : List ℕ) (found : Option Tag) → IsWithin end (behind_tag (Some read) end octets rest found)
-unfolding behind_tag
+nested_within : (read : Reader Datum) → Stays read → (end : ℕ) (octets rest : List ℕ) (found : Option Tag) → IsWithin end (after_tag (Some read) end octets rest found)
+unfolding after_tag
 nested_within read stays end octets rest None = here_within end octets UnknownTag
-nested_within read stays end octets rest (Some (Fixed tag)) = bind_within end (front_of (width_of tag) end rest) _ (front_of-within (width_of tag) end rest) (λ field. tt)
+nested_within read stays end octets rest (Some (Fixed tag)) = bind_within end (prefix_of (width_of tag) end rest) _ (prefix_of-within (width_of tag) end rest) (λ field. tt)
 nested_within read stays end octets rest (Some LongString) = bind_within end (counted end rest) _ (counted-within end rest) (λ text. tt)
 nested_within read stays end octets rest (Some ByteArray) = bind_within end (counted end rest) _ (counted-within end rest) (λ text. tt)
 nested_within read stays end octets rest (Some Array) =

@@ -39,7 +39,7 @@ nothing ShortStr = short_string []
 nothing LongStr = long_string []
 nothing Table = table no_pairs
 
--- a value in front, unless its field is reserved
+-- a value at the start, unless its field is reserved
 abbrev pub keep : Bool → Argument → List Argument → List Argument
 keep true value args = args
 keep false value args = value ∷ args

@@ -2,7 +2,7 @@
 -- method id and the arguments; the class id, the weight, the body's size, the flags and the properties whose flags are set.
 -- All fields before the one at fault are whole. AMQP 0-9-1 specification, 2.3.5.2, 4.2.4, 4.2.5 and 4.2.6.1.
 use Rattle.std.specs.Prelude.{◌≡◌, ◌≢◌, ℕ, zero, suc, ◌+◌, ◌%◌, ◌<◌, List, [], ◌∷◌, ◌++◌, length, map, drop, true, false, Option, Some, None}
-use Rattle.amqp_value.specs.Fields.{SpellsNumber}
+use Rattle.amqp_value.specs.Fields.{EncodesNumber}
 use Rattle.amqp_value.specs.FirstFault.{PassesCounted, FirstFault}
 use Rattle.amqp_value.specs.declared.fault.ValueFault.{ValueFault}
 use Rattle.amqp_value.specs.declared.fault.ValueFaultKind.TheVariants.{Ends}
@@ -11,8 +11,8 @@ use Rattle.amqp_method.specs.Faults.{fault_at, in_table}
 use Rattle.amqp_method.specs.HeaderReading.{has_flag}
 use Rattle.amqp_method.specs.Kinds.{HasIds, fields_of}
 use Rattle.amqp_method.specs.Methods.{FieldRow, row}
-use Rattle.amqp_method.specs.Properties.{ContentHeader, property_kinds, SpellsPresent, SpellsHeader}
-use Rattle.amqp_method.specs.Spelling.{SpellsValues, SpellsMethod}
+use Rattle.amqp_method.specs.Properties.{ContentHeader, property_kinds, EncodesPresent, EncodesHeader}
+use Rattle.amqp_method.specs.Encoding.{EncodesValues, EncodesMethod}
 use Rattle.amqp_method.specs.declared.faults.MethodFault.{MethodFault}
 use Rattle.amqp_method.specs.declared.faults.MethodFaultKind.TheVariants.{UnknownMethod, Value, Trailing, BadWeight, BadFlags}
 use Rattle.amqp_method.specs.declared.fields.FieldKind.{FieldKind}
@@ -37,10 +37,10 @@ left_by ShortStr left = 0
 left_by LongStr left = 0
 left_by Table left = 0
 
--- how many bits are left behind these fields
-abbrev pub left_behind : List FieldRow → ℕ → ℕ
-left_behind [] left = left
-left_behind (f ∷ fields) left = left_behind fields (left_by f.kind left)
+-- how many bits are left after these fields
+abbrev pub left_after : List FieldRow → ℕ → ℕ
+left_after [] left = left
+left_after (f ∷ fields) left = left_after fields (left_by f.kind left)
 
 -- a length octet and that many octets pass the end
 abbrev pub PassesShort : List ℕ → Type 0
@@ -65,29 +65,29 @@ pub data FaultInField (kind : FieldKind) (left at : ℕ) (octets : List ℕ) (fa
 
 -- ---- methods
 
--- whole values for the fields in front, and then a field at fault
+-- whole values for the fields at the start, and then a field at fault
 pub record FaultInArgs (fields : List FieldRow) (at : ℕ) (octets : List ℕ) (fault : MethodFault) : Type 0 where
   pub before : List FieldRow
   pub here : FieldRow
   pub after : List FieldRow
   pub values : List Argument
-  pub front : List ℕ
+  pub prefix : List ℕ
   pub rest : List ℕ
   pub fields_are : fields ≡ before ++ (here ∷ after)
   pub kinds_are : map kind_of values ≡ map (λ (f : FieldRow). f.kind) before
-  pub octets_are : octets ≡ front ++ rest
-  pub spelled : SpellsValues values front
-  pub fault_is : FaultInField here.kind (left_behind before 0) (at + length front) rest fault
+  pub octets_are : octets ≡ prefix ++ rest
+  pub encoded : EncodesValues values prefix
+  pub fault_is : FaultInField here.kind (left_after before 0) (at + length prefix) rest fault
 
--- The fault of octets that spell no method. The class id stands at 0, the method id at 2, the first argument at 4.
+-- The fault of octets that encode no method. The class id stands at 0, the method id at 2, the first argument at 4.
 pub data FirstFaultOfMethod (octets : List ℕ) (fault : MethodFault) : Type 0 where
   class_ends : length octets < 2 → fault ≡ fault_at 0 (Value Ends) → FirstFaultOfMethod octets fault
-  id_ends : (class : ℕ) (first rest : List ℕ) → octets ≡ first ++ rest → SpellsNumber 2 class first → length rest < 2 → fault ≡ fault_at 2 (Value Ends) → FirstFaultOfMethod octets fault
-  unknown : (class id : ℕ) (first second rest : List ℕ) → octets ≡ first ++ (second ++ rest) → SpellsNumber 2 class first → SpellsNumber 2 id second
+  id_ends : (class : ℕ) (first rest : List ℕ) → octets ≡ first ++ rest → EncodesNumber 2 class first → length rest < 2 → fault ≡ fault_at 2 (Value Ends) → FirstFaultOfMethod octets fault
+  unknown : (class id : ℕ) (first second rest : List ℕ) → octets ≡ first ++ (second ++ rest) → EncodesNumber 2 class first → EncodesNumber 2 id second
       → ((kind : Kind) → HasIds class id kind → ⊥) → fault ≡ fault_at 0 UnknownMethod → FirstFaultOfMethod octets fault
-  in_argument : (kind : Kind) (first second rest : List ℕ) → octets ≡ first ++ (second ++ rest) → SpellsNumber 2 (row kind).class first → SpellsNumber 2 (row kind).id second
+  in_argument : (kind : Kind) (first second rest : List ℕ) → octets ≡ first ++ (second ++ rest) → EncodesNumber 2 (row kind).class first → EncodesNumber 2 (row kind).id second
       → FaultInArgs (fields_of kind) 4 rest fault → FirstFaultOfMethod octets fault
-  method_trailing : (call : Call) (front rest : List ℕ) → octets ≡ front ++ rest → SpellsMethod call front → 0 < length rest → fault ≡ fault_at (length front) Trailing → FirstFaultOfMethod octets fault
+  method_trailing : (call : Call) (prefix rest : List ℕ) → octets ≡ prefix ++ rest → EncodesMethod call prefix → 0 < length rest → fault ≡ fault_at (length prefix) Trailing → FirstFaultOfMethod octets fault
 
 -- ---- headers
 
@@ -105,40 +105,40 @@ pub record FaultInProperties (kinds : List FieldKind) (flags at : ℕ) (octets :
   pub properties : List (Option Argument)
   pub here : FieldKind
   pub after : List FieldKind
-  pub front : List ℕ
+  pub prefix : List ℕ
   pub rest : List ℕ
   pub flagged : BeginFlagged properties kinds flags
   pub next_is : drop (length properties) kinds ≡ here ∷ after
   pub flag_is : has_flag (length after + 2) flags ≡ true
-  pub octets_are : octets ≡ front ++ rest
-  pub spelled : SpellsPresent properties front
-  pub fault_is : FaultInField here 0 (at + length front) rest fault
+  pub octets_are : octets ≡ prefix ++ rest
+  pub encoded : EncodesPresent properties prefix
+  pub fault_is : FaultInField here 0 (at + length prefix) rest fault
 
 -- the class 60, the weight 0, the body's size and the flags, whatever flags they are
-pub record SpellsFront (flags : ℕ) (octets : List ℕ) : Type 0 where
+pub record EncodesPrefix (flags : ℕ) (octets : List ℕ) : Type 0 where
   pub body_size : ℕ
   pub class : List ℕ
   pub weight : List ℕ
   pub size : List ℕ
   pub word : List ℕ
   pub octets_are : octets ≡ class ++ (weight ++ (size ++ word))
-  pub class_is : SpellsNumber 2 60 class
-  pub weight_is : SpellsNumber 2 0 weight
-  pub size_is : SpellsNumber 8 body_size size
-  pub flags_are : SpellsNumber 2 flags word
+  pub class_is : EncodesNumber 2 60 class
+  pub weight_is : EncodesNumber 2 0 weight
+  pub size_is : EncodesNumber 8 body_size size
+  pub flags_are : EncodesNumber 2 flags word
 
--- The fault of octets that spell no header. The class id stands at 0, the weight at 2, the body's size at 4, the flags at
+-- The fault of octets that encode no header. The class id stands at 0, the weight at 2, the body's size at 4, the flags at
 -- 12, the first property at 14. Bits 1 and 0 of the flags have to be clear.
 pub data FirstFaultOfHeader (octets : List ℕ) (fault : MethodFault) : Type 0 where
   header_class_ends : length octets < 2 → fault ≡ fault_at 0 (Value Ends) → FirstFaultOfHeader octets fault
-  not_basic : (class : ℕ) (first rest : List ℕ) → octets ≡ first ++ rest → SpellsNumber 2 class first → class ≢ 60 → fault ≡ fault_at 0 UnknownMethod → FirstFaultOfHeader octets fault
-  weight_ends : (first rest : List ℕ) → octets ≡ first ++ rest → SpellsNumber 2 60 first → length rest < 2 → fault ≡ fault_at 2 (Value Ends) → FirstFaultOfHeader octets fault
-  bad_weight : (weight : ℕ) (first second rest : List ℕ) → octets ≡ first ++ (second ++ rest) → SpellsNumber 2 60 first → SpellsNumber 2 weight second → weight ≢ 0
+  not_basic : (class : ℕ) (first rest : List ℕ) → octets ≡ first ++ rest → EncodesNumber 2 class first → class ≢ 60 → fault ≡ fault_at 0 UnknownMethod → FirstFaultOfHeader octets fault
+  weight_ends : (first rest : List ℕ) → octets ≡ first ++ rest → EncodesNumber 2 60 first → length rest < 2 → fault ≡ fault_at 2 (Value Ends) → FirstFaultOfHeader octets fault
+  bad_weight : (weight : ℕ) (first second rest : List ℕ) → octets ≡ first ++ (second ++ rest) → EncodesNumber 2 60 first → EncodesNumber 2 weight second → weight ≢ 0
       → fault ≡ fault_at 2 BadWeight → FirstFaultOfHeader octets fault
-  size_ends : (first second rest : List ℕ) → octets ≡ first ++ (second ++ rest) → SpellsNumber 2 60 first → SpellsNumber 2 0 second → length rest < 8
+  size_ends : (first second rest : List ℕ) → octets ≡ first ++ (second ++ rest) → EncodesNumber 2 60 first → EncodesNumber 2 0 second → length rest < 8
       → fault ≡ fault_at 4 (Value Ends) → FirstFaultOfHeader octets fault
-  flags_end : (size : ℕ) (first second third rest : List ℕ) → octets ≡ first ++ (second ++ (third ++ rest)) → SpellsNumber 2 60 first → SpellsNumber 2 0 second → SpellsNumber 8 size third → length rest < 2
+  flags_end : (size : ℕ) (first second third rest : List ℕ) → octets ≡ first ++ (second ++ (third ++ rest)) → EncodesNumber 2 60 first → EncodesNumber 2 0 second → EncodesNumber 8 size third → length rest < 2
       → fault ≡ fault_at 12 (Value Ends) → FirstFaultOfHeader octets fault
-  bad_flags : (flags : ℕ) (front rest : List ℕ) → octets ≡ front ++ rest → SpellsFront flags front → flags % 4 ≢ 0 → fault ≡ fault_at 12 BadFlags → FirstFaultOfHeader octets fault
-  in_property : (flags : ℕ) (front rest : List ℕ) → octets ≡ front ++ rest → SpellsFront flags front → flags % 4 ≡ 0 → FaultInProperties property_kinds flags 14 rest fault → FirstFaultOfHeader octets fault
-  header_trailing : (header : ContentHeader) (front rest : List ℕ) → octets ≡ front ++ rest → SpellsHeader header front → 0 < length rest → fault ≡ fault_at (length front) Trailing → FirstFaultOfHeader octets fault
+  bad_flags : (flags : ℕ) (prefix rest : List ℕ) → octets ≡ prefix ++ rest → EncodesPrefix flags prefix → flags % 4 ≢ 0 → fault ≡ fault_at 12 BadFlags → FirstFaultOfHeader octets fault
+  in_property : (flags : ℕ) (prefix rest : List ℕ) → octets ≡ prefix ++ rest → EncodesPrefix flags prefix → flags % 4 ≡ 0 → FaultInProperties property_kinds flags 14 rest fault → FirstFaultOfHeader octets fault
+  header_trailing : (header : ContentHeader) (prefix rest : List ℕ) → octets ≡ prefix ++ rest → EncodesHeader header prefix → 0 < length rest → fault ≡ fault_at (length prefix) Trailing → FirstFaultOfHeader octets fault

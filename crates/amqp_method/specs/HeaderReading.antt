@@ -25,7 +25,7 @@ properties_at (kind ∷ kinds) flags end octets =
     optional_at (has_flag (length kinds + 2) flags) kind end octets
     >>= λ x. (properties_at kinds flags end x.1 >>= λ y. Ok (x.0 ∷ y.0, y.1))
 
--- a header behind its class, and behind its weight
+-- a header after its class, and after its weight
 abbrev pub flagged_at : ℕ → ℕ → List ℕ → ℕ → Result ContentHeader MethodFault
 flagged_at end size octets flags =
     if flags % 4 == 0

@@ -6,37 +6,37 @@ use Rattle.amqp_method.specs.HeaderReading.{header_at}
 use Rattle.amqp_method.specs.Kinds.{sends, has_content}
 use Rattle.amqp_method.specs.Methods.{row}
 use Rattle.amqp_method.specs.Plain.{plain_method, plain_header}
-use Rattle.amqp_method.specs.Properties.{ContentHeader, SpellsHeader, HaveKinds, property_kinds}
+use Rattle.amqp_method.specs.Properties.{ContentHeader, EncodesHeader, HaveKinds, property_kinds}
 use Rattle.amqp_method.specs.Reading.{method_at}
-use Rattle.amqp_method.specs.Spelling.{SpellsMethod}
+use Rattle.amqp_method.specs.Encoding.{EncodesMethod}
 use Rattle.amqp_method.specs.declared.kinds.Kind.{Kind}
 use Rattle.amqp_method.specs.declared.kinds.Kind.TheVariants.{ConnectionOpen, ChannelOpen, BasicPublish, BasicReturn, BasicDeliver, BasicGetOk}
 
--- no octets spell two methods
+-- no octets encode two methods
 abbrev pub OneMethod : Type 0
-OneMethod = (c d : Call) (octets : List ℕ) → SpellsMethod c octets → SpellsMethod d octets → c ≡ d
+OneMethod = (c d : Call) (octets : List ℕ) → EncodesMethod c octets → EncodesMethod d octets → c ≡ d
 
--- no octets spell two headers
+-- no octets encode two headers
 abbrev pub OneHeader : Type 0
-OneHeader = (h g : ContentHeader) (octets : List ℕ) → SpellsHeader h octets → SpellsHeader g octets → h ≡ g
+OneHeader = (h g : ContentHeader) (octets : List ℕ) → EncodesHeader h octets → EncodesHeader g octets → h ≡ g
 
--- octets that spell a method are read as it
+-- octets that encode a method are read as it
 abbrev pub MethodIsRead : Type 0
-MethodIsRead = (c : Call) (octets : List ℕ) → SpellsMethod c octets → method_at octets ≡ Ok c
+MethodIsRead = (c : Call) (octets : List ℕ) → EncodesMethod c octets → method_at octets ≡ Ok c
 
--- octets that spell a header are read as it
+-- octets that encode a header are read as it
 abbrev pub HeaderIsRead : Type 0
-HeaderIsRead = (h : ContentHeader) (octets : List ℕ) → SpellsHeader h octets → header_at octets ≡ Ok h
+HeaderIsRead = (h : ContentHeader) (octets : List ℕ) → EncodesHeader h octets → header_at octets ≡ Ok h
 
--- what is written of a method spells it, where its arguments are those of its kind, and fit their fields
-abbrev pub MethodIsSpelled : Type 0
-MethodIsSpelled = (c : Call) → Fits c → ArgumentsFit c.args → SpellsMethod c (plain_method c)
+-- what is written of a method encodes it, where its arguments are those of its kind, and fit their fields
+abbrev pub MethodIsEncoded : Type 0
+MethodIsEncoded = (c : Call) → Fits c → ArgumentsFit c.args → EncodesMethod c (plain_method c)
 
--- what is written of a header spells it, where the body's size and the properties fit their fields, and the properties
+-- what is written of a header encodes it, where the body's size and the properties fit their fields, and the properties
 -- are of the kinds that their flags say
-abbrev pub HeaderIsSpelled : Type 0
-HeaderIsSpelled =
-    (h : ContentHeader) → h.body_size < 2 ^ 64 → HaveKinds h.properties property_kinds → PropertiesFit h.properties → SpellsHeader h (plain_header h)
+abbrev pub HeaderIsEncoded : Type 0
+HeaderIsEncoded =
+    (h : ContentHeader) → h.body_size < 2 ^ 64 → HaveKinds h.properties property_kinds → PropertiesFit h.properties → EncodesHeader h (plain_header h)
 
 -- no two kinds have the same class id and method id
 abbrev pub DistinctIds : Type 0

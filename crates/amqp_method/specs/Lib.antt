@@ -2,7 +2,7 @@ pub mod Methods
 pub mod Kinds
 pub mod Rows
 pub mod Arguments
-pub mod Spelling
+pub mod Encoding
 pub mod Faults
 pub mod Reading
 pub mod Views

@@ -1,4 +1,4 @@
--- The methods, one row each: `amqp0-9-1.xml`, in its order and its words. Behind those of the standard in each class stand the
+-- The methods, one row each: `amqp0-9-1.xml`, in its order and its words. After those of the standard in each class stand the
 -- methods that RabbitMQ added: connection.blocked and unblocked, exchange.bind and unbind, basic.nack and the class confirm.
 -- The third and fourth bits of exchange.declare, which the standard reserves, bear the names that RabbitMQ gave them; and basic.ack,
 -- basic.cancel and basic.cancel-ok are sent by both sides, as it has them.

@@ -1,4 +1,4 @@
--- The one spelling that is written: free bits are 0, a truth value that holds is 1, and reserved fields are zero or empty.
+-- The one encoding that is written: free bits are 0, a truth value that holds is 1, and reserved fields are zero or empty.
 use Rattle.std.specs.Prelude.{ℕ, zero, suc, ◌+◌, ◌*◌, ◌/◌, ◌^◌, ◌<◌, List, [], ◌∷◌, ◌++◌, length, take, drop, Bool, true, false, Option, Some, None}
 use Rattle.byteorder.specs.Endian.{big_bytes}
 use Rattle.amqp_value.specs.Fields.{plain_short_string, plain_long_string}
@@ -8,7 +8,7 @@ use Rattle.amqp_method.specs.Arguments.{Argument, bit, octet, short, long, long_
 use Rattle.amqp_method.specs.Kinds.{fields_of}
 use Rattle.amqp_method.specs.Methods.{FieldRow, row}
 use Rattle.amqp_method.specs.Properties.{ContentHeader, flags_of}
-use Rattle.amqp_method.specs.Spelling.{Part, one, run, parts_of}
+use Rattle.amqp_method.specs.Encoding.{Part, one, run, parts_of}
 use Rattle.amqp_method.specs.declared.fields.FieldKind.{FieldKind}
 
 -- a value that has octets of its own
@@ -67,7 +67,7 @@ abbrev pub first_of : FieldKind → List Argument → Argument
 first_of kind [] = nothing kind
 first_of kind (value ∷ args) = value
 
--- the value of a field, of the arguments that are left, and those that are left behind it
+-- the value of a field, of the arguments that are left, and those that are left after it
 abbrev pub value_for : Bool → FieldKind → List Argument → Argument
 value_for true kind args = nothing kind
 value_for false kind args = first_of kind args
@@ -102,9 +102,9 @@ CountsPresentFit [] = Unit {0}
 CountsPresentFit (p ∷ properties) = CountOfPropertyFits p × CountsPresentFit properties
 
 -- the class, the weight, the body's size and the flags of a content header
-abbrev pub plain_front : ℕ → ℕ → List ℕ
-plain_front body_size flags = big_bytes 2 60 ++ (big_bytes 2 0 ++ (big_bytes 8 body_size ++ big_bytes 2 flags))
+abbrev pub plaat_start : ℕ → ℕ → List ℕ
+plaat_start body_size flags = big_bytes 2 60 ++ (big_bytes 2 0 ++ (big_bytes 8 body_size ++ big_bytes 2 flags))
 
 -- a content header
 abbrev pub plain_header : ContentHeader → List ℕ
-plain_header h = plain_front h.body_size (flags_of h.properties) ++ plain_present h.properties
+plain_header h = plaat_start h.body_size (flags_of h.properties) ++ plain_present h.properties

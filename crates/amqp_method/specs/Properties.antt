@@ -1,9 +1,9 @@
--- The properties of a content, and which octets spell a content header: AMQP 0-9-1 specification, 4.2.6.1, and the fields of the class
+-- The properties of a content, and which octets encode a content header: AMQP 0-9-1 specification, 4.2.6.1, and the fields of the class
 -- basic in `amqp0-9-1.xml`. The last property, which the standard reserves, bears the name that RabbitMQ gave it.
 use Rattle.std.specs.Prelude.{◌≡◌, ℕ, ◌+◌, ◌^◌, List, [], ◌∷◌, ◌++◌, length, map, drop, Option, Some, None, codes}
-use Rattle.amqp_value.specs.Fields.{SpellsNumber}
+use Rattle.amqp_value.specs.Fields.{EncodesNumber}
 use Rattle.amqp_method.specs.Arguments.{Argument, kind_of}
-use Rattle.amqp_method.specs.Spelling.{SpellsArgument}
+use Rattle.amqp_method.specs.Encoding.{EncodesArgument}
 use Rattle.amqp_method.specs.declared.fields.FieldKind.{FieldKind}
 use Rattle.amqp_method.specs.declared.fields.FieldKind.TheVariants.{Octet, LongLong, ShortStr, Table}
 
@@ -61,24 +61,24 @@ flags_of [] = 0
 flags_of (None ∷ properties) = flags_of properties
 flags_of (Some value ∷ properties) = 2 ^ (length properties + 2) + flags_of properties
 
--- the join of a spelling of each property that is there, in order
-abbrev pub SpellsPresent : List (Option Argument) → List ℕ → Type 0
-SpellsPresent [] octets = octets ≡ []
-SpellsPresent (None ∷ properties) octets = SpellsPresent properties octets
-SpellsPresent (Some value ∷ properties) octets =
-    (first rest : List ℕ) × (octets ≡ first ++ rest) × SpellsArgument value first × SpellsPresent properties rest
+-- the join of a encoding of each property that is there, in order
+abbrev pub EncodesPresent : List (Option Argument) → List ℕ → Type 0
+EncodesPresent [] octets = octets ≡ []
+EncodesPresent (None ∷ properties) octets = EncodesPresent properties octets
+EncodesPresent (Some value ∷ properties) octets =
+    (first rest : List ℕ) × (octets ≡ first ++ rest) × EncodesArgument value first × EncodesPresent properties rest
 
 -- the class 60, the weight 0, the body's size, the flags, and the properties
-pub record SpellsHeader (h : ContentHeader) (octets : List ℕ) : Type 0 where
+pub record EncodesHeader (h : ContentHeader) (octets : List ℕ) : Type 0 where
   pub class : List ℕ
   pub weight : List ℕ
   pub size : List ℕ
   pub flags : List ℕ
   pub rest : List ℕ
   pub octets_are : octets ≡ class ++ (weight ++ (size ++ (flags ++ rest)))
-  pub class_is : SpellsNumber 2 60 class
-  pub weight_is : SpellsNumber 2 0 weight
-  pub size_is : SpellsNumber 8 h.body_size size
+  pub class_is : EncodesNumber 2 60 class
+  pub weight_is : EncodesNumber 2 0 weight
+  pub size_is : EncodesNumber 8 h.body_size size
   pub kinds_are : HaveKinds h.properties property_kinds
-  pub flags_are : SpellsNumber 2 (flags_of h.properties) flags
-  pub spelled : SpellsPresent h.properties rest
+  pub flags_are : EncodesNumber 2 (flags_of h.properties) flags
+  pub encoded : EncodesPresent h.properties rest

@@ -1,4 +1,4 @@
--- Reading from the front of octets, with the first fault that is met. `end` is the place behind the octets, so the
+-- Reading from the prefix of octets, with the first fault that is met. `end` is the place after the octets, so the
 -- first of them stands at `end - length octets`.
 use Rattle.std.specs.Prelude.{◌≡◌, ℕ, zero, suc, ◌-◌, ◌/◌, ◌%◌, ◌==◌, List, [], ◌∷◌, length, take, drop, Option, Some, None, Result, Ok, Err, nat_lt, if◌then◌else◌, ◌⊎◌}
 use Rattle.byteorder.specs.Endian.{big_number}
@@ -24,7 +24,7 @@ abbrev pub Gives : {X Y : Type 0} → (X → Y) → Result X MethodFault → Res
 Gives view (Ok x) read = read ≡ Ok (view x)
 Gives view (Err e) read = Fails e read
 
--- what is read from the front, and the octets behind it
+-- what is read from the prefix, and the octets after it
 abbrev pub Read : Type 0 → Type 0
 Read X = Result (X × List ℕ) MethodFault
 
@@ -97,15 +97,15 @@ args_at [] bits end octets = Ok ([], octets)
 args_at (f ∷ fields) bits end octets =
     field_at f.kind bits end octets >>= λ x. (args_at fields x.0.1 end x.1 >>= λ y. Ok (keep f.reserved x.0.0 y.0, y.1))
 
--- nothing stands behind what was read
-abbrev pub nothing_behind : ℕ → List ℕ → Result (Unit {0}) MethodFault
-nothing_behind end [] = Ok tt
-nothing_behind end (first ∷ others) = Err (fault_at (end - length (first ∷ others)) Trailing)
+-- nothing stands after what was read
+abbrev pub nothing_after : ℕ → List ℕ → Result (Unit {0}) MethodFault
+nothing_after end [] = Ok tt
+nothing_after end (first ∷ others) = Err (fault_at (end - length (first ∷ others)) Trailing)
 
 abbrev pub whole : {X : Type 0} → ℕ → X → List ℕ → Result X MethodFault
-whole end x octets = nothing_behind end octets >>= λ _. Ok x
+whole end x octets = nothing_after end octets >>= λ _. Ok x
 
--- the arguments of a method, and nothing behind them
+-- the arguments of a method, and nothing after them
 abbrev pub call_at : ℕ → List ℕ → Option Kind → Result Call MethodFault
 call_at end octets None = Err (fault_at 0 UnknownMethod)
 call_at end octets (Some kind) =

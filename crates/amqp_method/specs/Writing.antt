@@ -2,7 +2,7 @@
 use Rattle.std.specs.Prelude.{ℕ, ◌+◌, ◌*◌, ◌^◌, ◌==◌, List, [], ◌∷◌, ◌++◌, Bool, Option, Some, None, if◌then◌else◌}
 use Rattle.amqp_method.specs.Arguments.{Argument, bit, octet, short, long, long_long, short_string, long_string, table}
 use Rattle.amqp_method.specs.Plain.{plain_argument, bit_value}
-use Rattle.amqp_method.specs.Spelling.{SpellsArgument}
+use Rattle.amqp_method.specs.Encoding.{EncodesArgument}
 
 -- bits gathered: their number, the first one lowest, and how many they are
 pub record Gathered : Type 0 where
@@ -41,21 +41,21 @@ gathered_after (short_string text) g = none_gathered
 gathered_after (long_string text) g = none_gathered
 gathered_after (table pairs) g = none_gathered
 
--- what is written for the values, behind bits gathered
+-- what is written for the values, after bits gathered
 unfoldable pub written_values : List Argument → Gathered → List ℕ
 written_values [] g = gathered_octets g
 written_values (value ∷ values) g = written_for value g ++ written_values values (gathered_after value g)
 
--- the plain spelling of a value is a spelling of it: its counts fit their fields
+-- the plain encoding of a value is a encoding of it: its counts fit their fields
 abbrev pub Fitting : Argument → Type 0
 Fitting (bit holds) = Unit {0}
-Fitting (octet n) = SpellsArgument (octet n) (plain_argument (octet n))
-Fitting (short n) = SpellsArgument (short n) (plain_argument (short n))
-Fitting (long n) = SpellsArgument (long n) (plain_argument (long n))
-Fitting (long_long n) = SpellsArgument (long_long n) (plain_argument (long_long n))
-Fitting (short_string text) = SpellsArgument (short_string text) (plain_argument (short_string text))
-Fitting (long_string text) = SpellsArgument (long_string text) (plain_argument (long_string text))
-Fitting (table pairs) = SpellsArgument (table pairs) (plain_argument (table pairs))
+Fitting (octet n) = EncodesArgument (octet n) (plain_argument (octet n))
+Fitting (short n) = EncodesArgument (short n) (plain_argument (short n))
+Fitting (long n) = EncodesArgument (long n) (plain_argument (long n))
+Fitting (long_long n) = EncodesArgument (long_long n) (plain_argument (long_long n))
+Fitting (short_string text) = EncodesArgument (short_string text) (plain_argument (short_string text))
+Fitting (long_string text) = EncodesArgument (long_string text) (plain_argument (long_string text))
+Fitting (table pairs) = EncodesArgument (table pairs) (plain_argument (table pairs))
 
 abbrev pub AllFitting : List Argument → Type 0
 AllFitting [] = Unit {0}

@@ -46,8 +46,8 @@ pub enum MethodFaultKind {
     /// 2: a field doesn't fit, told at its first octet, or a field table can't be read, told at the octet that tells it.
     #[error("field value that can't be read or written")]
     Value(ValueFaultKind),
-    /// 3: octets stand behind the last field. Told at the first of them.
-    #[error("octets behind the last field")]
+    /// 3: octets stand after the last field. Told at the first of them.
+    #[error("octets after the last field")]
     Trailing,
     /// 4: a header's weight isn't 0. Told at 2.
     #[error("weight other than 0")]
@@ -61,7 +61,7 @@ pub enum MethodFaultKind {
 }
 
 impl MethodFaultKind {
-    /// The number under which the fault is told. Behind number 2 stands that of the field value's own fault.
+    /// The number under which the fault is told. After number 2 stands that of the field value's own fault.
     pub fn number(self) -> u8
         ensures { result ≡ number_of self }
     {

@@ -5,8 +5,8 @@ ghost use Rattle.amqp_method.specs.Faults.{out_of_memory, too_long};
 ghost use Rattle.amqp_method.specs.FirstFault.{FirstFaultOfHeader};
 ghost use Rattle.amqp_method.specs.HeaderReading.{has_flag as is_set, optional_at, properties_at, header_at};
 ghost use Rattle.amqp_method.specs.HeaderView.{present, table_argument, later_view, properties_view, header_view};
-ghost use Rattle.amqp_method.specs.Plain.{plain_front, plain_header, CountsPresentFit};
-ghost use Rattle.amqp_method.specs.Properties.{ContentHeader, SpellsHeader, property_kinds, later_kinds};
+ghost use Rattle.amqp_method.specs.Plain.{plaat_start, plain_header, CountsPresentFit};
+ghost use Rattle.amqp_method.specs.Properties.{ContentHeader, EncodesHeader, property_kinds, later_kinds};
 ghost use Rattle.amqp_method.specs.Reading.{Gives};
 ghost use Rattle.amqp_method.specs.Writing.{PresentFitting};
 ghost use Rattle.amqp_method.specs.declared.fields.FieldKind.TheVariants as kinds;
@@ -24,7 +24,7 @@ use std::alloc::Global;
 /// The class of each content header, basic (section 4.2.6.1).
 const BASIC: u16 = 60;
 
-/// How many octets stand in front of the properties: class, weight, body size and flags.
+/// How many octets stand before the properties: class, weight, body size and flags.
 const FRONT_LENGTH: usize = 14;
 
 /// Whether a bit of the flags is set.
@@ -49,8 +49,8 @@ fn optional_short_string(
     if !there {
         return Ok((None, octets));
     }
-    let (value, behind) = read_short_string(alloc, octets, end)?;
-    Ok((Some(value), behind))
+    let (value, after) = read_short_string(alloc, octets, end)?;
+    Ok((Some(value), after))
 }
 
 #[tactic(auto, unfolding(crate::specs::HeaderReading::optional_at, crate::specs::Reading::field_at))]
@@ -67,8 +67,8 @@ fn optional_table(
     if !there {
         return Ok((None, octets));
     }
-    let (value, behind) = read_field_table(alloc, octets, end)?;
-    Ok((Some(value), behind))
+    let (value, after) = read_field_table(alloc, octets, end)?;
+    Ok((Some(value), after))
 }
 
 #[tactic(auto, unfolding(crate::specs::HeaderReading::optional_at, crate::specs::Reading::field_at))]
@@ -84,8 +84,8 @@ fn optional_octet(
     if !there {
         return Ok((None, octets));
     }
-    let (value, behind) = read_octet(octets, end)?;
-    Ok((Some(value), behind))
+    let (value, after) = read_octet(octets, end)?;
+    Ok((Some(value), after))
 }
 
 #[tactic(auto, unfolding(crate::specs::HeaderReading::optional_at, crate::specs::Reading::field_at))]
@@ -101,8 +101,8 @@ fn optional_long_long(
     if !there {
         return Ok((None, octets));
     }
-    let (value, behind) = read_long_long(octets, end)?;
-    Ok((Some(value), behind))
+    let (value, after) = read_long_long(octets, end)?;
+    Ok((Some(value), after))
 }
 
 /// The seven properties that come last.
@@ -117,7 +117,7 @@ struct LaterProperties {
     cluster_id: Option<ShortStr>,
 }
 
-/// The last seven properties, those whose flags are set, and the octets behind them.
+/// The last seven properties, those whose flags are set, and the octets after them.
 #[tactic(auto, unfolding(crate::specs::HeaderReading::properties_at))]
 fn read_later_properties(
     alloc: Global,
@@ -148,7 +148,7 @@ fn read_later_properties(
     Ok((later, octets))
 }
 
-/// The properties whose flags are set, and the octets behind them.
+/// The properties whose flags are set, and the octets after them.
 #[tactic(auto, unfolding(crate::specs::HeaderReading::properties_at))]
 fn read_properties(
     alloc: Global,
@@ -192,19 +192,19 @@ fn read_properties(
     Ok((properties, octets))
 }
 
-/// The content header that a payload spells: the class id 60 and the weight 0, 16 bits each, the size of the body in 64
+/// The content header that a payload encodes: the class id 60 and the weight 0, 16 bits each, the size of the body in 64
 /// bits, the flags in 16, and the properties whose flags are set (AMQP 0-9-1 specification, section 4.2.6.1).
 ///
 /// A fault tells the first field that can't be read, by its first octet; for a field table, the octet in it.
 pub fn read_header(alloc: Global, octets: &[u8]) -> Result<Header, MethodFault>
-    // What is read is spelled so.
-    ensures found { IfOk result (λ h. SpellsHeader (header_view h) octets.now) }
+    // What is read is encoded so.
+    ensures found { IfOk result (λ h. EncodesHeader (header_view h) octets.now) }
 
-    // What is spelled so is read, unless memory runs out.
-    ensures only { (h : ContentHeader) → SpellsHeader h octets.now → Gives header_view result (Ok h) }
+    // What is encoded so is read, unless memory runs out.
+    ensures only { (h : ContentHeader) → EncodesHeader h octets.now → Gives header_view result (Ok h) }
 
-    // Every other fault comes where the octets spell no header.
-    ensures refused { IfErr result (λ e. (e ≡ out_of_memory) ⊎ ((h : ContentHeader) → SpellsHeader h octets.now → ⊥)) }
+    // Every other fault comes where the octets encode no header.
+    ensures refused { IfErr result (λ e. (e ≡ out_of_memory) ⊎ ((h : ContentHeader) → EncodesHeader h octets.now → ⊥)) }
 
     // It is the fault of the first field that can't be read, and that one is told, unless memory runs out.
     ensures fault { IfErr result (λ e. (e ≡ out_of_memory) ⊎ FirstFaultOfHeader octets.now e) }
@@ -221,30 +221,30 @@ fn exact_header(alloc: Global, octets: &[u8]) -> Result<Header, MethodFault>
     ensures { Gives header_view result (header_at octets.now) }
 {
     let end = octets.len();
-    let (class, behind) = read_short(octets, end)?;
+    let (class, after) = read_short(octets, end)?;
     if class != BASIC {
         return Err(MethodFault {
             at: 0,
             kind: MethodFaultKind::UnknownMethod,
         });
     }
-    let (weight, behind) = read_short(behind, end)?;
+    let (weight, after) = read_short(after, end)?;
     if weight != 0 {
         return Err(MethodFault {
             at: 2,
             kind: MethodFaultKind::BadWeight,
         });
     }
-    let (body_size, behind) = read_long_long(behind, end)?;
-    let (flags, behind) = read_short(behind, end)?;
+    let (body_size, after) = read_long_long(after, end)?;
+    let (flags, after) = read_short(after, end)?;
     if flags % 4 != 0 {
         return Err(MethodFault {
             at: 12,
             kind: MethodFaultKind::BadFlags,
         });
     }
-    let (properties, behind) = read_properties(alloc, flags, behind, end)?;
-    read_end(behind, end)?;
+    let (properties, after) = read_properties(alloc, flags, after, end)?;
+    read_end(after, end)?;
     Ok(Header {
         body_size,
         properties,
@@ -258,7 +258,7 @@ fn exact_header(alloc: Global, octets: &[u8]) -> Result<Header, MethodFault>
 pub fn write_header(header: &Header, out: &mut Vec<u8>) -> Result<(), MethodFault>
     ensures ok { OnOk result (out.new.items ≡ out.old.items ++ plain_header (header_view header.now)) }
     // What is written is read again as this header.
-    ensures spelled { OnOk result (SpellsHeader (header_view header.now) (plain_header (header_view header.now))) }
+    ensures encoded { OnOk result (EncodesHeader (header_view header.now) (plain_header (header_view header.now))) }
     ensures too_long { result ≡ Err too_long → CountsPresentFit (header_view header.now).properties → ⊥ }
     ensures err { IfErr result (λ e. (e ≡ too_long) ⊎ (e ≡ out_of_memory)) }
     ensures same { OnErr result (out.new.items ≡ out.old.items) }
@@ -280,29 +280,29 @@ fn append_header(header: &Header, out: &mut Vec<u8>) -> Result<(), MethodFault>
     ensures kept { OnErr result (take (length out.old.items) out.new.items ≡ out.old.items) }
 {
     let properties = lent_properties(&header.properties);
-    append_front(header.body_size, flags_word(&properties), out)?;
+    append_prefix(header.body_size, flags_word(&properties), out)?;
     append_present(&properties, out)
 }
 
-/// The octets of a header in front of its properties.
-fn front_octets(body_size: u64, flags: u16) -> [u8; FRONT_LENGTH]
-    ensures { result ≡ plain_front body_size flags }
+/// The octets of a header before its properties.
+fn prefix_octets(body_size: u64, flags: u16) -> [u8; FRONT_LENGTH]
+    ensures { result ≡ plaat_start body_size flags }
 {
-    let mut front = [0; FRONT_LENGTH];
-    BigEndian::write_u16(&mut front, BASIC);
-    BigEndian::write_u64(&mut front[4..], body_size);
-    BigEndian::write_u16(&mut front[12..], flags);
-    front
+    let mut prefix = [0; FRONT_LENGTH];
+    BigEndian::write_u16(&mut prefix, BASIC);
+    BigEndian::write_u64(&mut prefix[4..], body_size);
+    BigEndian::write_u16(&mut prefix[12..], flags);
+    prefix
 }
 
 /// Appends them.
-fn append_front(body_size: u64, flags: u16, out: &mut Vec<u8>) -> Result<(), MethodFault>
-    ensures ok { OnOk result (out.new.items ≡ out.old.items ++ plain_front body_size flags) }
+fn append_prefix(body_size: u64, flags: u16, out: &mut Vec<u8>) -> Result<(), MethodFault>
+    ensures ok { OnOk result (out.new.items ≡ out.old.items ++ plaat_start body_size flags) }
     ensures size { OnOk result (body_size < 2 ^ 64) }
     ensures err { IfErr result (λ e. e ≡ out_of_memory) }
     ensures kept { OnErr result (take (length out.old.items) out.new.items ≡ out.old.items) }
 {
-    let front = front_octets(body_size, flags);
-    out.extend_from_slice(&front)?;
+    let prefix = prefix_octets(body_size, flags);
+    out.extend_from_slice(&prefix)?;
     Ok(())
 }

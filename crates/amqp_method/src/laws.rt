@@ -1,27 +1,27 @@
 //! Laws of methods and headers that the layers above rest on.
-ghost use Rattle.amqp_method.specs.Laws.{OneMethod, OneHeader, MethodIsRead, HeaderIsRead, MethodIsSpelled, HeaderIsSpelled, DistinctIds, OnlyClientOpens, EachIsSent, ContentKinds};
+ghost use Rattle.amqp_method.specs.Laws.{OneMethod, OneHeader, MethodIsRead, HeaderIsRead, MethodIsEncoded, HeaderIsEncoded, DistinctIds, OnlyClientOpens, EachIsSent, ContentKinds};
 
-/// No octets spell two methods.
+/// No octets encode two methods.
 pub fn one_method()
     ensures { OneMethod }
 {}
 
-/// No octets spell two content headers.
+/// No octets encode two content headers.
 pub fn one_header()
     ensures { OneHeader }
 {}
 
-/// Octets that spell a method are read as that method, and octets that spell a content header as that header.
-pub fn spelled_is_read()
+/// Octets that encode a method are read as that method, and octets that encode a content header as that header.
+pub fn encoded_is_read()
     ensures method { MethodIsRead }
     ensures header { HeaderIsRead }
 {}
 
-/// The octets that are written of a method whose arguments fit their fields spell it, and likewise those of a content
+/// The octets that are written of a method whose arguments fit their fields encode it, and likewise those of a content
 /// header.
-pub fn plain_is_spelled()
-    ensures method { MethodIsSpelled }
-    ensures header { HeaderIsSpelled }
+pub fn plain_is_encoded()
+    ensures method { MethodIsEncoded }
+    ensures header { HeaderIsEncoded }
 {}
 
 /// No two kinds have the same class id and method id.

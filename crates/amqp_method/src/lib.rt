@@ -5,8 +5,8 @@
 //! header payload is the class id 60, the weight 0, the size of the body in 64 bits, the flags in 16, and the properties
 //! whose flags are set. Numbers are big-endian.
 //!
-//! The definitions of `specs/` say what the functions are proved to do: `Methods` is the table of the methods, `Spelling`
-//! and `Properties` have which octets spell a method and a header, `Plain` the one spelling that is written, `FirstFault`
+//! The definitions of `specs/` say what the functions are proved to do: `Methods` is the table of the methods, `Encoding`
+//! and `Properties` have which octets encode a method and a header, `Plain` the one encoding that is written, `FirstFault`
 //! the first field that can't be read, with its place, and `Reading` and `HeaderReading` reading as functions of octets.
 #![tactic(auto)]
 
@@ -34,8 +34,8 @@ pub use crate::header_octets::{read_header, write_header};
 pub use crate::headers::{Header, Properties};
 pub use crate::kinds::{Kind, schema, sends};
 pub use crate::laws::{
-    content_kinds, distinct_ids, each_is_sent, one_header, one_method, only_client_opens,
-    plain_is_spelled, spelled_is_read,
+    content_kinds, distinct_ids, each_is_sent, encoded_is_read, one_header, one_method,
+    only_client_opens, plain_is_encoded,
 };
 pub use crate::messages::Message;
 pub use crate::method_octets::{read_method, write_method};

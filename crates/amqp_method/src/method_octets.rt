@@ -6,7 +6,7 @@ ghost use Rattle.amqp_method.specs.FirstFault.{FirstFaultOfMethod};
 ghost use Rattle.amqp_method.specs.MethodView.{method_view};
 ghost use Rattle.amqp_method.specs.Plain.{plain_method, CountsAllFit};
 ghost use Rattle.amqp_method.specs.Reading.{Gives, method_at};
-ghost use Rattle.amqp_method.specs.Spelling.{SpellsMethod};
+ghost use Rattle.amqp_method.specs.Encoding.{EncodesMethod};
 
 use crate::faults::MethodFault;
 use crate::kinds::schema;
@@ -15,20 +15,20 @@ use crate::reading::read_call;
 use crate::writing::{append_args, append_short};
 use std::alloc::Global;
 
-/// The method that a payload spells: the class id and the method id, 16 bits each, and the arguments (AMQP 0-9-1
+/// The method that a payload encodes: the class id and the method id, 16 bits each, and the arguments (AMQP 0-9-1
 /// specification, section 2.3.5.2).
 ///
 /// Free bits and reserved fields are read in any value and dropped. A fault tells the first field that can't be read, by
 /// its first octet; for a field table, the octet in it.
 pub fn read_method(alloc: Global, octets: &[u8]) -> Result<Method, MethodFault>
-    // What is read is spelled so.
-    ensures found { IfOk result (λ m. SpellsMethod (method_view m) octets.now) }
+    // What is read is encoded so.
+    ensures found { IfOk result (λ m. EncodesMethod (method_view m) octets.now) }
 
-    // What is spelled so is read, unless memory runs out.
-    ensures only { (c : Call) → SpellsMethod c octets.now → Gives method_view result (Ok c) }
+    // What is encoded so is read, unless memory runs out.
+    ensures only { (c : Call) → EncodesMethod c octets.now → Gives method_view result (Ok c) }
 
-    // Every other fault comes where the octets spell no method.
-    ensures refused { IfErr result (λ e. (e ≡ out_of_memory) ⊎ ((c : Call) → SpellsMethod c octets.now → ⊥)) }
+    // Every other fault comes where the octets encode no method.
+    ensures refused { IfErr result (λ e. (e ≡ out_of_memory) ⊎ ((c : Call) → EncodesMethod c octets.now → ⊥)) }
 
     // It is the fault of the first field that can't be read, and that one is told, unless memory runs out.
     ensures fault { IfErr result (λ e. (e ≡ out_of_memory) ⊎ FirstFaultOfMethod octets.now e) }
@@ -54,7 +54,7 @@ fn exact_method(alloc: Global, octets: &[u8]) -> Result<Method, MethodFault>
 pub fn write_method(method: &Method, out: &mut Vec<u8>) -> Result<(), MethodFault>
     ensures ok { OnOk result (out.new.items ≡ out.old.items ++ plain_method (method_view method.now)) }
     // What is written is read again as this method.
-    ensures spelled { OnOk result (SpellsMethod (method_view method.now) (plain_method (method_view method.now))) }
+    ensures encoded { OnOk result (EncodesMethod (method_view method.now) (plain_method (method_view method.now))) }
     ensures too_long { result ≡ Err too_long → CountsAllFit (method_view method.now).args → ⊥ }
     ensures err { IfErr result (λ e. (e ≡ too_long) ⊎ (e ≡ out_of_memory)) }
     ensures same { OnErr result (out.new.items ≡ out.old.items) }
@@ -69,7 +69,7 @@ pub fn write_method(method: &Method, out: &mut Vec<u8>) -> Result<(), MethodFaul
 
 fn append_method(method: &Method, out: &mut Vec<u8>) -> Result<(), MethodFault>
     ensures ok { OnOk result (out.new.items ≡ out.old.items ++ plain_method (method_view method.now)) }
-    ensures spelled { OnOk result (SpellsMethod (method_view method.now) (plain_method (method_view method.now))) }
+    ensures encoded { OnOk result (EncodesMethod (method_view method.now) (plain_method (method_view method.now))) }
     ensures too_long { result ≡ Err too_long → CountsAllFit (method_view method.now).args → ⊥ }
     ensures err { IfErr result (λ e. (e ≡ too_long) ⊎ (e ≡ out_of_memory)) }
     ensures kept { OnErr result (take (length out.old.items) out.new.items ≡ out.old.items) }

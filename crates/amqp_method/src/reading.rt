@@ -2,7 +2,7 @@
 ghost use Rattle.std.specs.Prelude.{◌≡◌, ◌+◌, ◌^◌, ◌≤◌, ◌<◌, length, map, IfOk, []};
 ghost use Rattle.amqp_method.specs.Arguments.{bit, call};
 ghost use Rattle.amqp_method.specs.Faults.{in_table};
-ghost use Rattle.amqp_method.specs.Reading.{Gives, Bits as RunOfBits, no_bits, ends_at, number_at, short_string_at, long_string_at, field_table_at, bit_at, field_at, args_at, nothing_behind, method_at};
+ghost use Rattle.amqp_method.specs.Reading.{Gives, Bits as RunOfBits, no_bits, ends_at, number_at, short_string_at, long_string_at, field_table_at, bit_at, field_at, args_at, nothing_after, method_at};
 ghost use Rattle.amqp_method.specs.Rows.{field_view};
 ghost use Rattle.amqp_method.specs.Views.{arg_view, args_view};
 ghost use Rattle.amqp_value.specs.Tables.{table_view};
@@ -29,7 +29,7 @@ fn ends_here(octets: &[u8], end: usize) -> MethodFault
 /// Nothing: a fault where octets are left.
 pub(crate) fn read_end(octets: &[u8], end: usize) -> Result<(), MethodFault>
     requires { length octets.now ≤ end }
-    ensures { Gives (λ x. x) result (nothing_behind end octets.now) }
+    ensures { Gives (λ x. x) result (nothing_after end octets.now) }
 {
     if !octets.is_empty() {
         return Err(MethodFault {
@@ -40,19 +40,19 @@ pub(crate) fn read_end(octets: &[u8], end: usize) -> Result<(), MethodFault>
     Ok(())
 }
 
-/// A number of one octet, and the octets behind it.
+/// A number of one octet, and the octets after it.
 pub(crate) fn read_octet(octets: &[u8], end: usize) -> Result<(u8, &[u8]), MethodFault>
     requires { length octets.now ≤ end }
     ensures read { Gives (λ x. (x.0, x.1.now)) result (number_at 1 end octets.now) }
     ensures within { IfOk result (λ x. length x.1.now ≤ length octets.now) }
 {
-    let Some((octet, behind)) = octets.split_first() else {
+    let Some((octet, after)) = octets.split_first() else {
         return Err(ends_here(octets, end));
     };
-    Ok((*octet, behind))
+    Ok((*octet, after))
 }
 
-/// A number of two octets, and the octets behind it.
+/// A number of two octets, and the octets after it.
 pub(crate) fn read_short(octets: &[u8], end: usize) -> Result<(u16, &[u8]), MethodFault>
     requires { length octets.now ≤ end }
     ensures read { Gives (λ x. (x.0, x.1.now)) result (number_at 2 end octets.now) }
@@ -64,7 +64,7 @@ pub(crate) fn read_short(octets: &[u8], end: usize) -> Result<(u16, &[u8]), Meth
     Ok((BigEndian::read_u16(octets), &octets[2..]))
 }
 
-/// A number of four octets, and the octets behind it.
+/// A number of four octets, and the octets after it.
 pub(crate) fn read_long(octets: &[u8], end: usize) -> Result<(u32, &[u8]), MethodFault>
     requires { length octets.now ≤ end }
     ensures read { Gives (λ x. (x.0, x.1.now)) result (number_at 4 end octets.now) }
@@ -76,7 +76,7 @@ pub(crate) fn read_long(octets: &[u8], end: usize) -> Result<(u32, &[u8]), Metho
     Ok((BigEndian::read_u32(octets), &octets[4..]))
 }
 
-/// A number of eight octets, and the octets behind it.
+/// A number of eight octets, and the octets after it.
 pub(crate) fn read_long_long(octets: &[u8], end: usize) -> Result<(u64, &[u8]), MethodFault>
     requires { length octets.now ≤ end }
     ensures read { Gives (λ x. (x.0, x.1.now)) result (number_at 8 end octets.now) }
@@ -88,7 +88,7 @@ pub(crate) fn read_long_long(octets: &[u8], end: usize) -> Result<(u64, &[u8]), 
     Ok((BigEndian::read_u64(octets), &octets[8..]))
 }
 
-/// A short string: a length octet and that many octets, and the octets behind it.
+/// A short string: a length octet and that many octets, and the octets after it.
 pub(crate) fn read_short_string(
     alloc: Global,
     octets: &[u8],
@@ -98,21 +98,21 @@ pub(crate) fn read_short_string(
     ensures read { Gives (λ x. (x.0, x.1.now)) result (short_string_at end octets.now) }
     ensures within { IfOk result (λ x. length x.1.now ≤ length octets.now) }
 {
-    let Some((length, behind)) = octets.split_first() else {
+    let Some((length, after)) = octets.split_first() else {
         return Err(ends_here(octets, end));
     };
     let length = *length as usize;
-    if behind.len() < length {
+    if after.len() < length {
         return Err(ends_here(octets, end));
     }
-    let (text, behind) = behind.split_at(length);
+    let (text, after) = after.split_at(length);
     let Ok(text) = ShortStr::new(alloc, text) else {
         return Err(MethodFault::NO_MEMORY);
     };
-    Ok((text, behind))
+    Ok((text, after))
 }
 
-/// A long string: a length of four octets and that many octets, and the octets behind it.
+/// A long string: a length of four octets and that many octets, and the octets after it.
 fn read_long_string(
     alloc: Global,
     octets: &[u8],
@@ -125,13 +125,13 @@ fn read_long_string(
     if octets.len() < 4 {
         return Err(ends_here(octets, end));
     }
-    let (length, behind) = octets.split_at(4);
+    let (length, after) = octets.split_at(4);
     let length = BigEndian::read_u32(length) as usize;
-    if behind.len() < length {
+    if after.len() < length {
         return Err(ends_here(octets, end));
     }
-    let (text, behind) = behind.split_at(length);
-    Ok((Vec::from_slice(alloc, text)?, behind))
+    let (text, after) = after.split_at(length);
+    Ok((Vec::from_slice(alloc, text)?, after))
 }
 
 /// The fault of a table that begins at a place.
@@ -148,7 +148,7 @@ fn fault_in_table(place: usize, fault: ValueFault) -> MethodFault
     }
 }
 
-/// A field table, and the octets behind it.
+/// A field table, and the octets after it.
 pub(crate) fn read_field_table(
     alloc: Global,
     octets: &[u8],
@@ -184,12 +184,12 @@ fn read_bit(bits: Bits, octets: &[u8], end: usize) -> Result<(bool, Bits, &[u8])
     ensures within { IfOk result (λ x. length x.2.now ≤ length octets.now) }
 {
     if bits.left == 0 {
-        let (packed, behind) = read_octet(octets, end)?;
+        let (packed, after) = read_octet(octets, end)?;
         let others = Bits {
             left: 7,
             packed: packed / 2,
         };
-        return Ok((packed % 2 == 1, others, behind));
+        return Ok((packed % 2 == 1, others, after));
     }
     let others = Bits {
         left: bits.left - 1,
@@ -198,7 +198,7 @@ fn read_bit(bits: Bits, octets: &[u8], end: usize) -> Result<(bool, Bits, &[u8])
     Ok((bits.packed % 2 == 1, others, octets))
 }
 
-/// The value of a field, the bits of its octet that are left, and the octets behind it.
+/// The value of a field, the bits of its octet that are left, and the octets after it.
 #[tactic(auto, unfolding(crate::specs::Reading::field_at))]
 fn read_field(
     alloc: Global,
@@ -213,41 +213,41 @@ fn read_field(
 {
     match kind {
         FieldKind::Bit => {
-            let (holds, bits, behind) = read_bit(bits, octets, end)?;
-            Ok((Arg::Bit(holds), bits, behind))
+            let (holds, bits, after) = read_bit(bits, octets, end)?;
+            Ok((Arg::Bit(holds), bits, after))
         }
         FieldKind::Octet => {
-            let (number, behind) = read_octet(octets, end)?;
-            Ok((Arg::Octet(number), Bits::NONE, behind))
+            let (number, after) = read_octet(octets, end)?;
+            Ok((Arg::Octet(number), Bits::NONE, after))
         }
         FieldKind::Short => {
-            let (number, behind) = read_short(octets, end)?;
-            Ok((Arg::Short(number), Bits::NONE, behind))
+            let (number, after) = read_short(octets, end)?;
+            Ok((Arg::Short(number), Bits::NONE, after))
         }
         FieldKind::Long => {
-            let (number, behind) = read_long(octets, end)?;
-            Ok((Arg::Long(number), Bits::NONE, behind))
+            let (number, after) = read_long(octets, end)?;
+            Ok((Arg::Long(number), Bits::NONE, after))
         }
         FieldKind::LongLong => {
-            let (number, behind) = read_long_long(octets, end)?;
-            Ok((Arg::LongLong(number), Bits::NONE, behind))
+            let (number, after) = read_long_long(octets, end)?;
+            Ok((Arg::LongLong(number), Bits::NONE, after))
         }
         FieldKind::ShortStr => {
-            let (text, behind) = read_short_string(alloc, octets, end)?;
-            Ok((Arg::ShortStr(text), Bits::NONE, behind))
+            let (text, after) = read_short_string(alloc, octets, end)?;
+            Ok((Arg::ShortStr(text), Bits::NONE, after))
         }
         FieldKind::LongStr => {
-            let (text, behind) = read_long_string(alloc, octets, end)?;
-            Ok((Arg::LongStr(text), Bits::NONE, behind))
+            let (text, after) = read_long_string(alloc, octets, end)?;
+            Ok((Arg::LongStr(text), Bits::NONE, after))
         }
         FieldKind::Table => {
-            let (table, behind) = read_field_table(alloc, octets, end)?;
-            Ok((Arg::Table(table), Bits::NONE, behind))
+            let (table, after) = read_field_table(alloc, octets, end)?;
+            Ok((Arg::Table(table), Bits::NONE, after))
         }
     }
 }
 
-/// The arguments of these fields, and the octets behind them.
+/// The arguments of these fields, and the octets after them.
 fn read_args<'a>(
     alloc: Global,
     fields: &[Field],
@@ -263,31 +263,31 @@ fn read_args<'a>(
     let mut bits = Bits::NONE;
     let mut rest = octets;
     for field in fields {
-        let (arg, others, behind) = read_field(alloc, field.kind, bits, rest, end)?;
+        let (arg, others, after) = read_field(alloc, field.kind, bits, rest, end)?;
         if !field.reserved {
             args.push(arg)?;
         }
         bits = others;
-        rest = behind;
+        rest = after;
     }
     Ok((args, rest))
 }
 
-/// The call that a payload spells, by the machine.
+/// The call that a payload encodes, by the machine.
 #[tactic(auto, unfolding(crate::specs::Reading::method_at))]
 pub(crate) fn read_call(alloc: Global, octets: &[u8]) -> Result<(Kind, Vec<Arg>), MethodFault>
     ensures { Gives (λ x. call x.0 (args_view x.1.items)) result (method_at octets.now) }
 {
     let end = octets.len();
-    let (class, behind) = read_short(octets, end)?;
-    let (id, behind) = read_short(behind, end)?;
+    let (class, after) = read_short(octets, end)?;
+    let (id, after) = read_short(after, end)?;
     let Some(kind) = Kind::from_ids(class, id) else {
         return Err(MethodFault {
             at: 0,
             kind: MethodFaultKind::UnknownMethod,
         });
     };
-    let (args, behind) = read_args(alloc, schema(kind), behind, end)?;
-    read_end(behind, end)?;
+    let (args, after) = read_args(alloc, schema(kind), after, end)?;
+    read_end(after, end)?;
     Ok((kind, args))
 }

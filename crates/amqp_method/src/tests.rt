@@ -120,7 +120,7 @@ fn a_method_of_an_extension_class(rt: HostRuntime) -> Result<(), Fail> {
 }
 
 #[test]
-fn two_bits_behind_a_number(rt: HostRuntime) -> Result<(), Fail> {
+fn two_bits_after_a_number(rt: HostRuntime) -> Result<(), Fail> {
     reads_as(
         &rt,
         rt.alloc(),

@@ -6,7 +6,7 @@ ghost use Rattle.amqp_method.specs.GatheredView.{gathered};
 ghost use Rattle.amqp_method.specs.Plain.{plain_argument, CountFits, CountsAllFit, value_for, left_by, complete};
 ghost use Rattle.amqp_method.specs.HeaderView.{table_argument};
 ghost use Rattle.amqp_method.specs.Rows.{field_view};
-ghost use Rattle.amqp_method.specs.Spelling.{SpellsArgument};
+ghost use Rattle.amqp_method.specs.Encoding.{EncodesArgument};
 ghost use Rattle.amqp_method.specs.Views.{arg_view, args_view};
 ghost use Rattle.amqp_method.specs.Writing.{gathered_octets, none_gathered, with_one, written_for, gathered_after, written_values, Fitting, AllFitting};
 
@@ -64,7 +64,7 @@ pub(crate) fn append_table(table: &Table, out: &mut Vec<u8>) -> Result<(), Metho
     }
 }
 
-/// The value of a field, behind the bits gathered.
+/// The value of a field, after the bits gathered.
 fn append_arg(arg: &Arg, run: BitRun, out: &mut Vec<u8>) -> Result<BitRun, MethodFault>
     ensures ok { OnOk result (out.new.items ≡ out.old.items ++ written_for (arg_view arg.now) (gathered run)) }
     ensures after { IfOk result (λ next. gathered next ≡ gathered_after (arg_view arg.now) (gathered run)) }
@@ -167,7 +167,7 @@ fn append_zero(kind: FieldKind, out: &mut Vec<u8>) -> Result<(), MethodFault>
     }
 }
 
-/// A reserved field, behind the bits gathered.
+/// A reserved field, after the bits gathered.
 fn append_nothing(kind: FieldKind, run: BitRun, out: &mut Vec<u8>) -> Result<BitRun, MethodFault>
     ensures ok { OnOk result (out.new.items ≡ out.old.items ++ written_for (nothing kind) (gathered run)) }
     ensures after { IfOk result (λ next. gathered next ≡ gathered_after (nothing kind) (gathered run)) }
@@ -182,7 +182,7 @@ fn append_nothing(kind: FieldKind, run: BitRun, out: &mut Vec<u8>) -> Result<Bit
     Ok(BitRun::none())
 }
 
-/// The value of a field, of the arguments that are left, and those behind it.
+/// The value of a field, of the arguments that are left, and those after it.
 fn append_value<'a>(
     field: &Field,
     args: &'a [Arg],

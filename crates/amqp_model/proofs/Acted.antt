@@ -1,4 +1,4 @@
--- What one end acts on in a life: a front of what it takes in that life, and all of it while the life goes on.
+-- What one end acts on in a life: a prefix of what it takes in that life, and all of it while the life goes on.
 use Rattle.std.proofs.Common.{◌≡◌, ℕ, suc, ◌<◌, List, [], ◌∷◌, ◌++◌, ◌⊎◌, inl, inr, Bool, true, false, cond, refl, sym, ap, ◌∙◌, subst, append-nil, arith}
 use Rattle.std.proofs.lemmas.Bool.{ne_eqb, cases_eq, false≢true, true≢false}
 use Rattle.amqp_model.specs.Frame.{Frame}
@@ -6,8 +6,8 @@ use Rattle.amqp_model.specs.Notes.{Role, Kind, Open, OpenOk, Close, CloseOk, Not
 use Rattle.amqp_model.specs.States.{State, Opening, Closing}
 use Rattle.amqp_model.specs.Lives.{lives, has_left}
 use Rattle.amqp_model.specs.Carried.{At, takes, is_open, acts_next, acted_takes, messages, acted}
-use Rattle.amqp_model.specs.Fronts.{IsFrontOf}
-use Rattle.amqp_model.proofs.Lists.{front_none, front_more, messages-append, messages_other, messages_elsewhere}
+use Rattle.amqp_model.specs.Prefixes.{IsPrefixOf}
+use Rattle.amqp_model.proofs.Lists.{prefix_none, prefix_more, messages-append, messages_other, messages_elsewhere}
 use Rattle.amqp_model.proofs.Ends.{Is, Lawful, begun, has_asked, has_replied, has_taken, has_left_now, lawful_stands, lawful_lives, here_state, opens, closes, flows, sends, accepts, begins, ends, pauses, hears, acts, crosses, frees, drops, a_flow, a_flow_ok, an_other}
 
 -- a state in which all that is taken in the life so far was acted on
@@ -18,7 +18,7 @@ is_live _ = false
 
 -- of a life m, with the end in life n: what it acted on and what it took
 pub record Heard (role : Role) (history : List Note) (word : State) (n : ℕ) (m : ℕ) : Type 0 where
-  pub front : IsFrontOf (acted role m history) (messages m (takes role history))
+  pub prefix : IsPrefixOf (acted role m history) (messages m (takes role history))
   pub later : n < m → messages m (takes role history) ≡ []
   pub all : has_left history ≡ false → is_live word ≡ true → m ≡ n → acted role m history ≡ messages m (takes role history)
 
@@ -58,7 +58,7 @@ data Moves (word : State) (n : ℕ) (word' : State) : ℕ → Type 0 where
 
 heard_same : {role : Role} {history : List Note} {word : State} {n : ℕ} {m : ℕ} (history' : List Note) (word' : State) (n' : ℕ) → Moves word n word' n' → (has_left history' ≡ false → has_left history ≡ false) → acted role m history' ≡ acted role m history → messages m (takes role history') ≡ messages m (takes role history) → Heard role history word n m → Heard role history' word' n' m
 heard_same {role} {history} {word} {n} {m} history' word' n' moves here same_acted same_takes heard =
-    record { front = (heard.front.0, same_takes ∙ (heard.front.1 ∙ ap (λ l. l ++ heard.front.0) (sym same_acted))); later = later moves; all = all moves }
+    record { prefix = (heard.prefix.0, same_takes ∙ (heard.prefix.1 ∙ ap (λ l. l ++ heard.prefix.0) (sym same_acted))); later = later moves; all = all moves }
   where
     later : {n' : ℕ} → Moves word n word' n' → n' < m → messages m (takes role history') ≡ []
     later (stays _) lt = same_takes ∙ heard.later lt
@@ -68,7 +68,7 @@ heard_same {role} {history} {word} {n} {m} history' word' n' moves here same_act
     all (stays live) h l e = same_acted ∙ (heard.all (here h) (live l) e ∙ sym same_takes)
     all goes_on h l e =
         let none = heard.later (omega arith) in
-        let acted_none = front_none (acted role m history) (heard.front.0, sym none ∙ heard.front.1) in
+        let acted_none = prefix_none (acted role m history) (heard.prefix.0, sym none ∙ heard.prefix.1) in
         same_acted ∙ (acted_none ∙ (sym none ∙ sym same_takes))
 
 -- a note taken that is no message
@@ -87,7 +87,7 @@ takes_more role history kind frame m = messages-append m (takes role history) _
 heard_dropped : {role : Role} {history : List Note} {word : State} {n : ℕ} {m : ℕ} (kind : Kind) (frame : Frame) → acts_next role history ≡ false → lives role (Took kind frame ∷ history) ≡ n → (has_left history ≡ false → is_live word ≡ true → ⊥) → Heard role history word n m → Heard role (Took kind frame ∷ history) word n m
 heard_dropped {role} {history} {word} {n} {m} kind frame idle l dead heard =
     record {
-      front = subst (λ xs. IsFrontOf xs (messages m (takes role (Took kind frame ∷ history)))) (sym (acted_dropped role history kind frame m idle)) (subst (λ ys. IsFrontOf (acted role m history) ys) (sym (takes_more role history kind frame m)) (front_more _ _ _ heard.front));
+      prefix = subst (λ xs. IsPrefixOf xs (messages m (takes role (Took kind frame ∷ history)))) (sym (acted_dropped role history kind frame m idle)) (subst (λ ys. IsPrefixOf (acted role m history) ys) (sym (takes_more role history kind frame m)) (prefix_more _ _ _ heard.prefix));
       later = λ lt. takes_elsewhere role history kind frame n m l (λ e. omega arith) ∙ heard.later lt;
       all = λ h live _. absurd (dead h live);
     }
@@ -105,7 +105,7 @@ heard_acted {role} {history} {n} {m} kind frame here busy l heard = go (cases_eq
     go : (n ≡ m) ⊎ (n ≡ m → ⊥) → Heard role (Took kind frame ∷ history) State.Open n m
     go (inl e) =
         record {
-          front = ([], sym (same e) ∙ sym (append-nil _));
+          prefix = ([], sym (same e) ∙ sym (append-nil _));
           later = λ lt. absurd (omega arith);
           all = λ _ _ _. same e;
         }
@@ -128,7 +128,7 @@ heard_closing {role} {history} {n} {m = m} kind frame lawful l heard = heard_dro
     go false here = acts_here lawful here
 
 pub lawful_heard : {role : Role} {history : List Note} {word : State} {n : ℕ} {a : Bool} (m : ℕ) → Lawful role history (Is word n a) → Heard role history word n m
-lawful_heard m begun = record { front = ([], refl); later = λ _. refl; all = λ _ _ _. refl }
+lawful_heard m begun = record { prefix = ([], refl); later = λ _. refl; all = λ _ _ _. refl }
 lawful_heard m (has_asked {history = h} {kind = k} frame here lawful opens) = heard_same (Put k frame ∷ h) _ _ goes_on (λ h. h) refl refl (lawful_heard m lawful)
 lawful_heard m (has_asked {history = h} {kind = k} frame here lawful closes) = heard_same (Put k frame ∷ h) _ _ (stays (λ live. absurd (false≢true live))) (λ h. h) refl refl (lawful_heard m lawful)
 lawful_heard m (has_asked {history = h} {kind = k} frame here lawful flows) = heard_same (Put k frame ∷ h) _ _ (stays (λ h. h)) (λ h. h) refl refl (lawful_heard m lawful)

@@ -195,7 +195,7 @@ leave-acts role theirs history n code text writes =
 pub zero-acts : (role : Role) (theirs : List Note) (history : History) (n : ℕ) (method : Method) → ReadsBack method → same_kind method.kind kinds.ConnectionClose ≡ false → ActsOn role theirs (notes (entries_on (suc n) history)) (notes (entries_on (suc n) (Put (method_frame 0 method) ∷ history)))
 zero-acts role theirs history n method writes quiet = one-away role theirs history n 0 method writes (ne_eqb 0 (suc n) (λ e. let h : 0 ≡ suc n = e in omega arith)) quiet
 
--- A message: its method, and for a content the parts behind it.
+-- A message: its method, and for a content the parts after it.
 
 -- no paused end begins a content
 may-send : (role : Role) (ns : List Note) (begins : Bool) → has_left ns ≡ false → state role ns ≡ State.Open → (is_paused role ns && begins) ≡ false → may_put role ns (Other begins) ≡ true

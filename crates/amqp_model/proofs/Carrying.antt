@@ -7,11 +7,11 @@ use Rattle.amqp_frame.specs.declared.frames.FrameKind.{FrameKind}
 use Rattle.amqp_frame.specs.declared.frames.FrameKind.TheVariants.{Method, Header, Body, Heartbeat}
 use Rattle.amqp_frame.specs.Frame.{Frame, octets, Fits, type_octet}
 use Rattle.amqp_frame.specs.Splitting.{stream, AllFit}
-use Rattle.amqp_frame.proofs.FrameLemmas.{length-octets, type-in_front, one_frame}
+use Rattle.amqp_frame.proofs.FrameLemmas.{length-octets, type-at_start, one_frame}
 use Rattle.amqp_model.specs.Notes.{Role, Client, Server}
 use Rattle.amqp_model.specs.Carried.{put_by, taken_by}
 use Rattle.amqp_model.specs.Runs.{IsNext}
-use Rattle.amqp_model.specs.Fronts.{IsFrontOf}
+use Rattle.amqp_model.specs.Prefixes.{IsPrefixOf}
 use Rattle.amqp_model.specs.Arrangement.{is_leaving, on}
 use Rattle.amqp_model.specs.Departures.{PutAs}
 use Rattle.amqp_model.specs.Readings.{reading}
@@ -19,7 +19,7 @@ use Rattle.amqp_model.specs.Histories.{Put, Took, History, PutHere, TookHere, Le
 use Rattle.amqp_model.specs.EndLaws.{notes_on}
 use Rattle.amqp_model.specs.Octets.{frames_taken, frames_put, opening_read, FedAs}
 use Rattle.amqp_model.specs.Pairs.{ComesNext}
-use Rattle.amqp_model.specs.CarryingLaws.{as_carried, frame_carried, FramesAreOfChannel, NotesAreOfFrames, OpeningsMeet, Carries, TakesFrontOnEach, CompletedComesNext}
+use Rattle.amqp_model.specs.CarryingLaws.{as_carried, frame_carried, FramesAreOfChannel, NotesAreOfFrames, OpeningsMeet, Carries, TakesPrefixOnEach, CompletedComesNext}
 
 -- one more frame, on its channel or on another
 on-more : (channel : ℕ) (frames : List Frame) (frame : Frame) → on channel (frames ++ frame ∷ []) ≡ on channel frames ++ cond (frame.channel == channel) (frame ∷ []) []
@@ -101,18 +101,18 @@ taken-first role departing put fed unfinished rest history put_is fit whole fed_
     same : stream departing ≡ stream (frames_taken history) ++ (unfinished ++ rest)
     same = append_cancel_left (opening_read role) _ _ (sym put_is ∙ (whole ∙ (ap (λ l. l ++ rest) fed_is ∙ (append_assoc (opening_read role) _ rest ∙ ap (λ l. opening_read role ++ l) (append_assoc (stream (frames_taken history)) unfinished rest)))))
 
-on-front : (channel : ℕ) (front whole : List Frame) → IsFrontOf front whole → IsFrontOf (on channel front) (on channel whole)
-on-front channel front whole f = (on channel f.0, ap (on channel) f.1 ∙ filter-append (λ g. g.channel == channel) front f.0)
+on-prefix : (channel : ℕ) (prefix whole : List Frame) → IsPrefixOf prefix whole → IsPrefixOf (on channel prefix) (on channel whole)
+on-prefix channel prefix whole f = (on channel f.0, ap (on channel) f.1 ∙ filter-append (λ g. g.channel == channel) prefix f.0)
 
-pub takes-front : (role : Role) (limit : ℕ) (mine theirs : History) (put fed unfinished rest : List ℕ) → TakesFrontOnEach role limit mine theirs put fed unfinished rest
-takes-front role limit mine theirs put fed unfinished rest carries channel = go carries.fed_as
+pub takes-prefix : (role : Role) (limit : ℕ) (mine theirs : History) (put fed unfinished rest : List ℕ) → TakesPrefixOnEach role limit mine theirs put fed unfinished rest
+takes-prefix role limit mine theirs put fed unfinished rest carries channel = go carries.fed_as
   where
-    go : FedAs role limit mine fed unfinished → IsFrontOf (on channel (frames_taken mine)) (on channel (frames_put theirs))
+    go : FedAs role limit mine fed unfinished → IsPrefixOf (on channel (frames_taken mine)) (on channel (frames_put theirs))
     go (FedAs.in_opening missing some opening none is) = (on channel (frames_put theirs), ap (λ h. on channel (frames_taken h) ++ on channel (frames_put theirs)) (sym none))
     go (FedAs.in_frames opened fed_is fits is_rest) =
         let p = carries.put_as in
         let there = taken-first role p.departing put fed unfinished rest mine p.octets_are p.fit carries.put_is fed_is fits in
-        subst (λ l. IsFrontOf (on channel (frames_taken mine)) l) (p.each_channel channel) (on-front channel _ _ (there.later, there.departing_is))
+        subst (λ l. IsPrefixOf (on channel (frames_taken mine)) l) (p.each_channel channel) (on-prefix channel _ _ (there.later, there.departing_is))
 
 -- no frame begins as the protocol header does
 no-frame-in-opening : (kind : FrameKind) → 65 ≡ type_octet kind → ⊥
@@ -124,10 +124,10 @@ no-frame-in-opening Heartbeat e = absurd (omega arith)
 opening-is-no-frame : (role : Role) (fed missing xs ys : List ℕ) (f : Frame) → missing ≢ [] → opening_read role ≡ fed ++ missing → opening_read role ++ xs ≡ octets f ++ ys → ⊥
 opening-is-no-frame Client [] missing xs ys f some e same = some (sym e)
 opening-is-no-frame Client (x ∷ fed) missing xs ys f some e same = absurd cc
-opening-is-no-frame Server fed missing xs ys f some e same = no-frame-in-opening f.kind (ap (λ l. get_or l 0 0) same ∙ type-in_front f ys)
+opening-is-no-frame Server fed missing xs ys f some e same = no-frame-in-opening f.kind (ap (λ l. get_or l 0 0) same ∙ type-at_start f ys)
 
 -- octets that are those of a frame and then others are those of frames that begin with it
-first-frame : (later : List Frame) (f : Frame) (xs : List ℕ) → AllFit later → Fits f → stream later ≡ octets f ++ xs → IsFrontOf (f ∷ []) later
+first-frame : (later : List Frame) (f : Frame) (xs : List ℕ) → AllFit later → Fits f → stream later ≡ octets f ++ xs → IsPrefixOf (f ∷ []) later
 first-frame [] f xs fit fits e = absurd (no-octets f xs e)
 first-frame (g ∷ later) f xs fit fits e = (later, ap (λ h. h ∷ later) (one_frame g f (stream later) xs fit.0 fits e).0)
 
@@ -141,14 +141,14 @@ next-noted theirs mine frame n comes here =
 pub all-noted : (theirs mine : History) (n : ℕ) → on (suc n) (frames_put theirs) ≡ on (suc n) (frames_taken mine) → put_by (notes_on (suc n) theirs) ≡ taken_by (notes_on (suc n) mine)
 all-noted theirs mine n same = puts-carried (suc n) theirs ∙ (ap (map as_carried) same ∙ sym (takes-carried (suc n) mine))
 
--- a frame that the octets not yet taken begin with leaves the other end right behind those that were taken
-completed : (role : Role) (limit : ℕ) (mine theirs : History) (put fed unfinished rest : List ℕ) (f : Frame) (front later : List ℕ) (carries : Carries role limit mine theirs put fed unfinished rest) → rest ≡ front ++ later → unfinished ++ front ≡ octets f → Fits f → (behind : List Frame) × (carries.put_as.departing ≡ frames_taken mine ++ f ∷ behind)
-completed role limit mine theirs put fed unfinished rest f front later carries rest_is whole fits = go carries.fed_as
+-- a frame that the octets not yet taken begin with leaves the other end right after those that were taken
+completed : (role : Role) (limit : ℕ) (mine theirs : History) (put fed unfinished rest : List ℕ) (f : Frame) (prefix later : List ℕ) (carries : Carries role limit mine theirs put fed unfinished rest) → rest ≡ prefix ++ later → unfinished ++ prefix ≡ octets f → Fits f → (after : List Frame) × (carries.put_as.departing ≡ frames_taken mine ++ f ∷ after)
+completed role limit mine theirs put fed unfinished rest f prefix later carries rest_is whole fits = go carries.fed_as
   where
     octets_next : unfinished ++ rest ≡ octets f ++ later
-    octets_next = ap (λ l. unfinished ++ l) rest_is ∙ (sym (append_assoc unfinished front later) ∙ ap (λ l. l ++ later) whole)
+    octets_next = ap (λ l. unfinished ++ l) rest_is ∙ (sym (append_assoc unfinished prefix later) ∙ ap (λ l. l ++ later) whole)
 
-    go : FedAs role limit mine fed unfinished → (behind : List Frame) × (carries.put_as.departing ≡ frames_taken mine ++ f ∷ behind)
+    go : FedAs role limit mine fed unfinished → (after : List Frame) × (carries.put_as.departing ≡ frames_taken mine ++ f ∷ after)
     go (FedAs.in_opening missing some opening none is) =
         let p = carries.put_as in
         absurd (opening-is-no-frame role fed missing (stream p.departing) later f some opening (sym p.octets_are ∙ (carries.put_is ∙ (ap (λ l. l ++ rest) (sym is) ∙ octets_next))))
@@ -159,19 +159,19 @@ completed role limit mine theirs put fed unfinished rest f front later carries r
         (first.0, there.departing_is ∙ ap (λ l. frames_taken mine ++ l) first.1)
 
 -- connection.close and close-ok stand on no channel above 0
-leaving-elsewhere : (n : ℕ) (f : Frame) (behind : List Frame) → is_leaving f ≡ true → on (suc n) (f ∷ behind) ≡ on (suc n) behind
-leaving-elsewhere n f behind leaving =
+leaving-elsewhere : (n : ℕ) (f : Frame) (after : List Frame) → is_leaving f ≡ true → on (suc n) (f ∷ after) ≡ on (suc n) after
+leaving-elsewhere n f after leaving =
     let zero_is = eqb-true f.channel 0 (and_parts (f.channel == 0) _ leaving).0 in
     cond-false (f.channel == suc n) _ _ (ne_eqb f.channel (suc n) (λ e. let h : 0 ≡ suc n = sym zero_is ∙ e in absurd (omega arith)))
 
 pub completed-comes-next : (role : Role) (limit : ℕ) (mine theirs : History) (put fed unfinished rest : List ℕ) → CompletedComesNext role limit mine theirs put fed unfinished rest
-completed-comes-next role limit mine theirs put fed unfinished rest f front later carries rest_is whole fits = record { later = on f.channel there.0; next = sym (p.each_channel f.channel) ∙ order; at_leaving = all }
+completed-comes-next role limit mine theirs put fed unfinished rest f prefix later carries rest_is whole fits = record { later = on f.channel there.0; next = sym (p.each_channel f.channel) ∙ order; at_leaving = all }
   where
     p : PutAs (opening_read role) put (frames_put theirs)
     p = carries.put_as
 
-    there : (behind : List Frame) × (p.departing ≡ frames_taken mine ++ f ∷ behind)
-    there = completed role limit mine theirs put fed unfinished rest f front later carries rest_is whole fits
+    there : (after : List Frame) × (p.departing ≡ frames_taken mine ++ f ∷ after)
+    there = completed role limit mine theirs put fed unfinished rest f prefix later carries rest_is whole fits
 
     split : (channel : ℕ) → on channel p.departing ≡ on channel (frames_taken mine) ++ on channel (f ∷ there.0)
     split channel = ap (on channel) there.1 ∙ filter-append (λ g. g.channel == channel) (frames_taken mine) (f ∷ there.0)
@@ -181,5 +181,5 @@ completed-comes-next role limit mine theirs put fed unfinished rest f front late
 
     all : is_leaving f ≡ true → (n : ℕ) → on (suc n) (frames_put theirs) ≡ on (suc n) (frames_taken mine)
     all leaving n =
-        let none_behind = leaving-elsewhere n f there.0 leaving ∙ p.closes_last (frames_taken mine) there.0 f there.1 leaving (suc n) (omega arith) in
-        sym (p.each_channel (suc n)) ∙ (split (suc n) ∙ (ap (λ l. on (suc n) (frames_taken mine) ++ l) none_behind ∙ append-nil _))
+        let none_after = leaving-elsewhere n f there.0 leaving ∙ p.closes_last (frames_taken mine) there.0 f there.1 leaving (suc n) (omega arith) in
+        sym (p.each_channel (suc n)) ∙ (split (suc n) ∙ (ap (λ l. on (suc n) (frames_taken mine) ++ l) none_after ∙ append-nil _))

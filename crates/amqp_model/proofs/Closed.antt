@@ -1,4 +1,4 @@
--- Behind its own close an end acts on nothing of the life that it closed, and behind connection.close on nothing.
+-- After its own close an end acts on nothing of the life that it closed, and after connection.close on nothing.
 use Rattle.std.proofs.Common.{◌≡◌, ◌<◌, Bool, true, false, ℕ, Option, List, [], ◌∷◌, ◌++◌, refl, sym, ap, ◌∙◌, subst, arith}
 use Rattle.std.proofs.lemmas.Bool.{ne_eqb, true≢false, false≢true}
 use Rattle.amqp_model.specs.Frame.{Frame}
@@ -43,7 +43,7 @@ past_acted {role} {history} {word} {word'} {n} {m} {m'} {kind = kind} frame lawf
     cases true h true e = absurd (true≢false (sym e ∙ acts_left role history h))
     cases false h true e = acted_here role history kind frame n e ∙ messages_elsewhere n (acted_takes role history) kind _ frame (ne_eqb _ n (elsewhere (sym (acts_here lawful h) ∙ e)))
 
--- behind its close an end is past the life
+-- after its close an end is past the life
 record Closed (role : Role) (before history : List Note) (word : State) (m : ℕ) : Type 0 where
   past : IsPast (lives role before) word m
   nothing : acted role (lives role before) history ≡ acted role (lives role before) before

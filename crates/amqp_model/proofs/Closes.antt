@@ -5,12 +5,12 @@ use Rattle.std.proofs.lemmas.List.Elements.{filter-append}
 use Rattle.amqp_frame.specs.Frame.{Frame}
 use Rattle.amqp_model.specs.Arrangement.{is_leaving, Queue, LeavingFrames, is_in, queued}
 use Rattle.amqp_model.specs.Departures.{before_close}
-use Rattle.amqp_model.specs.Fronts.{IsFrontOf}
+use Rattle.amqp_model.specs.Prefixes.{IsPrefixOf}
 
-pub begins-itself : {A : Type 0} (xs ys : List A) → xs ≡ ys → IsFrontOf ys xs
+pub begins-itself : {A : Type 0} (xs ys : List A) → xs ≡ ys → IsPrefixOf ys xs
 begins-itself xs ys e = ([], e ∙ sym (append-nil ys))
 
-pub begins-through : {A : Type 0} (xs ys zs : List A) → IsFrontOf ys xs → IsFrontOf zs ys → IsFrontOf zs xs
+pub begins-through : {A : Type 0} (xs ys zs : List A) → IsPrefixOf ys xs → IsPrefixOf zs ys → IsPrefixOf zs xs
 begins-through xs ys zs b c = (c.0 ++ b.0, b.1 ∙ (ap (λ l. l ++ b.0) c.1 ∙ append_assoc zs c.0 b.0))
 
 -- how many frames leave the connection
@@ -23,7 +23,7 @@ closes-leaving f later l = ap length (cond-true (is_leaving f) (f ∷ queued Lea
 pub closes-other : (f : Frame) (later : List Frame) → is_leaving f ≡ false → closes_in (f ∷ later) ≡ closes_in later
 closes-other f later l = ap length (cond-false (is_leaving f) (f ∷ queued LeavingFrames later) (queued LeavingFrames later) l)
 
--- how `before_close` goes on behind a frame
+-- how `before_close` goes on after a frame
 before-leaving-zero : (f : Frame) (later : List Frame) → is_leaving f ≡ true → before_close 0 (f ∷ later) ≡ []
 before-leaving-zero f later l = cond-true (is_leaving f) _ _ l
 
@@ -48,7 +48,7 @@ before-few (suc k) (f ∷ later) few = cases (is_leaving f) refl (before-few k l
     cases true l more _ = let c = closes-leaving f later l in before-leaving-suc k f later l ∙ ap (λ m. f ∷ m) (more (omega arith))
     cases false l _ more = let c = closes-other f later l in before-other (suc k) f later l ∙ ap (λ m. f ∷ m) (more (omega arith))
 
--- Where there are more, frames put behind change nothing.
+-- Where there are more, frames put after change nothing.
 pub before-append : (k : ℕ) (frames others : List Frame) → k < closes_in frames → before_close k (frames ++ others) ≡ before_close k frames
 before-append k [] others many = absurd (omega arith)
 before-append zero (f ∷ later) others many = cases (is_leaving f) refl (before-append zero later others)
@@ -77,50 +77,50 @@ before-at (suc k) (g ∷ frames) others f l e = cases (is_leaving g) refl (befor
     cases true m next _ = let c = closes-leaving g frames m in before-leaving-suc k g (frames ++ f ∷ others) m ∙ ap (λ t. g ∷ t) (next (omega arith))
     cases false m _ next = let c = closes-other g frames m in before-other (suc k) g (frames ++ f ∷ others) m ∙ ap (λ t. g ∷ t) (next (omega arith))
 
--- Frames before a close stand in front.
-before-front : (k : ℕ) (frames : List Frame) → IsFrontOf (before_close k frames) frames
-before-front k [] = ([], refl)
-before-front zero (f ∷ later) = cases (is_leaving f) refl (before-front zero later)
+-- Frames before a close stand at the start.
+before-prefix : (k : ℕ) (frames : List Frame) → IsPrefixOf (before_close k frames) frames
+before-prefix k [] = ([], refl)
+before-prefix zero (f ∷ later) = cases (is_leaving f) refl (before-prefix zero later)
   where
-    cases : (b : Bool) → is_leaving f ≡ b → IsFrontOf (before_close 0 later) later → IsFrontOf (before_close 0 (f ∷ later)) (f ∷ later)
+    cases : (b : Bool) → is_leaving f ≡ b → IsPrefixOf (before_close 0 later) later → IsPrefixOf (before_close 0 (f ∷ later)) (f ∷ later)
     cases true l _ = (f ∷ later, ap (λ m. m ++ f ∷ later) (sym (before-leaving-zero f later l)))
     cases false l next = (next.0, ap (λ m. f ∷ m) next.1 ∙ ap (λ m. m ++ next.0) (sym (before-other 0 f later l)))
-before-front (suc k) (f ∷ later) = cases (is_leaving f) refl (before-front k later) (before-front (suc k) later)
+before-prefix (suc k) (f ∷ later) = cases (is_leaving f) refl (before-prefix k later) (before-prefix (suc k) later)
   where
-    cases : (b : Bool) → is_leaving f ≡ b → IsFrontOf (before_close k later) later → IsFrontOf (before_close (suc k) later) later → IsFrontOf (before_close (suc k) (f ∷ later)) (f ∷ later)
+    cases : (b : Bool) → is_leaving f ≡ b → IsPrefixOf (before_close k later) later → IsPrefixOf (before_close (suc k) later) later → IsPrefixOf (before_close (suc k) (f ∷ later)) (f ∷ later)
     cases true l next _ = (next.0, ap (λ m. f ∷ m) next.1 ∙ ap (λ m. m ++ next.0) (sym (before-leaving-suc k f later l)))
     cases false l _ next = (next.0, ap (λ m. f ∷ m) next.1 ∙ ap (λ m. m ++ next.0) (sym (before-other (suc k) f later l)))
 
-pub front-none : {A : Type 0} (xs ys : List A) → xs ++ ys ≡ [] → xs ≡ []
-front-none [] ys e = refl
-front-none (x ∷ xs) ys e = absurd cc
+pub prefix-none : {A : Type 0} (xs ys : List A) → xs ++ ys ≡ [] → xs ≡ []
+prefix-none [] ys e = refl
+prefix-none (x ∷ xs) ys e = absurd cc
 
 before-none : (k : ℕ) (queue : Queue) (frames : List Frame) → queued queue frames ≡ [] → queued queue (before_close k frames) ≡ []
 before-none k queue frames none =
-    let front = before-front k frames in
-    front-none (queued queue (before_close k frames)) (queued queue front.0) (sym (filter-append (is_in queue) (before_close k frames) front.0) ∙ (sym (ap (queued queue) front.1) ∙ none))
+    let prefix = before-prefix k frames in
+    prefix-none (queued queue (before_close k frames)) (queued queue prefix.0) (sym (filter-append (is_in queue) (before_close k frames) prefix.0) ∙ (sym (ap (queued queue) prefix.1) ∙ none))
 
-begins-behind : (queue : Queue) (g : Frame) (xs ys : List Frame) → IsFrontOf (queued queue ys) (queued queue xs) → IsFrontOf (queued queue (g ∷ ys)) (queued queue (g ∷ xs))
-begins-behind queue g xs ys begins = cases (is_in queue g) refl
+begins-after : (queue : Queue) (g : Frame) (xs ys : List Frame) → IsPrefixOf (queued queue ys) (queued queue xs) → IsPrefixOf (queued queue (g ∷ ys)) (queued queue (g ∷ xs))
+begins-after queue g xs ys begins = cases (is_in queue g) refl
   where
-    cases : (b : Bool) → is_in queue g ≡ b → IsFrontOf (queued queue (g ∷ ys)) (queued queue (g ∷ xs))
+    cases : (b : Bool) → is_in queue g ≡ b → IsPrefixOf (queued queue (g ∷ ys)) (queued queue (g ∷ xs))
     cases true e = (begins.0, cond-true (is_in queue g) _ _ e ∙ (ap (λ l. g ∷ l) begins.1 ∙ ap (λ l. l ++ begins.0) (sym (cond-true (is_in queue g) _ _ e))))
     cases false e = (begins.0, cond-false (is_in queue g) _ _ e ∙ (begins.1 ∙ ap (λ l. l ++ begins.0) (sym (cond-false (is_in queue g) _ _ e))))
 
 -- a frame more, that doesn't leave the connection, takes none of the others from before a close
-pub gains-before : (k : ℕ) (queue : Queue) (f : Frame) (front back : List Frame) → is_leaving f ≡ false → (is_in queue f ≡ true → queued queue back ≡ []) → IsFrontOf (queued queue (before_close k (front ++ back))) (queued queue (before_close k (front ++ f ∷ back)))
+pub gains-before : (k : ℕ) (queue : Queue) (f : Frame) (prefix back : List Frame) → is_leaving f ≡ false → (is_in queue f ≡ true → queued queue back ≡ []) → IsPrefixOf (queued queue (before_close k (prefix ++ back))) (queued queue (before_close k (prefix ++ f ∷ back)))
 gains-before k queue f [] back l newest = cases (is_in queue f) refl
   where
-    cases : (b : Bool) → is_in queue f ≡ b → IsFrontOf (queued queue (before_close k back)) (queued queue (before_close k (f ∷ back)))
+    cases : (b : Bool) → is_in queue f ≡ b → IsPrefixOf (queued queue (before_close k back)) (queued queue (before_close k (f ∷ back)))
     cases true e = (queued queue (before_close k (f ∷ back)), ap (λ m. m ++ queued queue (before_close k (f ∷ back))) (sym (before-none k queue back (newest e))))
     cases false e = begins-itself _ _ (ap (queued queue) (before-other k f back l) ∙ cond-false (is_in queue f) _ _ e)
-gains-before zero queue f (g ∷ front) back l newest = cases (is_leaving g) refl (gains-before zero queue f front back l newest)
+gains-before zero queue f (g ∷ prefix) back l newest = cases (is_leaving g) refl (gains-before zero queue f prefix back l newest)
   where
-    cases : (b : Bool) → is_leaving g ≡ b → IsFrontOf (queued queue (before_close 0 (front ++ back))) (queued queue (before_close 0 (front ++ f ∷ back))) → IsFrontOf (queued queue (before_close 0 (g ∷ (front ++ back)))) (queued queue (before_close 0 (g ∷ (front ++ f ∷ back))))
-    cases true m _ = begins-itself _ _ (ap (queued queue) (before-leaving-zero g (front ++ f ∷ back) m ∙ sym (before-leaving-zero g (front ++ back) m)))
-    cases false m next = subst₂ (λ xs ys. IsFrontOf (queued queue ys) (queued queue xs)) (sym (before-other 0 g (front ++ f ∷ back) m)) (sym (before-other 0 g (front ++ back) m)) (begins-behind queue g _ _ next)
-gains-before (suc k) queue f (g ∷ front) back l newest = cases (is_leaving g) refl (gains-before k queue f front back l newest) (gains-before (suc k) queue f front back l newest)
+    cases : (b : Bool) → is_leaving g ≡ b → IsPrefixOf (queued queue (before_close 0 (prefix ++ back))) (queued queue (before_close 0 (prefix ++ f ∷ back))) → IsPrefixOf (queued queue (before_close 0 (g ∷ (prefix ++ back)))) (queued queue (before_close 0 (g ∷ (prefix ++ f ∷ back))))
+    cases true m _ = begins-itself _ _ (ap (queued queue) (before-leaving-zero g (prefix ++ f ∷ back) m ∙ sym (before-leaving-zero g (prefix ++ back) m)))
+    cases false m next = subst₂ (λ xs ys. IsPrefixOf (queued queue ys) (queued queue xs)) (sym (before-other 0 g (prefix ++ f ∷ back) m)) (sym (before-other 0 g (prefix ++ back) m)) (begins-after queue g _ _ next)
+gains-before (suc k) queue f (g ∷ prefix) back l newest = cases (is_leaving g) refl (gains-before k queue f prefix back l newest) (gains-before (suc k) queue f prefix back l newest)
   where
-    cases : (b : Bool) → is_leaving g ≡ b → IsFrontOf (queued queue (before_close k (front ++ back))) (queued queue (before_close k (front ++ f ∷ back))) → IsFrontOf (queued queue (before_close (suc k) (front ++ back))) (queued queue (before_close (suc k) (front ++ f ∷ back))) → IsFrontOf (queued queue (before_close (suc k) (g ∷ (front ++ back)))) (queued queue (before_close (suc k) (g ∷ (front ++ f ∷ back))))
-    cases true m next _ = subst₂ (λ xs ys. IsFrontOf (queued queue ys) (queued queue xs)) (sym (before-leaving-suc k g (front ++ f ∷ back) m)) (sym (before-leaving-suc k g (front ++ back) m)) (begins-behind queue g _ _ next)
-    cases false m _ next = subst₂ (λ xs ys. IsFrontOf (queued queue ys) (queued queue xs)) (sym (before-other (suc k) g (front ++ f ∷ back) m)) (sym (before-other (suc k) g (front ++ back) m)) (begins-behind queue g _ _ next)
+    cases : (b : Bool) → is_leaving g ≡ b → IsPrefixOf (queued queue (before_close k (prefix ++ back))) (queued queue (before_close k (prefix ++ f ∷ back))) → IsPrefixOf (queued queue (before_close (suc k) (prefix ++ back))) (queued queue (before_close (suc k) (prefix ++ f ∷ back))) → IsPrefixOf (queued queue (before_close (suc k) (g ∷ (prefix ++ back)))) (queued queue (before_close (suc k) (g ∷ (prefix ++ f ∷ back))))
+    cases true m next _ = subst₂ (λ xs ys. IsPrefixOf (queued queue ys) (queued queue xs)) (sym (before-leaving-suc k g (prefix ++ f ∷ back) m)) (sym (before-leaving-suc k g (prefix ++ back) m)) (begins-after queue g _ _ next)
+    cases false m _ next = subst₂ (λ xs ys. IsPrefixOf (queued queue ys) (queued queue xs)) (sym (before-other (suc k) g (prefix ++ f ∷ back) m)) (sym (before-other (suc k) g (prefix ++ back) m)) (begins-after queue g _ _ next)

@@ -24,7 +24,7 @@ use Rattle.amqp_model.specs.EndVerdict.{facts_at, end_verdict, end_puts, goes_on
 use Rattle.amqp_model.specs.ReadingBack.{WritesReadBack}
 use Rattle.amqp_model.specs.LawfulHistories.{then_put, then_taken, Goes, greets, takes, faults, meets_too_large, fails, asks, Lawful, begun, goes}
 use Rattle.amqp_model.specs.Octets.{frames_put, frames_taken}
-use Rattle.amqp_model.specs.Fronts.{IsFrontOf}
+use Rattle.amqp_model.specs.Prefixes.{IsPrefixOf}
 use Rattle.amqp_model.specs.EndLaws.{is_over, notes_on}
 use Rattle.amqp_model.specs.Carried.{sent, acted}
 use Rattle.amqp_model.specs.Sent.{items_in}
@@ -99,18 +99,18 @@ lawful-written role config failed history back begun = tt
 lawful-written role config failed history back (goes {before = before} {taken = taken} lawful step) = goes-written role config before taken failed history back (lawful-written role config false before back lawful) step
 
 -- so a connection.close that the other end put leaves last
-written-on : (frames : List Frame) → AllWritten frames → (front : List Frame) (f : Frame) (later : List Frame) → on 0 frames ≡ front ++ f ∷ later → IsWritten f
+written-on : (frames : List Frame) → AllWritten frames → (prefix : List Frame) (f : Frame) (later : List Frame) → on 0 frames ≡ prefix ++ f ∷ later → IsWritten f
 written-on [] w [] f later e = absurd cc
-written-on [] w (x ∷ front) f later e = absurd cc
-written-on (g ∷ frames) w front f later e = cases (g.channel == 0) refl (λ front e. written-on frames w.1 front f later e)
+written-on [] w (x ∷ prefix) f later e = absurd cc
+written-on (g ∷ frames) w prefix f later e = cases (g.channel == 0) refl (λ prefix e. written-on frames w.1 prefix f later e)
   where
-    here : g.channel ≡ 0 → (front : List Frame) → g ∷ on 0 frames ≡ front ++ f ∷ later → ((front : List Frame) → on 0 frames ≡ front ++ f ∷ later → IsWritten f) → IsWritten f
+    here : g.channel ≡ 0 → (prefix : List Frame) → g ∷ on 0 frames ≡ prefix ++ f ∷ later → ((prefix : List Frame) → on 0 frames ≡ prefix ++ f ∷ later → IsWritten f) → IsWritten f
     here z [] e more = subst IsWritten (let h : g ∷ on 0 frames ≡ f ∷ later = e in cc) (w.0 z)
-    here z (x ∷ front) e more = more front (let h : g ∷ on 0 frames ≡ x ∷ (front ++ f ∷ later) = e in cc)
+    here z (x ∷ prefix) e more = more prefix (let h : g ∷ on 0 frames ≡ x ∷ (prefix ++ f ∷ later) = e in cc)
 
-    cases : (b : Bool) → (g.channel == 0) ≡ b → ((front : List Frame) → on 0 frames ≡ front ++ f ∷ later → IsWritten f) → IsWritten f
-    cases true z more = here (eqb-true g.channel 0 z) front (sym (cond-true (g.channel == 0) _ _ z) ∙ e) more
-    cases false z more = more front (sym (cond-false (g.channel == 0) _ _ z) ∙ e)
+    cases : (b : Bool) → (g.channel == 0) ≡ b → ((prefix : List Frame) → on 0 frames ≡ prefix ++ f ∷ later → IsWritten f) → IsWritten f
+    cases true z more = here (eqb-true g.channel 0 z) prefix (sym (cond-true (g.channel == 0) _ _ z) ∙ e) more
+    cases false z more = more prefix (sym (cond-false (g.channel == 0) _ _ z) ∙ e)
 
 close-leaves-last : (f : Frame) → IsWritten f → closes_connection f ≡ true → is_leaving f ≡ true
 close-leaves-last f w closes =
@@ -196,45 +196,45 @@ goes-extend role config before taken failed after (meets_too_large p) = put-exte
 goes-extend role config before taken failed after (fails p) = put-extends [] before
 goes-extend role config before taken failed after (asks ask frames made read e) = put-extends frames before
 
--- what an end took on channel 0 is a front of what the other put there
-record FrontsOnZero (client server : History) : Type 0 where
-  to_client : IsFrontOf (on 0 (frames_taken client)) (on 0 (frames_put server))
-  to_server : IsFrontOf (on 0 (frames_taken server)) (on 0 (frames_put client))
+-- what an end took on channel 0 is a prefix of what the other put there
+record PrefixesOnZero (client server : History) : Type 0 where
+  to_client : IsPrefixOf (on 0 (frames_taken client)) (on 0 (frames_put server))
+  to_server : IsPrefixOf (on 0 (frames_taken server)) (on 0 (frames_put client))
 
 on-append : (xs ys : List Frame) → on 0 (xs ++ ys) ≡ on 0 xs ++ on 0 ys
 on-append xs ys = filter-append (λ f. f.channel == 0) xs ys
 
-front-more : (taken put more : List Frame) → IsFrontOf (on 0 taken) (on 0 put) → IsFrontOf (on 0 taken) (on 0 (put ++ more))
-front-more taken put more f = (f.0 ++ on 0 more, on-append put more ∙ (ap (λ l. l ++ on 0 more) f.1 ∙ append_assoc (on 0 taken) f.0 (on 0 more)))
+prefix-more : (taken put more : List Frame) → IsPrefixOf (on 0 taken) (on 0 put) → IsPrefixOf (on 0 taken) (on 0 (put ++ more))
+prefix-more taken put more f = (f.0 ++ on 0 more, on-append put more ∙ (ap (λ l. l ++ on 0 more) f.1 ∙ append_assoc (on 0 taken) f.0 (on 0 more)))
 
-taking-front : (mine theirs : History) (taken : Option Frame) → AllComeNext theirs mine taken → IsFrontOf (on 0 (frames_taken mine)) (on 0 (frames_put theirs)) → IsFrontOf (on 0 (frames_taken mine ++ as_list taken)) (on 0 (frames_put theirs))
-taking-front mine theirs None next f = subst (λ l. IsFrontOf (on 0 l) (on 0 (frames_put theirs))) (sym (append-nil (frames_taken mine))) f
-taking-front mine theirs (Some frame) next f = cases (frame.channel == 0) refl
+taking-prefix : (mine theirs : History) (taken : Option Frame) → AllComeNext theirs mine taken → IsPrefixOf (on 0 (frames_taken mine)) (on 0 (frames_put theirs)) → IsPrefixOf (on 0 (frames_taken mine ++ as_list taken)) (on 0 (frames_put theirs))
+taking-prefix mine theirs None next f = subst (λ l. IsPrefixOf (on 0 l) (on 0 (frames_put theirs))) (sym (append-nil (frames_taken mine))) f
+taking-prefix mine theirs (Some frame) next f = cases (frame.channel == 0) refl
   where
-    cases : (b : Bool) → (frame.channel == 0) ≡ b → IsFrontOf (on 0 (frames_taken mine ++ frame ∷ [])) (on 0 (frames_put theirs))
+    cases : (b : Bool) → (frame.channel == 0) ≡ b → IsPrefixOf (on 0 (frames_taken mine ++ frame ∷ [])) (on 0 (frames_put theirs))
     cases true z =
         let at_zero : on 0 (frames_put theirs) ≡ on 0 (frames_taken mine) ++ frame ∷ next.later = subst (λ c. on c (frames_put theirs) ≡ on c (frames_taken mine) ++ frame ∷ next.later) (eqb-true frame.channel 0 z) next.next in
         let here : on 0 (frames_taken mine ++ frame ∷ []) ≡ on 0 (frames_taken mine) ++ frame ∷ [] = on-append (frames_taken mine) (frame ∷ []) ∙ ap (λ l. on 0 (frames_taken mine) ++ l) (cond-true (frame.channel == 0) _ _ z) in
         (next.later, at_zero ∙ (sym (append_assoc (on 0 (frames_taken mine)) (frame ∷ []) next.later) ∙ ap (λ l. l ++ next.later) (sym here)))
     cases false z =
         let away : on 0 (frames_taken mine ++ frame ∷ []) ≡ on 0 (frames_taken mine) = on-append (frames_taken mine) (frame ∷ []) ∙ (ap (λ l. on 0 (frames_taken mine) ++ l) (cond-false (frame.channel == 0) _ _ z) ∙ append-nil _) in
-        subst (λ l. IsFrontOf l (on 0 (frames_put theirs))) (sym away) f
+        subst (λ l. IsPrefixOf l (on 0 (frames_put theirs))) (sym away) f
 
-fronts-on-zero : (client_config : Config Client) (server_config : Config Server) (client server : History) → Pair client_config server_config client server → FrontsOnZero client server
-fronts-on-zero client_config server_config client server both_begin = record { to_client = ([], refl); to_server = ([], refl) }
-fronts-on-zero client_config server_config after server (client_goes {client = client} {taken = taken} pair next step) =
-    let old = fronts-on-zero client_config server_config client server pair in
+prefixes-on-zero : (client_config : Config Client) (server_config : Config Server) (client server : History) → Pair client_config server_config client server → PrefixesOnZero client server
+prefixes-on-zero client_config server_config client server both_begin = record { to_client = ([], refl); to_server = ([], refl) }
+prefixes-on-zero client_config server_config after server (client_goes {client = client} {taken = taken} pair next step) =
+    let old = prefixes-on-zero client_config server_config client server pair in
     let x = goes-extend Client client_config client taken false after step in
     record {
-      to_client = subst (λ l. IsFrontOf (on 0 l) (on 0 (frames_put server))) (sym x.taken_is) (taking-front client server taken next old.to_client);
-      to_server = subst (λ l. IsFrontOf (on 0 (frames_taken server)) (on 0 l)) (sym x.put_is) (front-more (frames_taken server) (frames_put client) x.more old.to_server);
+      to_client = subst (λ l. IsPrefixOf (on 0 l) (on 0 (frames_put server))) (sym x.taken_is) (taking-prefix client server taken next old.to_client);
+      to_server = subst (λ l. IsPrefixOf (on 0 (frames_taken server)) (on 0 l)) (sym x.put_is) (prefix-more (frames_taken server) (frames_put client) x.more old.to_server);
     }
-fronts-on-zero client_config server_config client after (server_goes {server = server} {taken = taken} pair next step) =
-    let old = fronts-on-zero client_config server_config client server pair in
+prefixes-on-zero client_config server_config client after (server_goes {server = server} {taken = taken} pair next step) =
+    let old = prefixes-on-zero client_config server_config client server pair in
     let x = goes-extend Server server_config server taken false after step in
     record {
-      to_client = subst (λ l. IsFrontOf (on 0 (frames_taken client)) (on 0 l)) (sym x.put_is) (front-more (frames_taken client) (frames_put server) x.more old.to_client);
-      to_server = subst (λ l. IsFrontOf (on 0 l) (on 0 (frames_put client))) (sym x.taken_is) (taking-front server client taken next old.to_server);
+      to_client = subst (λ l. IsPrefixOf (on 0 (frames_taken client)) (on 0 l)) (sym x.put_is) (prefix-more (frames_taken client) (frames_put server) x.more old.to_client);
+      to_server = subst (λ l. IsPrefixOf (on 0 l) (on 0 (frames_put client))) (sym x.taken_is) (taking-prefix server client taken next old.to_server);
     }
 
 -- An end that took connection.close is closed.
@@ -256,12 +256,12 @@ closed-stays (Put f) history e = cases (f.channel == 0) (closes_connection f)
     cases false true = e
     cases false false = e
 
-closed-behind : (later history : History) → closed_by_peer (entries_on 0 history) ≡ true → closed_by_peer (entries_on 0 (later ++ history)) ≡ true
-closed-behind [] history e = e
-closed-behind (entry ∷ later) history e = closed-stays entry (later ++ history) (closed-behind later history e)
+closed-after : (later history : History) → closed_by_peer (entries_on 0 history) ≡ true → closed_by_peer (entries_on 0 (later ++ history)) ≡ true
+closed-after [] history e = e
+closed-after (entry ∷ later) history e = closed-stays entry (later ++ history) (closed-after later history e)
 
 closed-by : (role : Role) (n life : ℕ) (history : History) → EndedByConnectionClose role (suc n) life history → closed_by_peer (entries_on 0 history) ≡ true
-closed-by role n life history ended = subst (λ h. closed_by_peer (entries_on 0 h) ≡ true) (sym ended.history_is) (closed-behind ended.later (Took ended.frame ∷ ended.before) here)
+closed-by role n life history ended = subst (λ h. closed_by_peer (entries_on 0 h) ≡ true) (sym ended.history_is) (closed-after ended.later (Took ended.frame ∷ ended.before) here)
   where
     parts : ((ended.frame.channel == 0) ≡ true) × (is_call kinds.ConnectionClose (reading ended.frame) ≡ true)
     parts = and_parts (ended.frame.channel == 0) _ ended.closes
@@ -283,13 +283,13 @@ closes-somewhere (Put f ∷ later) before frame e = closes-somewhere later befor
 closes-somewhere (Took f ∷ later) before frame e =
     closes-append (frames_taken (later ++ Took frame ∷ before)) (f ∷ []) ∙ (or-last (closes_connection f) (some_closes (frames_taken (later ++ Took frame ∷ before))) ∙ or-keeps (closes_connection f) _ (closes-somewhere later before frame e))
 
-other-left : (role : Role) (n life : ℕ) (mine theirs : History) → IsFrontOf (on 0 (frames_taken mine)) (on 0 (frames_put theirs)) → EndedByConnectionClose role (suc n) life mine → has_put kinds.ConnectionClose (entries_on 0 theirs) ≡ true
-other-left role n life mine theirs front ended =
+other-left : (role : Role) (n life : ℕ) (mine theirs : History) → IsPrefixOf (on 0 (frames_taken mine)) (on 0 (frames_put theirs)) → EndedByConnectionClose role (suc n) life mine → has_put kinds.ConnectionClose (entries_on 0 theirs) ≡ true
+other-left role n life mine theirs prefix ended =
     put-closes theirs
     ∙ (sym (closes-on-zero (frames_put theirs))
-    ∙ (ap some_closes front.1
-    ∙ (closes-append (on 0 (frames_taken mine)) front.0
-    ∙ ap (λ b. b || some_closes front.0) (closes-on-zero (frames_taken mine) ∙ subst (λ h. some_closes (frames_taken h) ≡ true) (sym ended.history_is) (closes-somewhere ended.later ended.before ended.frame ended.closes)))))
+    ∙ (ap some_closes prefix.1
+    ∙ (closes-append (on 0 (frames_taken mine)) prefix.0
+    ∙ ap (λ b. b || some_closes prefix.0) (closes-on-zero (frames_taken mine) ∙ subst (λ h. some_closes (frames_taken h) ≡ true) (sym ended.history_is) (closes-somewhere ended.later ended.before ended.frame ended.closes)))))
 
 left-phase : (role : Role) (config : Config role) (history : History) → has_put kinds.ConnectionClose (entries_on 0 history) ≡ true → is_over (end_from role config false history).phase ≡ true
 left-phase role config history e = cases (is_closed (entries_on 0 history)) refl
@@ -300,25 +300,25 @@ left-phase role config history e = cases (is_closed (entries_on 0 history)) refl
 
 -- The places of frames taken.
 
-found-in : (frames : List Frame) (history later before : History) (frame : Frame) → then_put frames history ≡ later ++ Took frame ∷ before → (behind : History) × (history ≡ behind ++ Took frame ∷ before)
+found-in : (frames : List Frame) (history later before : History) (frame : Frame) → then_put frames history ≡ later ++ Took frame ∷ before → (beyond : History) × (history ≡ beyond ++ Took frame ∷ before)
 found-in [] history later before frame e = (later, e)
 found-in (f ∷ frames) history later before frame e = go (found-in frames (Put f ∷ history) later before frame e)
   where
-    by-behind : (behind : History) → Put f ∷ history ≡ behind ++ Took frame ∷ before → (behind : History) × (history ≡ behind ++ Took frame ∷ before)
-    by-behind [] e = absurd cc
-    by-behind (x ∷ behind) e = (behind, let h : Put f ∷ history ≡ x ∷ (behind ++ Took frame ∷ before) = e in cc)
+    by-after : (beyond : History) → Put f ∷ history ≡ beyond ++ Took frame ∷ before → (beyond : History) × (history ≡ beyond ++ Took frame ∷ before)
+    by-after [] e = absurd cc
+    by-after (x ∷ beyond) e = (beyond, let h : Put f ∷ history ≡ x ∷ (beyond ++ Took frame ∷ before) = e in cc)
 
-    go : (behind : History) × (Put f ∷ history ≡ behind ++ Took frame ∷ before) → (behind : History) × (history ≡ behind ++ Took frame ∷ before)
-    go found = by-behind found.0 found.1
+    go : (beyond : History) × (Put f ∷ history ≡ beyond ++ Took frame ∷ before) → (beyond : History) × (history ≡ beyond ++ Took frame ∷ before)
+    go found = by-after found.0 found.1
 
 -- The end took the close in an older step, or in this one.
 data Since (frame : Frame) (history before : History) (taken : Frame) : Type 0 where
   just_now : taken ≡ frame → history ≡ before → Since frame history before taken
-  earlier : (behind : History) → history ≡ behind ++ Took frame ∷ before → Since frame history before taken
+  earlier : (beyond : History) → history ≡ beyond ++ Took frame ∷ before → Since frame history before taken
 
-since-when : (behind history before : History) (frame taken : Frame) → Took taken ∷ history ≡ behind ++ Took frame ∷ before → Since frame history before taken
+since-when : (beyond history before : History) (frame taken : Frame) → Took taken ∷ history ≡ beyond ++ Took frame ∷ before → Since frame history before taken
 since-when [] history before frame taken e = just_now (let h : Took taken ∷ history ≡ Took frame ∷ before = e in cc) (let h : Took taken ∷ history ≡ Took frame ∷ before = e in cc)
-since-when (x ∷ behind) history before frame taken e = earlier behind (let h : Took taken ∷ history ≡ x ∷ (behind ++ Took frame ∷ before) = e in cc)
+since-when (x ∷ beyond) history before frame taken e = earlier beyond (let h : Took taken ∷ history ≡ x ∷ (beyond ++ Took frame ∷ before) = e in cc)
 
 -- an end that is closed takes nothing and is refused everything
 closed-takes-none : (role : Role) (config : Config role) (history : History) → closed_by_peer (entries_on 0 history) ≡ true → takes_frames (end_from role config false history).phase ≡ true → ⊥
@@ -367,9 +367,9 @@ took-away role config n frame before back z g =
 abbrev Agree : (role : Role) → (n life : ℕ) → (mine theirs : History) → Type 0
 Agree role n life mine theirs = acted role life (notes_on (suc n) mine) ≡ sent (other_end role) life (notes_on (suc n) theirs)
 
-none-found : {A : Type 0} (behind before : History) (frame : Frame) → [] ≡ behind ++ Took frame ∷ before → A
+none-found : {A : Type 0} (beyond before : History) (frame : Frame) → [] ≡ beyond ++ Took frame ∷ before → A
 none-found [] before frame e = absurd cc
-none-found (x ∷ behind) before frame e = absurd cc
+none-found (x ∷ beyond) before frame e = absurd cc
 
 -- A step of the end to which the close comes.
 ended-by-step : (role : Role) (client_config : Config Client) (server_config : Config Server) (config : Config role) (mine theirs : History) (taken : Option Frame) (failed : Bool) (after : History) (n life : ℕ) → failed ≡ false → WritesReadBack role config → PairAt role client_config server_config mine theirs → AllComeNext theirs mine taken → Goes role config mine taken failed after → EndedByConnectionClose role (suc n) life after → Agree role n life after theirs
@@ -388,7 +388,7 @@ ended-by-step role client_config server_config config mine theirs taken failed a
     by-time (since-when found.0 mine ended.before ended.frame frame found.1)
   where
     by-time : Since ended.frame mine ended.before frame → Agree role n life (then_taken config (end_from role config false mine) frame mine) theirs
-    by-time (earlier behind e) = absurd (closed-takes-none role config mine (closed-by role n life mine (record { later = behind; frame = ended.frame; before = ended.before; history_is = e; closes = ended.closes; live = ended.live; life_is = ended.life_is })) p.in_phase)
+    by-time (earlier beyond e) = absurd (closed-takes-none role config mine (closed-by role n life mine (record { later = beyond; frame = ended.frame; before = ended.before; history_is = e; closes = ended.closes; live = ended.live; life_is = ended.life_is })) p.in_phase)
     by-time (just_now same old) =
         let closes : closes_connection frame ≡ true = ap closes_connection same ∙ ended.closes in
         let live : IsLive role (notes_on (suc n) mine) = subst (λ h. IsLive role (notes_on (suc n) h)) (sym old) ended.live in
@@ -447,13 +447,13 @@ both-agree client_config server_config after server mine theirs (client_goes {cl
     let at : PairAt Client client_config server_config client server = record { client_writes = mine; server_writes = theirs; pair = pair } in
     record {
       at_client = λ n life ended. ended-by-step Client client_config server_config client_config client server taken false after n life refl mine at next step ended;
-      at_server = λ n life ended. old.at_server n life ended ∙ sym (left-sends-none Client client_config client taken false after n life refl mine (other-left Server n life server client (fronts-on-zero client_config server_config client server pair).to_server ended) step);
+      at_server = λ n life ended. old.at_server n life ended ∙ sym (left-sends-none Client client_config client taken false after n life refl mine (other-left Server n life server client (prefixes-on-zero client_config server_config client server pair).to_server ended) step);
     }
 both-agree client_config server_config client after mine theirs (server_goes {server = server} {taken = taken} pair next step) =
     let old = both-agree client_config server_config client server mine theirs pair in
     let at : PairAt Server client_config server_config server client = record { client_writes = mine; server_writes = theirs; pair = pair } in
     record {
-      at_client = λ n life ended. old.at_client n life ended ∙ sym (left-sends-none Server server_config server taken false after n life refl theirs (other-left Client n life client server (fronts-on-zero client_config server_config client server pair).to_client ended) step);
+      at_client = λ n life ended. old.at_client n life ended ∙ sym (left-sends-none Server server_config server taken false after n life refl theirs (other-left Client n life client server (prefixes-on-zero client_config server_config client server pair).to_client ended) step);
       at_server = λ n life ended. ended-by-step Server client_config server_config server_config server client taken false after n life refl theirs at next step ended;
     }
 

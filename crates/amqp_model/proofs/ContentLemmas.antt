@@ -1,14 +1,14 @@
--- Payloads are one content at most, and no content is the front of another.
+-- Payloads are one content at most, and no content is the prefix of another.
 use Rattle.std.proofs.Common.{◌≡◌, ◌≢◌, ℕ, zero, suc, ◌<◌, List, [], ◌∷◌, ◌++◌, length, map, refl, sym, ap, ◌∙◌, subst, arith, append_assoc, append-nil, length-append}
 use Rattle.std.specs.List.{concat}
 use Rattle.std.proofs.lemmas.List.{nil_from_length}
 use Rattle.amqp_model.specs.Methods.{Method, Properties}
 use Rattle.amqp_model.specs.Contents.{Payload, Calls, Header, Body, Content, EndsFull}
-use Rattle.amqp_model.specs.ContentLaws.{IsAtMostOneContent, NoContentInFront}
+use Rattle.amqp_model.specs.ContentLaws.{IsAtMostOneContent, NoContentAtStart}
 
-pub concat-append : (front back : List (List ℕ)) → concat (front ++ back) ≡ concat front ++ concat back
+pub concat-append : (prefix back : List (List ℕ)) → concat (prefix ++ back) ≡ concat prefix ++ concat back
 concat-append [] back = refl
-concat-append (part ∷ front) back = ap (λ l. part ++ l) (concat-append front back) ∙ sym (append_assoc part (concat front) (concat back))
+concat-append (part ∷ prefix) back = ap (λ l. part ++ l) (concat-append prefix back) ∙ sym (append_assoc part (concat prefix) (concat back))
 
 append-none : (xs ys : List ℕ) → xs ++ ys ≡ [] → ys ≡ []
 append-none [] ys e = e
@@ -20,15 +20,15 @@ full-none [] full e = refl
 full-none (last ∷ []) full e = absurd (full (sym (append-nil last) ∙ e))
 full-none (part ∷ next ∷ later) full e = absurd (let none = full-none (next ∷ later) full (append-none part (concat (next ∷ later)) e) in cc)
 
-pub full-behind : (front : List (List ℕ)) (part : List ℕ) (later : List (List ℕ)) → EndsFull (front ++ part ∷ later) → EndsFull (part ∷ later)
-full-behind [] part later full = full
-full-behind (first ∷ []) part later full = full
-full-behind (first ∷ second ∷ front) part later full = full-behind (second ∷ front) part later full
+pub full-after : (prefix : List (List ℕ)) (part : List ℕ) (later : List (List ℕ)) → EndsFull (prefix ++ part ∷ later) → EndsFull (part ∷ later)
+full-after [] part later full = full
+full-after (first ∷ []) part later full = full
+full-after (first ∷ second ∷ prefix) part later full = full-after (second ∷ prefix) part later full
 
-pub full-snoc : (front : List (List ℕ)) (last : List ℕ) → last ≢ [] → EndsFull (front ++ last ∷ [])
+pub full-snoc : (prefix : List (List ℕ)) (last : List ℕ) → last ≢ [] → EndsFull (prefix ++ last ∷ [])
 full-snoc [] last full = full
 full-snoc (first ∷ []) last full = full
-full-snoc (first ∷ second ∷ front) last full = full-snoc (second ∷ front) last full
+full-snoc (first ∷ second ∷ prefix) last full = full-snoc (second ∷ prefix) last full
 
 -- some parts, the last of them not empty, have octets
 pub full-some : (part : List ℕ) (later : List (List ℕ)) → EndsFull (part ∷ later) → 0 < length (concat (part ∷ later))
@@ -47,26 +47,26 @@ bodies-same (part ∷ parts) (other ∷ others) e =
     let rest = bodies-same parts others cc in
     cc
 
--- payloads in front of others among body parts are body parts
-pub data BodiesFront (front : List Payload) (next : Payload) (later : List Payload) (parts : List (List ℕ)) : Type 0 where
-  bodies_front : (before : List (List ℕ)) (part : List ℕ) (more : List (List ℕ)) → front ≡ map Body before → parts ≡ before ++ part ∷ more → next ≡ Body part → later ≡ map Body more → BodiesFront front next later parts
+-- payloads before others among body parts are body parts
+pub data BodiesPrefix (prefix : List Payload) (next : Payload) (later : List Payload) (parts : List (List ℕ)) : Type 0 where
+  bodies_prefix : (before : List (List ℕ)) (part : List ℕ) (more : List (List ℕ)) → prefix ≡ map Body before → parts ≡ before ++ part ∷ more → next ≡ Body part → later ≡ map Body more → BodiesPrefix prefix next later parts
 
-pub bodies-front : (front : List Payload) (parts : List (List ℕ)) (next : Payload) (later : List Payload) → front ++ next ∷ later ≡ map Body parts → BodiesFront front next later parts
-bodies-front [] [] next later e = absurd cc
-bodies-front [] (part ∷ parts) next later e =
+pub bodies-prefix : (prefix : List Payload) (parts : List (List ℕ)) (next : Payload) (later : List Payload) → prefix ++ next ∷ later ≡ map Body parts → BodiesPrefix prefix next later parts
+bodies-prefix [] [] next later e = absurd cc
+bodies-prefix [] (part ∷ parts) next later e =
     let first : next ≡ Body part = cc in
     let rest : later ≡ map Body parts = cc in
-    bodies_front [] part parts refl refl first rest
-bodies-front (first ∷ front) [] next later e = absurd cc
-bodies-front (first ∷ front) (part ∷ parts) next later e = more (bodies-front front parts next later cc)
+    bodies_prefix [] part parts refl refl first rest
+bodies-prefix (first ∷ prefix) [] next later e = absurd cc
+bodies-prefix (first ∷ prefix) (part ∷ parts) next later e = more (bodies-prefix prefix parts next later cc)
   where
     same : first ≡ Body part
     same = cc
 
-    more : BodiesFront front next later parts → BodiesFront (first ∷ front) next later (part ∷ parts)
-    more (bodies_front before p ps front_is parts_are next_is later_is) =
-        let front_is' : first ∷ front ≡ map Body (part ∷ before) = cc in
-        bodies_front (part ∷ before) p ps front_is' (ap (λ l. part ∷ l) parts_are) next_is later_is
+    more : BodiesPrefix prefix next later parts → BodiesPrefix (first ∷ prefix) next later (part ∷ parts)
+    more (bodies_prefix before p ps prefix_is parts_are next_is later_is) =
+        let prefix_is' : first ∷ prefix ≡ map Body (part ∷ before) = cc in
+        bodies_prefix (part ∷ before) p ps prefix_is' (ap (λ l. part ∷ l) parts_are) next_is later_is
 
 abbrev pub content-of : Method → Properties → List ℕ → Content
 content-of method properties body = record { method = method; properties = properties; body = body }
@@ -83,19 +83,19 @@ one-content payloads one other is_one is_other =
     let body : one.body ≡ other.body = sym is_one.joined ∙ (ap concat parts ∙ is_other.joined) in
     same-content method properties body
 
-pub no-front : (payloads : List Payload) → NoContentInFront payloads
-no-front payloads one other next later is_one is_other = go (bodies-front (map Body is_one.parts) is_other.parts next later cc)
+pub no-prefix : (payloads : List Payload) → NoContentAtStart payloads
+no-prefix payloads one other next later is_one is_other = go (bodies-prefix (map Body is_one.parts) is_other.parts next later cc)
   where
     e : Calls one.method ∷ Header (length one.body) one.properties ∷ map Body is_one.parts ++ next ∷ later ≡ Calls other.method ∷ Header (length other.body) other.properties ∷ map Body is_other.parts
     e = sym (ap (λ l. l ++ next ∷ later) is_one.payloads_are) ∙ is_other.payloads_are
 
-    go : BodiesFront (map Body is_one.parts) next later is_other.parts → ⊥
-    go (bodies_front before part more front_is parts_are next_is later_is) =
+    go : BodiesPrefix (map Body is_one.parts) next later is_other.parts → ⊥
+    go (bodies_prefix before part more prefix_is parts_are next_is later_is) =
         let size : length one.body ≡ length other.body = cc in
-        let same = bodies-same is_one.parts before front_is in
-        let full = full-behind before part more (subst EndsFull parts_are is_other.ends_full) in
+        let same = bodies-same is_one.parts before prefix_is in
+        let full = full-after before part more (subst EndsFull parts_are is_other.ends_full) in
         let some = full-some part more full in
-        let front = ap concat (sym same) ∙ is_one.joined in
-        let joined = sym is_other.joined ∙ (ap concat parts_are ∙ (concat-append before (part ∷ more) ∙ ap (λ l. l ++ concat (part ∷ more)) front)) in
+        let prefix = ap concat (sym same) ∙ is_one.joined in
+        let joined = sym is_other.joined ∙ (ap concat parts_are ∙ (concat-append before (part ∷ more) ∙ ap (λ l. l ++ concat (part ∷ more)) prefix)) in
         let longer_by = ap length joined ∙ length-append one.body (concat (part ∷ more)) in
         omega arith

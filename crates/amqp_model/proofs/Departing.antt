@@ -8,15 +8,15 @@ use Rattle.amqp_frame.specs.Splitting.{stream, AllFit}
 use Rattle.amqp_model.specs.Arrangement.{is_leaving, Queue, LeavingFrames, is_in, queued, last_after, last_after_all, HasChannel, Gains, placed}
 use Rattle.amqp_model.specs.Outputs.{Output, output_octets, after_put, after_puts, Writes}
 use Rattle.amqp_model.specs.Departures.{before_close, KeepsOrder, IsOutputOf, PutInOrder}
-use Rattle.amqp_model.specs.Fronts.{IsFrontOf}
+use Rattle.amqp_model.specs.Prefixes.{IsPrefixOf}
 use Rattle.amqp_model.proofs.Turns.{last-channel, turn-leaves, turn-most}
-use Rattle.amqp_model.proofs.Rows.{Place, goes_before, goes_behind, place, placed-behind, placed-arranged, placed-gains, gains-queued, same-queues-all}
+use Rattle.amqp_model.proofs.Rows.{Place, goes_before, goes_after, place, placed-after, placed-arranged, placed-gains, gains-queued, same-queues-all}
 use Rattle.amqp_model.specs.ArrangementRules.{FollowsRules}
 use Rattle.amqp_model.proofs.Rules.{arranged-rules}
 use Rattle.amqp_model.proofs.Writing.{nothing-before, stream-append, writes-arranged, writes-octets}
 use Rattle.amqp_model.proofs.Closes.{begins-itself, begins-through, closes_in, closes-leaving, closes-other, before-few, before-append, before-at, gains-before}
 
--- a frame that leaves the connection is placed behind all others
+-- a frame that leaves the connection is placed after all others
 pub placed-leaves : (last : ℕ) (f : Frame) (row : List Frame) → is_leaving f ≡ true → All HasChannel row → placed last f row ≡ row ++ f ∷ []
 placed-leaves last f [] l cs = refl
 placed-leaves last f (g ∷ rest) l cs = cases (place last f g) (placed-leaves (last_after last g) f rest l (All-tail HasChannel g rest cs))
@@ -26,21 +26,21 @@ placed-leaves last f (g ∷ rest) l cs = cases (place last f g) (placed-leaves (
         let a = turn-leaves last f l in
         let b = turn-most last g (All-head HasChannel g rest cs) in
         absurd (omega arith)
-    cases (goes_behind e h) more = placed-behind last f g rest e ∙ ap (λ m. g ∷ m) more
+    cases (goes_after e h) more = placed-after last f g rest e ∙ ap (λ m. g ∷ m) more
 
 pub gains-whole : (begun : List Frame) (f : Frame) (row more : List Frame) → Gains f row more → Gains f (begun ++ row) (begun ++ more)
 gains-whole begun f row more gains = record {
-  front = begun ++ gains.front;
+  prefix = begun ++ gains.prefix;
   back = gains.back;
-  row_is = ap (λ l. begun ++ l) gains.row_is ∙ sym (append_assoc begun gains.front gains.back);
-  more_is = ap (λ l. begun ++ l) gains.more_is ∙ sym (append_assoc begun gains.front (f ∷ gains.back));
+  row_is = ap (λ l. begun ++ l) gains.row_is ∙ sym (append_assoc begun gains.prefix gains.back);
+  more_is = ap (λ l. begun ++ l) gains.more_is ∙ sym (append_assoc begun gains.prefix (f ∷ gains.back));
   newest = gains.newest;
 }
 
 closes-more : (put : List Frame) (f : Frame) → closes_in (put ++ f ∷ []) ≡ closes_in put + closes_in (f ∷ [])
 closes-more put f = ap length (filter-append is_leaving put (f ∷ [])) ∙ length-append (queued LeavingFrames put) (queued LeavingFrames (f ∷ []))
 
--- Frames keep their order when one more is put: it joins its queue, and behind all others if it leaves the connection.
+-- Frames keep their order when one more is put: it joins its queue, and after all others if it leaves the connection.
 pub put-order : (f : Frame) (put old new : List Frame) → Gains f old new → (is_leaving f ≡ true → new ≡ old ++ f ∷ []) → KeepsOrder put old → KeepsOrder (put ++ f ∷ []) new
 put-order f put old new gains leaving order = record { queues = queues; closes = λ k queue. cases k queue (cases_lt k (closes_in (put ++ f ∷ []))) (is_leaving f) refl }
   where
@@ -51,20 +51,20 @@ put-order f put old new gains leaving order = record { queues = queues; closes =
         ∙ (ap (λ l. l ++ queued queue (f ∷ [])) (order.queues queue)
         ∙ sym (filter-append (is_in queue) put (f ∷ []))))
 
-    all : (k : ℕ) (queue : Queue) → closes_in (put ++ f ∷ []) ≤ k → IsFrontOf (queued queue (before_close k (put ++ f ∷ []))) (queued queue (before_close k new))
+    all : (k : ℕ) (queue : Queue) → closes_in (put ++ f ∷ []) ≤ k → IsPrefixOf (queued queue (before_close k (put ++ f ∷ []))) (queued queue (before_close k new))
     all k queue few =
         let same : closes_in new ≡ closes_in (put ++ f ∷ []) = ap length (queues LeavingFrames) in
         begins-itself _ _ (ap (queued queue) (before-few k new (omega arith)) ∙ (queues queue ∙ sym (ap (queued queue) (before-few k (put ++ f ∷ []) few))))
 
-    other : (k : ℕ) (queue : Queue) → k < closes_in put → IsFrontOf (queued queue (before_close k old)) (queued queue (before_close k new)) → IsFrontOf (queued queue (before_close k (put ++ f ∷ []))) (queued queue (before_close k new))
+    other : (k : ℕ) (queue : Queue) → k < closes_in put → IsPrefixOf (queued queue (before_close k old)) (queued queue (before_close k new)) → IsPrefixOf (queued queue (before_close k (put ++ f ∷ []))) (queued queue (before_close k new))
     other k queue many begins =
-        subst (λ l. IsFrontOf (queued queue l) (queued queue (before_close k new))) (sym (before-append k put (f ∷ []) many))
+        subst (λ l. IsPrefixOf (queued queue l) (queued queue (before_close k new))) (sym (before-append k put (f ∷ []) many))
         (begins-through (queued queue (before_close k new)) (queued queue (before_close k old)) (queued queue (before_close k put)) begins (order.closes k queue))
 
-    closing : (k : ℕ) (queue : Queue) → k ≤ closes_in put → is_leaving f ≡ true → IsFrontOf (queued queue (before_close k (put ++ f ∷ []))) (queued queue (before_close k new))
+    closing : (k : ℕ) (queue : Queue) → k ≤ closes_in put → is_leaving f ≡ true → IsPrefixOf (queued queue (before_close k (put ++ f ∷ []))) (queued queue (before_close k new))
     closing k queue few l = cases (cases_lt k (closes_in put))
       where
-        cases : (k < closes_in put) ⊎ (closes_in put ≤ k) → IsFrontOf (queued queue (before_close k (put ++ f ∷ []))) (queued queue (before_close k new))
+        cases : (k < closes_in put) ⊎ (closes_in put ≤ k) → IsPrefixOf (queued queue (before_close k (put ++ f ∷ []))) (queued queue (before_close k new))
         cases (inl h) =
             let same : closes_in old ≡ closes_in put = ap length (order.queues LeavingFrames) in
             other k queue h (begins-itself _ _ (ap (queued queue) (ap (before_close k) (leaving l) ∙ before-append k old (f ∷ []) (omega arith))))
@@ -72,7 +72,7 @@ put-order f put old new gains leaving order = record { queues = queues; closes =
             let same : closes_in old ≡ closes_in put = ap length (order.queues LeavingFrames) in
             begins-itself _ _ (ap (queued queue) (ap (before_close k) (leaving l) ∙ before-at k old [] f l (omega arith)) ∙ (order.queues queue ∙ sym (ap (queued queue) (before-at k put [] f l (omega arith)))))
 
-    cases : (k : ℕ) (queue : Queue) → (k < closes_in (put ++ f ∷ [])) ⊎ (closes_in (put ++ f ∷ []) ≤ k) → (b : Bool) → is_leaving f ≡ b → IsFrontOf (queued queue (before_close k (put ++ f ∷ []))) (queued queue (before_close k new))
+    cases : (k : ℕ) (queue : Queue) → (k < closes_in (put ++ f ∷ [])) ⊎ (closes_in (put ++ f ∷ []) ≤ k) → (b : Bool) → is_leaving f ≡ b → IsPrefixOf (queued queue (before_close k (put ++ f ∷ []))) (queued queue (before_close k new))
     cases k queue (inr few) b l = all k queue few
     cases k queue (inl many) true l =
         let m = closes-more put f in
@@ -82,7 +82,7 @@ put-order f put old new gains leaving order = record { queues = queues; closes =
         let m = closes-more put f in
         let none = closes-other f [] l in
         other k queue (omega arith)
-        (subst₂ (λ xs ys. IsFrontOf (queued queue (before_close k ys)) (queued queue (before_close k xs))) (sym gains.more_is) (sym gains.row_is) (gains-before k queue f gains.front gains.back l (gains.newest queue)))
+        (subst₂ (λ xs ys. IsPrefixOf (queued queue (before_close k ys)) (queued queue (before_close k xs))) (sym gains.more_is) (sym gains.row_is) (gains-before k queue f gains.prefix gains.back l (gains.newest queue)))
 
 -- frames that fit, in the words of either crate
 fit-all : (frames : List Frame) → AllFit frames → All Fits frames
@@ -142,7 +142,7 @@ output-put opening put written o f out fits =
           out.order;
     }
 
--- frames that are put one behind another
+-- frames that are put one after another
 pub output-puts : (opening : List ℕ) (frames put : List Frame) (written : List ℕ) (o : Output) → IsOutputOf opening put written o → AllFit frames → IsOutputOf opening (put ++ frames) written (after_puts frames o)
 output-puts opening [] put written o out fit = subst (λ l. IsOutputOf opening l written o) (sym (append-nil put)) out
 output-puts opening (f ∷ frames) put written o out fit =

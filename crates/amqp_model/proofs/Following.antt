@@ -122,7 +122,7 @@ puts-counted role Opening r frame entries c may = absurd (false≢true may)
 puts-counted role Closing r frame entries c may = closing-puts role r frame entries c may
 puts-counted role (channels.Open life) r frame entries c may = open-puts role life r frame entries c may
 
--- What stands behind the end's connection.close, and what before.
+-- What stands after the end's connection.close, and what before.
 
 pub all-before : (entries : List ChannelEntry) → has_left (notes entries) ≡ false → entries_before_leaving entries ≡ entries
 all-before [] e = refl

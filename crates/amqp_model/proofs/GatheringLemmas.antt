@@ -6,9 +6,9 @@ use Rattle.std.proofs.lemmas.Bool.Decides.{nat_tests}
 use Rattle.amqp_model.specs.Methods.{Method, Properties, carries_content}
 use Rattle.amqp_model.specs.Contents.{Payload, Calls, Header, Body, Unread, UnderWay, body_octets, due, IsDue}
 use Rattle.amqp_model.specs.Gathering.{Gathering, Nothing, HeaderDue, BodyDue, Step, Keeps, Completes, Breaks, PastSize, begun, gathered, step, remains, gathering, kept, Gathers}
-use Rattle.amqp_model.specs.ContentLaws.{OneUnderWay, GoesOnAsDue, KeepsUnderWay, KeepsItsOctets, GathersAfresh, NothingBehindMethod}
+use Rattle.amqp_model.specs.ContentLaws.{OneUnderWay, GoesOnAsDue, KeepsUnderWay, KeepsItsOctets, GathersAfresh, NothingAfterMethod}
 use Rattle.amqp_model.proofs.ContentLemmas.{bodies-same}
-use Rattle.amqp_model.proofs.UnderWayLemmas.{Grows, has_method, has_header, has_more, grown-kept, grown-front, Fronts, method_front, body_front, front-under_way, Growing, growing, under_way-grows, ContentFront, its_method, its_body, content-front}
+use Rattle.amqp_model.proofs.UnderWayLemmas.{Grows, has_method, has_header, has_more, grown-kept, grown-prefix, Prefixes, method_prefix, body_prefix, prefix-under_way, Growing, growing, under_way-grows, ContentPrefix, its_method, its_body, content-prefix}
 
 -- what is kept has grown from the newest of the payloads taken
 pub data Grown (taken : List Payload) (state : Gathering) : Type 0 where
@@ -91,7 +91,7 @@ kept-of {taken} {since} under = from (under_way-grows under)
     from (growing grows) = kept_of grows (ap gathering under.taken_is ∙ grown-kept grows under.before)
 
 grown-under_way : {taken : List Payload} {state : Gathering} (since before : List Payload) → taken ≡ since ++ before → Grows since state → UnderWay taken since
-grown-under_way since before e grows = subst (λ l. UnderWay l since) (sym e) (front-under_way before (grown-front grows))
+grown-under_way since before e grows = subst (λ l. UnderWay l since) (sym e) (prefix-under_way before (grown-prefix grows))
 
 -- some state kept is a content under way
 pub data SomeUnderWay (taken : List Payload) : Type 0 where
@@ -104,7 +104,7 @@ pub kept-some : (taken : List Payload) (state : Gathering) → gathering taken �
 kept-some taken state e some = grown-some (kept-grown taken (subst IsSome (sym e) some))
 
 body-since : (method : Method) (size : ℕ) (properties : Properties) (parts : List (List ℕ)) (since : List Payload) → reverse since ≡ Calls method ∷ Header size properties ∷ map Body parts → since ≡ reverse (map Body parts) ++ Header size properties ∷ Calls method ∷ []
-body-since method size properties parts since front = sym (reverse-reverse since) ∙ (ap reverse front ∙ reverse-append (Calls method ∷ Header size properties ∷ []) (map Body parts))
+body-since method size properties parts since prefix = sym (reverse-reverse since) ∙ (ap reverse prefix ∙ reverse-append (Calls method ∷ Header size properties ∷ []) (map Body parts))
 
 since-body : (method : Method) (size : ℕ) (properties : Properties) (parts : List (List ℕ)) → reverse (reverse (map Body parts) ++ Header size properties ∷ Calls method ∷ []) ≡ Calls method ∷ Header size properties ∷ map Body parts
 since-body method size properties parts = reverse-append (reverse (map Body parts)) (Header size properties ∷ Calls method ∷ []) ∙ ap (λ l. Calls method ∷ Header size properties ∷ l) (reverse-reverse (map Body parts))
@@ -120,11 +120,11 @@ kept-gathers taken (HeaderDue method) e = from (subst (Grown taken) e (kept-grow
     from (grown since before e' (has_method carries)) = grown-under_way (Calls method ∷ []) before e' (has_method carries)
 kept-gathers taken (BodyDue method size properties body) e = from (subst (Grown taken) e (kept-grown taken (subst IsSome (sym e) tt)))
   where
-    with_front : {since : List Payload} → UnderWay taken since → Fronts since (BodyDue method size properties body) → Gathers taken (BodyDue method size properties body)
-    with_front {since} under (body_front parts carries front joined short) = (parts, subst (UnderWay taken) (body-since method size properties parts since front) under, joined)
+    with_prefix : {since : List Payload} → UnderWay taken since → Prefixes since (BodyDue method size properties body) → Gathers taken (BodyDue method size properties body)
+    with_prefix {since} under (body_prefix parts carries prefix joined short) = (parts, subst (UnderWay taken) (body-since method size properties parts since prefix) under, joined)
 
     from : Grown taken (BodyDue method size properties body) → Gathers taken (BodyDue method size properties body)
-    from (grown since before e' grows) = with_front (grown-under_way since before e' grows) (grown-front grows)
+    from (grown since before e' grows) = with_prefix (grown-under_way since before e' grows) (grown-prefix grows)
 
 gathers-kept : (taken : List Payload) (state : Gathering) → Gathers taken state → gathering taken ≡ state
 gathers-kept taken Nothing none = cases (gathering taken) refl
@@ -145,16 +145,16 @@ gathers-kept taken (BodyDue method size properties body) (parts, under, joined) 
     since : List Payload
     since = reverse (map Body parts) ++ Header size properties ∷ Calls method ∷ []
 
-    front : {state : Gathering} → Fronts since state → state ≡ BodyDue method size properties body
-    front (method_front carries e) = absurd (let h = sym (since-body method size properties parts) ∙ e in cc)
-    front (body_front parts' carries e joined' short) =
+    prefix : {state : Gathering} → Prefixes since state → state ≡ BodyDue method size properties body
+    prefix (method_prefix carries e) = absurd (let h = sym (since-body method size properties parts) ∙ e in cc)
+    prefix (body_prefix parts' carries e joined' short) =
         let h = sym (since-body method size properties parts) ∙ e in
         let same = bodies-same parts parts' cc in
         let body' = sym joined ∙ (ap concat same ∙ joined') in
         cc
 
     from : KeptOf taken since → gathering taken ≡ BodyDue method size properties body
-    from (kept_of grows kept) = kept ∙ front (grown-front grows)
+    from (kept_of grows kept) = kept ∙ prefix (grown-prefix grows)
 
 pub keeps-under_way : (taken : List Payload) (state : Gathering) → KeepsUnderWay taken state
 keeps-under_way taken state = (kept-gathers taken state, gathers-kept taken state)
@@ -190,7 +190,7 @@ keeps-octets taken since under = from (kept-of under)
 pub goes-on-as-due : (taken since : List Payload) → GoesOnAsDue taken since
 goes-on-as-due taken since content next later under is = from (under_way-grows under)
   where
-    cases : {l : List Payload} {state : Gathering} → Grows l state → ContentFront content l next later → IsDue (due l) next
+    cases : {l : List Payload} {state : Gathering} → Grows l state → ContentPrefix content l next later → IsDue (due l) next
     cases (has_method _) (its_method _ header) = (length content.body, content.properties, header)
     cases (has_method _) (its_body parts part more e body joined_is rest full) = absurd (let h = ap reverse e ∙ since-body content.method (length content.body) content.properties parts in cc)
     cases (has_header _ _) (its_method e header) = absurd cc
@@ -199,11 +199,11 @@ goes-on-as-due taken since content next later under is = from (under_way-grows u
     cases (has_more _ _) (its_body parts part more e body joined_is rest full) = (part, body)
 
     from : Growing since → IsDue (due since) next
-    from (growing grows) = cases grows (content-front content since next later under.begun is)
+    from (growing grows) = cases grows (content-prefix content since next later under.begun is)
 
 pub gathers-afresh : (later before : List Payload) → GathersAfresh later before
 gathers-afresh [] before none = gathers-kept before Nothing none
 gathers-afresh (payload ∷ later) before none = ap (λ state. remains (step state payload) payload) (gathers-afresh later before none)
 
-pub nothing-behind_method : (before : List Payload) (method : Method) → NothingBehindMethod before method
-nothing-behind_method before method none = kept-gathers (Calls method ∷ before) Nothing (calls-remain (gathering before) method ∙ simp none)
+pub nothing-after_method : (before : List Payload) (method : Method) → NothingAfterMethod before method
+nothing-after_method before method none = kept-gathers (Calls method ∷ before) Nothing (calls-remain (gathering before) method ∙ simp none)

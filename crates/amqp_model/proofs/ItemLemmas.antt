@@ -1,4 +1,4 @@
--- The items that payloads spell.
+-- The items that payloads encode.
 use Rattle.std.proofs.Common.{◌≡◌, ◌≢◌, true, List, [], ◌∷◌, ◌++◌, reverse, Option, Some, None, refl, sym, ap, ◌∙◌, subst, append_assoc, append-nil}
 use Rattle.std.specs.Option.{option_to_list}
 use Rattle.std.proofs.lemmas.Bool.{false≢true}
@@ -6,11 +6,11 @@ use Rattle.std.proofs.lemmas.List.{reverse-append, reverse-reverse}
 use Rattle.amqp_model.specs.Methods.{Method, Sort, BeginsContent, OpensOrCloses, Plain, AsksFlow, AnswersFlow, sort_of, begins_content}
 use Rattle.amqp_model.specs.Contents.{Payload, Calls, Header, Body, Unread, Content, IsContent, UnderWay, EndsContent}
 use Rattle.amqp_model.specs.Gathering.{Gathering, Nothing, HeaderDue, BodyDue, Step, Keeps, Completes, Breaks, step, gathering, Gathers}
-use Rattle.amqp_model.specs.Items.{Item, PlainMethod, WholeContent, FlowItem, FlowOkItem, CallsLast, EndsItem, Spells, nothing, with_item, without, item_of, completed, item_ended, items_taken, items}
-use Rattle.amqp_model.specs.Fronts.{IsFrontOf}
-use Rattle.amqp_model.specs.ContentLaws.{TellsItems, ItemsAreSpelled, ItemsOfFront, OneMoreSpelled, SpelledAfresh, MethodStandsAlone, ContentSpelledBehind, UnfinishedSpellsNothing}
+use Rattle.amqp_model.specs.Items.{Item, PlainMethod, WholeContent, FlowItem, FlowOkItem, CallsLast, EndsItem, Encodes, nothing, with_item, without, item_of, completed, item_ended, items_taken, items}
+use Rattle.amqp_model.specs.Prefixes.{IsPrefixOf}
+use Rattle.amqp_model.specs.ContentLaws.{TellsItems, ItemsAreEncoded, ItemsOfPrefix, OneMoreEncoded, EncodedAfresh, MethodStandsAlone, ContentEncodedAfter, UnfinishedEncodesNothing}
 use Rattle.amqp_model.proofs.UnderWayLemmas.{Grows, has_method, has_header, has_more, gathered-more, grown-kept, Growing, growing, under_way-grows}
-use Rattle.amqp_model.proofs.GatheringLemmas.{gathers-afresh, nothing-behind_method}
+use Rattle.amqp_model.proofs.GatheringLemmas.{gathers-afresh, nothing-after_method}
 use Rattle.amqp_model.proofs.StepLemmas.{tells-whole_lem}
 
 -- an item that is told has its last payload here
@@ -54,44 +54,44 @@ item-tells before payload (FlowOkItem active) ends = method-tells before payload
 pub tells-items : (before : List Payload) (payload : Payload) (item : Item) → TellsItems before payload item
 tells-items before payload item = (item-ends before payload item, item-tells before payload item)
 
-spelled : (taken : List Payload) → Spells taken (items_taken taken)
-spelled [] = nothing
-spelled (payload ∷ before) = cases (item_ended (gathering before) payload) refl (spelled before)
+encoded : (taken : List Payload) → Encodes taken (items_taken taken)
+encoded [] = nothing
+encoded (payload ∷ before) = cases (item_ended (gathering before) payload) refl (encoded before)
   where
-    cases : (o : Option Item) → item_ended (gathering before) payload ≡ o → Spells before (items_taken before) → Spells (payload ∷ before) (items_taken before ++ option_to_list o)
+    cases : (o : Option Item) → item_ended (gathering before) payload ≡ o → Encodes before (items_taken before) → Encodes (payload ∷ before) (items_taken before ++ option_to_list o)
     cases (Some item) e old = with_item item old (item-ends before payload item e)
-    cases None e old = subst (Spells (payload ∷ before)) (sym (append-nil (items_taken before))) (without old (λ item ends. absurd (let h = sym e ∙ item-tells before payload item ends in cc)))
+    cases None e old = subst (Encodes (payload ∷ before)) (sym (append-nil (items_taken before))) (without old (λ item ends. absurd (let h = sym e ∙ item-tells before payload item ends in cc)))
 
-only-spelled : {taken : List Payload} {list : List Item} → Spells taken list → items_taken taken ≡ list
-only-spelled nothing = refl
-only-spelled (with_item {payload} {before} {items} item old ends) = ap (λ l. l ++ option_to_list (item_ended (gathering before) payload)) (only-spelled old) ∙ ap (λ o. items ++ option_to_list o) (item-tells before payload item ends)
-only-spelled (without {payload} {before} {items} old none) = cases (item_ended (gathering before) payload) refl (only-spelled old)
+only-encoded : {taken : List Payload} {list : List Item} → Encodes taken list → items_taken taken ≡ list
+only-encoded nothing = refl
+only-encoded (with_item {payload} {before} {items} item old ends) = ap (λ l. l ++ option_to_list (item_ended (gathering before) payload)) (only-encoded old) ∙ ap (λ o. items ++ option_to_list o) (item-tells before payload item ends)
+only-encoded (without {payload} {before} {items} old none) = cases (item_ended (gathering before) payload) refl (only-encoded old)
   where
     cases : (o : Option Item) → item_ended (gathering before) payload ≡ o → items_taken before ≡ items → items_taken before ++ option_to_list o ≡ items
     cases (Some item) e old = absurd (none item (item-ends before payload item e))
     cases None e old = append-nil (items_taken before) ∙ old
 
-pub items-are-spelled : (taken : List Payload) (list : List Item) → ItemsAreSpelled taken list
-items-are-spelled taken list = ((λ e. subst (Spells taken) e (spelled taken)), only-spelled)
+pub items-are-encoded : (taken : List Payload) (list : List Item) → ItemsAreEncoded taken list
+items-are-encoded taken list = ((λ e. subst (Encodes taken) e (encoded taken)), only-encoded)
 
-front-later : (later before : List Payload) → IsFrontOf (items_taken before) (items_taken (later ++ before))
-front-later [] before = ([], sym (append-nil (items_taken before)))
-front-later (payload ∷ later) before = more (front-later later before)
+prefix-later : (later before : List Payload) → IsPrefixOf (items_taken before) (items_taken (later ++ before))
+prefix-later [] before = ([], sym (append-nil (items_taken before)))
+prefix-later (payload ∷ later) before = more (prefix-later later before)
   where
     last : List Item
     last = option_to_list (item_ended (gathering (later ++ before)) payload)
 
-    more : IsFrontOf (items_taken before) (items_taken (later ++ before)) → IsFrontOf (items_taken before) (items_taken (later ++ before) ++ last)
+    more : IsPrefixOf (items_taken before) (items_taken (later ++ before)) → IsPrefixOf (items_taken before) (items_taken (later ++ before) ++ last)
     more f = (f.0 ++ last, ap (λ l. l ++ last) f.1 ∙ append_assoc (items_taken before) f.0 last)
 
-pub items-front : (front whole : List Payload) → ItemsOfFront front whole
-items-front front whole f = subst (λ l. IsFrontOf (items front) (items_taken l)) (sym (ap reverse f.1 ∙ reverse-append front f.0)) (front-later (reverse f.0) (reverse front))
+pub items-prefix : (prefix whole : List Payload) → ItemsOfPrefix prefix whole
+items-prefix prefix whole f = subst (λ l. IsPrefixOf (items prefix) (items_taken l)) (sym (ap reverse f.1 ∙ reverse-append prefix f.0)) (prefix-later (reverse f.0) (reverse prefix))
 
 -- one more payload, by what was kept before it
-pub items-more : (front : List Payload) (payload : Payload) → OneMoreSpelled front payload
-items-more front payload = ap items_taken (reverse-append front (payload ∷ []))
+pub items-more : (prefix : List Payload) (payload : Payload) → OneMoreEncoded prefix payload
+items-more prefix payload = ap items_taken (reverse-append prefix (payload ∷ []))
 
--- what is under way spells nothing yet
+-- what is under way encodes nothing yet
 no-item : (method : Method) (sort : Sort) → begins_content sort ≡ true → item_of method sort ≡ None
 no-item method BeginsContent e = refl
 no-item method OpensOrCloses e = absurd (false≢true e)
@@ -112,15 +112,15 @@ grown-quiet (has_more {method} {size} {properties} {body} {since} {octets} grows
     let none = ap (λ state. item_ended state (Body octets)) (grown-kept grows before) ∙ ap completed (gathered-more method size properties (body ++ octets) short) in
     quiet-more (Body octets) (since ++ before) none ∙ grown-quiet grows before
 
-pub items-unfinished : (taken since : List Payload) → UnfinishedSpellsNothing taken since
+pub items-unfinished : (taken since : List Payload) → UnfinishedEncodesNothing taken since
 items-unfinished taken since under = from (under_way-grows under)
   where
     from : Growing since → items_taken taken ≡ items_taken under.before
     from (growing grows) = ap items_taken under.taken_is ∙ grown-quiet grows under.before
 
--- a content, behind any payloads
-content-behind : (before : List Payload) (payloads : List Payload) (content : Content) → IsContent content payloads → items_taken (reverse payloads ++ before) ≡ items_taken before ++ WholeContent content ∷ []
-content-behind before payloads content is = go (reverse payloads) refl
+-- a content, after any payloads
+content-after : (before : List Payload) (payloads : List Payload) (content : Content) → IsContent content payloads → items_taken (reverse payloads ++ before) ≡ items_taken before ++ WholeContent content ∷ []
+content-after before payloads content is = go (reverse payloads) refl
   where
     go : (backwards : List Payload) → reverse payloads ≡ backwards → items_taken (backwards ++ before) ≡ items_taken before ++ WholeContent content ∷ []
     go [] e = absurd (let h = sym (sym (reverse-reverse payloads) ∙ ap reverse e) ∙ is.payloads_are in cc)
@@ -141,8 +141,8 @@ content-behind before payloads content is = go (reverse payloads) refl
         from : Growing since → items_taken (newest ∷ (since ++ before)) ≡ items_taken before ++ WholeContent content ∷ []
         from (growing grows) = ap (λ o. items_taken (since ++ before) ++ option_to_list o) (item-tells (since ++ before) newest (WholeContent content) ends) ∙ ap (λ l. l ++ WholeContent content ∷ []) (grown-quiet grows before)
 
-pub items-content : (front payloads : List Payload) (content : Content) → ContentSpelledBehind front payloads content
-items-content front payloads content is = ap items_taken (reverse-append front payloads) ∙ content-behind (reverse front) payloads content is
+pub items-content : (prefix payloads : List Payload) (content : Content) → ContentEncodedAfter prefix payloads content
+items-content prefix payloads content is = ap items_taken (reverse-append prefix payloads) ∙ content-after (reverse prefix) payloads content is
 
 items-afresh : (later before : List Payload) → Gathers before Nothing → items_taken (later ++ before) ≡ items_taken before ++ items_taken later
 items-afresh [] before none = sym (append-nil (items_taken before))
@@ -151,10 +151,10 @@ items-afresh (payload ∷ later) before none =
     ap (λ l. l ++ option_to_list (item_ended (gathering (later ++ before)) payload)) (items-afresh later before none)
     ∙ (append_assoc (items_taken before) (items_taken later) (option_to_list (item_ended (gathering (later ++ before)) payload)) ∙ ap (λ l. items_taken before ++ (items_taken later ++ l)) kept)
 
-pub items-apart : (front later : List Payload) → SpelledAfresh front later
-items-apart front later none = ap items_taken (reverse-append front later) ∙ items-afresh (reverse later) (reverse front) none
+pub items-apart : (prefix later : List Payload) → EncodedAfresh prefix later
+items-apart prefix later none = ap items_taken (reverse-append prefix later) ∙ items-afresh (reverse later) (reverse prefix) none
 
-pub items-method : (front : List Payload) (method : Method) (later : List Payload) → MethodStandsAlone front method later
-items-method front method later none =
-    ap items_taken (reverse-append front (Calls method ∷ later) ∙ (ap (λ l. l ++ reverse front) (reverse-append (Calls method ∷ []) later) ∙ append_assoc (reverse later) (Calls method ∷ []) (reverse front)))
-    ∙ items-afresh (reverse later) (Calls method ∷ reverse front) (nothing-behind_method (reverse front) method none)
+pub items-method : (prefix : List Payload) (method : Method) (later : List Payload) → MethodStandsAlone prefix method later
+items-method prefix method later none =
+    ap items_taken (reverse-append prefix (Calls method ∷ later) ∙ (ap (λ l. l ++ reverse prefix) (reverse-append (Calls method ∷ []) later) ∙ append_assoc (reverse later) (Calls method ∷ []) (reverse prefix)))
+    ∙ items-afresh (reverse later) (Calls method ∷ reverse prefix) (nothing-after_method (reverse prefix) method none)

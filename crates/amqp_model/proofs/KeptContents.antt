@@ -1,4 +1,4 @@
--- Behind the payloads that an end acted on in a life, the next one fits.
+-- After the payloads that an end acted on in a life, the next one fits.
 use Rattle.std.proofs.Common.{◌≡◌, ◌<◌, inr, Bool, true, false, cond, not, ◌&&◌, ℕ, suc, ◌==◌, arith, List, [], ◌∷◌, ◌++◌, map, reverse, refl, sym, ap, ◌∙◌, subst}
 use Rattle.std.proofs.lemmas.Bool.{true≢false, false≢true, and_from, eq-eqb, cond-true}
 use Rattle.std.proofs.lemmas.List.{map-append, reverse-append}
@@ -54,7 +54,7 @@ AllRead (Took kind frame ∷ before) = (kind ≡ kind_of (reading frame)) × All
 AllRead (Put kind frame ∷ before) = AllRead before
 AllRead (Leaving ∷ before) = AllRead before
 
--- behind a method without content nothing is under way
+-- after a method without content nothing is under way
 begun-nothing : (kept : Gathering) (method : Method) → carries_content method ≡ false → remains (step kept (Payload.Calls method)) (Payload.Calls method) ≡ Nothing
 begun-nothing Nothing method e = simp e
 begun-nothing (HeaderDue other) method e = simp e

@@ -10,9 +10,9 @@ use Rattle.amqp_model.specs.Lives.{lives, has_left}
 use Rattle.amqp_model.specs.Verdict.{Discarded}
 use Rattle.amqp_model.specs.Carried.{message_frames, taken_by, NoteInLife, At, life_of, puts, takes, acts_next, acted_takes, messages, sent, acted}
 use Rattle.amqp_model.specs.Runs.{RunAt}
-use Rattle.amqp_model.specs.Laws.{SidesAgree, GoesOnWith, FindsNoFault, ActsOnFront, IsLive, OnItsWayIsOfItsLife, SentIsActedOnOrOnItsWay, AllActedOnAtClose, AllActedOnAtConnectionClose}
-use Rattle.amqp_model.specs.Fronts.{IsFrontOf}
-use Rattle.amqp_model.proofs.Lists.{slice_get_front, messages-append, front_more, front_none}
+use Rattle.amqp_model.specs.Laws.{SidesAgree, GoesOnWith, FindsNoFault, ActsOnPrefix, IsLive, OnItsWayIsOfItsLife, SentIsActedOnOrOnItsWay, AllActedOnAtClose, AllActedOnAtConnectionClose}
+use Rattle.amqp_model.specs.Prefixes.{IsPrefixOf}
+use Rattle.amqp_model.proofs.Lists.{slice_get_front, messages-append, prefix_more, prefix_none}
 use Rattle.amqp_model.proofs.Ends.{Standing, Is, Lawful, lawful_stands, lawful_lives, here_state, here_verdict, left_verdict, has_asked, has_replied, has_taken, has_left_now, Taking, taking_verdict}
 use Rattle.amqp_model.proofs.Joint.{Row, done, with_flow, with_flow_ok, with_other, opened, opened_closed, ready, server_closes, client_closes, opening, reopening, JointAt, at_client, at_server, Taken, quietly, answering, joint_take}
 use Rattle.amqp_model.proofs.Pauses.{pact_joint}
@@ -20,17 +20,17 @@ use Rattle.amqp_model.proofs.Runs.{carried, carried_rest, Linked, linked, run_at
 use Rattle.amqp_model.proofs.Acted.{is_live, acted_other, lawful_heard}
 use Rattle.amqp_model.proofs.Ended.{lawful_ended}
 
--- all that was taken is, in order and with its life, a front of what was put
-pub takes_front : (role : Role) (mine theirs : List Note) → RunAt role mine theirs → IsFrontOf (takes role mine) (puts (other_end role) theirs)
-takes_front role mine theirs run = go (run_at_linked role mine theirs run)
+-- all that was taken is, in order and with its life, a prefix of what was put
+pub takes_prefix : (role : Role) (mine theirs : List Note) → RunAt role mine theirs → IsPrefixOf (takes role mine) (puts (other_end role) theirs)
+takes_prefix role mine theirs run = go (run_at_linked role mine theirs run)
   where
-    go : Linked role mine theirs → IsFrontOf (takes role mine) (puts (other_end role) theirs)
+    go : Linked role mine theirs → IsPrefixOf (takes role mine) (puts (other_end role) theirs)
     go (linked q r owed owed' s s' e e' w w' joint) = (r, e')
 
 pub sides_agree : (role : Role) (mine theirs : List Note) → RunAt role mine theirs → SidesAgree role mine theirs
 sides_agree role mine theirs run i life e =
-    let front = takes_front role mine theirs run in
-    let lives_are = ap (map life_of) front.1 ∙ map-append life_of (takes role mine) front.0 in
+    let prefix = takes_prefix role mine theirs run in
+    let lives_are = ap (map life_of) prefix.1 ∙ map-append life_of (takes role mine) prefix.0 in
     subst (λ l. slice_get l i ≡ Some life) (sym lives_are) (slice_get_front _ _ i life e)
 
 pub no_fault : (role : Role) (mine theirs : List Note) → RunAt role mine theirs → FindsNoFault role mine theirs
@@ -53,14 +53,14 @@ no_fault role mine theirs run kind frame next = go (run_at_linked role mine thei
     go : Linked role mine theirs → GoesOnWith role mine kind
     go (linked q r owed owed' s s' e e' w w' joint) = first (q ++ owed) r owed' s (next_entry role mine theirs e' next) (pact_joint joint)
 
--- what an end acted on in a life is a front of what the other sent in it
-pub acts_front : (role : Role) (mine theirs : List Note) → RunAt role mine theirs → ActsOnFront role mine theirs
-acts_front role mine theirs run life = go (run_at_linked role mine theirs run)
+-- what an end acted on in a life is a prefix of what the other sent in it
+pub acts_prefix : (role : Role) (mine theirs : List Note) → RunAt role mine theirs → ActsOnPrefix role mine theirs
+acts_prefix role mine theirs run life = go (run_at_linked role mine theirs run)
   where
-    go : Linked role mine theirs → IsFrontOf (acted role life mine) (sent (other_end role) life theirs)
+    go : Linked role mine theirs → IsPrefixOf (acted role life mine) (sent (other_end role) life theirs)
     go (linked q r owed owed' s s' e e' w w' joint) =
         let whole = ap (messages life) e' ∙ messages-append life (takes role mine) r in
-        subst (λ l. IsFrontOf (acted role life mine) l) (sym whole) (front_more _ _ (messages life r) (lawful_heard life s).front)
+        subst (λ l. IsPrefixOf (acted role life mine) l) (sym whole) (prefix_more _ _ (messages life r) (lawful_heard life s).prefix)
 
 abbrev HasLife : ℕ → NoteInLife → Type 0
 HasLife n entry = life_of entry ≡ n
@@ -74,9 +74,9 @@ own_all : (n : ℕ) (xs : List NoteInLife) → Own n xs → All (HasLife n) xs
 own_all n [] own = All-nil (HasLife n)
 own_all n (x ∷ xs) own = All-cons (HasLife n) x xs own.0 (own_all n xs own.1)
 
-own_front : (n : ℕ) (xs ys : List NoteInLife) → Own n (xs ++ ys) → Own n xs
-own_front n [] ys own = tt
-own_front n (x ∷ xs) ys own = (own.0, own_front n xs ys own.1)
+own_prefix : (n : ℕ) (xs ys : List NoteInLife) → Own n (xs ++ ys) → Own n xs
+own_prefix n [] ys own = tt
+own_prefix n (x ∷ xs) ys own = (own.0, own_prefix n xs ys own.1)
 
 row_own : {n : ℕ} {tail : List NoteInLife} {i j : ℕ} {row : List NoteInLife} → Row n tail i j row → Own n tail → Own n row
 row_own done own = own
@@ -104,12 +104,12 @@ live_word {history = history} lawful live = go (here_state history live.stays (l
     go e (inl h) = ap is_live (sym e ∙ h)
     go e (inr h) = ap is_live (sym e ∙ h)
 
-pub on_its_way : (role : Role) (mine theirs : List Note) → RunAt role mine theirs → OnItsWayIsOfItsLife role mine theirs
-on_its_way role mine theirs run rest live way = go (run_at_linked role mine theirs run)
+pub in_flight : (role : Role) (mine theirs : List Note) → RunAt role mine theirs → OnItsWayIsOfItsLife role mine theirs
+in_flight role mine theirs run rest live way = go (run_at_linked role mine theirs run)
   where
     go : Linked role mine theirs → All (λ entry. life_of entry ≡ lives role mine) rest
     go (linked q r owed owed' s s' e e' w w' joint) =
-        let own = own_all _ r (own_front _ r owed' (joint_own (pact_joint joint) (live_word s live))) in
+        let own = own_all _ r (own_prefix _ r owed' (joint_own (pact_joint joint) (live_word s live))) in
         let same : r ≡ rest = append_cancel_left (takes role mine) r rest (sym e' ∙ way) in
         subst (λ l. All (λ entry. life_of entry ≡ lives role mine) l) same (subst (λ n. All (HasLife n) r) (sym (lawful_lives s)) own)
 
@@ -131,10 +131,10 @@ sent_so_far role mine theirs run rest live way = go (run_at_linked role mine the
     go : Linked role mine theirs → sent (other_end role) (lives role mine) theirs ≡ acted role (lives role mine) mine ++ message_frames rest
     go (linked {n = life} q r owed owed' s s' e e' w w' joint) =
         let all = (lawful_heard n s).all live.stays (live_word s live) (lawful_lives s) in
-        let own = subst (λ n. Own n r) (sym (lawful_lives s)) (own_front life r owed' (joint_own (pact_joint joint) (live_word s live))) in
+        let own = subst (λ n. Own n r) (sym (lawful_lives s)) (own_prefix life r owed' (joint_own (pact_joint joint) (live_word s live))) in
         let same = append_cancel_left (taken_by mine) (map carried r) rest (sym (carried_rest role mine theirs r e') ∙ way) in
-        let on_way = own_messages n r own ∙ ap message_frames same in
-        ap (messages n) e' ∙ (messages-append n (takes role mine) r ∙ (ap (λ l. l ++ messages n r) (sym all) ∙ ap (λ l. acted role n mine ++ l) on_way))
+        let flying = own_messages n r own ∙ ap message_frames same in
+        ap (messages n) e' ∙ (messages-append n (takes role mine) r ∙ (ap (λ l. l ++ messages n r) (sym all) ∙ ap (λ l. acted role n mine ++ l) flying))
 
 -- what stands before a note of a lawful history is lawful
 data LawfulAt (role : Role) (history : List Note) : Type 0 where
@@ -153,30 +153,30 @@ lawful_first history kind frame (lawful_at (has_taken {before = Is word n a} fra
 regroup : (xs : List NoteInLife) (x : NoteInLife) (ys zs : List NoteInLife) → ((xs ++ x ∷ []) ++ ys) ++ zs ≡ xs ++ x ∷ (ys ++ zs)
 regroup xs x ys zs = simp append_assoc
 
-takes_later : (role : Role) (later before : List Note) → IsFrontOf (takes role before) (takes role (later ++ before))
+takes_later : (role : Role) (later before : List Note) → IsPrefixOf (takes role before) (takes role (later ++ before))
 takes_later role [] before = ([], sym (append-nil _))
-takes_later role (Took kind frame ∷ later) before = front_more _ _ _ (takes_later role later before)
+takes_later role (Took kind frame ∷ later) before = prefix_more _ _ _ (takes_later role later before)
 takes_later role (Put kind frame ∷ later) before = takes_later role later before
 takes_later role (Leaving ∷ later) before = takes_later role later before
 
-acted_later : (role : Role) (later before : List Note) → IsFrontOf (acted_takes role before) (acted_takes role (later ++ before))
+acted_later : (role : Role) (later before : List Note) → IsPrefixOf (acted_takes role before) (acted_takes role (later ++ before))
 acted_later role [] before = ([], sym (append-nil _))
 acted_later role (Took kind frame ∷ later) before = more (acts_next role (later ++ before)) (acted_later role later before)
   where
-    more : (b : Bool) → IsFrontOf (acted_takes role before) (acted_takes role (later ++ before)) → IsFrontOf (acted_takes role before) (cond b (acted_takes role (later ++ before) ++ At kind (lives role (Took kind frame ∷ (later ++ before))) frame ∷ []) (acted_takes role (later ++ before)))
-    more true front = front_more _ _ _ front
-    more false front = front
+    more : (b : Bool) → IsPrefixOf (acted_takes role before) (acted_takes role (later ++ before)) → IsPrefixOf (acted_takes role before) (cond b (acted_takes role (later ++ before) ++ At kind (lives role (Took kind frame ∷ (later ++ before))) frame ∷ []) (acted_takes role (later ++ before)))
+    more true prefix = prefix_more _ _ _ prefix
+    more false prefix = prefix
 acted_later role (Put kind frame ∷ later) before = acted_later role later before
 acted_later role (Leaving ∷ later) before = acted_later role later before
 
-messages_front : (life : ℕ) (xs ys : List NoteInLife) → IsFrontOf xs ys → IsFrontOf (messages life xs) (messages life ys)
-messages_front life xs ys front = (messages life front.0, ap (messages life) front.1 ∙ messages-append life xs front.0)
+messages_prefix : (life : ℕ) (xs ys : List NoteInLife) → IsPrefixOf xs ys → IsPrefixOf (messages life xs) (messages life ys)
+messages_prefix life xs ys prefix = (messages life prefix.0, ap (messages life) prefix.1 ∙ messages-append life xs prefix.0)
 
 -- a list that begins with one that begins with it
-front_same : {A : Type 0} (xs ys : List A) → IsFrontOf xs ys → IsFrontOf ys xs → xs ≡ ys
-front_same xs ys f g =
+prefix_same : {A : Type 0} (xs ys : List A) → IsPrefixOf xs ys → IsPrefixOf ys xs → xs ≡ ys
+prefix_same xs ys f g =
     let e = append_cancel_left xs [] (f.0 ++ g.0) (append-nil xs ∙ (g.1 ∙ (ap (λ l. l ++ g.0) f.1 ∙ append_assoc xs f.0 g.0))) in
-    sym (append-nil xs) ∙ (ap (λ l. xs ++ l) (sym (front_none f.0 (g.0, e))) ∙ sym f.1)
+    sym (append-nil xs) ∙ (ap (λ l. xs ++ l) (sym (prefix_none f.0 (g.0, e))) ∙ sym f.1)
 
 pub all_acted : (role : Role) (mine theirs : List Note) → RunAt role mine theirs → AllActedOnAtClose role mine theirs
 all_acted role mine theirs run life closed = go (run_at_linked role mine theirs run)
@@ -188,13 +188,13 @@ all_acted role mine theirs run life closed = go (run_at_linked role mine theirs 
     before_it : LawfulAt role closed.before → acted role life closed.before ≡ messages life (takes role closed.before)
     before_it (lawful_at s) = (lawful_heard life s).all closed.live.stays (live_word s closed.live) (sym closed.life_is ∙ lawful_lives s)
 
-    took : IsFrontOf (takes role at_close) (takes role mine)
-    took = subst (λ h. IsFrontOf (takes role at_close) (takes role h)) (sym closed.history_is) (takes_later role closed.later at_close)
+    took : IsPrefixOf (takes role at_close) (takes role mine)
+    took = subst (λ h. IsPrefixOf (takes role at_close) (takes role h)) (sym closed.history_is) (takes_later role closed.later at_close)
 
-    acted_more : IsFrontOf (acted role life closed.before) (acted role life mine)
+    acted_more : IsPrefixOf (acted role life closed.before) (acted role life mine)
     acted_more =
-        subst (λ l. IsFrontOf l (acted role life mine)) (acted_other role closed.before Close closed.frame life refl)
-        (subst (λ h. IsFrontOf (acted role life at_close) (acted role life h)) (sym closed.history_is) (messages_front life _ _ (acted_later role closed.later at_close)))
+        subst (λ l. IsPrefixOf l (acted role life mine)) (acted_other role closed.before Close closed.frame life refl)
+        (subst (λ h. IsPrefixOf (acted role life at_close) (acted role life h)) (sym closed.history_is) (messages_prefix life _ _ (acted_later role closed.later at_close)))
 
     -- where the close stands in what the other put
     place : (r : List NoteInLife) → puts (other_end role) theirs ≡ takes role mine ++ r → puts (other_end role) theirs ≡ takes role closed.before ++ At Close life closed.frame ∷ (took.0 ++ r)
@@ -206,8 +206,8 @@ all_acted role mine theirs run life closed = go (run_at_linked role mine theirs 
         let sent_is = ap (messages life) (place r e') ∙ (messages-append life (takes role closed.before) _ ∙ (ap (λ l. messages life (takes role closed.before) ++ l) ended.silent ∙ append-nil _)) in
         let lawful = subst (λ h. Lawful role h (Is word n a)) closed.history_is s in
         let all = before_it (lawful_first closed.before Close closed.frame (lawful_before closed.later at_close lawful)) in
-        let back = subst (λ l. IsFrontOf (acted role life mine) l) (sent_is ∙ sym all) (acts_front role mine theirs run life) in
-        sym (front_same _ _ acted_more back) ∙ (all ∙ sym sent_is)
+        let back = subst (λ l. IsPrefixOf (acted role life mine) l) (sent_is ∙ sym all) (acts_prefix role mine theirs run life) in
+        sym (prefix_same _ _ acted_more back) ∙ (all ∙ sym sent_is)
 
 pub all_acted_connection : (role : Role) (mine theirs : List Note) → RunAt role mine theirs → AllActedOnAtConnectionClose role mine theirs
 all_acted_connection role mine theirs run live all = sym (sent_so_far role mine theirs run [] live (all ∙ sym (append-nil _)) ∙ append-nil _)

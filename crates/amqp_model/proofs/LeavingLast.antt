@@ -1,49 +1,49 @@
--- Where an end puts nothing behind a connection.close or close-ok but these, nothing else leaves behind one.
+-- Where an end puts nothing after a connection.close or close-ok but these, nothing else leaves after one.
 use Rattle.std.proofs.Common.{◌≡◌, ℕ, zero, suc, ◌+◌, ◌<◌, Bool, true, false, not, ◌&&◌, ◌==◌, List, [], ◌∷◌, ◌++◌, All, filter, length, refl, sym, ap, ap₂, ◌∙◌, subst, subst₂, arith, append_assoc, length-append, lt-ltb, eq-eqb, ne_eqb}
 use Rattle.std.proofs.lemmas.Bool.{true≢false, not-true, cond-true, cond-false, and_parts, and_from, not_from_false}
 use Rattle.std.proofs.lemmas.List.{append_cancel_left, nil_from_length}
 use Rattle.std.proofs.lemmas.List.Elements.{All-nil, All-cons, All-head, All-tail, filter-append, filter_passes}
 use Rattle.amqp_frame.specs.Frame.{Frame}
 use Rattle.amqp_model.specs.Arrangement.{is_leaving, Queue, PlainFrames, FramesOn, LeavingFrames, is_in, queued, on}
-use Rattle.amqp_model.specs.Departures.{before_close, KeepsOrder, LeavesLast, PutInOrder, PutAs, LeavesBehind}
-use Rattle.amqp_model.specs.Fronts.{IsFrontOf}
+use Rattle.amqp_model.specs.Departures.{before_close, KeepsOrder, LeavesLast, PutInOrder, PutAs, LeavesAfter}
+use Rattle.amqp_model.specs.Prefixes.{IsPrefixOf}
 use Rattle.amqp_model.proofs.Turns.{Rank, plain, in_turn, leaves, rank, in-channel}
 use Rattle.amqp_model.proofs.Rows.{from-queued}
 use Rattle.amqp_model.proofs.Closes.{closes_in, closes-leaving, closes-other, before-at}
 
--- the frame that leaves the connection behind which k such stand
+-- the frame that leaves the connection after which k such stand
 record CloseAt (k : ℕ) (frames : List Frame) : Type 0 where
-  front : List Frame
+  prefix : List Frame
   f : Frame
-  behind : List Frame
-  frames_are : frames ≡ front ++ f ∷ behind
+  after : List Frame
+  frames_are : frames ≡ prefix ++ f ∷ after
   leaving : is_leaving f ≡ true
-  count : closes_in front ≡ k
+  count : closes_in prefix ≡ k
 
-close-behind : (k m : ℕ) (g : Frame) (frames : List Frame) → (c : CloseAt k frames) → closes_in (g ∷ c.front) ≡ m → CloseAt m (g ∷ frames)
-close-behind k m g frames c e = record { front = g ∷ c.front; f = c.f; behind = c.behind; frames_are = ap (λ l. g ∷ l) c.frames_are; leaving = c.leaving; count = e }
+close-after : (k m : ℕ) (g : Frame) (frames : List Frame) → (c : CloseAt k frames) → closes_in (g ∷ c.prefix) ≡ m → CloseAt m (g ∷ frames)
+close-after k m g frames c e = record { prefix = g ∷ c.prefix; f = c.f; after = c.after; frames_are = ap (λ l. g ∷ l) c.frames_are; leaving = c.leaving; count = e }
 
 close-at : (k : ℕ) (frames : List Frame) → k < closes_in frames → CloseAt k frames
 close-at k [] h = absurd (omega arith)
 close-at zero (g ∷ frames) h = cases (is_leaving g) refl (close-at zero frames)
   where
     cases : (b : Bool) → is_leaving g ≡ b → (0 < closes_in frames → CloseAt 0 frames) → CloseAt 0 (g ∷ frames)
-    cases true l _ = record { front = []; f = g; behind = frames; frames_are = refl; leaving = l; count = refl }
+    cases true l _ = record { prefix = []; f = g; after = frames; frames_are = refl; leaving = l; count = refl }
     cases false l more =
         let c = closes-other g frames l in
         let there = more (omega arith) in
-        close-behind 0 0 g frames there (closes-other g there.front l ∙ there.count)
+        close-after 0 0 g frames there (closes-other g there.prefix l ∙ there.count)
 close-at (suc k) (g ∷ frames) h = cases (is_leaving g) refl (close-at k frames) (close-at (suc k) frames)
   where
     cases : (b : Bool) → is_leaving g ≡ b → (k < closes_in frames → CloseAt k frames) → (suc k < closes_in frames → CloseAt (suc k) frames) → CloseAt (suc k) (g ∷ frames)
     cases true l more _ =
         let c = closes-leaving g frames l in
         let there = more (omega arith) in
-        close-behind k (suc k) g frames there (closes-leaving g there.front l ∙ ap suc there.count)
+        close-after k (suc k) g frames there (closes-leaving g there.prefix l ∙ ap suc there.count)
     cases false l _ more =
         let c = closes-other g frames l in
         let there = more (omega arith) in
-        close-behind (suc k) (suc k) g frames there (closes-other g there.front l ∙ there.count)
+        close-after (suc k) (suc k) g frames there (closes-other g there.prefix l ∙ there.count)
 
 -- the queues but the last
 data IsOther : Queue → Type 0 where
@@ -83,34 +83,34 @@ back-none [] ys e = e
 back-none (x ∷ xs) ys e = absurd cc
 
 pub leaves-last : (put departing : List Frame) → KeepsOrder put departing → LeavesLast put → LeavesLast departing
-leaves-last put departing order last front behind f e l = All-tail (λ g. is_leaving g ≡ true) f behind (all-leave (f ∷ behind) none)
+leaves-last put departing order last prefix after f e l = All-tail (λ g. is_leaving g ≡ true) f after (all-leave (f ∷ after) none)
   where
-    many : closes_in front < closes_in put
+    many : closes_in prefix < closes_in put
     many =
-        let c = closes-leaving f behind l in
-        let joined : closes_in departing ≡ closes_in front + closes_in (f ∷ behind) = ap closes_in e ∙ (ap length (filter-append is_leaving front (f ∷ behind)) ∙ length-append (queued LeavingFrames front) (queued LeavingFrames (f ∷ behind))) in
+        let c = closes-leaving f after l in
+        let joined : closes_in departing ≡ closes_in prefix + closes_in (f ∷ after) = ap closes_in e ∙ (ap length (filter-append is_leaving prefix (f ∷ after)) ∙ length-append (queued LeavingFrames prefix) (queued LeavingFrames (f ∷ after))) in
         let same : closes_in departing ≡ closes_in put = ap length (order.queues LeavingFrames) in
         omega arith
 
-    there : CloseAt (closes_in front) put
-    there = close-at (closes_in front) put many
+    there : CloseAt (closes_in prefix) put
+    there = close-at (closes_in prefix) put many
 
-    none-by : (c : CloseAt (closes_in front) put) (queue : Queue) → IsOther queue → queued queue (f ∷ behind) ≡ []
+    none-by : (c : CloseAt (closes_in prefix) put) (queue : Queue) → IsOther queue → queued queue (f ∷ after) ≡ []
     none-by c queue other =
-        let k = closes_in front in
-        let before_put : before_close k put ≡ c.front = ap (before_close k) c.frames_are ∙ before-at k c.front c.behind c.f c.leaving c.count in
-        let before_here : before_close k departing ≡ front = ap (before_close k) e ∙ before-at k front behind f l refl in
+        let k = closes_in prefix in
+        let before_put : before_close k put ≡ c.prefix = ap (before_close k) c.frames_are ∙ before-at k c.prefix c.after c.f c.leaving c.count in
+        let before_here : before_close k departing ≡ prefix = ap (before_close k) e ∙ before-at k prefix after f l refl in
         let begins = order.closes k queue in
         let rest = begins.0 in
-        let front_is : queued queue front ≡ queued queue c.front ++ rest = sym (ap (queued queue) before_here) ∙ (begins.1 ∙ ap (λ m. queued queue m ++ rest) before_put) in
-        let last_ones : All (λ g. is_leaving g ≡ true) (c.f ∷ c.behind) = All-cons (λ g. is_leaving g ≡ true) c.f c.behind c.leaving (last c.front c.behind c.f c.frames_are c.leaving) in
-        let put_is : queued queue put ≡ queued queue c.front ++ [] =
-        ap (queued queue) c.frames_are ∙ (filter-append (is_in queue) c.front (c.f ∷ c.behind) ∙ ap (λ m. queued queue c.front ++ m) (none-in-other queue other (c.f ∷ c.behind) last_ones)) in
-        let here_is : queued queue departing ≡ queued queue c.front ++ (rest ++ queued queue (f ∷ behind)) =
-        ap (queued queue) e ∙ (filter-append (is_in queue) front (f ∷ behind) ∙ (ap (λ m. m ++ queued queue (f ∷ behind)) front_is ∙ append_assoc (queued queue c.front) rest (queued queue (f ∷ behind)))) in
-        back-none rest (queued queue (f ∷ behind)) (append_cancel_left (queued queue c.front) _ [] (sym here_is ∙ (order.queues queue ∙ put_is)))
+        let prefix_is : queued queue prefix ≡ queued queue c.prefix ++ rest = sym (ap (queued queue) before_here) ∙ (begins.1 ∙ ap (λ m. queued queue m ++ rest) before_put) in
+        let last_ones : All (λ g. is_leaving g ≡ true) (c.f ∷ c.after) = All-cons (λ g. is_leaving g ≡ true) c.f c.after c.leaving (last c.prefix c.after c.f c.frames_are c.leaving) in
+        let put_is : queued queue put ≡ queued queue c.prefix ++ [] =
+        ap (queued queue) c.frames_are ∙ (filter-append (is_in queue) c.prefix (c.f ∷ c.after) ∙ ap (λ m. queued queue c.prefix ++ m) (none-in-other queue other (c.f ∷ c.after) last_ones)) in
+        let here_is : queued queue departing ≡ queued queue c.prefix ++ (rest ++ queued queue (f ∷ after)) =
+        ap (queued queue) e ∙ (filter-append (is_in queue) prefix (f ∷ after) ∙ (ap (λ m. m ++ queued queue (f ∷ after)) prefix_is ∙ append_assoc (queued queue c.prefix) rest (queued queue (f ∷ after)))) in
+        back-none rest (queued queue (f ∷ after)) (append_cancel_left (queued queue c.prefix) _ [] (sym here_is ∙ (order.queues queue ∙ put_is)))
 
-    none : (queue : Queue) → IsOther queue → queued queue (f ∷ behind) ≡ []
+    none : (queue : Queue) → IsOther queue → queued queue (f ∷ after) ≡ []
     none queue other = none-by there queue other
 
 -- the frames of a channel above 0 are its queue
@@ -118,7 +118,7 @@ pub on-above : (channel : ℕ) (frames : List Frame) → 0 < channel → on chan
 on-above channel frames h = subst (λ b. on channel frames ≡ filter (λ f. b && (f.channel == channel)) frames) (sym (lt-ltb 0 channel h)) refl
 
 rest-last : (f : Frame) (frames : List Frame) → LeavesLast (f ∷ frames) → LeavesLast frames
-rest-last f frames last front behind g e l = last (f ∷ front) behind g (ap (λ m. f ∷ m) e) l
+rest-last f frames last prefix after g e l = last (f ∷ prefix) after g (ap (λ m. f ∷ m) e) l
 
 -- and those of channel 0 are its plain ones and then those that leave the connection, where these come last
 pub on-zero : (frames : List Frame) → LeavesLast frames → on 0 frames ≡ queued PlainFrames frames ++ queued LeavingFrames frames
@@ -159,43 +159,43 @@ put-as opening octets put out last = record {
   fit = out.fit;
   each_channel = each-channel put out.departing out.order last;
   closes_last =
-      λ front behind f e l channel h. on-above channel behind h ∙ none-in-other (FramesOn channel) (of_channel channel) behind (leaves-last put out.departing out.order last front behind f e l);
+      λ prefix after f e l channel h. on-above channel after h ∙ none-in-other (FramesOn channel) (of_channel channel) after (leaves-last put out.departing out.order last prefix after f e l);
 }
 
 none-more : {A : Type 0} (xs ys zs : List A) → length xs ≡ length ys → ys ≡ xs ++ zs → zs ≡ []
 none-more xs ys zs e f = nil_from_length zs (let s = ap length f ∙ length-append xs zs in omega arith)
 
--- What leaves behind a close was put behind it.
-pub close-split : (put departing : List Frame) → KeepsOrder put departing → (earlier later front behind : List Frame) (f g : Frame) → put ≡ earlier ++ f ∷ later → departing ≡ front ++ g ∷ behind → is_leaving f ≡ true → is_leaving g ≡ true → closes_in earlier ≡ closes_in front → (f ≡ g) × ((queue : Queue) → LeavesBehind earlier later front behind queue)
-close-split put departing order earlier later front behind f g p d lf lg count = (first, each)
+-- What leaves after a close was put after it.
+pub close-split : (put departing : List Frame) → KeepsOrder put departing → (earlier later prefix after : List Frame) (f g : Frame) → put ≡ earlier ++ f ∷ later → departing ≡ prefix ++ g ∷ after → is_leaving f ≡ true → is_leaving g ≡ true → closes_in earlier ≡ closes_in prefix → (f ≡ g) × ((queue : Queue) → LeavesAfter earlier later prefix after queue)
+close-split put departing order earlier later prefix after f g p d lf lg count = (first, each)
   where
-    begins : (queue : Queue) → IsFrontOf (queued queue earlier) (queued queue front)
+    begins : (queue : Queue) → IsPrefixOf (queued queue earlier) (queued queue prefix)
     begins queue =
         let here = before-at (closes_in earlier) earlier later f lf refl in
-        let there = before-at (closes_in earlier) front behind g lg (sym count) in
-        subst₂ (λ xs ys. IsFrontOf (queued queue ys) (queued queue xs)) (ap (before_close (closes_in earlier)) d ∙ there) (ap (before_close (closes_in earlier)) p ∙ here) (order.closes (closes_in earlier) queue)
+        let there = before-at (closes_in earlier) prefix after g lg (sym count) in
+        subst₂ (λ xs ys. IsPrefixOf (queued queue ys) (queued queue xs)) (ap (before_close (closes_in earlier)) d ∙ there) (ap (before_close (closes_in earlier)) p ∙ here) (order.closes (closes_in earlier) queue)
 
-    -- of each queue, what is not in front on either side
-    rests : (queue : Queue) (rest : List Frame) → queued queue front ≡ queued queue earlier ++ rest → rest ++ queued queue (g ∷ behind) ≡ queued queue (f ∷ later)
+    -- of each queue, what is not at the start on either side
+    rests : (queue : Queue) (rest : List Frame) → queued queue prefix ≡ queued queue earlier ++ rest → rest ++ queued queue (g ∷ after) ≡ queued queue (f ∷ later)
     rests queue rest e =
-        append_cancel_left (queued queue earlier) (rest ++ queued queue (g ∷ behind)) (queued queue (f ∷ later))
-        (sym (append_assoc (queued queue earlier) rest (queued queue (g ∷ behind)))
-        ∙ (ap (λ m. m ++ queued queue (g ∷ behind)) (sym e)
-        ∙ (sym (filter-append (is_in queue) front (g ∷ behind))
+        append_cancel_left (queued queue earlier) (rest ++ queued queue (g ∷ after)) (queued queue (f ∷ later))
+        (sym (append_assoc (queued queue earlier) rest (queued queue (g ∷ after)))
+        ∙ (ap (λ m. m ++ queued queue (g ∷ after)) (sym e)
+        ∙ (sym (filter-append (is_in queue) prefix (g ∷ after))
         ∙ (sym (ap (queued queue) d)
         ∙ (order.queues queue
         ∙ (ap (queued queue) p
         ∙ filter-append (is_in queue) earlier (f ∷ later)))))))
 
-    leave : (rest : List Frame) → queued LeavingFrames front ≡ queued LeavingFrames earlier ++ rest → (rest ≡ []) × (g ∷ queued LeavingFrames behind ≡ f ∷ queued LeavingFrames later)
+    leave : (rest : List Frame) → queued LeavingFrames prefix ≡ queued LeavingFrames earlier ++ rest → (rest ≡ []) × (g ∷ queued LeavingFrames after ≡ f ∷ queued LeavingFrames later)
     leave rest e =
-        let none = none-more (queued LeavingFrames earlier) (queued LeavingFrames front) rest count e in
-        (none, sym (cond-true (is_leaving g) _ _ lg) ∙ (ap (λ m. m ++ queued LeavingFrames (g ∷ behind)) (sym none) ∙ (rests LeavingFrames rest e ∙ cond-true (is_leaving f) _ _ lf)))
+        let none = none-more (queued LeavingFrames earlier) (queued LeavingFrames prefix) rest count e in
+        (none, sym (cond-true (is_leaving g) _ _ lg) ∙ (ap (λ m. m ++ queued LeavingFrames (g ∷ after)) (sym none) ∙ (rests LeavingFrames rest e ∙ cond-true (is_leaving f) _ _ lf)))
 
     first : f ≡ g
     first = let b = begins LeavingFrames in let h = (leave b.0 b.1).1 in cc
 
-    other : (queue : Queue) → IsOther queue → LeavesBehind earlier later front behind queue
+    other : (queue : Queue) → IsOther queue → LeavesAfter earlier later prefix after queue
     other queue o =
         let b = begins queue in
         record {
@@ -207,15 +207,15 @@ close-split put departing order earlier later front behind f g p d lf lg count =
               ∙ ap (λ m. b.0 ++ m) (cond-false (is_in queue g) _ _ (not-in-other queue o g lg)));
         }
 
-    leaving : LeavesBehind earlier later front behind LeavingFrames
+    leaving : LeavesAfter earlier later prefix after LeavingFrames
     leaving =
         let b = begins LeavingFrames in
         let h = leave b.0 b.1 in
         let none = h.0 in
-        let same : queued LeavingFrames behind ≡ queued LeavingFrames later = let e = h.1 in cc in
-        record { overtaking = b.0; before_is = b.1; later_is = sym same ∙ ap (λ m. m ++ queued LeavingFrames behind) (sym none) }
+        let same : queued LeavingFrames after ≡ queued LeavingFrames later = let e = h.1 in cc in
+        record { overtaking = b.0; before_is = b.1; later_is = sym same ∙ ap (λ m. m ++ queued LeavingFrames after) (sym none) }
 
-    each : (queue : Queue) → LeavesBehind earlier later front behind queue
+    each : (queue : Queue) → LeavesAfter earlier later prefix after queue
     each PlainFrames = other PlainFrames plain_one
     each (FramesOn c) = other (FramesOn c) (of_channel c)
     each LeavingFrames = leaving

@@ -3,31 +3,31 @@ use Rattle.std.proofs.Common.{◌≡◌, ℕ, zero, suc, List, [], ◌∷◌, �
 use Rattle.amqp_model.specs.Frame.{Frame}
 use Rattle.amqp_model.specs.Notes.{Kind, is_message}
 use Rattle.amqp_model.specs.Carried.{NoteInLife, At, messages}
-use Rattle.amqp_model.specs.Fronts.{IsFrontOf}
+use Rattle.amqp_model.specs.Prefixes.{IsPrefixOf}
 
 pub slice_get_front : {A : Type 0} (xs ys : List A) (i : ℕ) (x : A) → slice_get xs i ≡ Some x → slice_get (xs ++ ys) i ≡ Some x
 slice_get_front [] ys i x e = absurd cc
 slice_get_front (y ∷ xs) ys zero x e = e
 slice_get_front (y ∷ xs) ys (suc i) x e = slice_get_front xs ys i x e
 
-pub front_none : {A : Type 0} (xs : List A) → IsFrontOf xs [] → xs ≡ []
-front_none [] f = refl
-front_none (x ∷ xs) f = absurd (let e = f.1 in cc)
+pub prefix_none : {A : Type 0} (xs : List A) → IsPrefixOf xs [] → xs ≡ []
+prefix_none [] f = refl
+prefix_none (x ∷ xs) f = absurd (let e = f.1 in cc)
 
-pub front_more : {A : Type 0} (xs ys zs : List A) → IsFrontOf xs ys → IsFrontOf xs (ys ++ zs)
-front_more xs ys zs f = (f.0 ++ zs, ap (λ l. l ++ zs) f.1 ∙ append_assoc xs f.0 zs)
+pub prefix_more : {A : Type 0} (xs ys zs : List A) → IsPrefixOf xs ys → IsPrefixOf xs (ys ++ zs)
+prefix_more xs ys zs f = (f.0 ++ zs, ap (λ l. l ++ zs) f.1 ∙ append_assoc xs f.0 zs)
 
 -- where a list with one more element at its end has a given element
-pub snoc_cases : {A : Type 0} (front : List A) (c : A) (back xs : List A) (x : A) → xs ++ x ∷ [] ≡ front ++ c ∷ back → ((back ≡ []) × (x ≡ c) × (xs ≡ front)) ⊎ ((back' : List A) × (back ≡ back' ++ x ∷ []) × (xs ≡ front ++ c ∷ back'))
+pub snoc_cases : {A : Type 0} (prefix : List A) (c : A) (back xs : List A) (x : A) → xs ++ x ∷ [] ≡ prefix ++ c ∷ back → ((back ≡ []) × (x ≡ c) × (xs ≡ prefix)) ⊎ ((back' : List A) × (back ≡ back' ++ x ∷ []) × (xs ≡ prefix ++ c ∷ back'))
 snoc_cases [] c back [] x e = inl (cc, cc, refl)
 snoc_cases [] c back (y ∷ xs) x e = let h : back ≡ xs ++ x ∷ [] = cc in let k : y ≡ c = cc in inr (xs, h, ap (λ z. z ∷ xs) k)
 snoc_cases (y ∷ []) c back [] x e = absurd (let h : [] ≡ c ∷ back = cc in cc)
-snoc_cases (y ∷ z ∷ front) c back [] x e = absurd (let h : [] ≡ z ∷ (front ++ c ∷ back) = cc in cc)
-snoc_cases {A} (y ∷ front) c back (z ∷ xs) x e = more (snoc_cases front c back xs x cc)
+snoc_cases (y ∷ z ∷ prefix) c back [] x e = absurd (let h : [] ≡ z ∷ (prefix ++ c ∷ back) = cc in cc)
+snoc_cases {A} (y ∷ prefix) c back (z ∷ xs) x e = more (snoc_cases prefix c back xs x cc)
   where
-    more : ((back ≡ []) × (x ≡ c) × (xs ≡ front)) ⊎ ((back' : List A) × (back ≡ back' ++ x ∷ []) × (xs ≡ front ++ c ∷ back')) → ((back ≡ []) × (x ≡ c) × (z ∷ xs ≡ y ∷ front)) ⊎ ((back' : List A) × (back ≡ back' ++ x ∷ []) × (z ∷ xs ≡ (y ∷ front) ++ c ∷ back'))
-    more (inl h) = inl (h.0, h.1, (let k : xs ≡ front = h.2 in cc))
-    more (inr h) = inr (h.0, h.1, (let k : xs ≡ front ++ c ∷ h.0 = h.2 in cc))
+    more : ((back ≡ []) × (x ≡ c) × (xs ≡ prefix)) ⊎ ((back' : List A) × (back ≡ back' ++ x ∷ []) × (xs ≡ prefix ++ c ∷ back')) → ((back ≡ []) × (x ≡ c) × (z ∷ xs ≡ y ∷ prefix)) ⊎ ((back' : List A) × (back ≡ back' ++ x ∷ []) × (z ∷ xs ≡ (y ∷ prefix) ++ c ∷ back'))
+    more (inl h) = inl (h.0, h.1, (let k : xs ≡ prefix = h.2 in cc))
+    more (inr h) = inr (h.0, h.1, (let k : xs ≡ prefix ++ c ∷ h.0 = h.2 in cc))
 
 pub messages-append : (life : ℕ) (xs ys : List NoteInLife) → messages life (xs ++ ys) ≡ messages life xs ++ messages life ys
 messages-append life [] ys = refl

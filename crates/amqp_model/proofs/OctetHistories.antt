@@ -1,4 +1,4 @@
--- What an end took and put, and whether it has read what stands before the frames, behind more entries.
+-- What an end took and put, and whether it has read what stands before the frames, after more entries.
 use Rattle.std.proofs.Common.{◌≡◌, Bool, true, false, cond, ◌&&◌, ◌==◌, ℕ, List, [], ◌∷◌, ◌++◌, All, length, None, refl, sym, ap, ◌∙◌, subst, append_assoc, append-nil}
 use Rattle.std.proofs.lemmas.Bool.{true≢false, eq-eqb}
 use Rattle.std.proofs.lemmas.List.{drop_at}
@@ -6,7 +6,7 @@ use Rattle.std.proofs.lemmas.List.Elements.{All-drop, All-take}
 use Rattle.amqp_method.specs.declared.kinds.Kind.TheVariants as kinds
 use Rattle.amqp_frame.specs.Frame.{octets, Fits}
 use Rattle.amqp_frame.specs.Splitting.{AllFit}
-use Rattle.amqp_frame.proofs.FrameLemmas.{payload-in_front}
+use Rattle.amqp_frame.proofs.FrameLemmas.{payload-at_start}
 use Rattle.amqp_model.specs.Frame.{Frame}
 use Rattle.amqp_model.specs.Notes.{Role, Client, Server}
 use Rattle.amqp_model.specs.Readings.{Reading, reading, is_call}
@@ -21,7 +21,7 @@ use Rattle.amqp_model.specs.Endpoint.{Differs, compared, refusal_in, awaits_open
 use Rattle.amqp_model.specs.OctetLaws.{IsOctet}
 use Rattle.amqp_model.proofs.Phases.{phase-taken, phase-put}
 
--- Frames put behind a history.
+-- Frames put after a history.
 
 pub frames-put : (frames : List Frame) (history : History) → frames_put (then_put frames history) ≡ frames_put history ++ frames
 frames-put [] history = sym (append-nil (frames_put history))
@@ -155,14 +155,14 @@ not-failed role entries phase p f = cases (is_closed entries) (has_put kinds.Con
 
 -- Octets.
 
-pub back-octets : (front back : List ℕ) → All IsOctet (front ++ back) → All IsOctet back
-back-octets front back all = subst (All IsOctet) (drop_at front back (length front) refl) (All-drop IsOctet (length front) (front ++ back) all)
+pub back-octets : (prefix back : List ℕ) → All IsOctet (prefix ++ back) → All IsOctet back
+back-octets prefix back all = subst (All IsOctet) (drop_at prefix back (length prefix) refl) (All-drop IsOctet (length prefix) (prefix ++ back) all)
 
 pub payload-octets : (frame : Frame) → Fits frame → All IsOctet (octets frame) → All IsOctet frame.payload
 payload-octets frame fits all =
-    subst (All IsOctet) (payload-in_front frame []) (All-take IsOctet (length frame.payload) _ (All-drop IsOctet 7 _ (subst (All IsOctet) (sym (append-nil (octets frame))) all)))
+    subst (All IsOctet) (payload-at_start frame []) (All-take IsOctet (length frame.payload) _ (All-drop IsOctet 7 _ (subst (All IsOctet) (sym (append-nil (octets frame))) all)))
 
 -- octets that agree with those wanted up to the last
-pub compared-last : (front : List ℕ) (octet wanted : ℕ) (later : List ℕ) → compared (front ++ octet ∷ []) (front ++ wanted ∷ later) ≡ cond (octet == wanted) (compared [] later) Differs
+pub compared-last : (prefix : List ℕ) (octet wanted : ℕ) (later : List ℕ) → compared (prefix ++ octet ∷ []) (prefix ++ wanted ∷ later) ≡ cond (octet == wanted) (compared [] later) Differs
 compared-last [] octet wanted later = refl
-compared-last (x ∷ front) octet wanted later = let same : (x == x) ≡ true = eq-eqb x x refl in simp same (compared-last front octet wanted later)
+compared-last (x ∷ prefix) octet wanted later = let same : (x == x) ≡ true = eq-eqb x x refl in simp same (compared-last prefix octet wanted later)

@@ -11,7 +11,7 @@ use Rattle.amqp_frame.specs.Frame.{octets, Fits, END, type_octet, frame_length}
 use Rattle.amqp_frame.specs.Splitting.{IsTypeOctet, size_of, Tells, TellsFirst, IsRest}
 use Rattle.amqp_frame.specs.Judging.{IsBegun}
 use Rattle.amqp_frame.proofs.FrameLemmas.{one_frame, type_octet-is}
-use Rattle.amqp_frame.proofs.SplittingLemmas.{size_of-append, size_of-take, begun_front_tells_none, begun_is_rest, told_first}
+use Rattle.amqp_frame.proofs.SplittingLemmas.{size_of-append, size_of-take, begun_prefix_tells_none, begun_is_rest, told_first}
 use Rattle.amqp_frame.proofs.JudgingLemmas.{AreOctets, judged_whole}
 use Rattle.amqp_model.specs.Frame.{Frame}
 use Rattle.amqp_model.specs.Endpoint.{Judgement, Begun, Whole, Wrong, kind_of_type, frame_in, judged_by_end, judged_by_size, judged_by_type, judged}
@@ -45,12 +45,12 @@ are-octets xs all i = cases (cases_lt i (length xs))
     cases (inl here) = let small : get_or xs i 0 < 2 ^ 8 = All-get_or IsOctet xs i 0 here all in omega arith
     cases (inr past) = rw (get_or_past xs i 0 past) (omega arith)
 
-front-octets : (front tail : List ℕ) → All IsOctet (front ++ tail) → All IsOctet front
-front-octets front tail all = subst (All IsOctet) (take_at front tail (length front) refl) (All-take IsOctet (length front) (front ++ tail) all)
+prefix-octets : (prefix tail : List ℕ) → All IsOctet (prefix ++ tail) → All IsOctet prefix
+prefix-octets prefix tail all = subst (All IsOctet) (take_at prefix tail (length prefix) refl) (All-take IsOctet (length prefix) (prefix ++ tail) all)
 
--- Octets with a type, a size and an end in their places begin with the frame that they spell.
-spelled : (limit first : ℕ) (later : List ℕ) (kind : FrameKind) → AreOctets (first ∷ later) → type_octet kind ≡ first → 7 ≤ length (first ∷ later) → size_of (first ∷ later) + 8 ≤ limit → size_of (first ∷ later) + 8 ≤ length (first ∷ later) → slice_index (first ∷ later) (size_of (first ∷ later) + 7) ≡ END → (frame_length (frame_in kind (first ∷ later)) ≤ length (first ∷ later)) × (frame_length (frame_in kind (first ∷ later)) ≤ limit) × Fits (frame_in kind (first ∷ later)) × (take (frame_length (frame_in kind (first ∷ later))) (first ∷ later) ≡ octets (frame_in kind (first ∷ later)))
-spelled limit first later kind are type seven within long ending =
+-- Octets with a type, a size and an end in their places begin with the frame that they encode.
+encoded : (limit first : ℕ) (later : List ℕ) (kind : FrameKind) → AreOctets (first ∷ later) → type_octet kind ≡ first → 7 ≤ length (first ∷ later) → size_of (first ∷ later) + 8 ≤ limit → size_of (first ∷ later) + 8 ≤ length (first ∷ later) → slice_index (first ∷ later) (size_of (first ∷ later) + 7) ≡ END → (frame_length (frame_in kind (first ∷ later)) ≤ length (first ∷ later)) × (frame_length (frame_in kind (first ∷ later)) ≤ limit) × Fits (frame_in kind (first ∷ later)) × (take (frame_length (frame_in kind (first ∷ later))) (first ∷ later) ≡ octets (frame_in kind (first ∷ later)))
+encoded limit first later kind are type seven within long ending =
     let size : size_of (first ∷ later) + 8 - 1 - 7 ≡ size_of (first ∷ later) = omega arith in
     let place : size_of (first ∷ later) + 8 - 1 ≡ size_of (first ∷ later) + 7 = omega arith in
     judged_whole limit (first ∷ later) (frame_in kind (first ∷ later)) (size_of (first ∷ later) + 8) are seven refl within long type (omega arith) (ap (λ n. take n (drop 7 (first ∷ later))) (sym size)) (ap (λ n. get_or (first ∷ later) n 0) place ∙ ending)
@@ -72,7 +72,7 @@ begun-rest limit (first ∷ later) all rest = by-type (kind_of_type first) (type
       where
         ends : (b : Bool) → (slice_index (first ∷ later) (size_of (first ∷ later) + 7) == END) ≡ b → size_of (first ∷ later) + 8 ≤ length (first ∷ later) → ⊥
         ends true e long =
-            let whole = spelled limit first later kind (are-octets (first ∷ later) all) type seven (sized seven) long (eqb-true _ END e) in
+            let whole = encoded limit first later kind (are-octets (first ∷ later) all) type seven (sized seven) long (eqb-true _ END e) in
             rest.no_frame (frame_in kind (first ∷ later), drop (frame_length (frame_in kind (first ∷ later))) (first ∷ later), whole.2, sym (take-append-drop (frame_length (frame_in kind (first ∷ later))) (first ∷ later)) ∙ ap (λ xs. xs ++ drop (frame_length (frame_in kind (first ∷ later))) (first ∷ later)) whole.3)
         ends false e long = rest.no_fault BadEnd (long, eqb-false _ END e)
 
@@ -84,23 +84,23 @@ begun-rest limit (first ∷ later) all rest = by-type (kind_of_type first) (type
     by-type (Some kind) (is_type k type) = record { typed = λ some. subst IsTypeOctet type (type_octet-is k); sized = sized; short = short k type }
     by-type None (no_type none) = absurd (rest.no_fault UnknownType (omega arith, none))
 
--- One octet behind a frame begun.
-module _ (limit : ℕ) (front : List ℕ) (octet first : ℕ) (later : List ℕ) (whole_is : first ∷ later ≡ front ++ octet ∷ []) (all : All IsOctet (first ∷ later)) (begun : IsBegun limit front) where
-  length-is : length (first ∷ later) ≡ length front + 1
-  length-is = ap length whole_is ∙ length-append front (octet ∷ [])
+-- One octet after a frame begun.
+module _ (limit : ℕ) (prefix : List ℕ) (octet first : ℕ) (later : List ℕ) (whole_is : first ∷ later ≡ prefix ++ octet ∷ []) (all : All IsOctet (first ∷ later)) (begun : IsBegun limit prefix) where
+  length-is : length (first ∷ later) ≡ length prefix + 1
+  length-is = ap length whole_is ∙ length-append prefix (octet ∷ [])
 
   tells-last : (kind : FrameFaultKind) → Tells limit (first ∷ later) kind → TellsLast limit (first ∷ later) kind
   tells-last kind told =
       let l = length-is in
       record {
-        place = length front;
+        place = length prefix;
         last = length-is;
-        told = told_first limit (first ∷ later) kind (length front) (omega arith) (subst (IsBegun limit) (sym (ap (take (length front)) whole_is ∙ take_at front (octet ∷ []) (length front) refl)) begun) (subst (λ xs. Tells limit xs kind) (sym (take_all (length front + 1) (first ∷ later) (omega arith))) told);
+        told = told_first limit (first ∷ later) kind (length prefix) (omega arith) (subst (IsBegun limit) (sym (ap (take (length prefix)) whole_is ∙ take_at prefix (octet ∷ []) (length prefix) refl)) begun) (subst (λ xs. Tells limit xs kind) (sym (take_all (length prefix + 1) (first ∷ later) (omega arith))) told);
       }
 
   by-end : (kind : FrameKind) → type_octet kind ≡ first → 7 ≤ length (first ∷ later) → size_of (first ∷ later) + 8 ≤ limit → length (first ∷ later) ≡ size_of (first ∷ later) + 8 → (b : Bool) → (slice_index (first ∷ later) (size_of (first ∷ later) + 7) == END) ≡ b → IsJudgedWell limit (first ∷ later) (cond b (Whole (frame_in kind (first ∷ later))) (Wrong BadEnd))
   by-end kind type seven within exact true e =
-      let whole = spelled limit first later kind (are-octets (first ∷ later) all) type seven within (omega arith) (eqb-true _ END e) in
+      let whole = encoded limit first later kind (are-octets (first ∷ later) all) type seven within (omega arith) (eqb-true _ END e) in
       record { is_frame = sym (take_all (frame_length (frame_in kind (first ∷ later))) (first ∷ later) (is-all whole.0 whole.2 whole.3)) ∙ whole.3; fits = whole.2; within = whole.1 }
     where
       is-all : frame_length (frame_in kind (first ∷ later)) ≤ length (first ∷ later) → Fits (frame_in kind (first ∷ later)) → take (frame_length (frame_in kind (first ∷ later))) (first ∷ later) ≡ octets (frame_in kind (first ∷ later)) → length (first ∷ later) ≤ frame_length (frame_in kind (first ∷ later))
@@ -112,15 +112,15 @@ module _ (limit : ℕ) (front : List ℕ) (octet first : ℕ) (later : List ℕ)
   by-length : (kind : FrameKind) → type_octet kind ≡ first → 7 ≤ length (first ∷ later) → size_of (first ∷ later) + 8 ≤ limit → (b : Bool) → nat_lt (length (first ∷ later)) (size_of (first ∷ later) + 8) ≡ b → IsJudgedWell limit (first ∷ later) (cond b Begun (judged_by_end kind (first ∷ later)))
   by-length kind type seven within true e =
       begun_is_rest limit (first ∷ later) (record { typed = λ some. subst IsTypeOctet type (type_octet-is kind); sized = λ seven. within; short = λ seven. ltb-true _ _ e })
-  by-length kind type seven within false e = by-end kind type seven within (exact (cases_lt (length front) 7)) (slice_index (first ∷ later) (size_of (first ∷ later) + 7) == END) refl
+  by-length kind type seven within false e = by-end kind type seven within (exact (cases_lt (length prefix) 7)) (slice_index (first ∷ later) (size_of (first ∷ later) + 7) == END) refl
     where
-      exact : (length front < 7) ⊎ (7 ≤ length front) → length (first ∷ later) ≡ size_of (first ∷ later) + 8
+      exact : (length prefix < 7) ⊎ (7 ≤ length prefix) → length (first ∷ later) ≡ size_of (first ∷ later) + 8
       exact (inl few) = let l = length-is in let long = ltb-false (length (first ∷ later)) (size_of (first ∷ later) + 8) e in omega arith
       exact (inr many) =
           let l = length-is in
           let long = ltb-false (length (first ∷ later)) (size_of (first ∷ later) + 8) e in
           let short = begun.short many in
-          let same : size_of (first ∷ later) ≡ size_of front = ap size_of whole_is ∙ size_of-append front (octet ∷ []) many in
+          let same : size_of (first ∷ later) ≡ size_of prefix = ap size_of whole_is ∙ size_of-append prefix (octet ∷ []) many in
           omega arith
 
   by-limit : (kind : FrameKind) → type_octet kind ≡ first → 7 ≤ length (first ∷ later) → (b : Bool) → nat_lt limit (size_of (first ∷ later) + 8) ≡ b → IsJudgedWell limit (first ∷ later) (cond b (Wrong TooLarge) (cond (nat_lt (length (first ∷ later)) (size_of (first ∷ later) + 8)) Begun (judged_by_end kind (first ∷ later))))
@@ -137,10 +137,10 @@ module _ (limit : ℕ) (front : List ℕ) (octet first : ℕ) (later : List ℕ)
   by-type (Some kind) (is_type k type) = by-seven k type (nat_lt (length (first ∷ later)) 7) refl
   by-type None (no_type none) = tells-last UnknownType (omega arith, none)
 
-pub judged-well : (limit : ℕ) (front : List ℕ) (octet : ℕ) → All IsOctet (front ++ octet ∷ []) → IsRest limit front → IsJudgedWell limit (front ++ octet ∷ []) (judged limit (front ++ octet ∷ []))
+pub judged-well : (limit : ℕ) (prefix : List ℕ) (octet : ℕ) → All IsOctet (prefix ++ octet ∷ []) → IsRest limit prefix → IsJudgedWell limit (prefix ++ octet ∷ []) (judged limit (prefix ++ octet ∷ []))
 judged-well limit [] octet all rest = by-type limit [] octet octet [] refl all (begun-rest limit [] (All-nil IsOctet) rest) (kind_of_type octet) (type-read octet)
-judged-well limit (first ∷ front) octet all rest =
-    by-type limit (first ∷ front) octet first (front ++ octet ∷ []) refl all (begun-rest limit (first ∷ front) (front-octets (first ∷ front) (octet ∷ []) all) rest) (kind_of_type first) (type-read first)
+judged-well limit (first ∷ prefix) octet all rest =
+    by-type limit (first ∷ prefix) octet first (prefix ++ octet ∷ []) refl all (begun-rest limit (first ∷ prefix) (prefix-octets (first ∷ prefix) (octet ∷ []) all) rest) (kind_of_type first) (type-read first)
 
 -- Octets are but one of the things that they can be judged.
 
@@ -159,18 +159,18 @@ place-is : (limit : ℕ) (xs : List ℕ) (kind : FrameFaultKind) (place : ℕ) �
 place-is limit xs UnknownType place last first told = cases (cases_lt 0 place)
   where
     cases : (0 < place) ⊎ (place ≤ 0) → place ≡ 0
-    cases (inl behind) =
+    cases (inl after) =
         let one : length (take 1 xs) ≡ 1 = length-take-le 1 xs (omega arith) in
-        absurd (first.first 1 UnknownType behind (omega arith, λ t. told.1 (subst IsTypeOctet (get_or-take 1 xs 0 0 (omega arith)) t)))
+        absurd (first.first 1 UnknownType after (omega arith, λ t. told.1 (subst IsTypeOctet (get_or-take 1 xs 0 0 (omega arith)) t)))
     cases (inr none) = omega arith
 place-is limit xs TooLarge place last first told = cases (cases_lt 6 place)
   where
     cases : (6 < place) ⊎ (place ≤ 6) → place ≡ 6
-    cases (inl behind) =
+    cases (inl after) =
         let seven : length (take 7 xs) ≡ 7 = length-take-le 7 xs told.0 in
         let large : limit < size_of xs + 8 = told.1 in
         let size : size_of (take 7 xs) ≡ size_of xs = size_of-take 7 xs (omega arith) told.0 in
-        absurd (first.first 7 TooLarge behind (omega arith, omega arith))
+        absurd (first.first 7 TooLarge after (omega arith, omega arith))
     cases (inr few) = let many : 7 ≤ length xs = told.0 in omega arith
 place-is limit xs BadEnd place last first told = let long : size_of xs + 8 ≤ length xs = told.0 in omega arith
 place-is limit xs OutOfMemory place last first told = told
@@ -203,7 +203,7 @@ rest-and-wrong limit xs kind rest last = rest.no_fault kind (told-whole limit xs
 
 whole-and-wrong : (limit : ℕ) (xs : List ℕ) (frame : Frame) (kind : FrameFaultKind) → IsWhole limit xs frame → TellsLast limit xs kind → ⊥
 whole-and-wrong limit xs frame kind whole last =
-    begun_front_tells_none limit frame xs [] [] kind whole.fits whole.within (ap (λ octets. octets ++ []) (sym whole.is_frame)) (told-whole limit xs kind last)
+    begun_prefix_tells_none limit frame xs [] [] kind whole.fits whole.within (ap (λ octets. octets ++ []) (sym whole.is_frame)) (told-whole limit xs kind last)
 
 pub one-said : (limit : ℕ) (xs : List ℕ) (one other : Judgement) → IsJudgedWell limit xs one → IsJudgedWell limit xs other → one ≡ other
 one-said limit xs Begun Begun a b = refl

@@ -36,7 +36,7 @@ header = refl
 header-output : greeted.endpoint.output ≡ record { ahead = []; last = 0; row = method_frame 0 (start server_config) ∷ [] }
 header-output = refl
 
--- octets behind it are not looked at yet
+-- octets after it are not looked at yet
 header-first : fed_to (new_endpoint Server) (65 ∷ 77 ∷ 81 ∷ 80 ∷ 0 ∷ 0 ∷ 9 ∷ 1 ∷ 4 ∷ []) ≡ greeted
 header-first = refl
 
@@ -68,7 +68,7 @@ failed-after = refl
 client-output : output_octets (new_endpoint Client).output ≡ PROTOCOL_HEADER
 client-output = refl
 
--- Frames behind the protocol header, of which none may have more than 4096 octets.
+-- Frames after the protocol header, of which none may have more than 4096 octets.
 
 -- 4097 octets
 abbrev passed : Feeding

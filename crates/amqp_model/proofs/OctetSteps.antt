@@ -29,10 +29,10 @@ use Rattle.amqp_model.specs.Fitting.{ConfigWrites}
 use Rattle.amqp_model.specs.FittingLaws.{MethodReadsBack}
 use Rattle.amqp_model.specs.Machine.{end_after, end_after_owed, end_after_taken, failed_by, StandsFor}
 use Rattle.amqp_model.specs.Octets.{frames_taken, frames_put, opening_read, opening_written, has_opened, FedAs, FailedAt}
-use Rattle.amqp_model.specs.Endpoint.{Judgement, Begun, Whole, Wrong, judged, Front, Same, Differs, compared, Endpoint, Feeding, Outcome, Unfinished, Finished, Found, output_of, refusal_in, unless_over, goes_on_with, comes_to, awaits_opening, greeting, after_opening, outcome_of, fault_told, owed_at_fault, after_judged, after_octets, after_octet, fed_behind, after_feed}
+use Rattle.amqp_model.specs.Endpoint.{Judgement, Begun, Whole, Wrong, judged, Prefix, Same, Differs, compared, Endpoint, Feeding, Outcome, Unfinished, Finished, Found, output_of, refusal_in, unless_over, goes_on_with, comes_to, awaits_opening, greeting, after_opening, outcome_of, fault_told, owed_at_fault, after_judged, after_octets, after_octet, fed_after, after_feed}
 use Rattle.amqp_model.specs.OctetLaws.{IsOctet, IsWhole, TellsLast, IsJudgedWell, EndpointStandsFor, HasFailed, Follows, waits, greets, takes, faults, tells, differs, refuses, OctetFollows, FeedFollows}
 use Rattle.amqp_model.proofs.Rows.{same-queues-all}
-use Rattle.amqp_model.proofs.Closes.{front-none}
+use Rattle.amqp_model.proofs.Closes.{prefix-none}
 use Rattle.amqp_model.proofs.Writing.{stream-append}
 use Rattle.amqp_model.proofs.Departing.{output-begins, output-puts}
 use Rattle.amqp_model.proofs.Acting.{reads-back}
@@ -53,7 +53,7 @@ record AreWritable (owed : List Owed) : Type 0 where
   read_back : AllReadBack owed
   fit : AllFit (map frame_of owed)
 
--- a frame that octets spell, no longer than the limit
+-- a frame that octets encode, no longer than the limit
 record CanCome (limit : ℕ) (frame : Frame) : Type 0 where
   fits : Fits frame
   within : frame_length frame ≤ limit
@@ -114,7 +114,7 @@ no-frames (frame ∷ frames) none = absurd (All-head (λ frame. ⊥) frame frame
 nothing-written : (written : List ℕ) (o : Output) → IsOutputOf [] [] written o → written ≡ []
 nothing-written written o out =
     let none : out.begun ++ o.row ≡ [] = no-frames (out.begun ++ o.row) (same-queues-all (λ frame. ⊥) (out.begun ++ o.row) [] out.order.queues (All-nil (λ frame. ⊥))) in
-    front-none written o.ahead (out.octets_are ∙ ap stream (front-none out.begun o.row none))
+    prefix-none written o.ahead (out.octets_are ∙ ap stream (prefix-none out.begun o.row none))
 
 -- The protocol header at a server.
 
@@ -148,7 +148,7 @@ abbrev is_unfinished : Outcome → Bool
 is_unfinished Unfinished = true
 is_unfinished outcome = false
 
--- nothing comes of it, or something does, whatever octets stand behind it
+-- nothing comes of it, or something does, whatever octets stand after it
 data Steps (role : Role) (config : Config role) (old : Endpoint) (history : History) (fed written : List ℕ) (octet : ℕ) : Feeding → Type 0 where
   kept : EndpointStandsFor role config (goes_on_with old (old.unfinished ++ octet ∷ [])).endpoint history (fed ++ octet ∷ []) written → Steps role config old history fed written octet (goes_on_with old (old.unfinished ++ octet ∷ []))
   come : (new : Feeding) → is_unfinished new.outcome ≡ false → ((later : List ℕ) → Follows role config old history fed written (octet ∷ later) new) → Steps role config old history fed written octet new
@@ -186,8 +186,8 @@ reads-opening role limit history fed unfinished o (FedAs.in_frames opened whole 
 -- An octet where the protocol header is awaited.
 
 -- the octets agree so far, and there are more to come
-header-front : (role : Role) (config : Config role) (old : Endpoint) (history : History) (fed written : List ℕ) (octet : ℕ) → EndpointStandsFor role config old history fed written → IsOctet octet → history ≡ [] → old.unfinished ≡ fed → (next : ℕ) (later : List ℕ) → opening_read role ≡ (fed ++ octet ∷ []) ++ next ∷ later → Steps role config old history fed written octet (after_opening role config old (old.unfinished ++ octet ∷ []) Front)
-header-front role config old history fed written octet s small h u next later e =
+header-prefix : (role : Role) (config : Config role) (old : Endpoint) (history : History) (fed written : List ℕ) (octet : ℕ) → EndpointStandsFor role config old history fed written → IsOctet octet → history ≡ [] → old.unfinished ≡ fed → (next : ℕ) (later : List ℕ) → opening_read role ≡ (fed ++ octet ∷ []) ++ next ∷ later → Steps role config old history fed written octet (after_opening role config old (old.unfinished ++ octet ∷ []) Prefix)
+header-prefix role config old history fed written octet s small h u next later e =
     kept (record { lawful = s.lawful; stands = s.stands; opens = s.opens; are_octets = All-push IsOctet fed octet s.are_octets small; read = FedAs.in_opening (next ∷ later) (λ none. absurd cc) e h (ap (λ l. l ++ octet ∷ []) u); out = s.out })
 
 -- the protocol header is whole
@@ -216,7 +216,7 @@ frames-octets Failed t = absurd (false≢true t)
 header-differs : (role : Role) (config : Config role) (old : Endpoint) (history : History) (fed written : List ℕ) (octet : ℕ) → EndpointStandsFor role config old history fed written → awaits_opening role old.end.phase ≡ true → history ≡ [] → (wanted : ℕ) (later : List ℕ) → opening_read role ≡ fed ++ wanted ∷ later → octet ≢ wanted → Steps role config old history fed written octet (after_opening role config old (old.unfinished ++ octet ∷ []) Differs)
 header-differs Client config old history fed written octet s a h wanted later e apart = absurd (false≢true a)
 header-differs Server config old history fed written octet s a h wanted later e apart =
-    come _ refl (λ behind. differs a refl (record { lawful = goes s.lawful ((end-steps Server config old.end history s.stands).fails (awaiting-takes old.end.phase a)); stands = any-fails Server config old.end history s.stands; read = FailedAt.off_opening fed later octet wanted e refl apart h; out = out }))
+    come _ refl (λ after. differs a refl (record { lawful = goes s.lawful ((end-steps Server config old.end history s.stands).fails (awaiting-takes old.end.phase a)); stands = any-fails Server config old.end history s.stands; read = FailedAt.off_opening fed later octet wanted e refl apart h; out = out }))
   where
     none : written ≡ []
     none = nothing-written written old.output (subst (λ history. IsOutputOf [] (frames_put history) written old.output) h s.out)
@@ -235,7 +235,7 @@ opening-steps role config old history fed written octet s small fits a = by-read
         by-octet false apart later e = header-differs role config old history fed written octet s a h wanted later e (eqb-false octet wanted apart)
         by-octet true same [] e = header-whole role config old history fed written octet s small fits a h (e ∙ ap (λ x. fed ++ x ∷ []) (sym (eqb-true octet wanted same)))
         by-octet true same (next ∷ later) e =
-            header-front role config old history fed written octet s small h u next later (e ∙ (ap (λ x. fed ++ x ∷ next ∷ later) (sym (eqb-true octet wanted same)) ∙ sym (append_assoc fed (octet ∷ []) (next ∷ later))))
+            header-prefix role config old history fed written octet s small h u next later (e ∙ (ap (λ x. fed ++ x ∷ next ∷ later) (sym (eqb-true octet wanted same)) ∙ sym (append_assoc fed (octet ∷ []) (next ∷ later))))
 
 -- An octet of a frame.
 module _ (role : Role) (config : Config role) (old : Endpoint) (history : History) (fed written : List ℕ) (octet : ℕ) (s : EndpointStandsFor role config old history fed written) (small : IsOctet octet) (fits : PutsFit role config old.end) (a : awaits_opening role old.end.phase ≡ false) (taking : takes_frames old.end.phase ≡ true) (opened : has_opened role history ≡ true) (fed_is : fed ++ octet ∷ [] ≡ opening_read role ++ (stream (frames_taken history) ++ (old.unfinished ++ octet ∷ []))) (fit : AllFit (frames_taken history)) where
@@ -373,35 +373,35 @@ octet-follows law role config endpoint history fed written octet s small writes 
 
 -- A piece.
 
-unless-over : (new later : Feeding) (outcome : Outcome) → is_unfinished outcome ≡ false → fed_behind new outcome later ≡ new
+unless-over : (new later : Feeding) (outcome : Outcome) → is_unfinished outcome ≡ false → fed_after new outcome later ≡ new
 unless-over new later Unfinished e = absurd (true≢false e)
 unless-over new later (Finished event) e = refl
 unless-over new later (Found fault) e = refl
 
--- what comes of the octets behind the first comes of the piece
-behind-first : (role : Role) (config : Config role) (old : Endpoint) (history : History) (fed written : List ℕ) (octet : ℕ) (later : List ℕ) (new : Feeding) → refusal_in old.end.phase ≡ None → Follows role config (goes_on_with old (old.unfinished ++ octet ∷ [])).endpoint history (fed ++ octet ∷ []) written later new → Follows role config old history fed written (octet ∷ later) (record { endpoint = new.endpoint; taken = suc new.taken; outcome = new.outcome })
-behind-first role config old history fed written octet later new r (waits o s) =
+-- what comes of the octets after the first comes of the piece
+after-first : (role : Role) (config : Config role) (old : Endpoint) (history : History) (fed written : List ℕ) (octet : ℕ) (later : List ℕ) (new : Feeding) → refusal_in old.end.phase ≡ None → Follows role config (goes_on_with old (old.unfinished ++ octet ∷ [])).endpoint history (fed ++ octet ∷ []) written later new → Follows role config old history fed written (octet ∷ later) (record { endpoint = new.endpoint; taken = suc new.taken; outcome = new.outcome })
+after-first role config old history fed written octet later new r (waits o s) =
     waits o (subst (λ fed. EndpointStandsFor role config new.endpoint history fed written) (append_assoc fed (octet ∷ []) (take new.taken later)) s)
-behind-first role config old history fed written octet later new r (greets a h o s) =
+after-first role config old history fed written octet later new r (greets a h o s) =
     greets a h o (subst (λ fed. EndpointStandsFor role config new.endpoint (then_put (map frame_of (greeting role config)) history) fed written) (append_assoc fed (octet ∷ []) (take new.taken later)) s)
-behind-first role config old history fed written octet later new r (takes frame t w g o s) =
+after-first role config old history fed written octet later new r (takes frame t w g o s) =
     takes frame t (subst (λ rest. IsWhole (frame_limit old.end.agreed) rest frame) (append_assoc old.unfinished (octet ∷ []) (take new.taken later)) w) g o
     (subst (λ fed. EndpointStandsFor role config new.endpoint (then_taken config old.end frame history) fed written) (append_assoc fed (octet ∷ []) (take new.taken later)) s)
-behind-first role config old history fed written octet later new r (faults frame fault t w v o f) =
+after-first role config old history fed written octet later new r (faults frame fault t w v o f) =
     faults frame fault t (subst (λ rest. IsWhole (frame_limit old.end.agreed) rest frame) (append_assoc old.unfinished (octet ∷ []) (take new.taken later)) w) v o
     (subst (λ fed. HasFailed role config (frame_limit old.end.agreed) (opening_written role) (then_taken config old.end frame history) fed written new.endpoint) (append_assoc fed (octet ∷ []) (take new.taken later)) f)
-behind-first role config old history fed written octet later new r (tells kind t told o f) =
+after-first role config old history fed written octet later new r (tells kind t told o f) =
     tells kind t (subst (λ rest. TellsLast (frame_limit old.end.agreed) rest kind) (append_assoc old.unfinished (octet ∷ []) (take new.taken later)) told) o
     (subst (λ fed. HasFailed role config (frame_limit old.end.agreed) (opening_written role) (then_put (map frame_of (owed_at_fault config old.end kind)) history) fed written new.endpoint) (append_assoc fed (octet ∷ []) (take new.taken later)) f)
-behind-first role config old history fed written octet later new r (differs a o f) =
+after-first role config old history fed written octet later new r (differs a o f) =
     differs a o (subst (λ fed. HasFailed role config (frame_limit old.end.agreed) PROTOCOL_HEADER history fed written new.endpoint) (append_assoc fed (octet ∷ []) (take new.taken later)) f)
-behind-first role config old history fed written octet later new r (refuses closed e) = absurd (none (sym (ap refusal_in closed) ∙ r))
+after-first role config old history fed written octet later new r (refuses closed e) = absurd (none (sym (ap refusal_in closed) ∙ r))
   where
     none : Some AlreadyClosed ≡ None → ⊥
     none e = cc
 
-first-steps : (role : Role) (config : Config role) (old : Endpoint) (history : History) (fed written : List ℕ) (octet : ℕ) (later : List ℕ) (first : Feeding) → refusal_in old.end.phase ≡ None → Steps role config old history fed written octet first → (EndpointStandsFor role config (goes_on_with old (old.unfinished ++ octet ∷ [])).endpoint history (fed ++ octet ∷ []) written → Follows role config (goes_on_with old (old.unfinished ++ octet ∷ [])).endpoint history (fed ++ octet ∷ []) written later (after_feed role config (goes_on_with old (old.unfinished ++ octet ∷ [])).endpoint later)) → Follows role config old history fed written (octet ∷ later) (fed_behind first first.outcome (after_feed role config first.endpoint later))
-first-steps role config old history fed written octet later first r (kept s) more = behind-first role config old history fed written octet later _ r (more s)
+first-steps : (role : Role) (config : Config role) (old : Endpoint) (history : History) (fed written : List ℕ) (octet : ℕ) (later : List ℕ) (first : Feeding) → refusal_in old.end.phase ≡ None → Steps role config old history fed written octet first → (EndpointStandsFor role config (goes_on_with old (old.unfinished ++ octet ∷ [])).endpoint history (fed ++ octet ∷ []) written → Follows role config (goes_on_with old (old.unfinished ++ octet ∷ [])).endpoint history (fed ++ octet ∷ []) written later (after_feed role config (goes_on_with old (old.unfinished ++ octet ∷ [])).endpoint later)) → Follows role config old history fed written (octet ∷ later) (fed_after first first.outcome (after_feed role config first.endpoint later))
+first-steps role config old history fed written octet later first r (kept s) more = after-first role config old history fed written octet later _ r (more s)
 first-steps role config old history fed written octet later first r (come new over follows) more =
     subst (Follows role config old history fed written (octet ∷ later)) (sym (unless-over new (after_feed role config new.endpoint later) new.outcome over)) (follows later)
 

@@ -18,7 +18,7 @@ abbrev pub is_restart : Kind → Bool
 is_restart (Flow active) = active
 is_restart _ = false
 
--- What comes to an end that holds the other paused, or not, holds no content behind a flow-ok with active 0;
+-- What comes to an end that holds the other paused, or not, holds no content after a flow-ok with active 0;
 -- with all of it taken the end holds the other paused, or not.
 pub data Scan : Bool → List NoteInLife → Bool → Type 0 where
   scanned : {held : Bool} → Scan held [] held
@@ -95,7 +95,7 @@ pub record Silenced (n : ℕ) (word : State) (m : ℕ) (paused : Bool) (q : List
   no_restart : NoRestart q
 
 -- Of an end in life n that holds the other paused or not, the other, what is on its way to it, and what comes:
--- behind a flow-ok with active 0 no content comes, and once it is put the other is silenced.
+-- after a flow-ok with active 0 no content comes, and once it is put the other is silenced.
 pub data Hush (n : ℕ) (held : Bool) (word : State) (m : ℕ) (paused : Bool) (q r : List NoteInLife) : Type 0 where
   hush : {out : Bool} → Scan held r out → (out ≡ true → Silenced n word m paused q) → Hush n held word m paused q r
 
@@ -169,12 +169,12 @@ most_le : (b : Bool) → most b ≤ 1
 most_le false = omega arith
 most_le true = omega arith
 
--- behind a flow that is taken while the channel is Open there is no other
-no_flow_behind : {role : Role} {n m k : ℕ} {active : Bool} {frame : Frame} {w : State} {a b : Bool} {q r : List NoteInLife} → JointAt role (Is State.Open m a) (Is w n b) r (At (Flow active) k frame ∷ q) → NoRestart q
-no_flow_behind {b = b} (at_client (ready q (with_flow r) le me)) = row_no_restart r (omega (arith, most_le b)) tt
-no_flow_behind {b = b} (at_client (server_closes q (with_flow r) le me)) = row_no_restart r (omega (arith, most_le b)) (refl, tt)
-no_flow_behind {b = b} (at_server (ready (with_flow q) r le me)) = row_no_restart q (omega (arith, most_le b)) tt
-no_flow_behind {b = b} (at_server (client_closes (with_flow q) r le me)) = row_no_restart q (omega (arith, most_le b)) (refl, tt)
+-- after a flow that is taken while the channel is Open there is no other
+no_flow_after : {role : Role} {n m k : ℕ} {active : Bool} {frame : Frame} {w : State} {a b : Bool} {q r : List NoteInLife} → JointAt role (Is State.Open m a) (Is w n b) r (At (Flow active) k frame ∷ q) → NoRestart q
+no_flow_after {b = b} (at_client (ready q (with_flow r) le me)) = row_no_restart r (omega (arith, most_le b)) tt
+no_flow_after {b = b} (at_client (server_closes q (with_flow r) le me)) = row_no_restart r (omega (arith, most_le b)) (refl, tt)
+no_flow_after {b = b} (at_server (ready (with_flow q) r le me)) = row_no_restart q (omega (arith, most_le b)) tt
+no_flow_after {b = b} (at_server (client_closes (with_flow q) r le me)) = row_no_restart q (omega (arith, most_le b)) (refl, tt)
 
 -- an end that may be held asks
 pub theirs_ask : {role : Role} {word word' w : State} {n m m' : ℕ} {a a' b : Bool} {q r : List NoteInLife} {kind : Kind} {held : Bool} (history : List Note) (frame : Frame) → Asking role (Is word m a) kind (Is word' m' a') → (is_content kind ≡ true → is_paused role history ≡ false) → JointAt role (Is word m a) (Is w n b) r q → Hush n held word m (is_paused role history) q r → Hush n held word' m' (is_paused role (Put kind frame ∷ history)) q (r ++ At kind m' frame ∷ [])
@@ -203,7 +203,7 @@ theirs_reply history frame answer s accepts new (at_server opening) (hush scan s
 theirs_reply {m' = m'} history frame answer s ends new joint (hush scan silenced) = hush (scan_plain CloseOk m' answer refl refl scan) (λ e. let old = silenced e in record { hushed = is_free; no_restart = old.no_restart.1 })
 theirs_reply {m' = m'} history frame answer s crosses new joint (hush scan silenced) = hush (scan_plain CloseOk m' answer refl refl scan) (λ e. let old = silenced e in record { hushed = is_closing; no_restart = old.no_restart.1 })
 theirs_reply {m' = m'} history frame answer s (pauses {active = true}) new joint (hush scan silenced) = hush (scan_plain (FlowOk true) m' answer refl refl scan) (λ e. absurd (true≢false (silenced e).no_restart.0))
-theirs_reply {role} {n = n} {m} {m'} {q = q} {r} history frame answer (stands l e h) (pauses {active = false}) new joint (hush scan silenced) = hush (scan_pause m' answer scan) (λ e. record { hushed = subst (λ p. IsHushed n State.Open m p) (sym (simp h.1)) is_paused_now; no_restart = no_flow_behind joint })
+theirs_reply {role} {n = n} {m} {m'} {q = q} {r} history frame answer (stands l e h) (pauses {active = false}) new joint (hush scan silenced) = hush (scan_pause m' answer scan) (λ e. record { hushed = subst (λ p. IsHushed n State.Open m p) (sym (simp h.1)) is_paused_now; no_restart = no_flow_after joint })
 
 -- two ends with their notes, in one of the cases, each silenced where the other holds it
 pub data Pact (role : Role) (mine theirs : List Note) : Standing → Standing → List NoteInLife → List NoteInLife → Type 0 where

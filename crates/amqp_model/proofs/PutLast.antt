@@ -1,4 +1,4 @@
--- Behind a connection.close or close-ok an end puts only these.
+-- After a connection.close or close-ok an end puts only these.
 use Rattle.std.proofs.Common.{◌≡◌, Bool, true, false, cond, ◌&&◌, ◌||◌, ℕ, zero, suc, ◌==◌, List, [], ◌∷◌, ◌++◌, All, map, Option, Some, None, refl, sym, ap, ◌∙◌, subst, append_assoc, append-nil}
 use Rattle.std.proofs.lemmas.Bool.{false≢true, true≢false, and_parts, eqb-true}
 use Rattle.std.proofs.lemmas.List.Elements.{All-nil, All-cons}
@@ -55,7 +55,7 @@ all-append : (xs ys : List Frame) → AllLeave xs → AllLeave ys → AllLeave (
 all-append [] ys a b = b
 all-append (x ∷ xs) ys a b = (a.0, all-append xs ys a.1 b)
 
--- frames that don't leave, and behind them frames that do
+-- frames that don't leave, and after them frames that do
 record Parted (frames : List Frame) : Type 0 where
   plain : List Frame
   leaving : List Frame
@@ -79,20 +79,20 @@ all-of : (frames : List Frame) → AllLeave frames → All (λ g. is_leaving g �
 all-of [] all = All-nil (λ g. is_leaving g ≡ true)
 all-of (f ∷ later) all = All-cons (λ g. is_leaving g ≡ true) f later all.0 (all-of later all.1)
 
-all-behind : (f : Frame) (behind before leaving : List Frame) → AllLeave leaving → leaving ≡ before ++ f ∷ behind → AllLeave behind
-all-behind f behind [] leaving all e = (subst AllLeave e all).1
-all-behind f behind (y ∷ before) [] all e = absurd cc
-all-behind f behind (y ∷ before) (z ∷ leaving) all e = all-behind f behind before leaving all.1 (let h : z ∷ leaving ≡ y ∷ (before ++ f ∷ behind) = e in cc)
+all-after : (f : Frame) (beyond before leaving : List Frame) → AllLeave leaving → leaving ≡ before ++ f ∷ beyond → AllLeave beyond
+all-after f beyond [] leaving all e = (subst AllLeave e all).1
+all-after f beyond (y ∷ before) [] all e = absurd cc
+all-after f beyond (y ∷ before) (z ∷ leaving) all e = all-after f beyond before leaving all.1 (let h : z ∷ leaving ≡ y ∷ (before ++ f ∷ beyond) = e in cc)
 
 parted-last : (frames : List Frame) → Parted frames → LeavesLast frames
-parted-last frames p before behind f e l = all-of behind (go p.plain p.none before (sym p.frames_are ∙ e))
+parted-last frames p before beyond f e l = all-of beyond (go p.plain p.none before (sym p.frames_are ∙ e))
   where
-    go : (plain : List Frame) → NoneLeave plain → (before : List Frame) → plain ++ p.leaving ≡ before ++ f ∷ behind → AllLeave behind
-    go [] none before e = all-behind f behind before p.leaving p.all e
-    go (x ∷ plain) none [] e = absurd (let same : x ≡ f = (let h : x ∷ (plain ++ p.leaving) ≡ f ∷ behind = e in cc) in true≢false (sym l ∙ (ap is_leaving (sym same) ∙ none.0)))
-    go (x ∷ plain) none (y ∷ before) e = go plain none.1 before (let h : x ∷ (plain ++ p.leaving) ≡ y ∷ (before ++ f ∷ behind) = e in cc)
+    go : (plain : List Frame) → NoneLeave plain → (before : List Frame) → plain ++ p.leaving ≡ before ++ f ∷ beyond → AllLeave beyond
+    go [] none before e = all-after f beyond before p.leaving p.all e
+    go (x ∷ plain) none [] e = absurd (let same : x ≡ f = (let h : x ∷ (plain ++ p.leaving) ≡ f ∷ beyond = e in cc) in true≢false (sym l ∙ (ap is_leaving (sym same) ∙ none.0)))
+    go (x ∷ plain) none (y ∷ before) e = go plain none.1 before (let h : x ∷ (plain ++ p.leaving) ≡ y ∷ (before ++ f ∷ beyond) = e in cc)
 
--- frames put one behind another
+-- frames put one after another
 pub put-then : (frames : List Frame) (history : History) → frames_put (then_put frames history) ≡ frames_put history ++ frames
 put-then [] history = sym (append-nil (frames_put history))
 put-then (f ∷ later) history = put-then later (Put f ∷ history) ∙ append_assoc (frames_put history) (f ∷ []) later
@@ -114,7 +114,7 @@ is-mild method mild = ap (λ b. b || same_kind method.kind kinds.ConnectionClose
 above-stays : (f : Frame) → (f.channel == 0) ≡ false → is_leaving f ≡ false
 above-stays f e = simp e
 
--- The phases behind a close.
+-- The phases after a close.
 over-taken : (role : Role) (r : Reading) (phase : Phase) → is_over phase ≡ true → is_over (phase_taken role r phase) ≡ true
 over-taken role r Phase.Closing o = either (is_call kinds.ConnectionCloseOk r)
   where
@@ -154,7 +154,7 @@ owed-stay : (owed : List Owed) → Each Stays owed → NoneLeave (map frame_of o
 owed-stay [] each = tt
 owed-stay (owed ∷ later) each = (leaving-is owed.channel owed.method ∙ each.0, owed-stay later each.1)
 
--- behind its own close it answers with close-ok alone
+-- after its own close it answers with close-ok alone
 closing-leaves : {role : Role} (config : Config role) (agreed : Option Agreed) (number : ℕ) (channel : Channel) (r : Reading) → AllLeave (map frame_of (methods_put (facts_in config Phase.Closing agreed number channel) (verdict_on (facts_in config Phase.Closing agreed number channel) r)))
 closing-leaves config agreed number channel r = either ((number == 0) && is_call kinds.ConnectionClose r) ((number == 0) && is_call kinds.ConnectionCloseOk r)
   where
@@ -224,7 +224,7 @@ module _ (role : Role) (config : Config role) (back : WritesReadBack role config
   put-is : frames_put (then_taken config (end_from role config false before) frame before) ≡ frames_put before ++ map frame_of (methods_put (facts_at config (end_from role config false before) frame.channel) (end_verdict config (end_from role config false before) frame))
   put-is = put-then (map frame_of (methods_put (facts_at config (end_from role config false before) frame.channel) (end_verdict config (end_from role config false before) frame))) (Took frame ∷ before)
 
-  -- the phase then is over where it is behind the frame
+  -- the phase then is over where it is after the frame
   over-then : is_over (end_after role config frame.channel (TookHere (reading frame) frame) (end_from role config false before)).phase ≡ true → is_over (end_from role config false (then_taken config (end_from role config false before) frame before)).phase ≡ true
   over-then o =
       let follows = frame-follows role config (end_from role config false before) before frame back stands g in

@@ -3,7 +3,7 @@ use Rattle.std.proofs.Common.{◌≡◌, ◌≢◌, ◌<◌, ◌^◌, Bool, true
 use Rattle.std.proofs.lemmas.Bool.{ltb-false, eqb-false, ne_eqb}
 use Rattle.amqp_frame.specs.Frame.{frame_length}
 use Rattle.amqp_method.specs.Fitting.{FitsShort}
-use Rattle.amqp_method.specs.Laws.{MethodIsRead, HeaderIsRead, MethodIsSpelled, HeaderIsSpelled}
+use Rattle.amqp_method.specs.Laws.{MethodIsRead, HeaderIsRead, MethodIsEncoded, HeaderIsEncoded}
 use Rattle.amqp_method.specs.Methods.{row}
 use Rattle.amqp_method.specs.Plain as plain
 use Rattle.amqp_method.specs.declared.kinds.Kind.TheVariants as kinds
@@ -17,13 +17,13 @@ use Rattle.amqp_model.specs.ReadingBack.{header_of, HeaderAskedReadsBack}
 use Rattle.amqp_model.specs.Fitting.{MethodFits, HelloFits, greeting, HostFits, PartsFit, FRAME_MOST, FrameMax, ChannelMax, HelloTooLong}
 use Rattle.amqp_model.specs.FittingLaws.{MethodReadsBack, HeaderReadsBack, FittingConfigWrites, AskedReadsBack, FaultlessConfigFits, FittingConfigIsFaultless}
 
-pub method-reads : MethodIsSpelled → MethodIsRead → (method : Method) → MethodReadsBack method
+pub method-reads : MethodIsEncoded → MethodIsRead → (method : Method) → MethodReadsBack method
 unfolding method_at plain_method
-method-reads spelled read method fits = ap method_read (read method (plain.plain_method method) (spelled method fits.of_kind fits.arguments))
+method-reads encoded read method fits = ap method_read (read method (plain.plain_method method) (encoded method fits.of_kind fits.arguments))
 
-pub header-reads : HeaderIsSpelled → HeaderIsRead → (header : Header) → HeaderReadsBack header
+pub header-reads : HeaderIsEncoded → HeaderIsRead → (header : Header) → HeaderReadsBack header
 unfolding header_at plain_header
-header-reads spelled read header fits = ap header_read (read header (plain.plain_header header) (spelled header fits.size fits.of_kinds fits.properties))
+header-reads encoded read header fits = ap header_read (read header (plain.plain_header header) (encoded header fits.size fits.of_kinds fits.properties))
 
 -- The methods of the handshake.
 

@@ -6,23 +6,23 @@ use Rattle.amqp_frame.specs.Frame.{Frame}
 use Rattle.amqp_model.specs.Arrangement.{Queue, is_in, queued, turn, last_after, last_after_all, IsNext, IsArranged, Arranges, HasChannel, Gains, placed, placed_all, arranged}
 use Rattle.amqp_model.proofs.Turns.{Rank, plain, in_turn, leaves, rank, last-stays, last-moves, last-channel, turn-later, turn-queue, Queued, queued_in, queue-of, queue-turn}
 
--- whether a frame goes before another one of the row, or behind it
+-- whether a frame goes before another one of the row, or after it
 pub data Place (last : ℕ) (f g : Frame) : Type 0 where
   goes_before : nat_lt (turn last f) (turn last g) ≡ true → turn last f < turn last g → Place last f g
-  goes_behind : nat_lt (turn last f) (turn last g) ≡ false → turn last g ≤ turn last f → Place last f g
+  goes_after : nat_lt (turn last f) (turn last g) ≡ false → turn last g ≤ turn last f → Place last f g
 
 pub place : (last : ℕ) (f g : Frame) → Place last f g
 place last f g = cases (nat_lt (turn last f) (turn last g)) refl
   where
     cases : (b : Bool) → nat_lt (turn last f) (turn last g) ≡ b → Place last f g
     cases true e = goes_before e (ltb-true (turn last f) (turn last g) e)
-    cases false e = goes_behind e (ltb-false (turn last f) (turn last g) e)
+    cases false e = goes_after e (ltb-false (turn last f) (turn last g) e)
 
 pub placed-before : (last : ℕ) (f g : Frame) (later : List Frame) → nat_lt (turn last f) (turn last g) ≡ true → placed last f (g ∷ later) ≡ f ∷ g ∷ later
 placed-before last f g later e = cond-true (nat_lt (turn last f) (turn last g)) _ _ e
 
-pub placed-behind : (last : ℕ) (f g : Frame) (later : List Frame) → nat_lt (turn last f) (turn last g) ≡ false → placed last f (g ∷ later) ≡ g ∷ placed (last_after last g) f later
-placed-behind last f g later e = cond-false (nat_lt (turn last f) (turn last g)) _ _ e
+pub placed-after : (last : ℕ) (f g : Frame) (later : List Frame) → nat_lt (turn last f) (turn last g) ≡ false → placed last f (g ∷ later) ≡ g ∷ placed (last_after last g) f later
+placed-after last f g later e = cond-false (nat_lt (turn last f) (turn last g)) _ _ e
 
 -- what holds of the row and of the frame holds of the row with it
 pub placed-all : (P : Frame → Type 0) (last : ℕ) (f : Frame) (row : List Frame) → P f → All P row → All P (placed last f row)
@@ -31,7 +31,7 @@ placed-all P last f (g ∷ later) p all = cases (place last f g) (placed-all P (
   where
     cases : Place last f g → All P (placed (last_after last g) f later) → All P (placed last f (g ∷ later))
     cases (goes_before e l) _ = subst (All P) (sym (placed-before last f g later e)) (All-cons P f (g ∷ later) p all)
-    cases (goes_behind e l) more = subst (All P) (sym (placed-behind last f g later e)) (All-cons P g _ (All-head P g later all) more)
+    cases (goes_after e l) more = subst (All P) (sym (placed-after last f g later e)) (All-cons P g _ (All-head P g later all) more)
 
 -- a row whose frames all have their turn later than a frame stays arranged when that is begun
 begun-before : (last : ℕ) (f : Frame) (row : List Frame) → last < 65536 → HasChannel f → All HasChannel row → All (λ g. turn last f < turn last g) row → IsArranged last row → IsArranged (last_after last f) row
@@ -63,7 +63,7 @@ placed-arranged last f (g ∷ rest) l cf cs row =
 
     cases : Place last f g → IsArranged (last_after last g) (placed (last_after last g) f rest) → IsArranged last (placed last f (g ∷ rest))
     cases (goes_before e first) _ = subst (IsArranged last) (sym (placed-before last f g rest e)) (next first, begun-before last f (g ∷ rest) l cf cs (later first) row)
-    cases (goes_behind e first) more = subst (IsArranged last) (sym (placed-behind last f g rest e)) (placed-all (λ x. turn last g ≤ turn last x) (last_after last g) f rest first row.0, more)
+    cases (goes_after e first) more = subst (IsArranged last) (sym (placed-after last f g rest e)) (placed-all (λ x. turn last g ≤ turn last x) (last_after last g) f rest first row.0, more)
 
 pub filter-none : {A : Type 0} (test : A → Bool) (xs : List A) → All (λ x. test x ≡ false) xs → filter test xs ≡ []
 filter-none test [] none = refl
@@ -82,7 +82,7 @@ later-none last f row later queue here = filter-none (is_in queue) row (λ k d h
 
 -- a frame more in a row moves no other one, and is the last of its queue
 pub placed-gains : (last : ℕ) (f : Frame) (row : List Frame) → IsArranged last row → Gains f row (placed last f row)
-placed-gains last f [] row = record { front = []; back = []; row_is = refl; more_is = refl; newest = λ queue here. refl }
+placed-gains last f [] row = record { prefix = []; back = []; row_is = refl; more_is = refl; newest = λ queue here. refl }
 placed-gains last f (g ∷ rest) row = cases (place last f g) (placed-gains (last_after last g) f rest row.1)
   where
     later : turn last f < turn last g → All (λ x. turn last f < turn last x) (g ∷ rest)
@@ -90,37 +90,37 @@ placed-gains last f (g ∷ rest) row = cases (place last f g) (placed-gains (las
 
     cases : Place last f g → Gains f rest (placed (last_after last g) f rest) → Gains f (g ∷ rest) (placed last f (g ∷ rest))
     cases (goes_before e first) _ = record {
-      front = [];
+      prefix = [];
       back = g ∷ rest;
       row_is = refl;
       more_is = placed-before last f g rest e;
       newest = later-none last f (g ∷ rest) (later first);
     }
-    cases (goes_behind e first) gains = record {
-      front = g ∷ gains.front;
+    cases (goes_after e first) gains = record {
+      prefix = g ∷ gains.prefix;
       back = gains.back;
       row_is = ap (λ l. g ∷ l) gains.row_is;
-      more_is = placed-behind last f g rest e ∙ ap (λ l. g ∷ l) gains.more_is;
+      more_is = placed-after last f g rest e ∙ ap (λ l. g ∷ l) gains.more_is;
       newest = gains.newest;
     }
 
--- so each queue has its frames as before, and behind them the new one
+-- so each queue has its frames as before, and after them the new one
 pub gains-queued : (f : Frame) (row more : List Frame) → Gains f row more → (queue : Queue) → queued queue more ≡ queued queue (row ++ f ∷ [])
 gains-queued f row more gains queue =
     ap (queued queue) gains.more_is
-    ∙ (filter-append (is_in queue) gains.front (f ∷ gains.back)
+    ∙ (filter-append (is_in queue) gains.prefix (f ∷ gains.back)
     ∙ (cases (is_in queue f) refl
-    ∙ (ap (λ l. l ++ queued queue (f ∷ [])) (sym (filter-append (is_in queue) gains.front gains.back) ∙ sym (ap (queued queue) gains.row_is))
+    ∙ (ap (λ l. l ++ queued queue (f ∷ [])) (sym (filter-append (is_in queue) gains.prefix gains.back) ∙ sym (ap (queued queue) gains.row_is))
     ∙ sym (filter-append (is_in queue) row (f ∷ [])))))
   where
-    cases : (b : Bool) → is_in queue f ≡ b → queued queue gains.front ++ queued queue (f ∷ gains.back) ≡ (queued queue gains.front ++ queued queue gains.back) ++ queued queue (f ∷ [])
+    cases : (b : Bool) → is_in queue f ≡ b → queued queue gains.prefix ++ queued queue (f ∷ gains.back) ≡ (queued queue gains.prefix ++ queued queue gains.back) ++ queued queue (f ∷ [])
     cases true here =
         let none = gains.newest queue here in
-        ap (λ l. queued queue gains.front ++ l) (cond-true (is_in queue f) _ _ here ∙ ap (λ l. f ∷ l) none)
-        ∙ sym (ap₂ (λ l m. l ++ m) (ap (λ l. queued queue gains.front ++ l) none ∙ append-nil (queued queue gains.front)) (cond-true (is_in queue f) (f ∷ []) [] here))
+        ap (λ l. queued queue gains.prefix ++ l) (cond-true (is_in queue f) _ _ here ∙ ap (λ l. f ∷ l) none)
+        ∙ sym (ap₂ (λ l m. l ++ m) (ap (λ l. queued queue gains.prefix ++ l) none ∙ append-nil (queued queue gains.prefix)) (cond-true (is_in queue f) (f ∷ []) [] here))
     cases false away =
-        ap (λ l. queued queue gains.front ++ l) (cond-false (is_in queue f) _ _ away)
-        ∙ sym (ap (λ l. (queued queue gains.front ++ queued queue gains.back) ++ l) (cond-false (is_in queue f) (f ∷ []) [] away) ∙ append-nil (queued queue gains.front ++ queued queue gains.back))
+        ap (λ l. queued queue gains.prefix ++ l) (cond-false (is_in queue f) _ _ away)
+        ∙ sym (ap (λ l. (queued queue gains.prefix ++ queued queue gains.back) ++ l) (cond-false (is_in queue f) (f ∷ []) [] away) ∙ append-nil (queued queue gains.prefix ++ queued queue gains.back))
 
 -- what holds of the frames of each queue holds of all
 pub from-queued : (P : Frame → Type 0) (row : List Frame) → ((queue : Queue) → All P (queued queue row)) → All P row
@@ -200,16 +200,16 @@ pub begun-arranged : (last : ℕ) (begun row : List Frame) → IsArranged last (
 begun-arranged last [] row whole = whole
 begun-arranged last (f ∷ begun) row whole = begun-arranged (last_after last f) begun row whole.1
 
--- A frame stands behind the last one of its queue, so its place need not be looked for in front of that.
-pub placed-behind-queue : (last : ℕ) (f g : Frame) (front back : List Frame) (queue : Queue) → IsArranged last (front ++ g ∷ back) → is_in queue f ≡ true → is_in queue g ≡ true → placed last f (front ++ g ∷ back) ≡ front ++ g ∷ placed (last_after_all last (front ++ g ∷ [])) f back
-placed-behind-queue last f g [] back queue row here there =
-    placed-behind last f g back (le-ltb (turn last f) (turn last g) (let e = turn-queue last queue f g here there in omega arith))
-placed-behind-queue last f g (x ∷ front) back queue row here there =
-    placed-behind last f x (front ++ g ∷ back) (le-ltb (turn last f) (turn last x) sooner)
-    ∙ ap (λ l. x ∷ l) (placed-behind-queue (last_after last x) f g front back queue row.1 here there)
+-- A frame stands after the last one of its queue, so its place need not be looked for before that.
+pub placed-after-queue : (last : ℕ) (f g : Frame) (prefix back : List Frame) (queue : Queue) → IsArranged last (prefix ++ g ∷ back) → is_in queue f ≡ true → is_in queue g ≡ true → placed last f (prefix ++ g ∷ back) ≡ prefix ++ g ∷ placed (last_after_all last (prefix ++ g ∷ [])) f back
+placed-after-queue last f g [] back queue row here there =
+    placed-after last f g back (le-ltb (turn last f) (turn last g) (let e = turn-queue last queue f g here there in omega arith))
+placed-after-queue last f g (x ∷ prefix) back queue row here there =
+    placed-after last f x (prefix ++ g ∷ back) (le-ltb (turn last f) (turn last x) sooner)
+    ∙ ap (λ l. x ∷ l) (placed-after-queue (last_after last x) f g prefix back queue row.1 here there)
   where
     sooner : turn last x ≤ turn last f
     sooner =
         let e = turn-queue last queue f g here there in
-        let first = All-contains (λ y. turn last x ≤ turn last y) (front ++ g ∷ back) g row.0 (Contains-append_right front (g ∷ back) g (0, omega arith, refl)) in
+        let first = All-contains (λ y. turn last x ≤ turn last y) (prefix ++ g ∷ back) g row.0 (Contains-append_right prefix (g ∷ back) g (0, omega arith, refl)) in
         omega arith

@@ -12,7 +12,7 @@ use Rattle.amqp_model.proofs.Rows.{filter-none}
 -- channels to be met after LAST, each where its turn is
 abbrev TakeTurns : (last : ℕ) → List ℕ → Type 0
 TakeTurns last [] = Unit {0}
-TakeTurns last (d ∷ behind) = All (λ e. steps last d ≤ steps last e) behind × TakeTurns d behind
+TakeTurns last (d ∷ beyond) = All (λ e. steps last d ≤ steps last e) beyond × TakeTurns d beyond
 
 above-in : (f : Frame) (later : List Frame) → 0 < f.channel → above_0 (f ∷ later) ≡ f ∷ above_0 later
 above-in f later h = cond-true (nat_lt 0 f.channel) _ _ (lt-ltb 0 f.channel h)
@@ -20,25 +20,25 @@ above-in f later h = cond-true (nat_lt 0 f.channel) _ _ (lt-ltb 0 f.channel h)
 above-out : (f : Frame) (later : List Frame) → f.channel ≡ 0 → above_0 (f ∷ later) ≡ above_0 later
 above-out f later z = cond-false (nat_lt 0 f.channel) _ _ (ap (nat_lt 0) z)
 
-turns-split : (last : ℕ) (ds before behind : List ℕ) (c d : ℕ) → TakeTurns last ds → last ∷ ds ≡ before ++ c ∷ d ∷ behind → All (λ e. steps c d ≤ steps c e) behind
-turns-split last [] [] behind c d turns e = absurd (let k : [] ≡ d ∷ behind = cc in cc)
-turns-split last [] (x ∷ before) behind c d turns e = absurd (let k : [] ≡ before ++ c ∷ d ∷ behind = cc in none before k)
+turns-split : (last : ℕ) (ds before beyond : List ℕ) (c d : ℕ) → TakeTurns last ds → last ∷ ds ≡ before ++ c ∷ d ∷ beyond → All (λ e. steps c d ≤ steps c e) beyond
+turns-split last [] [] beyond c d turns e = absurd (let k : [] ≡ d ∷ beyond = cc in cc)
+turns-split last [] (x ∷ before) beyond c d turns e = absurd (let k : [] ≡ before ++ c ∷ d ∷ beyond = cc in none before k)
   where
-    none : (before : List ℕ) → [] ≡ before ++ c ∷ d ∷ behind → ⊥
+    none : (before : List ℕ) → [] ≡ before ++ c ∷ d ∷ beyond → ⊥
     none [] k = cc
     none (y ∷ before) k = cc
-turns-split last (x ∷ ds) [] behind c d turns e =
+turns-split last (x ∷ ds) [] beyond c d turns e =
     let a : last ≡ c = cc in
     let b : x ≡ d = cc in
-    let r : ds ≡ behind = cc in
+    let r : ds ≡ beyond = cc in
     subst (λ l. All (λ e. steps c d ≤ steps c e) l) r (subst (λ y. All (λ e. steps c y ≤ steps c e) ds) b (subst (λ y. All (λ e. steps y x ≤ steps y e) ds) a turns.0))
-turns-split last (x ∷ ds) (y ∷ before) behind c d turns e =
-    let r : x ∷ ds ≡ before ++ c ∷ d ∷ behind = cc in
-    turns-split x ds before behind c d turns.1 r
+turns-split last (x ∷ ds) (y ∷ before) beyond c d turns e =
+    let r : x ∷ ds ≡ before ++ c ∷ d ∷ beyond = cc in
+    turns-split x ds before beyond c d turns.1 r
 
-split-turns : (last : ℕ) (ds : List ℕ) → ((before behind : List ℕ) (c d : ℕ) → last ∷ ds ≡ before ++ c ∷ d ∷ behind → All (λ e. steps c d ≤ steps c e) behind) → TakeTurns last ds
+split-turns : (last : ℕ) (ds : List ℕ) → ((before beyond : List ℕ) (c d : ℕ) → last ∷ ds ≡ before ++ c ∷ d ∷ beyond → All (λ e. steps c d ≤ steps c e) beyond) → TakeTurns last ds
 split-turns last [] split = tt
-split-turns last (x ∷ ds) split = (split [] ds last x refl, split-turns x ds (λ before behind c d e. split (last ∷ before) behind c d (ap (λ l. last ∷ l) e)))
+split-turns last (x ∷ ds) split = (split [] ds last x refl, split-turns x ds (λ before beyond c d e. split (last ∷ before) beyond c d (ap (λ l. last ∷ l) e)))
 
 -- the channels of an arranged row take turns
 arranged-turns : (last : ℕ) (row : List Frame) → IsArranged last row → TakeTurns last (channels_of (above_0 row))
@@ -133,10 +133,10 @@ leaving-arranged last (f ∷ later) cs l = (λ k d h. next (get_or later k d) (A
         let b = turn-leaves last g m in
         omega arith
 
-turns-arranged : (last : ℕ) (row behind : List Frame) → All HasChannel row → All HasChannel behind → All (λ f. nat_lt 0 f.channel ≡ true) row → All (λ f. is_leaving f ≡ true) behind → TakeTurns last (channels_of row) → IsArranged last (row ++ behind)
-turns-arranged last [] behind cs bs above l turns = leaving-arranged last behind bs l
-turns-arranged last (f ∷ later) behind cs bs above l turns =
-    (All-append (λ g. turn last f ≤ turn last g) later behind (λ k d h. near (get_or later k d) (All-tail HasChannel f later cs k d h) (All-tail (λ g. nat_lt 0 g.channel ≡ true) f later above k d h) (steps-of k d h)) (λ k d h. far (get_or behind k d) (l k d h)), subst (λ c. IsArranged c (later ++ behind)) (sym (last-moves last f here)) (turns-arranged f.channel later behind (All-tail HasChannel f later cs) bs (All-tail (λ g. nat_lt 0 g.channel ≡ true) f later above) l turns.1))
+turns-arranged : (last : ℕ) (row beyond : List Frame) → All HasChannel row → All HasChannel beyond → All (λ f. nat_lt 0 f.channel ≡ true) row → All (λ f. is_leaving f ≡ true) beyond → TakeTurns last (channels_of row) → IsArranged last (row ++ beyond)
+turns-arranged last [] beyond cs bs above l turns = leaving-arranged last beyond bs l
+turns-arranged last (f ∷ later) beyond cs bs above l turns =
+    (All-append (λ g. turn last f ≤ turn last g) later beyond (λ k d h. near (get_or later k d) (All-tail HasChannel f later cs k d h) (All-tail (λ g. nat_lt 0 g.channel ≡ true) f later above k d h) (steps-of k d h)) (λ k d h. far (get_or beyond k d) (l k d h)), subst (λ c. IsArranged c (later ++ beyond)) (sym (last-moves last f here)) (turns-arranged f.channel later beyond (All-tail HasChannel f later cs) bs (All-tail (λ g. nat_lt 0 g.channel ≡ true) f later above) l turns.1))
   where
     here : 0 < f.channel
     here = ltb-true 0 f.channel (All-head (λ g. nat_lt 0 g.channel ≡ true) f later above)
@@ -165,9 +165,9 @@ turns-arranged last (f ∷ later) behind cs bs above l turns =
         let u = turn-leaves last g m in
         omega arith
 
-plain-arranged : (last : ℕ) (row behind : List Frame) → All (λ f. is_in PlainFrames f ≡ true) row → IsArranged last behind → IsArranged last (row ++ behind)
-plain-arranged last [] behind p arranged = arranged
-plain-arranged last (f ∷ later) behind p arranged = (λ k d h. let a = turn-plain last f zero stays in omega arith, subst (λ c. IsArranged c (later ++ behind)) (sym (last-stays last f zero)) (plain-arranged last later behind (All-tail (λ g. is_in PlainFrames g ≡ true) f later p) arranged))
+plain-arranged : (last : ℕ) (row beyond : List Frame) → All (λ f. is_in PlainFrames f ≡ true) row → IsArranged last beyond → IsArranged last (row ++ beyond)
+plain-arranged last [] beyond p arranged = arranged
+plain-arranged last (f ∷ later) beyond p arranged = (λ k d h. let a = turn-plain last f zero stays in omega arith, subst (λ c. IsArranged c (later ++ beyond)) (sym (last-stays last f zero)) (plain-arranged last later beyond (All-tail (λ g. is_in PlainFrames g ≡ true) f later p) arranged))
   where
     here : ((f.channel == 0) ≡ true) × (not (is_leaving f) ≡ true)
     here = and_parts (f.channel == 0) (not (is_leaving f)) (All-head (λ g. is_in PlainFrames g ≡ true) f later p)
@@ -182,11 +182,11 @@ pub arranged-rules : (last : ℕ) (row : List Frame) → last < 65536 → All Ha
 arranged-rules last row l cs arranged = record {
   in_parts = arranged-parts last row l cs arranged;
   in_turn =
-      λ before behind c d e split contained. All-contains (λ x. steps c d ≤ steps c x) behind e (turns-split last (channels_of (above_0 row)) before behind c d (arranged-turns last row arranged) split) contained;
+      λ before beyond c d e split contained. All-contains (λ x. steps c d ≤ steps c x) beyond e (turns-split last (channels_of (above_0 row)) before beyond c d (arranged-turns last row arranged) split) contained;
 }
 
 pub rules-arranged : (last : ℕ) (row : List Frame) → All HasChannel row → FollowsRules last row → IsArranged last row
 rules-arranged last row cs rules =
-    let turns = split-turns last (channels_of (above_0 row)) (λ before behind c d split k x h. rules.in_turn before behind c d (get_or behind k x) split (Contains-get_or behind k x h)) in
+    let turns = split-turns last (channels_of (above_0 row)) (λ before beyond c d split k x h. rules.in_turn before beyond c d (get_or beyond k x) split (Contains-get_or beyond k x h)) in
     let parts = turns-arranged last (above_0 row) (queued LeavingFrames row) (All-filter (λ f. nat_lt 0 f.channel) HasChannel row cs) (All-filter is_leaving HasChannel row cs) (filter_passes (λ f. nat_lt 0 f.channel) row) (filter_passes is_leaving row) turns in
     subst (IsArranged last) (sym rules.in_parts) (plain-arranged last (queued PlainFrames row) (above_0 row ++ queued LeavingFrames row) (filter_passes (is_in PlainFrames) row) parts)

@@ -6,10 +6,10 @@ use Rattle.amqp_model.specs.Notes.{Role, Client, Server, Kind, Note, Put}
 use Rattle.amqp_model.specs.Verdict.{Verdict, GoesOn, Fault, verdict}
 use Rattle.amqp_model.specs.Carried.{Carried, Carry, put_by, taken_by}
 use Rattle.amqp_model.specs.Runs.{may_put, IsNext, Acts, asks, leaves, takes, replies, Run, start, client_acts, server_acts, RunAt}
-use Rattle.amqp_model.specs.Fronts.{IsFrontOf}
+use Rattle.amqp_model.specs.Prefixes.{IsPrefixOf}
 use Rattle.amqp_model.specs.Scripts.{Step, Ask, Take, Leave, World, with_reply, take_first, take_one, take_many, notes_at, other_notes, stepped, refused_step, after, play, replay, CrossingCloses, ClosedAndReopened, ClosedAtOnce, DiscardedContents, PausedServer, RestartedServer, MessageThenClose, DroppedClient, ServerLeaves}
 use Rattle.amqp_model.proofs.Runs.{carried, carried_rest}
-use Rattle.amqp_model.proofs.Laws.{takes_front}
+use Rattle.amqp_model.proofs.Laws.{takes_prefix}
 
 -- an act of an end, of a run as that end sees it
 acts_at : (role : Role) {mine theirs after : List Note} → RunAt role mine theirs → Acts role theirs mine after → RunAt role after theirs
@@ -17,8 +17,8 @@ acts_at Client run act = client_acts run act
 acts_at Server run act = server_acts run act
 
 -- what is on its way to an end
-on_way : (role : Role) (mine theirs : List Note) → RunAt role mine theirs → IsFrontOf (taken_by mine) (put_by theirs)
-on_way role mine theirs run = let front = takes_front role mine theirs run in (map carried front.0, carried_rest role mine theirs front.0 front.1)
+flying : (role : Role) (mine theirs : List Note) → RunAt role mine theirs → IsPrefixOf (taken_by mine) (put_by theirs)
+flying role mine theirs run = let prefix = takes_prefix role mine theirs run in (map carried prefix.0, carried_rest role mine theirs prefix.0 prefix.1)
 
 run_take_next : (role : Role) (mine theirs : List Note) (kind : Kind) (frame : Frame) → IsNext theirs mine (Carry kind frame) → RunAt role mine theirs → (v : Verdict) → verdict role mine kind ≡ v → RunAt role (with_reply v kind frame mine) theirs
 run_take_next role mine theirs kind frame next run (GoesOn event None) ok = acts_at role run (takes kind frame event next ok)
@@ -26,16 +26,16 @@ run_take_next role mine theirs kind frame next run (GoesOn event (Some reply)) o
 run_take_next role mine theirs kind frame next run (Fault code) ok = run
 
 run_take_one : (role : Role) (mine theirs : List Note) → RunAt role mine theirs → RunAt role (take_one role theirs mine) theirs
-run_take_one role mine theirs run = go (on_way role mine theirs run)
+run_take_one role mine theirs run = go (flying role mine theirs run)
   where
     first : (rest : List Carried) → put_by theirs ≡ taken_by mine ++ rest → RunAt role (take_first role rest mine) theirs
     first [] e = run
     first (Carry kind frame ∷ later) e = run_take_next role mine theirs kind frame (later, e) run (verdict role mine kind) refl
 
-    go : IsFrontOf (taken_by mine) (put_by theirs) → RunAt role (take_one role theirs mine) theirs
-    go front =
-        let rest = ap (drop (length (taken_by mine))) front.1 ∙ drop-append_seam (taken_by mine) front.0 in
-        subst (λ l. RunAt role (take_first role l mine) theirs) (sym rest) (first front.0 front.1)
+    go : IsPrefixOf (taken_by mine) (put_by theirs) → RunAt role (take_one role theirs mine) theirs
+    go prefix =
+        let rest = ap (drop (length (taken_by mine))) prefix.1 ∙ drop-append_seam (taken_by mine) prefix.0 in
+        subst (λ l. RunAt role (take_first role l mine) theirs) (sym rest) (first prefix.0 prefix.1)
 
 run_take_many : (n : ℕ) (role : Role) (mine theirs : List Note) → RunAt role mine theirs → RunAt role (take_many n role theirs mine) theirs
 run_take_many zero role mine theirs run = run
@@ -83,8 +83,8 @@ paused f = record { refused = refl; server_took = refl; client_took = refl; sent
 pub restarted : (f : ℕ → Frame) → RestartedServer f
 restarted f = record { refused = refl; client_took = refl; acted_by_client = refl; client_holds = refl; server_is = refl }
 
-pub closed_behind_message : (f : ℕ → Frame) → MessageThenClose f
-closed_behind_message f = record { client_took = refl; sent_to_client = refl; acted_by_client = refl }
+pub closed_after_message : (f : ℕ → Frame) → MessageThenClose f
+closed_after_message f = record { client_took = refl; sent_to_client = refl; acted_by_client = refl }
 
 pub dropped : (f : ℕ → Frame) → DroppedClient f
 dropped f = record { sent_to_server = refl; first_alone = refl; all_come = refl }

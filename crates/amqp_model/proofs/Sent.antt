@@ -8,18 +8,18 @@ use Rattle.amqp_model.specs.States.{State, Free, Opening, Closing}
 use Rattle.amqp_model.specs.Lives.{lives}
 use Rattle.amqp_model.specs.Carried.{puts, sent, acted}
 use Rattle.amqp_model.specs.Runs.{RunAt}
-use Rattle.amqp_model.specs.Fronts.{IsFrontOf}
+use Rattle.amqp_model.specs.Prefixes.{IsPrefixOf}
 use Rattle.amqp_model.specs.Histories.{History}
 use Rattle.amqp_model.specs.Negotiation.{Config}
 use Rattle.amqp_model.specs.EndLaws.{notes_on}
 use Rattle.amqp_model.specs.Sent.{payload_in, items_in}
 use Rattle.amqp_model.specs.Pairs.{PairAt}
-use Rattle.amqp_model.specs.SentLaws.{ActsOnFrontOfItems, AllItemsActedOnAtClose, AllItemsActedOnAtConnectionClose, ItemsSentAreActedOnOrOnTheirWay, NoItemsBeforeFirstLife}
-use Rattle.amqp_model.proofs.Lists.{front_none, messages_other, messages_elsewhere}
+use Rattle.amqp_model.specs.SentLaws.{ActsOnPrefixOfItems, AllItemsActedOnAtClose, AllItemsActedOnAtConnectionClose, ItemsSentAreActedOnOrInFlight, NoItemsBeforeFirstLife}
+use Rattle.amqp_model.proofs.Lists.{prefix_none, messages_other, messages_elsewhere}
 use Rattle.amqp_model.proofs.Ends.{Is, Lawful, begun, has_asked, has_replied, has_taken, has_left_now, lawful_lives, to_open, to_close, to_flow, opens, closes, flows, sends, accepts, begins, ends, pauses, hears, acts, crosses, frees, drops}
 use Rattle.amqp_model.proofs.Runs.{Linked, linked, run_at_linked}
-use Rattle.amqp_model.proofs.Laws.{acts_front, sent_so_far, all_acted, all_acted_connection}
-use Rattle.amqp_model.proofs.ItemLemmas.{items-front}
+use Rattle.amqp_model.proofs.Laws.{acts_prefix, sent_so_far, all_acted, all_acted_connection}
+use Rattle.amqp_model.proofs.ItemLemmas.{items-prefix}
 use Rattle.amqp_model.proofs.Carrying.{all-noted}
 use Rattle.amqp_model.proofs.Pairing.{pair-runs}
 
@@ -27,12 +27,12 @@ pub pair-runs_at : (role : Role) (client_config : Config Client) (server_config 
 pair-runs_at Client client_config server_config mine theirs n at = pair-runs client_config server_config mine theirs at.client_writes at.server_writes at.pair n
 pair-runs_at Server client_config server_config mine theirs n at = pair-runs client_config server_config theirs mine at.client_writes at.server_writes at.pair n
 
--- the items of a front of frames are a front
-items-of-front : (front whole : List Frame) → IsFrontOf front whole → IsFrontOf (items_in front) (items_in whole)
-items-of-front front whole f = items-front (map payload_in front) (map payload_in whole) (map payload_in f.0, ap (map payload_in) f.1 ∙ map-append payload_in front f.0)
+-- the items of a prefix of frames are a prefix
+items-of-prefix : (prefix whole : List Frame) → IsPrefixOf prefix whole → IsPrefixOf (items_in prefix) (items_in whole)
+items-of-prefix prefix whole f = items-prefix (map payload_in prefix) (map payload_in whole) (map payload_in f.0, ap (map payload_in) f.1 ∙ map-append payload_in prefix f.0)
 
-pub acts-on-front : (role : Role) (client_config : Config Client) (server_config : Config Server) (mine theirs : History) (n : ℕ) → PairAt role client_config server_config mine theirs → ActsOnFrontOfItems role (suc n) mine theirs
-acts-on-front role client_config server_config mine theirs n pair life = items-of-front _ _ (acts_front role _ _ (pair-runs_at role client_config server_config mine theirs n pair) life)
+pub acts-on-prefix : (role : Role) (client_config : Config Client) (server_config : Config Server) (mine theirs : History) (n : ℕ) → PairAt role client_config server_config mine theirs → ActsOnPrefixOfItems role (suc n) mine theirs
+acts-on-prefix role client_config server_config mine theirs n pair life = items-of-prefix _ _ (acts_prefix role _ _ (pair-runs_at role client_config server_config mine theirs n pair) life)
 
 pub all-at-close : (role : Role) (client_config : Config Client) (server_config : Config Server) (mine theirs : History) (n : ℕ) → PairAt role client_config server_config mine theirs → AllItemsActedOnAtClose role (suc n) mine theirs
 all-at-close role client_config server_config mine theirs n pair life closed = ap items_in (all_acted role _ _ (pair-runs_at role client_config server_config mine theirs n pair) life closed)
@@ -40,7 +40,7 @@ all-at-close role client_config server_config mine theirs n pair life closed = a
 pub all-at-connection_close : (role : Role) (client_config : Config Client) (server_config : Config Server) (mine theirs : History) (n : ℕ) → PairAt role client_config server_config mine theirs → AllItemsActedOnAtConnectionClose role (suc n) mine theirs
 all-at-connection_close role client_config server_config mine theirs n pair frame live comes leaving = ap items_in (all_acted_connection role _ _ (pair-runs_at role client_config server_config mine theirs n pair) live (all-noted theirs mine n (comes.at_leaving leaving n)))
 
-pub sent-is-acted-or-coming : (role : Role) (client_config : Config Client) (server_config : Config Server) (mine theirs : History) (n : ℕ) → PairAt role client_config server_config mine theirs → ItemsSentAreActedOnOrOnTheirWay role (suc n) mine theirs
+pub sent-is-acted-or-coming : (role : Role) (client_config : Config Client) (server_config : Config Server) (mine theirs : History) (n : ℕ) → PairAt role client_config server_config mine theirs → ItemsSentAreActedOnOrInFlight role (suc n) mine theirs
 sent-is-acted-or-coming role client_config server_config mine theirs n pair rest live way = ap items_in (sent_so_far role _ _ (pair-runs_at role client_config server_config mine theirs n pair) rest live way)
 
 -- where a channel is not Free, it has had a life
@@ -93,5 +93,5 @@ none-before-first role client_config server_config mine theirs n pair = go (run_
 
     go : Linked role (notes_on (suc n) mine) (notes_on (suc n) theirs) → NoItemsBeforeFirstLife role (suc n) mine
     go (linked q r owed owed' s s' e e' w w' joint) =
-        let front = subst (λ l. IsFrontOf (acted role 0 (notes_on (suc n) mine)) l) (none-sent s') (acts_front role _ _ run 0) in
-        (ap items_in (none-sent s), ap items_in (front_none _ front))
+        let prefix = subst (λ l. IsPrefixOf (acted role 0 (notes_on (suc n) mine)) l) (none-sent s') (acts_prefix role _ _ run 0) in
+        (ap items_in (none-sent s), ap items_in (prefix_none _ prefix))

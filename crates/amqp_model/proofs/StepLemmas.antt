@@ -5,9 +5,9 @@ use Rattle.std.proofs.lemmas.List.{reverse-append}
 use Rattle.amqp_model.specs.Methods.{Method, Properties, carries_content}
 use Rattle.amqp_model.specs.Contents.{Payload, Calls, Header, Body, Unread, Content, IsContent, UnderWay, EndsContent}
 use Rattle.amqp_model.specs.Gathering.{Gathering, Nothing, HeaderDue, BodyDue, Step, Completes, Breaks, Misfit, NothingBegun, HeaderAwaited, BodyAwaited, PastSize, MethodInside, NotRead, gathered, step, remains, gathering, DoesNotFit, header_first, body_first, body_early, header_again, past_size, method_inside, not_read}
-use Rattle.amqp_model.specs.ContentLaws.{TellsWhole, TellsMisfits, GoesOnWith, NothingBehindContent, IsToldAtHeader, IsToldAtLastPart, IsRefusedPastSize}
+use Rattle.amqp_model.specs.ContentLaws.{TellsWhole, TellsMisfits, GoesOnWith, NothingAfterContent, IsToldAtHeader, IsToldAtLastPart, IsRefusedPastSize}
 use Rattle.amqp_model.proofs.ContentLemmas.{content-of, same-content, bodies-same, full-snoc}
-use Rattle.amqp_model.proofs.UnderWayLemmas.{Grows, has_method, has_header, has_more, grown-kept, grown-front, Fronts, body_front, map-snoc, concat-snoc, ContentFront, its_method, its_body, content-front}
+use Rattle.amqp_model.proofs.UnderWayLemmas.{Grows, has_method, has_header, has_more, grown-kept, grown-prefix, Prefixes, body_prefix, map-snoc, concat-snoc, ContentPrefix, its_method, its_body, content-prefix}
 use Rattle.amqp_model.proofs.GatheringLemmas.{Grown, grown, kept-grown, IsSome, KeptOf, kept_of, kept-of, SomeUnderWay, some_under_way, kept-some, Lengths, is_whole, is_short, is_past, lengths, keeps-under_way}
 
 -- the newest payloads, and one more, are a content where its body is then all there
@@ -20,10 +20,10 @@ ends-with-header {method} {size} {properties} (grown since older e (has_method c
 }
 
 ends-with-body : {method : Method} {size : ℕ} {properties : Properties} {body octets : List ℕ} {before : List Payload} → Grown before (BodyDue method size properties body) → length (body ++ octets) ≡ size → EndsContent (Body octets ∷ before) (content-of method properties (body ++ octets))
-ends-with-body {method} {size} {properties} {body} {octets} {before} (grown since older e grows) whole = from (grown-front grows)
+ends-with-body {method} {size} {properties} {body} {octets} {before} (grown since older e grows) whole = from (grown-prefix grows)
   where
-    from : Fronts since (BodyDue method size properties body) → EndsContent (Body octets ∷ before) (content-of method properties (body ++ octets))
-    from (body_front parts carries front joined short) = record {
+    from : Prefixes since (BodyDue method size properties body) → EndsContent (Body octets ∷ before) (content-of method properties (body ++ octets))
+    from (body_prefix parts carries prefix joined short) = record {
       since = Body octets ∷ since;
       before = older;
       taken_is = ap (λ l. Body octets ∷ l) e;
@@ -32,7 +32,7 @@ ends-with-body {method} {size} {properties} {body} {octets} {before} (grown sinc
         parts = parts ++ octets ∷ [];
         joined = concat-snoc parts octets ∙ ap (λ l. l ++ octets) joined;
         ends_full = full-snoc parts octets (λ none. absurd (let h : length octets ≡ 0 = ap length none in omega (arith, length-append body octets)));
-        payloads_are = reverse-append (Body octets ∷ []) since ∙ (ap (λ l. l ++ Body octets ∷ []) front ∙ cc (sym whole, map-snoc parts octets));
+        payloads_are = reverse-append (Body octets ∷ []) since ∙ (ap (λ l. l ++ Body octets ∷ []) prefix ∙ cc (sym whole, map-snoc parts octets));
       };
     }
 
@@ -77,7 +77,7 @@ is-told before payload content ends = go ends.since refl
   where
     go : (since : List Payload) → ends.since ≡ since → step (gathering before) payload ≡ Completes content
     go [] e = absurd (let h = sym (ap reverse e) ∙ ends.content_is.payloads_are in cc)
-    go (newest ∷ since) e = from (content-front content since payload [] some whole)
+    go (newest ∷ since) e = from (content-prefix content since payload [] some whole)
       where
         taken : payload ∷ before ≡ newest ∷ (since ++ ends.before)
         taken = ends.taken_is ∙ ap (λ l. l ++ ends.before) e
@@ -94,7 +94,7 @@ is-told before payload content ends = go ends.since refl
         under : UnderWay before since
         under = record { before = ends.before; taken_is = cc taken; begun = some; content = content; next = payload; later = []; content_is = whole }
 
-        from : ContentFront content since payload [] → step (gathering before) payload ≡ Completes content
+        from : ContentPrefix content since payload [] → step (gathering before) payload ≡ Completes content
         from (its_method since_is header) =
             let kept = (keeps-under_way before (HeaderDue content.method)).1 (subst (UnderWay before) since_is under) in
             let payloads = sym (ap (λ l. reverse l ++ payload ∷ []) since_is) ∙ whole.payloads_are in
@@ -110,13 +110,13 @@ is-told before payload content ends = go ends.since refl
 pub tells-whole_lem : (before : List Payload) (payload : Payload) (content : Content) → TellsWhole before payload content
 tells-whole_lem before payload content = (tells-whole before payload content (gathering before) (kept-grown before), is-told before payload content)
 
-pub nothing-behind_content : (taken : List Payload) (content : Content) → NothingBehindContent taken content
-nothing-behind_content [] content ends = absurd (empty ends.since refl)
+pub nothing-after_content : (taken : List Payload) (content : Content) → NothingAfterContent taken content
+nothing-after_content [] content ends = absurd (empty ends.since refl)
   where
     empty : (since : List Payload) → ends.since ≡ since → ⊥
     empty [] e = let h = sym (ap reverse e) ∙ ends.content_is.payloads_are in cc
     empty (newest ∷ since) e = let h = ends.taken_is ∙ ap (λ l. l ++ ends.before) e in cc
-nothing-behind_content (payload ∷ before) content ends = (keeps-under_way (payload ∷ before) Nothing).0 (ap (λ s. remains s payload) (is-told before payload content ends))
+nothing-after_content (payload ∷ before) content ends = (keeps-under_way (payload ∷ before) Nothing).0 (ap (λ s. remains s payload) (is-told before payload content ends))
 
 -- the reason for which a payload doesn't fit
 tells-misfit : (before : List Payload) (payload : Payload) (misfit : Misfit) (state : Gathering) → gathering before ≡ state → step state payload ≡ Breaks misfit → DoesNotFit before payload misfit

@@ -6,7 +6,7 @@ use Rattle.std.proofs.lemmas.Bool.Decides.{nat_tests}
 use Rattle.amqp_model.specs.Methods.{Method, Properties, carries_content}
 use Rattle.amqp_model.specs.Contents.{Payload, Calls, Header, Body, Content, EndsFull, IsContent, UnderWay}
 use Rattle.amqp_model.specs.Gathering.{Gathering, Nothing, HeaderDue, BodyDue, Keeps, begun, gathered, step, gathering, remains}
-use Rattle.amqp_model.proofs.ContentLemmas.{concat-append, full-behind, full-snoc, full-some, BodiesFront, bodies_front, bodies-front}
+use Rattle.amqp_model.proofs.ContentLemmas.{concat-append, full-after, full-snoc, full-some, BodiesPrefix, bodies_prefix, bodies-prefix}
 
 -- `since` are the payloads of a content under way, the newest first, and so much there is of it
 pub data Grows : (since : List Payload) → Gathering → Type 0 where
@@ -41,10 +41,10 @@ grown-kept (has_more {method} {size} {properties} {body} {since} {octets} grows 
     ap (λ state. remains (step state (Body octets)) (Body octets)) (grown-kept grows before)
     ∙ ap (λ s. remains s (Body octets)) (gathered-more method size properties (body ++ octets) short)
 
--- in order, what is under way is the front of a content, with so many octets of its body
-pub data Fronts (since : List Payload) : Gathering → Type 0 where
-  method_front : {method : Method} → carries_content method ≡ true → reverse since ≡ Calls method ∷ [] → Fronts since (HeaderDue method)
-  body_front : {method : Method} {size : ℕ} {properties : Properties} {body : List ℕ} (parts : List (List ℕ)) → carries_content method ≡ true → reverse since ≡ Calls method ∷ Header size properties ∷ map Body parts → concat parts ≡ body → length body < size → Fronts since (BodyDue method size properties body)
+-- in order, what is under way is the prefix of a content, with so many octets of its body
+pub data Prefixes (since : List Payload) : Gathering → Type 0 where
+  method_prefix : {method : Method} → carries_content method ≡ true → reverse since ≡ Calls method ∷ [] → Prefixes since (HeaderDue method)
+  body_prefix : {method : Method} {size : ℕ} {properties : Properties} {body : List ℕ} (parts : List (List ℕ)) → carries_content method ≡ true → reverse since ≡ Calls method ∷ Header size properties ∷ map Body parts → concat parts ≡ body → length body < size → Prefixes since (BodyDue method size properties body)
 
 pub map-snoc : (parts : List (List ℕ)) (part : List ℕ) → map Body (parts ++ part ∷ []) ≡ map Body parts ++ Body part ∷ []
 map-snoc [] part = refl
@@ -53,35 +53,35 @@ map-snoc (first ∷ parts) part = ap (λ l. Body first ∷ l) (map-snoc parts pa
 pub concat-snoc : (parts : List (List ℕ)) (part : List ℕ) → concat (parts ++ part ∷ []) ≡ concat parts ++ part
 concat-snoc parts part = concat-append parts (part ∷ []) ∙ ap (λ l. concat parts ++ l) (append-nil part)
 
-pub grown-front : {since : List Payload} {state : Gathering} → Grows since state → Fronts since state
-grown-front (has_method carries) = method_front carries refl
-grown-front (has_header carries some) = body_front [] carries refl refl some
-grown-front (has_more {method} {size} {properties} {body} {since} {octets} grows short) = more (grown-front grows)
+pub grown-prefix : {since : List Payload} {state : Gathering} → Grows since state → Prefixes since state
+grown-prefix (has_method carries) = method_prefix carries refl
+grown-prefix (has_header carries some) = body_prefix [] carries refl refl some
+grown-prefix (has_more {method} {size} {properties} {body} {since} {octets} grows short) = more (grown-prefix grows)
   where
-    more : Fronts since (BodyDue method size properties body) → Fronts (Body octets ∷ since) (BodyDue method size properties (body ++ octets))
-    more (body_front parts carries front joined fewer) =
-        let front' : reverse (Body octets ∷ since) ≡ Calls method ∷ Header size properties ∷ map Body (parts ++ octets ∷ []) = reverse-append (Body octets ∷ []) since ∙ (ap (λ l. l ++ Body octets ∷ []) front ∙ ap (λ l. Calls method ∷ Header size properties ∷ l) (sym (map-snoc parts octets))) in
-        body_front (parts ++ octets ∷ []) carries front' (concat-snoc parts octets ∙ ap (λ l. l ++ octets) joined) short
+    more : Prefixes since (BodyDue method size properties body) → Prefixes (Body octets ∷ since) (BodyDue method size properties (body ++ octets))
+    more (body_prefix parts carries prefix joined fewer) =
+        let prefix' : reverse (Body octets ∷ since) ≡ Calls method ∷ Header size properties ∷ map Body (parts ++ octets ∷ []) = reverse-append (Body octets ∷ []) since ∙ (ap (λ l. l ++ Body octets ∷ []) prefix ∙ ap (λ l. Calls method ∷ Header size properties ∷ l) (sym (map-snoc parts octets))) in
+        body_prefix (parts ++ octets ∷ []) carries prefix' (concat-snoc parts octets ∙ ap (λ l. l ++ octets) joined) short
 
 -- what grows is under way
-pub front-under_way : {since : List Payload} {state : Gathering} (before : List Payload) → Fronts since state → UnderWay (since ++ before) since
-front-under_way {since} before (method_front {method} carries front) = record {
+pub prefix-under_way : {since : List Payload} {state : Gathering} (before : List Payload) → Prefixes since state → UnderWay (since ++ before) since
+prefix-under_way {since} before (method_prefix {method} carries prefix) = record {
   before = before;
   taken_is = refl;
   begun = λ none. absurd (let h = ap reverse none in cc);
   content = record { method = method; properties = []; body = [] };
   next = Header 0 [];
   later = [];
-  content_is = record { carries = carries; parts = []; joined = refl; ends_full = tt; payloads_are = ap (λ l. l ++ Header 0 [] ∷ []) front };
+  content_is = record { carries = carries; parts = []; joined = refl; ends_full = tt; payloads_are = ap (λ l. l ++ Header 0 [] ∷ []) prefix };
 }
-front-under_way {since} before (body_front {method} {size} {properties} {body} parts carries front joined short) = record {
+prefix-under_way {since} before (body_prefix {method} {size} {properties} {body} parts carries prefix joined short) = record {
   before = before;
   taken_is = refl;
   begun = λ none. absurd (let h = ap reverse none in cc);
   content = whole;
   next = Body rest;
   later = [];
-  content_is = record { carries = carries; parts = parts ++ rest ∷ []; joined = concat-snoc parts rest ∙ ap (λ l. l ++ rest) joined; ends_full = full-snoc parts rest some; payloads_are = ap (λ l. l ++ Body rest ∷ []) front ∙ same };
+  content_is = record { carries = carries; parts = parts ++ rest ∷ []; joined = concat-snoc parts rest ∙ ap (λ l. l ++ rest) joined; ends_full = full-snoc parts rest some; payloads_are = ap (λ l. l ++ Body rest ∷ []) prefix ∙ same };
 }
   where
     rest : List ℕ
@@ -119,32 +119,32 @@ grow-bodies {method} {size} {properties} {body} {since} (part ∷ parts) grows s
 pub grow-content : {method : Method} {size : ℕ} {properties : Properties} (parts : List (List ℕ)) → carries_content method ≡ true → length (concat parts) < size → Grows (reverse (map Body parts) ++ Header size properties ∷ Calls method ∷ []) (BodyDue method size properties (concat parts))
 grow-content {method} {size} {properties} parts carries short = grow-bodies parts (has_header {properties = properties} carries (omega arith)) short
 
--- a front of a content, though not all of it
-pub data ContentFront (content : Content) (since : List Payload) (next : Payload) (later : List Payload) : Type 0 where
-  its_method : since ≡ Calls content.method ∷ [] → next ≡ Header (length content.body) content.properties → ContentFront content since next later
-  its_body : (parts : List (List ℕ)) (part : List ℕ) (more : List (List ℕ)) → since ≡ reverse (map Body parts) ++ Header (length content.body) content.properties ∷ Calls content.method ∷ [] → next ≡ Body part → later ≡ map Body more → concat parts ++ concat (part ∷ more) ≡ content.body → EndsFull (part ∷ more) → ContentFront content since next later
+-- a prefix of a content, though not all of it
+pub data ContentPrefix (content : Content) (since : List Payload) (next : Payload) (later : List Payload) : Type 0 where
+  its_method : since ≡ Calls content.method ∷ [] → next ≡ Header (length content.body) content.properties → ContentPrefix content since next later
+  its_body : (parts : List (List ℕ)) (part : List ℕ) (more : List (List ℕ)) → since ≡ reverse (map Body parts) ++ Header (length content.body) content.properties ∷ Calls content.method ∷ [] → next ≡ Body part → later ≡ map Body more → concat parts ++ concat (part ∷ more) ≡ content.body → EndsFull (part ∷ more) → ContentPrefix content since next later
 
-pub content-front : (content : Content) (since : List Payload) (next : Payload) (later : List Payload) → since ≢ [] → IsContent content (reverse since ++ next ∷ later) → ContentFront content since next later
-content-front content since next later begun is = go (reverse since) (reverse-reverse since) is.payloads_are
+pub content-prefix : (content : Content) (since : List Payload) (next : Payload) (later : List Payload) → since ≢ [] → IsContent content (reverse since ++ next ∷ later) → ContentPrefix content since next later
+content-prefix content since next later begun is = go (reverse since) (reverse-reverse since) is.payloads_are
   where
-    go : (front : List Payload) → reverse front ≡ since → front ++ next ∷ later ≡ Calls content.method ∷ Header (length content.body) content.properties ∷ map Body is.parts → ContentFront content since next later
+    go : (prefix : List Payload) → reverse prefix ≡ since → prefix ++ next ∷ later ≡ Calls content.method ∷ Header (length content.body) content.properties ∷ map Body is.parts → ContentPrefix content since next later
     go [] back e = absurd (begun (sym back))
     go (first ∷ []) back e =
         let method : first ≡ Calls content.method = cc in
         its_method (sym back ∙ ap (λ x. x ∷ []) method) cc
-    go (first ∷ second ∷ front) back e = with_body (bodies-front front is.parts next later cc)
+    go (first ∷ second ∷ prefix) back e = with_body (bodies-prefix prefix is.parts next later cc)
       where
-        with_body : BodiesFront front next later is.parts → ContentFront content since next later
-        with_body (bodies_front parts part more front_is parts_are next_is later_is) =
+        with_body : BodiesPrefix prefix next later is.parts → ContentPrefix content since next later
+        with_body (bodies_prefix parts part more prefix_is parts_are next_is later_is) =
             let method : first ≡ Calls content.method = cc in
             let header : second ≡ Header (length content.body) content.properties = cc in
-            let since_is : since ≡ reverse (Calls content.method ∷ Header (length content.body) content.properties ∷ map Body parts) = sym back ∙ ap reverse (let h : first ∷ second ∷ front ≡ Calls content.method ∷ Header (length content.body) content.properties ∷ map Body parts = cc in h) in
-            its_body parts part more (since_is ∙ reverse-append (Calls content.method ∷ Header (length content.body) content.properties ∷ []) (map Body parts)) next_is later_is (sym (concat-append parts (part ∷ more)) ∙ (ap concat (sym parts_are) ∙ is.joined)) (full-behind parts part more (subst EndsFull parts_are is.ends_full))
+            let since_is : since ≡ reverse (Calls content.method ∷ Header (length content.body) content.properties ∷ map Body parts) = sym back ∙ ap reverse (let h : first ∷ second ∷ prefix ≡ Calls content.method ∷ Header (length content.body) content.properties ∷ map Body parts = cc in h) in
+            its_body parts part more (since_is ∙ reverse-append (Calls content.method ∷ Header (length content.body) content.properties ∷ []) (map Body parts)) next_is later_is (sym (concat-append parts (part ∷ more)) ∙ (ap concat (sym parts_are) ∙ is.joined)) (full-after parts part more (subst EndsFull parts_are is.ends_full))
 
 pub under_way-grows : {taken since : List Payload} → UnderWay taken since → Growing since
-under_way-grows {taken} {since} under = go (content-front under.content since under.next under.later under.begun under.content_is)
+under_way-grows {taken} {since} under = go (content-prefix under.content since under.next under.later under.begun under.content_is)
   where
-    go : ContentFront under.content since under.next under.later → Growing since
+    go : ContentPrefix under.content since under.next under.later → Growing since
     go (its_method since_is next_is) = growing (subst (λ l. Grows l (HeaderDue under.content.method)) (sym since_is) (has_method under.content_is.carries))
     go (its_body parts part more since_is next_is later_is joined full) =
         let some = full-some part more full in

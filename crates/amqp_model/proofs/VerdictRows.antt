@@ -1,4 +1,4 @@
--- What one end does with frames that come one behind the other, computed.
+-- What one end does with frames that come one after the other, computed.
 use Rattle.std.proofs.Common.{◌≡◌, true, false, ℕ, List, [], ◌∷◌, codes, replicate, Some, None, refl}
 use Rattle.amqp_frame.specs.declared.frames.FrameKind.{FrameKind}
 use Rattle.amqp_method.specs.declared.kinds.Kind.TheVariants as kinds
@@ -79,7 +79,7 @@ server_handshake : verdicts Server (server_config 16777216) (greeted 16777216) h
     ∷ []
 server_handshake = refl
 
--- the server behind that handshake
+-- the server after that handshake
 abbrev running : (max_body : ℕ) → End
 running max_body = after_all Server (server_config max_body) (greeted max_body) handshake
 

@@ -2,7 +2,7 @@
 -- which the definition computes.
 --
 -- The methods are in the order of `every_kind`, without arguments: those of the class connection on channel 0, the
--- others on channel 1. The frames behind them are `other_frames`.
+-- others on channel 1. The frames after them are `other_frames`.
 use Rattle.std.proofs.Common.{◌≡◌, true, false, cond, ℕ, List, [], ◌∷◌, ◌++◌, map, Option, Some, None, ◌==◌, refl}
 use Rattle.amqp_method.specs.declared.kinds.Kind.TheVariants as kinds
 use Rattle.amqp_value.specs.Values.{no_pairs}

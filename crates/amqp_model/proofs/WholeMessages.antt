@@ -26,24 +26,24 @@ use Rattle.amqp_model.specs.LawfulHistories.{then_put, Goes, greets, takes, faul
 use Rattle.amqp_model.specs.EndLaws.{notes_on}
 use Rattle.amqp_model.specs.Sent.{payload_in}
 use Rattle.amqp_model.specs.Gathering as contents
-use Rattle.amqp_model.specs.WholeMessages.{FitsNext, FitBehind, AreWholeMessages, EachFitsNext, PutsWholeMessages}
+use Rattle.amqp_model.specs.WholeMessages.{FitsNext, FitAfter, AreWholeMessages, EachFitsNext, PutsWholeMessages}
 use Rattle.amqp_model.proofs.Lists.{messages-append}
 use Rattle.amqp_model.proofs.Acting.{seen-put, reads-back}
 use Rattle.amqp_model.proofs.Asking.{Accepted, accepted, accepted-none, not-when, first-false, frame-channel, sent-kind, message-class}
 use Rattle.amqp_model.proofs.CutLemmas.{cut-content}
 use Rattle.amqp_model.proofs.Elsewhere.{Each, each-owed}
 
--- whole messages behind whole messages
-whole-append : (kept : Gathering) (xs ys : List Payload) → FitBehind kept xs → AreWholeMessages ys → FitBehind kept (xs ++ ys)
-whole-append kept [] ys a b = subst (λ k. FitBehind k ys) (sym a) b
+-- whole messages after whole messages
+whole-append : (kept : Gathering) (xs ys : List Payload) → FitAfter kept xs → AreWholeMessages ys → FitAfter kept (xs ++ ys)
+whole-append kept [] ys a b = subst (λ k. FitAfter k ys) (sym a) b
 whole-append kept (x ∷ xs) ys a b = (a.0, whole-append (remains (step kept x) x) xs ys a.1 b)
 
--- what is kept behind payloads in their order
-abbrev kept_behind : Gathering → List Payload → Gathering
-kept_behind kept [] = kept
-kept_behind kept (payload ∷ later) = kept_behind (remains (step kept payload) payload) later
+-- what is kept after payloads in their order
+abbrev kept_after : Gathering → List Payload → Gathering
+kept_after kept [] = kept
+kept_after kept (payload ∷ later) = kept_after (remains (step kept payload) payload) later
 
-kept-snoc : (kept : Gathering) (xs : List Payload) (p : Payload) → kept_behind kept (xs ++ p ∷ []) ≡ remains (step (kept_behind kept xs) p) p
+kept-snoc : (kept : Gathering) (xs : List Payload) (p : Payload) → kept_after kept (xs ++ p ∷ []) ≡ remains (step (kept_after kept xs) p) p
 kept-snoc kept [] p = refl
 kept-snoc kept (x ∷ xs) p = kept-snoc (remains (step kept x) x) xs p
 
@@ -57,7 +57,7 @@ full-some [] [] full = absurd (full refl)
 full-some (octet ∷ part) [] full = omega arith
 full-some part (next ∷ parts) full = let more = full-some next parts full in let l = length-append part (concat (next ∷ parts)) in omega arith
 
-parts-fit : (method : Method) (size : ℕ) (properties : Properties) (body : List ℕ) (part : List ℕ) (parts : List (List ℕ)) → EndsFull (part ∷ parts) → length body + length (concat (part ∷ parts)) ≡ size → FitBehind (BodyDue method size properties body) (map Payload.Body (part ∷ parts))
+parts-fit : (method : Method) (size : ℕ) (properties : Properties) (body : List ℕ) (part : List ℕ) (parts : List (List ℕ)) → EndsFull (part ∷ parts) → length body + length (concat (part ∷ parts)) ≡ size → FitAfter (BodyDue method size properties body) (map Payload.Body (part ∷ parts))
 parts-fit method size properties body part [] full e = last
   where
     here : (length (body ++ part) == size) ≡ true
@@ -69,7 +69,7 @@ parts-fit method size properties body part [] full e = last
     last : FitsNext (gathered method size properties (body ++ part)) × (remains (gathered method size properties (body ++ part)) (Payload.Body part) ≡ Nothing)
     last = subst (λ s. FitsNext s × (remains s (Payload.Body part) ≡ Nothing)) (sym whole) (tt, refl)
 parts-fit method size properties body part (next ∷ parts) full e =
-    subst (λ s. FitsNext s × FitBehind (remains s (Payload.Body part)) (map Payload.Body (next ∷ parts))) (sym keeps) (tt, parts-fit method size properties (body ++ part) next parts full rest)
+    subst (λ s. FitsNext s × FitAfter (remains s (Payload.Body part)) (map Payload.Body (next ∷ parts))) (sym keeps) (tt, parts-fit method size properties (body ++ part) next parts full rest)
   where
     rest : length (body ++ part) + length (concat (next ∷ parts)) ≡ size
     rest = let l = length-append body part in let m = length-append part (concat (next ∷ parts)) in omega (arith, e)
@@ -82,12 +82,12 @@ parts-fit method size properties body part (next ∷ parts) full e =
 
 -- a content that is one
 whole-content : (content : Content) (parts : List (List ℕ)) → carries_content content.method ≡ true → EndsFull parts → concat parts ≡ content.body → AreWholeMessages (Payload.Calls content.method ∷ Payload.Header (length content.body) content.properties ∷ map Payload.Body parts)
-whole-content content parts carries full joined = (tt, subst (λ k. FitBehind k (Payload.Header (length content.body) content.properties ∷ map Payload.Body parts)) (sym due) (by-parts parts full joined))
+whole-content content parts carries full joined = (tt, subst (λ k. FitAfter k (Payload.Header (length content.body) content.properties ∷ map Payload.Body parts)) (sym due) (by-parts parts full joined))
   where
     due : contents.begun content.method ≡ HeaderDue content.method
     due = cond-true (carries_content content.method) _ _ carries
 
-    by-parts : (parts : List (List ℕ)) → EndsFull parts → concat parts ≡ content.body → FitBehind (HeaderDue content.method) (Payload.Header (length content.body) content.properties ∷ map Payload.Body parts)
+    by-parts : (parts : List (List ℕ)) → EndsFull parts → concat parts ≡ content.body → FitAfter (HeaderDue content.method) (Payload.Header (length content.body) content.properties ∷ map Payload.Body parts)
     by-parts [] full joined =
         let none : (0 == length content.body) ≡ true = eq-eqb 0 (length content.body) (ap length joined) in
         let whole : gathered content.method (length content.body) content.properties [] ≡ Completes (record { method = content.method; properties = content.properties; body = [] }) = cond-true (0 == length content.body) _ _ none in
@@ -95,22 +95,22 @@ whole-content content parts carries full joined = (tt, subst (λ k. FitBehind k 
     by-parts (part ∷ parts) full joined =
         let some : 0 < length content.body = subst (λ l. 0 < length l) joined (full-some part parts full) in
         let keeps : gathered content.method (length content.body) content.properties [] ≡ Keeps (BodyDue content.method (length content.body) content.properties []) = cond-false (0 == length content.body) _ _ (ne_eqb 0 (length content.body) (λ same. absurd (omega (arith, same, some)))) ∙ cond-true (nat_lt 0 (length content.body)) _ _ (lt-ltb 0 (length content.body) some) in
-        subst (λ s. FitsNext s × FitBehind (remains s (Payload.Header (length content.body) content.properties)) (map Payload.Body (part ∷ parts))) (sym keeps) (tt, parts-fit content.method (length content.body) content.properties [] part parts full (let j = ap length joined in omega (arith, j)))
+        subst (λ s. FitsNext s × FitAfter (remains s (Payload.Header (length content.body) content.properties)) (map Payload.Body (part ∷ parts))) (sym keeps) (tt, parts-fit content.method (length content.body) content.properties [] part parts full (let j = ap length joined in omega (arith, j)))
 
 whole-is : (content : Content) (payloads : List Payload) → IsContent content payloads → AreWholeMessages payloads
 whole-is content payloads is = subst AreWholeMessages (sym is.payloads_are) (whole-content content is.parts is.carries is.ends_full is.joined)
 
--- what fits behind what is kept fits behind what was taken
-gathering-behind : (front taken : List Payload) → kept_behind (gathering taken) front ≡ gathering (reverse front ++ taken)
-gathering-behind [] taken = refl
-gathering-behind (p ∷ front) taken = gathering-behind front (p ∷ taken) ∙ ap gathering (sym (append_assoc (reverse front) (p ∷ []) taken) ∙ ap (λ l. l ++ taken) (sym (reverse-append (p ∷ []) front)))
+-- what fits after what is kept fits after what was taken
+gathering-after : (prefix taken : List Payload) → kept_after (gathering taken) prefix ≡ gathering (reverse prefix ++ taken)
+gathering-after [] taken = refl
+gathering-after (p ∷ prefix) taken = gathering-after prefix (p ∷ taken) ∙ ap gathering (sym (append_assoc (reverse prefix) (p ∷ []) taken) ∙ ap (λ l. l ++ taken) (sym (reverse-append (p ∷ []) prefix)))
 
-fits-at : (kept : Gathering) (front : List Payload) (payload : Payload) (later : List Payload) → FitBehind kept (front ++ payload ∷ later) → FitsNext (step (kept_behind kept front) payload)
+fits-at : (kept : Gathering) (prefix : List Payload) (payload : Payload) (later : List Payload) → FitAfter kept (prefix ++ payload ∷ later) → FitsNext (step (kept_after kept prefix) payload)
 fits-at kept [] payload later fit = fit.0
-fits-at kept (p ∷ front) payload later fit = fits-at (remains (step kept p) p) front payload later fit.1
+fits-at kept (p ∷ prefix) payload later fit = fits-at (remains (step kept p) p) prefix payload later fit.1
 
-pub each-fits-next : (front : List Payload) (payload : Payload) (later : List Payload) → EachFitsNext front payload later
-each-fits-next front payload later whole = subst (λ k. FitsNext (step k payload)) (gathering-behind front [] ∙ ap gathering (append-nil (reverse front))) (fits-at Nothing front payload later whole)
+pub each-fits-next : (prefix : List Payload) (payload : Payload) (later : List Payload) → EachFitsNext prefix payload later
+each-fits-next prefix payload later whole = subst (λ k. FitsNext (step k payload)) (gathering-after prefix [] ∙ ap gathering (append-nil (reverse prefix))) (fits-at Nothing prefix payload later whole)
 
 -- a method has octets
 some-octets : (method : Method) → 4 ≤ length (plain_method method)

@@ -62,9 +62,9 @@ row-writes n last (f ∷ later) l = cases (n == 0) refl (nat_lt n (frame_length 
       octets_are = let s = length-octets f in sym (drop-append-le n (octets f) (stream later) (omega arith));
     }
 
-    behind : (begun before rest : List Frame) (g : Frame) → 0 < n → frame_length f ≤ n → ((before rest : List Frame) (g : Frame) → begun ≡ before ++ g ∷ rest → length (stream before) < n - frame_length f) → f ∷ begun ≡ before ++ g ∷ rest → length (stream before) < n
-    behind begun [] rest g p h all e = p
-    behind begun (x ∷ before) rest g p h all e =
+    after : (begun before rest : List Frame) (g : Frame) → 0 < n → frame_length f ≤ n → ((before rest : List Frame) (g : Frame) → begun ≡ before ++ g ∷ rest → length (stream before) < n - frame_length f) → f ∷ begun ≡ before ++ g ∷ rest → length (stream before) < n
+    after begun [] rest g p h all e = p
+    after begun (x ∷ before) rest g p h all e =
         let k : begun ≡ before ++ g ∷ rest = cc in
         let same : f ≡ x = cc in
         let short = all before rest g k in
@@ -81,7 +81,7 @@ row-writes n last (f ∷ later) l = cases (n == 0) refl (nat_lt n (frame_length 
         record {
           begun = f ∷ w.begun;
           row_is = ap (λ l. f ∷ l) w.row_is;
-          all_begun = λ before rest g e. behind w.begun before rest g p h w.all_begun e;
+          all_begun = λ before rest g e. after w.begun before rest g p h w.all_begun e;
           no_more_begun =
               let few = w.no_more_begun in
               let t = length-append (octets f) (stream w.begun) in

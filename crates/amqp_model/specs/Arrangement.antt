@@ -83,12 +83,12 @@ IsChannel channel = channel < 2 ^ 16
 abbrev pub HasChannel : Frame → Type 0
 HasChannel f = IsChannel f.channel
 
--- a row that a frame is put into: it stands in front of the first that has its turn later
+-- a row that a frame is put into: it stands before the first that has its turn later
 abbrev pub placed : (last : ℕ) → Frame → (row : List Frame) → List Frame
 placed last f [] = f ∷ []
 placed last f (g ∷ later) = cond (nat_lt (turn last f) (turn last g)) (f ∷ g ∷ later) (g ∷ placed (last_after last g) f later)
 
--- a row that frames are put into, one behind another
+-- a row that frames are put into, one after another
 abbrev pub placed_all : (last : ℕ) → (frames row : List Frame) → List Frame
 placed_all last [] row = row
 placed_all last (f ∷ later) row = placed_all last later (placed last f row)
@@ -97,10 +97,10 @@ placed_all last (f ∷ later) row = placed_all last later (placed last f row)
 abbrev pub arranged : (last : ℕ) → (waiting : List Frame) → List Frame
 arranged last waiting = placed_all last waiting []
 
--- A row gained a frame: no other one moved, and none of its queue stands behind it.
+-- A row gained a frame: no other one moved, and none of its queue stands after it.
 pub record Gains (f : Frame) (row more : List Frame) : Type 0 where
-  pub front : List Frame
+  pub prefix : List Frame
   pub back : List Frame
-  pub row_is : row ≡ front ++ back
-  pub more_is : more ≡ front ++ f ∷ back
+  pub row_is : row ≡ prefix ++ back
+  pub more_is : more ≡ prefix ++ f ∷ back
   pub newest : (queue : Queue) → is_in queue f ≡ true → queued queue back ≡ []

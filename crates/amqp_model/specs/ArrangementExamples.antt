@@ -45,7 +45,7 @@ LeavingOnes =
     × (is_leaving (record { kind = Method; channel = 1; payload = close_ok.payload }) ≡ false)
     × (is_leaving (record { kind = Body; channel = 0; payload = close_ok.payload }) ≡ false)
 
--- After 65535 the count goes on at 1, and frames of channel 0 stand in front and don't move LAST.
+-- After 65535 the count goes on at 1, and frames of channel 0 stand at the start and don't move LAST.
 abbrev pub RoundTheTop : Type 0
 RoundTheTop =
     (arranged 65534 (heartbeat ∷ close ∷ publish 1 ∷ publish 65535 ∷ tune_ok ∷ []) ≡ heartbeat ∷ tune_ok ∷ publish 65535 ∷ publish 1 ∷ close ∷ [])
@@ -71,7 +71,7 @@ LongAndShort =
     × (IsArranged 2 (long_and_short most rest) → ⊥)
 
 -- After channel 2: a content of no octets on channel 1, five octets written, and tx.select on channel 2. The frame
--- that is begun stays in front.
+-- that is begun stays at the start.
 abbrev pub begun_and_put : Output
 begun_and_put = after_put (select 2) (after_writing 5 (after_put (header 1 0 0) (after_put (publish 1) (record { ahead = []; last = 2; row = [] }))))
 

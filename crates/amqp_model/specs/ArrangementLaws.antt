@@ -5,7 +5,7 @@ use Rattle.amqp_frame.specs.Splitting.{stream, AllFit}
 use Rattle.amqp_model.specs.Arrangement.{is_leaving, Queue, LeavingFrames, is_in, queued, on, steps, last_after_all, IsArranged, Arranges, IsChannel, HasChannel, Gains, placed, arranged}
 use Rattle.amqp_model.specs.ArrangementRules.{counted, FollowsRules, ComesNoLater}
 use Rattle.amqp_model.specs.Outputs.{Output, output_octets, after_put, after_puts, Writes, after_writing}
-use Rattle.amqp_model.specs.Departures.{KeepsOrder, IsOutputOf, PutInOrder, LeavesBehind, LeavesLast, PutAs}
+use Rattle.amqp_model.specs.Departures.{KeepsOrder, IsOutputOf, PutInOrder, LeavesAfter, LeavesLast, PutAs}
 
 -- as many counts as there are steps lead from one channel to another
 abbrev pub StepsLead : Type 0
@@ -41,21 +41,21 @@ PutArranges =
 abbrev pub PutMovesNone : Type 0
 PutMovesNone = (last : ℕ) (f : Frame) (row : List Frame) → IsArranged last row → Gains f row (placed last f row)
 
--- each channel above 0 has its frames as before, and behind them the new one
+-- each channel above 0 has its frames as before, and after them the new one
 abbrev pub PutExtendsChannels : Type 0
 PutExtendsChannels =
     (last : ℕ) (f : Frame) (row : List Frame) (channel : ℕ) → IsArranged last row → 0 < channel → on channel (placed last f row) ≡ on channel row ++ on channel (f ∷ [])
 
--- connection.close and close-ok are put behind every frame that waits
+-- connection.close and close-ok are put after every frame that waits
 abbrev pub LeavingIsPutLast : Type 0
 LeavingIsPutLast = (last : ℕ) (f : Frame) (row : List Frame) → is_leaving f ≡ true → All HasChannel row → placed last f row ≡ row ++ f ∷ []
 
--- the place of a frame is found behind the last one of its queue
-abbrev pub PlaceIsBehindItsQueue : Type 0
-PlaceIsBehindItsQueue =
-    (last : ℕ) (f g : Frame) (front back : List Frame) (queue : Queue)
-    → IsArranged last (front ++ g ∷ back) → is_in queue f ≡ true → is_in queue g ≡ true
-    → placed last f (front ++ g ∷ back) ≡ front ++ g ∷ placed (last_after_all last (front ++ g ∷ [])) f back
+-- the place of a frame is found after the last one of its queue
+abbrev pub PlaceIsAfterItsQueue : Type 0
+PlaceIsAfterItsQueue =
+    (last : ℕ) (f g : Frame) (prefix back : List Frame) (queue : Queue)
+    → IsArranged last (prefix ++ g ∷ back) → is_in queue f ≡ true → is_in queue g ≡ true
+    → placed last f (prefix ++ g ∷ back) ≡ prefix ++ g ∷ placed (last_after_all last (prefix ++ g ∷ [])) f back
 
 -- a put leaves what is begun, and LAST
 abbrev pub PutLeavesBegun : Type 0
@@ -121,18 +121,18 @@ WaitsWhatIsNotBegun =
     (opening : List ℕ) (put : List Frame) (written : List ℕ) (o : Output) (out : IsOutputOf opening put written o) (queue : Queue)
     → queued queue put ≡ queued queue out.begun ++ queued queue o.row
 
--- what leaves behind a connection.close or close-ok was put behind it
-abbrev pub ClosesStandBehind : Type 0
-ClosesStandBehind =
+-- what leaves after a connection.close or close-ok was put after it
+abbrev pub ClosesStandAfter : Type 0
+ClosesStandAfter =
     (put departing : List Frame) → KeepsOrder put departing
-    → (earlier later before behind : List Frame) (f g : Frame)
-    → put ≡ earlier ++ f ∷ later → departing ≡ before ++ g ∷ behind → is_leaving f ≡ true → is_leaving g ≡ true
+    → (earlier later before after : List Frame) (f g : Frame)
+    → put ≡ earlier ++ f ∷ later → departing ≡ before ++ g ∷ after → is_leaving f ≡ true → is_leaving g ≡ true
     → length (queued LeavingFrames earlier) ≡ length (queued LeavingFrames before)
-    → (f ≡ g) × ((queue : Queue) → LeavesBehind earlier later before behind queue)
+    → (f ≡ g) × ((queue : Queue) → LeavesAfter earlier later before after queue)
 
--- where an end puts only connection.close and close-ok behind one of these, nothing else leaves behind one
-abbrev pub NothingLeavesBehind : Type 0
-NothingLeavesBehind = (put departing : List Frame) → KeepsOrder put departing → LeavesLast put → LeavesLast departing
+-- where an end puts only connection.close and close-ok after one of these, nothing else leaves after one
+abbrev pub NothingLeavesAfter : Type 0
+NothingLeavesAfter = (put departing : List Frame) → KeepsOrder put departing → LeavesLast put → LeavesLast departing
 
 -- then channel 0 has its frames in order too
 abbrev pub AllIsPutAs : Type 0

@@ -51,7 +51,7 @@ is_open _ = false
 abbrev pub acts_next : Role → List Note → Bool
 acts_next role history = not (has_left history) && is_open (state role history)
 
--- The notes that the end took while it acted on what it takes, each with its life. A frame that it finds fault with, behind
+-- The notes that the end took while it acted on what it takes, each with its life. A frame that it finds fault with, after
 -- which nothing comes, is one of them: in a run there is none.
 abbrev pub acted_takes : Role → List Note → List NoteInLife
 acted_takes role [] = []

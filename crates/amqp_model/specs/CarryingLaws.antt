@@ -3,7 +3,7 @@ use Rattle.std.specs.Prelude.{◌≡◌, ℕ, List, ◌++◌, map}
 use Rattle.amqp_frame.specs.Frame.{Frame, octets, Fits}
 use Rattle.amqp_model.specs.Notes.{Role, other_end}
 use Rattle.amqp_model.specs.Carried.{Carried, Carry, put_by, taken_by}
-use Rattle.amqp_model.specs.Fronts.{IsFrontOf}
+use Rattle.amqp_model.specs.Prefixes.{IsPrefixOf}
 use Rattle.amqp_model.specs.Arrangement.{on}
 use Rattle.amqp_model.specs.Departures.{PutAs}
 use Rattle.amqp_model.specs.Readings.{reading, kind_of}
@@ -42,14 +42,14 @@ pub record Carries (role : Role) (limit : ℕ) (mine theirs : History) (put fed 
   pub fed_as : FedAs role limit mine fed unfinished
   pub put_is : put ≡ fed ++ rest
 
--- on each channel, the frames that the end took are a front of those that the other put
-abbrev pub TakesFrontOnEach : Role → (limit : ℕ) → (mine theirs : History) → (put fed unfinished rest : List ℕ) → Type 0
-TakesFrontOnEach role limit mine theirs put fed unfinished rest =
-    Carries role limit mine theirs put fed unfinished rest → (channel : ℕ) → IsFrontOf (on channel (frames_taken mine)) (on channel (frames_put theirs))
+-- on each channel, the frames that the end took are a prefix of those that the other put
+abbrev pub TakesPrefixOnEach : Role → (limit : ℕ) → (mine theirs : History) → (put fed unfinished rest : List ℕ) → Type 0
+TakesPrefixOnEach role limit mine theirs put fed unfinished rest =
+    Carries role limit mine theirs put fed unfinished rest → (channel : ℕ) → IsPrefixOf (on channel (frames_taken mine)) (on channel (frames_put theirs))
 
 -- a frame that the rest completes comes next
 abbrev pub CompletedComesNext : Role → (limit : ℕ) → (mine theirs : History) → (put fed unfinished rest : List ℕ) → Type 0
 CompletedComesNext role limit mine theirs put fed unfinished rest =
-    (f : Frame) (front later : List ℕ)
-    → Carries role limit mine theirs put fed unfinished rest → rest ≡ front ++ later → unfinished ++ front ≡ octets f → Fits f
+    (f : Frame) (prefix later : List ℕ)
+    → Carries role limit mine theirs put fed unfinished rest → rest ≡ prefix ++ later → unfinished ++ prefix ≡ octets f → Fits f
     → ComesNext theirs mine f

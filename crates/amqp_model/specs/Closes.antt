@@ -68,7 +68,7 @@ reply_to (Some CloseOk) = without_arguments kinds.ChannelCloseOk ∷ []
 reply_to (Some (FlowOk active)) = flow_as kinds.ChannelFlowOk active ∷ []
 reply_to other = []
 
--- the frame of a method, plainly spelled
+-- the frame of a method, plainly encoded
 abbrev pub method_frame : (channel : ℕ) → Method → Frame
 method_frame channel method = record { kind = FrameKind.Method; channel = channel; payload = plain_method method }
 

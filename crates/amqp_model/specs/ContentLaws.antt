@@ -1,21 +1,21 @@
 -- What holds of contents, of what is gathered of them, and of items: the statements that the public laws carry.
 use Rattle.std.specs.Prelude.{◌≡◌, ◌↔◌, true, false, ℕ, ◌*◌, ◌<◌, ◌≤◌, List, [], ◌∷◌, ◌++◌, length, take, drop, reverse, All, Some, slice_get}
-use Rattle.amqp_model.specs.Fronts.{IsFrontOf}
+use Rattle.amqp_model.specs.Prefixes.{IsPrefixOf}
 use Rattle.std.specs.Option.{option_to_list}
 use Rattle.amqp_frame.specs.Frame.{Frame, frame_length}
 use Rattle.amqp_frame.specs.declared.frames.FrameKind.TheVariants.{Body as BodyKind}
 use Rattle.amqp_model.specs.Methods.{Method, Properties, sort_of, carries_content}
 use Rattle.amqp_model.specs.Contents.{Payload, Calls, Header, Body, Content, IsContent, pieces, cut, UnderWay, EndsContent, body_octets, due, IsDue}
 use Rattle.amqp_model.specs.Gathering.{Gathering, Nothing, BodyDue, Misfit, PastSize, Completes, Keeps, Breaks, step, gathering, kept, Gathers, DoesNotFit}
-use Rattle.amqp_model.specs.Items.{Item, WholeContent, EndsItem, Spells, item_of, item_ended, items_taken, items}
+use Rattle.amqp_model.specs.Items.{Item, WholeContent, EndsItem, Encodes, item_of, item_ended, items_taken, items}
 
 -- payloads are the content of at most one message
 abbrev pub IsAtMostOneContent : List Payload → Type 0
 IsAtMostOneContent payloads = (one other : Content) → IsContent one payloads → IsContent other payloads → one ≡ other
 
--- payloads that are a content are no front of another
-abbrev pub NoContentInFront : List Payload → Type 0
-NoContentInFront payloads = (one other : Content) (next : Payload) (later : List Payload) → IsContent one payloads → IsContent other (payloads ++ next ∷ later) → ⊥
+-- payloads that are a content are no prefix of another
+abbrev pub NoContentAtStart : List Payload → Type 0
+NoContentAtStart payloads = (one other : Content) (next : Payload) (later : List Payload) → IsContent one payloads → IsContent other (payloads ++ next ∷ later) → ⊥
 
 -- the frame of a body part
 abbrev body_frame : (channel : ℕ) → (octets : List ℕ) → Frame
@@ -68,17 +68,17 @@ KeepsUnderWay taken state = (gathering taken ≡ state) ↔ Gathers taken state
 abbrev pub KeepsItsOctets : (taken since : List Payload) → Type 0
 KeepsItsOctets taken since = UnderWay taken since → kept (gathering taken) ≡ body_octets since
 
--- where nothing is under way, what comes behind is gathered as if nothing had come before
+-- where nothing is under way, what comes after is gathered as if nothing had come before
 abbrev pub GathersAfresh : (later before : List Payload) → Type 0
 GathersAfresh later before = Gathers before Nothing → gathering (later ++ before) ≡ gathering later
 
--- nothing is under way behind a method that carries no content
-abbrev pub NothingBehindMethod : (before : List Payload) → Method → Type 0
-NothingBehindMethod before method = carries_content method ≡ false → Gathers (Calls method ∷ before) Nothing
+-- nothing is under way after a method that carries no content
+abbrev pub NothingAfterMethod : (before : List Payload) → Method → Type 0
+NothingAfterMethod before method = carries_content method ≡ false → Gathers (Calls method ∷ before) Nothing
 
--- nor behind a content that is whole
-abbrev pub NothingBehindContent : (taken : List Payload) → Content → Type 0
-NothingBehindContent taken content = EndsContent taken content → Gathers taken Nothing
+-- nor after a content that is whole
+abbrev pub NothingAfterContent : (taken : List Payload) → Content → Type 0
+NothingAfterContent taken content = EndsContent taken content → Gathers taken Nothing
 
 -- the machine tells a content where it is whole
 abbrev pub TellsWhole : (before : List Payload) → Payload → Content → Type 0
@@ -96,34 +96,34 @@ GoesOnWith before payload state = step (gathering before) payload ≡ Keeps stat
 abbrev pub TellsItems : (before : List Payload) → Payload → Item → Type 0
 TellsItems before payload item = (item_ended (gathering before) payload ≡ Some item) ↔ EndsItem (payload ∷ before) item
 
--- the machine's items are those that the payloads spell
-abbrev pub ItemsAreSpelled : (taken : List Payload) → List Item → Type 0
-ItemsAreSpelled taken list = (items_taken taken ≡ list) ↔ Spells taken list
+-- the machine's items are those that the payloads encode
+abbrev pub ItemsAreEncoded : (taken : List Payload) → List Item → Type 0
+ItemsAreEncoded taken list = (items_taken taken ≡ list) ↔ Encodes taken list
 
--- the items of a front are a front of the items
-abbrev pub ItemsOfFront : (front whole : List Payload) → Type 0
-ItemsOfFront front whole = IsFrontOf front whole → IsFrontOf (items front) (items whole)
+-- the items of a prefix are a prefix of the items
+abbrev pub ItemsOfPrefix : (prefix whole : List Payload) → Type 0
+ItemsOfPrefix prefix whole = IsPrefixOf prefix whole → IsPrefixOf (items prefix) (items whole)
 
 -- one more payload adds the item that it ends, if it ends one
-abbrev pub OneMoreSpelled : (front : List Payload) → Payload → Type 0
-OneMoreSpelled front payload = items (front ++ payload ∷ []) ≡ items front ++ option_to_list (item_ended (gathering (reverse front)) payload)
+abbrev pub OneMoreEncoded : (prefix : List Payload) → Payload → Type 0
+OneMoreEncoded prefix payload = items (prefix ++ payload ∷ []) ≡ items prefix ++ option_to_list (item_ended (gathering (reverse prefix)) payload)
 
--- where nothing is under way, what comes behind is spelled as if nothing had come before
-abbrev pub SpelledAfresh : (front later : List Payload) → Type 0
-SpelledAfresh front later = Gathers (reverse front) Nothing → items (front ++ later) ≡ items front ++ items later
+-- where nothing is under way, what comes after is encoded as if nothing had come before
+abbrev pub EncodedAfresh : (prefix later : List Payload) → Type 0
+EncodedAfresh prefix later = Gathers (reverse prefix) Nothing → items (prefix ++ later) ≡ items prefix ++ items later
 
--- A method that carries no content stands by itself: what is spelled before it, the item that it is, what is spelled
--- behind it. So the items of a life are those of its own payloads.
-abbrev pub MethodStandsAlone : (front : List Payload) → Method → (later : List Payload) → Type 0
-MethodStandsAlone front method later = carries_content method ≡ false → items (front ++ Calls method ∷ later) ≡ (items front ++ option_to_list (item_of method (sort_of method))) ++ items later
+-- A method that carries no content stands by itself: what is encoded before it, the item that it is, what is encoded
+-- after it. So the items of a life are those of its own payloads.
+abbrev pub MethodStandsAlone : (prefix : List Payload) → Method → (later : List Payload) → Type 0
+MethodStandsAlone prefix method later = carries_content method ≡ false → items (prefix ++ Calls method ∷ later) ≡ (items prefix ++ option_to_list (item_of method (sort_of method))) ++ items later
 
 -- a content's payloads add just that content, whatever stands before them
-abbrev pub ContentSpelledBehind : (front payloads : List Payload) → Content → Type 0
-ContentSpelledBehind front payloads content = IsContent content payloads → items (front ++ payloads) ≡ items front ++ WholeContent content ∷ []
+abbrev pub ContentEncodedAfter : (prefix payloads : List Payload) → Content → Type 0
+ContentEncodedAfter prefix payloads content = IsContent content payloads → items (prefix ++ payloads) ≡ items prefix ++ WholeContent content ∷ []
 
 -- what is under way has added nothing yet
-abbrev pub UnfinishedSpellsNothing : (taken since : List Payload) → Type 0
-UnfinishedSpellsNothing taken since = (under : UnderWay taken since) → items_taken taken ≡ items_taken under.before
+abbrev pub UnfinishedEncodesNothing : (taken since : List Payload) → Type 0
+UnfinishedEncodesNothing taken since = (under : UnderWay taken since) → items_taken taken ≡ items_taken under.before
 
 -- a content of these, with a method that carries one
 abbrev content_of : Method → Properties → List ℕ → Content

@@ -55,7 +55,7 @@ room_in max = max - 8
 abbrev pub cut : (max : ℕ) → Content → List Payload
 cut max content = Calls content.method ∷ Header (length content.body) content.properties ∷ map Body (pieces (room_in max) content.body)
 
--- A content is under way: of the payloads taken, `since` are the newest; there are some, and they are a front of a
+-- A content is under way: of the payloads taken, `since` are the newest; there are some, and they are a prefix of a
 -- content's payloads, but not all of them.
 pub record UnderWay (taken since : List Payload) : Type 0 where
   pub before : List Payload
@@ -83,7 +83,7 @@ body_octets (_ ∷ before) = body_octets before
 pub data Due : Type 0 where
   DueHeader DueBody : Due
 
--- behind the method comes the header, and then body
+-- after the method comes the header, and then body
 abbrev pub due : (since : List Payload) → Due
 due (Calls method ∷ before) = DueHeader
 due _ = DueBody

@@ -2,13 +2,13 @@
 -- connection.close leaves before it is this profile's own promise; the standard has the close itself (AMQP 0-9-1
 -- specification, section 2.3.7, "Closing Channels and Connections").
 use Rattle.std.specs.Prelude.{◌≡◌, ℕ, zero, suc, ◌<◌, true, cond, List, [], ◌∷◌, ◌++◌, length, All}
-use Rattle.amqp_model.specs.Fronts.{IsFrontOf}
+use Rattle.amqp_model.specs.Prefixes.{IsPrefixOf}
 use Rattle.amqp_frame.specs.Frame.{Frame}
 use Rattle.amqp_frame.specs.Splitting.{stream, AllFit}
 use Rattle.amqp_model.specs.Arrangement.{is_leaving, Queue, queued, on, last_after_all, IsArranged}
 use Rattle.amqp_model.specs.Outputs.{Output}
 
--- the frames in front of the connection.close or close-ok number k, counted from 0; all of them where there is none
+-- the frames before the connection.close or close-ok number k, counted from 0; all of them where there is none
 abbrev pub before_close : ℕ → List Frame → List Frame
 before_close k [] = []
 before_close zero (f ∷ later) = cond (is_leaving f) [] (f ∷ before_close zero later)
@@ -19,7 +19,7 @@ pub record KeepsOrder (put departing : List Frame) : Type 0 where
   -- each queue's frames leave in the order in which they were put
   pub queues : (queue : Queue) → queued queue departing ≡ queued queue put
   -- what was put before a connection.close or close-ok leaves before it
-  pub closes : (k : ℕ) (queue : Queue) → IsFrontOf (queued queue (before_close k put)) (queued queue (before_close k departing))
+  pub closes : (k : ℕ) (queue : Queue) → IsPrefixOf (queued queue (before_close k put)) (queued queue (before_close k departing))
 
 -- the output of an end that began with these octets, then put these frames, and wrote these octets
 pub record IsOutputOf (opening : List ℕ) (put : List Frame) (written : List ℕ) (o : Output) : Type 0 where
@@ -40,21 +40,21 @@ pub record PutInOrder (opening octets : List ℕ) (put : List Frame) : Type 0 wh
   pub order : KeepsOrder put departing
 
 -- The order at one close: of a queue, what was put before the close leaves before it, and so does perhaps some of what
--- was put behind it; only the rest of that leaves behind it.
-pub record LeavesBehind (earlier later before behind : List Frame) (queue : Queue) : Type 0 where
+-- was put after it; only the rest of that leaves after it.
+pub record LeavesAfter (earlier later before after : List Frame) (queue : Queue) : Type 0 where
   pub overtaking : List Frame
   pub before_is : queued queue before ≡ queued queue earlier ++ overtaking
-  pub later_is : queued queue later ≡ overtaking ++ queued queue behind
+  pub later_is : queued queue later ≡ overtaking ++ queued queue after
 
--- behind a connection.close or close-ok nothing but these was put
+-- after a connection.close or close-ok nothing but these was put
 abbrev pub LeavesLast : List Frame → Type 0
-LeavesLast frames = (before behind : List Frame) (f : Frame) → frames ≡ before ++ f ∷ behind → is_leaving f ≡ true → All (λ g. is_leaving g ≡ true) behind
+LeavesLast frames = (before after : List Frame) (f : Frame) → frames ≡ before ++ f ∷ after → is_leaving f ≡ true → All (λ g. is_leaving g ≡ true) after
 
 -- All octets of an end, written or not, are what it began with and then the frames that it put, each channel's in
--- order, and no frame of a channel above 0 behind a connection.close or close-ok.
+-- order, and no frame of a channel above 0 after a connection.close or close-ok.
 pub record PutAs (opening octets : List ℕ) (put : List Frame) : Type 0 where
   pub departing : List Frame
   pub octets_are : octets ≡ opening ++ stream departing
   pub fit : AllFit departing
   pub each_channel : (channel : ℕ) → on channel departing ≡ on channel put
-  pub closes_last : (before behind : List Frame) (f : Frame) → departing ≡ before ++ f ∷ behind → is_leaving f ≡ true → (channel : ℕ) → 0 < channel → on channel behind ≡ []
+  pub closes_last : (before after : List Frame) (f : Frame) → departing ≡ before ++ f ∷ after → is_leaving f ≡ true → (channel : ℕ) → 0 < channel → on channel after ≡ []

@@ -22,7 +22,7 @@ use Rattle.amqp_model.specs.EndVerdict.{facts_at, end_verdict, end_puts}
 use Rattle.amqp_model.specs.Machine.{end_after_owed, end_after_put, end_after_taken, failed_by, new_end}
 use Rattle.amqp_model.specs.Octets.{opening_read, opening_written}
 
--- Octets of which no shorter front is a frame or tells a fault.
+-- Octets of which no shorter prefix is a frame or tells a fault.
 
 -- a frame begun, a whole frame, or octets of which the last tells a fault
 pub data Judgement : Type 0 where
@@ -39,12 +39,12 @@ kind_of_type octet =
     (cond (octet == 8) (Some frames.Heartbeat) None)))
 
 -- the channel, as the second and the third octet have it
-abbrev pub channel_spelled : List ℕ → ℕ
-channel_spelled octets = 256 * slice_index octets 1 + slice_index octets 2
+abbrev pub channel_encoded : List ℕ → ℕ
+channel_encoded octets = 256 * slice_index octets 1 + slice_index octets 2
 
--- the frame of this kind that octets spell
+-- the frame of this kind that octets encode
 abbrev pub frame_in : FrameKind → List ℕ → Frame
-frame_in kind octets = record { kind = kind; channel = channel_spelled octets; payload = take (size_of octets) (drop 7 octets) }
+frame_in kind octets = record { kind = kind; channel = channel_encoded octets; payload = take (size_of octets) (drop 7 octets) }
 
 -- the octet is there that is to end the frame
 abbrev pub judged_by_end : FrameKind → List ℕ → Judgement
@@ -68,14 +68,14 @@ judged limit (type_octet ∷ later) = judged_by_type limit (kind_of_type type_oc
 
 -- Octets beside those that are wanted.
 
--- a shorter front of these, the same, or octets that differ
+-- a shorter prefix of these, the same, or octets that differ
 pub data Comparison : Type 0 where
-  Front Same Differs : Comparison
+  Prefix Same Differs : Comparison
 
 -- the octets, compared one by one
 abbrev pub compared : (octets wanted : List ℕ) → Comparison
 compared [] [] = Same
-compared [] (next ∷ later) = Front
+compared [] (next ∷ later) = Prefix
 compared (octet ∷ octets) [] = Differs
 compared (octet ∷ octets) (next ∷ later) = cond (octet == next) (compared octets later) Differs
 
@@ -140,7 +140,7 @@ greeting Server config = on_zero (start config) ∷ []
 
 -- octets of the protocol header: at one that differs the end has that header to write, and fails
 abbrev pub after_opening : (role : Role) → Config role → Endpoint → (octets : List ℕ) → Comparison → Feeding
-after_opening role config endpoint octets Front = goes_on_with endpoint octets
+after_opening role config endpoint octets Prefix = goes_on_with endpoint octets
 after_opening role config endpoint octets Same = comes_to endpoint (end_after_owed role config (greeting role config) endpoint.end) (map frame_of (greeting role config)) (Finished (Some Quiet))
 after_opening role config endpoint octets Differs =
     record {
@@ -181,16 +181,16 @@ abbrev pub after_octet : (role : Role) → Config role → Endpoint → (octet :
 after_octet role config endpoint octet =
     unless_over endpoint (refusal_in endpoint.end.phase) (after_octets role config endpoint (endpoint.unfinished ++ octet ∷ []) (awaits_opening role endpoint.end.phase))
 
--- the octets behind the first are fed where nothing came of that one
-abbrev pub fed_behind : (first : Feeding) → Outcome → (later : Feeding) → Feeding
-fed_behind first Unfinished later = record { endpoint = later.endpoint; taken = suc later.taken; outcome = later.outcome }
-fed_behind first outcome later = first
+-- the octets after the first are fed where nothing came of that one
+abbrev pub fed_after : (first : Feeding) → Outcome → (later : Feeding) → Feeding
+fed_after first Unfinished later = record { endpoint = later.endpoint; taken = suc later.taken; outcome = later.outcome }
+fed_after first outcome later = first
 
 -- a piece, octet by octet, up to where something comes
 abbrev pub after_feed : (role : Role) → Config role → Endpoint → (piece : List ℕ) → Feeding
 after_feed role config endpoint [] = unless_over endpoint (refusal_in endpoint.end.phase) (record { endpoint = endpoint; taken = 0; outcome = Unfinished })
 after_feed role config endpoint (octet ∷ later) =
-    fed_behind (after_octet role config endpoint octet) (after_octet role config endpoint octet).outcome (after_feed role config (after_octet role config endpoint octet).endpoint later)
+    fed_after (after_octet role config endpoint octet) (after_octet role config endpoint octet).outcome (after_feed role config (after_octet role config endpoint octet).endpoint later)
 
 -- What asks and writes make of it.
 

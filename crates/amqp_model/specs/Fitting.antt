@@ -74,7 +74,7 @@ HostFits (OfClient properties mechanism response locale virtual_host) = FitsShor
 HostFits (OfServer properties mechanisms locales) = Unit {0}
 
 -- What an end says of itself can be written: its greeting reads back, and the rest fits its fields. So it is where the
--- configuration fits its fields; and where the greeting was written once, since what was written is spelled.
+-- configuration fits its fields; and where the greeting was written once, since what was written is encoded.
 pub record ConfigWrites {role : Role} (config : Config role) : Type 0 where
   pub channel_least : 1 ≤ config.channel_max
   pub channel_most : config.channel_max < 2 ^ 16

@@ -1,6 +1,6 @@
 -- What one end of a connection put and took.
 --
--- A history is a list of whole frames, the newest first: what stands before an entry is the list behind it. An end
+-- A history is a list of whole frames, the newest first: what stands before an entry is the list after it. An end
 -- keeps no such list; all that it shows is read off it by counting.
 use Rattle.std.specs.Prelude.{Bool, cond, ◌&&◌, ℕ, ◌==◌, List, [], ◌∷◌, ◌++◌, map}
 use Rattle.amqp_method.specs.declared.kinds.Kind.TheVariants as kinds

@@ -1,4 +1,4 @@
--- What the payloads of one channel spell: methods that are messages of their own, whole contents, flows and flow-oks.
+-- What the payloads of one channel encode: methods that are messages of their own, whole contents, flows and flow-oks.
 -- What opens and closes the channel gives nothing, nor does a content that isn't whole. The words are this profile's;
 -- which frames make up a message is said in the AMQP 0-9-1 specification, section 4.2.6, "Content Framing".
 use Rattle.std.specs.Prelude.{◌≡◌, Bool, List, [], ◌∷◌, ◌++◌, reverse, Option, Some, None}
@@ -23,11 +23,11 @@ EndsItem taken (WholeContent content) = EndsContent taken content
 EndsItem taken (FlowItem active) = (method : Method) × CallsLast taken method (AsksFlow active)
 EndsItem taken (FlowOkItem active) = (method : Method) × CallsLast taken method (AnswersFlow active)
 
--- the items that payloads spell, in order: at each payload the item that it ends, if it ends one
-pub data Spells : (taken : List Payload) → List Item → Type 0 where
-  nothing : Spells [] []
-  with_item : {payload : Payload} {before : List Payload} {items : List Item} (item : Item) → Spells before items → EndsItem (payload ∷ before) item → Spells (payload ∷ before) (items ++ item ∷ [])
-  without : {payload : Payload} {before : List Payload} {items : List Item} → Spells before items → ((item : Item) → EndsItem (payload ∷ before) item → ⊥) → Spells (payload ∷ before) items
+-- the items that payloads encode, in order: at each payload the item that it ends, if it ends one
+pub data Encodes : (taken : List Payload) → List Item → Type 0 where
+  nothing : Encodes [] []
+  with_item : {payload : Payload} {before : List Payload} {items : List Item} (item : Item) → Encodes before items → EndsItem (payload ∷ before) item → Encodes (payload ∷ before) (items ++ item ∷ [])
+  without : {payload : Payload} {before : List Payload} {items : List Item} → Encodes before items → ((item : Item) → EndsItem (payload ∷ before) item → ⊥) → Encodes (payload ∷ before) items
 
 -- the item that a method is by itself
 abbrev pub item_of : Method → Sort → Option Item
@@ -49,11 +49,11 @@ item_ended kept (Header size properties) = completed (step kept (Header size pro
 item_ended kept (Body octets) = completed (step kept (Body octets))
 item_ended kept Unread = None
 
--- the items that payloads taken spell, by the machine
+-- the items that payloads taken encode, by the machine
 abbrev pub items_taken : (taken : List Payload) → List Item
 items_taken [] = []
 items_taken (payload ∷ before) = items_taken before ++ option_to_list (item_ended (gathering before) payload)
 
--- the items that payloads spell, where these stand in their order
+-- the items that payloads encode, where these stand in their order
 abbrev pub items : List Payload → List Item
 items payloads = items_taken (reverse payloads)

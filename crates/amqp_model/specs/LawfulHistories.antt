@@ -12,7 +12,7 @@ use Rattle.amqp_model.specs.Asks.{Ask, is_made, Puts, ask_verdict}
 use Rattle.amqp_model.specs.EndVerdict.{end_verdict, end_puts, too_large_puts, goes_on, takes_frames, takes_octets, CanTake}
 use Rattle.amqp_model.specs.ReadingBack.{AskReadsBack}
 
--- frames that an end put, the oldest first, behind a history
+-- frames that an end put, the oldest first, after a history
 abbrev pub then_put : List Frame → History → History
 then_put [] history = history
 then_put (frame ∷ later) history = then_put later (Put frame ∷ history)

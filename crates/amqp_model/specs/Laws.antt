@@ -1,6 +1,6 @@
 -- What holds of every run of a channel: the statements that the public laws carry.
 use Rattle.std.specs.Prelude.{◌≡◌, ◌⊎◌, true, false, ℕ, List, ◌∷◌, ◌++◌, map, All, Option, Some, slice_get}
-use Rattle.amqp_model.specs.Fronts.{IsFrontOf}
+use Rattle.amqp_model.specs.Prefixes.{IsPrefixOf}
 use Rattle.amqp_model.specs.Frame.{Frame}
 use Rattle.amqp_model.specs.Notes.{Role, other_end, Kind, Close, Note, Put, Took, Leaving, is_content}
 use Rattle.amqp_model.specs.States.{State, Opening}
@@ -22,9 +22,9 @@ GoesOnWith role mine kind = (event : Event) × (owed : Option Kind) × (verdict 
 abbrev pub FindsNoFault : Role → (mine theirs : List Note) → Type 0
 FindsNoFault role mine theirs = (kind : Kind) (frame : Frame) → IsNext theirs mine (Carry kind frame) → GoesOnWith role mine kind
 
--- what an end acted on in a life is a front of what the other sent in it
-abbrev pub ActsOnFront : Role → (mine theirs : List Note) → Type 0
-ActsOnFront role mine theirs = (life : ℕ) → IsFrontOf (acted role life mine) (sent (other_end role) life theirs)
+-- what an end acted on in a life is a prefix of what the other sent in it
+abbrev pub ActsOnPrefix : Role → (mine theirs : List Note) → Type 0
+ActsOnPrefix role mine theirs = (life : ℕ) → IsPrefixOf (acted role life mine) (sent (other_end role) life theirs)
 
 -- the end has not put connection.close, and the channel is Opening or Open
 pub record IsLive (role : Role) (history : List Note) : Type 0 where
@@ -57,7 +57,7 @@ abbrev pub AllActedOnAtClose : Role → (mine theirs : List Note) → Type 0
 AllActedOnAtClose role mine theirs = (life : ℕ) → EndedByPeer role life mine → acted role life mine ≡ sent (other_end role) life theirs
 
 -- All that the other sent in the life of a live end was acted on, where the end has taken all that the other put. So
--- it is as the end takes the other's connection.close, which stands behind every frame put before it.
+-- it is as the end takes the other's connection.close, which stands after every frame put before it.
 abbrev pub AllActedOnAtConnectionClose : Role → (mine theirs : List Note) → Type 0
 AllActedOnAtConnectionClose role mine theirs = IsLive role mine → put_by theirs ≡ taken_by mine → acted role (lives role mine) mine ≡ sent (other_end role) (lives role mine) theirs
 
@@ -66,7 +66,7 @@ AllActedOnAtConnectionClose role mine theirs = IsLive role mine → put_by their
 abbrev pub TakesNoContentPaused : Role → (mine theirs : List Note) → Type 0
 TakesNoContentPaused role mine theirs = (later : List Note) (kind : Kind) (frame : Frame) (before : List Note) → mine ≡ later ++ Took kind frame ∷ before → is_content kind ≡ true → pauses_other role before ≡ false
 
--- the same in plain words: there was no flow-ok with active 0 taken behind which came no opening note and no flow
+-- the same in plain words: there was no flow-ok with active 0 taken after which came no opening note and no flow
 -- with active 1 put
 abbrev pub NoPauseBeforeContent : Role → (mine theirs : List Note) → Type 0
 NoPauseBeforeContent role mine theirs = (later : List Note) (kind : Kind) (frame : Frame) (before : List Note) → mine ≡ later ++ Took kind frame ∷ before → is_content kind ≡ true → PausesOther role before → ⊥

@@ -7,7 +7,7 @@ pub mod Verdict
 pub mod Carried
 pub mod Runs
 pub mod Connections
-pub mod Fronts
+pub mod Prefixes
 pub mod Methods
 pub mod Contents
 pub mod Gathering

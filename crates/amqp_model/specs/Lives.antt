@@ -1,6 +1,6 @@
 -- Lives and states of a channel, counted in the notes of one end.
 --
--- A history is a list of notes, the newest first: what stands before a note is the list behind it. A channel's
+-- A history is a list of notes, the newest first: what stands before a note is the list after it. A channel's
 -- number is used again, and no frame says to which life of the number it belongs: each end counts.
 --
 -- Opening and closing: AMQP 0-9-1 specification, sections 2.2.5 and 2.3.7, and `amqp0-9-1.xml`, channel.open and
@@ -104,7 +104,7 @@ takes_pause _ before = false
 abbrev pub is_paused : Role → List Note → Bool
 is_paused role history = since takes_pause (either (is_opening role) takes_flow) history
 
--- also one that is dropped: what is said of the time behind it holds then, too
+-- also one that is dropped: what is said of the time after it holds then, too
 abbrev pub takes_pause_ok : Test
 takes_pause_ok (Took (FlowOk false) frame) before = true
 takes_pause_ok _ before = false

@@ -235,7 +235,7 @@ abbrev pub is_close_ok : Kind → Bool
 is_close_ok Kind.CloseOk = true
 is_close_ok kind = false
 
--- What an end may put on a channel: a client's open where it is Free; behind a close that it took, close-ok; all else
+-- What an end may put on a channel: a client's open where it is Free; after a close that it took, close-ok; all else
 -- where it is Open, but no open, and a server's replies in the order of the requests.
 abbrev pub may_put_here : Role → Channel → Reading → Bool
 may_put_here role Free reading = (is_client role && is_open (kind_of reading)) || is_close_ok (kind_of reading)

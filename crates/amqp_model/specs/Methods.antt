@@ -360,7 +360,7 @@ header_read (Err fault) = None
 unfoldable pub header_at : List ℕ → Option Header
 header_at payload = header_read (header_reading.header_at payload)
 
--- the plain spelling, which an end writes
+-- the plain encoding, which an end writes
 unfoldable pub plain_method : Method → List ℕ
 plain_method method = plain.plain_method method
 

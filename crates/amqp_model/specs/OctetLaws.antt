@@ -49,8 +49,8 @@ IsJudgedWell limit xs (Wrong kind) = TellsLast limit xs kind
 -- a rest with one more octet is what it is judged to be
 abbrev pub JudgedIsSaid : Type 0
 JudgedIsSaid =
-    (limit : ℕ) (front : List ℕ) (octet : ℕ)
-    → All IsOctet (front ++ octet ∷ []) → IsRest limit front → IsJudgedWell limit (front ++ octet ∷ []) (judged limit (front ++ octet ∷ []))
+    (limit : ℕ) (prefix : List ℕ) (octet : ℕ)
+    → All IsOctet (prefix ++ octet ∷ []) → IsRest limit prefix → IsJudgedWell limit (prefix ++ octet ∷ []) (judged limit (prefix ++ octet ∷ []))
 
 -- there is but one thing that octets can be judged to be
 abbrev pub OneIsSaid : Type 0
@@ -58,17 +58,17 @@ OneIsSaid = (limit : ℕ) (xs : List ℕ) (one other : Judgement) → IsJudgedWe
 
 -- How a piece may be cut.
 
--- what is left by two pieces, of which the second was fed behind the first
+-- what is left by two pieces, of which the second was fed after the first
 abbrev pub then_fed : (first later : Feeding) → Feeding
 then_fed first later = record { endpoint = later.endpoint; taken = first.taken + later.taken; outcome = later.outcome }
 
--- where nothing comes of the first piece, the second is fed behind it
+-- where nothing comes of the first piece, the second is fed after it
 abbrev pub CutGoesOn : (role : Role) → Config role → Endpoint → (p q : List ℕ) → Type 0
 CutGoesOn role config endpoint p q =
     (after_feed role config endpoint p).outcome ≡ Unfinished
     → after_feed role config endpoint (p ++ q) ≡ then_fed (after_feed role config endpoint p) (after_feed role config (after_feed role config endpoint p).endpoint q)
 
--- where something comes of the first piece, it does not matter what stands behind it
+-- where something comes of the first piece, it does not matter what stands after it
 abbrev pub CutStops : (role : Role) → Config role → Endpoint → (p q : List ℕ) → Type 0
 CutStops role config endpoint p q =
     (after_feed role config endpoint p).outcome ≢ Unfinished → after_feed role config endpoint (p ++ q) ≡ after_feed role config endpoint p
@@ -96,7 +96,7 @@ FeedStaysFailed role config endpoint piece = endpoint.end.phase ≡ Failed → a
 -- What an end stands for.
 
 -- An end that has not failed: its record stands for its history, which is lawful, its unfinished octets are what was fed
--- behind the frames taken, and its output is what was put and not written.
+-- after the frames taken, and its output is what was put and not written.
 pub record EndpointStandsFor (role : Role) (config : Config role) (endpoint : Endpoint) (history : History) (fed written : List ℕ) : Type 0 where
   pub lawful : Lawful role config false history
   pub stands : StandsFor role config false endpoint.end history
@@ -107,7 +107,7 @@ pub record EndpointStandsFor (role : Role) (config : Config role) (endpoint : En
   pub out : IsOutputOf (opening_written role) (frames_put history) written endpoint.output
 
 -- An end that has failed: its record stands for its history, which is lawful; what it was fed tells why at its last octet;
--- and its output is what was put and not written, behind these octets.
+-- and its output is what was put and not written, after these octets.
 pub record HasFailed (role : Role) (config : Config role) (limit : ℕ) (opening : List ℕ) (history : History) (fed written : List ℕ) (endpoint : Endpoint) : Type 0 where
   pub lawful : Lawful role config true history
   pub stands : StandsFor role config true endpoint.end history

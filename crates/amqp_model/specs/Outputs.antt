@@ -20,7 +20,7 @@ output_octets o = o.ahead ++ stream o.row
 abbrev pub after_put : Frame → Output → Output
 after_put f o = record { ahead = o.ahead; last = o.last; row = placed o.last f o.row }
 
--- frames that are put one behind another
+-- frames that are put one after another
 abbrev pub after_puts : List Frame → Output → Output
 after_puts [] o = o
 after_puts (f ∷ frames) o = after_puts frames (after_put f o)

@@ -1,6 +1,6 @@
 -- Two ends of a connection: each does what its verdicts and its application's asks make of it, in any interleaving.
 -- On each channel an end takes the frames of the other in the order in which that put them. Of frames of different channels
--- nothing is said, but that a close of the connection comes behind all of the channels above 0.
+-- nothing is said, but that a close of the connection comes after all of the channels above 0.
 use Rattle.std.specs.Prelude.{◌≡◌, true, false, ℕ, suc, List, [], ◌∷◌, ◌++◌, Option, Some, None}
 use Rattle.amqp_model.specs.Frame.{Frame}
 use Rattle.amqp_model.specs.Notes.{Role, Client, Server}

@@ -17,7 +17,7 @@ may_ask role State.Open awaits paused (Flow active) = not awaits
 may_ask role State.Open awaits paused (Other begins_content) = not (paused && begins_content)
 may_ask role _ awaits paused kind = false
 
--- the end may put such a frame next; behind its connection.close it puts none
+-- the end may put such a frame next; after its connection.close it puts none
 abbrev pub may_put : Role → List Note → Kind → Bool
 may_put role history kind = not (has_left history) && may_ask role (state role history) (awaits_flow_ok role history) (is_paused role history) kind
 

@@ -114,7 +114,7 @@ pub record CrossingCloses (f : ℕ → Frame) : Type 0 where
   pub to_server : (life : ℕ) → (sent Client life (crossing_closes f).client ≡ []) × (acted Server life (crossing_closes f).server ≡ [])
   pub to_client : (life : ℕ) → (sent Server life (crossing_closes f).server ≡ []) × (acted Client life (crossing_closes f).client ≡ [])
 
--- The server closes; the client's close-ok and its next open are taken one behind the other.
+-- The server closes; the client's close-ok and its next open are taken one after the other.
 abbrev pub closed_and_reopened : (ℕ → Frame) → World
 closed_and_reopened f = replay (on_open_channel (f 1) (Ask Server Close (f 4) ∷ Take Client ALL ∷ Ask Client Open (f 6) ∷ Take Server ALL ∷ []))
 
@@ -123,7 +123,7 @@ pub record ClosedAndReopened (f : ℕ → Frame) : Type 0 where
   pub client_took : verdicts Client (closed_and_reopened f).client ≡ GoesOn Opened None ∷ GoesOn ClosedByPeer (Some CloseOk) ∷ []
   pub server_took : verdicts Server (closed_and_reopened f).server ≡ GoesOn Opened (Some OpenOk) ∷ GoesOn ClosedByUs None ∷ GoesOn Opened (Some OpenOk) ∷ []
 
--- The server closes right behind its open-ok, before the client has taken that; the client opens again.
+-- The server closes right after its open-ok, before the client has taken that; the client opens again.
 abbrev pub closed_at_once : (ℕ → Frame) → World
 closed_at_once f =
     replay
@@ -227,7 +227,7 @@ pub record RestartedServer (f : ℕ → Frame) : Type 0 where
   pub client_holds : pauses_other Client (restarted_server f).client ≡ false
   pub server_is : is_paused Server (restarted_server f).server ≡ false
 
--- The server sends a message and closes right behind it: the client acts on the message.
+-- The server sends a message and closes right after it: the client acts on the message.
 abbrev pub message_then_close : (ℕ → Frame) → World
 message_then_close f = replay (on_open_channel (f 1) (Ask Server (Other false) (f 4) ∷ Ask Server Close (f 5) ∷ Take Client ALL ∷ []))
 

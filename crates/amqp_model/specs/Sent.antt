@@ -1,4 +1,4 @@
--- What an end sent in a life of a channel, and what it acted on in it: the items that its frames of that life spell.
+-- What an end sent in a life of a channel, and what it acted on in it: the items that its frames of that life encode.
 use Rattle.std.specs.Prelude.{Bool, false, cond, ◌&&◌, ◌==◌, ℕ, zero, suc, List, [], ◌∷◌, ◌++◌, map, filter, reverse}
 use Rattle.std.specs.Option.{option_to_list}
 use Rattle.amqp_model.specs.Frame.{Frame}
@@ -19,7 +19,7 @@ use Rattle.amqp_model.specs.EndLaws.{notes_on}
 abbrev pub payload_in : Frame → Payload
 payload_in frame = payload_of (reading frame)
 
--- the items that frames of one channel spell, in order
+-- the items that frames of one channel encode, in order
 abbrev pub items_in : List Frame → List Item
 items_in frames = items (map payload_in frames)
 
@@ -42,7 +42,7 @@ pub record Telling : Type 0 where
   pub life : ℕ
   pub item : Item
 
--- the item that a frame ends behind the earlier ones of its channel and its life, if it ends one
+-- the item that a frame ends after the earlier ones of its channel and its life, if it ends one
 abbrev pub ended_by : (channel life : ℕ) → (earlier : List Frame) → Frame → List Telling
 ended_by channel life earlier frame =
     map (λ item. record { channel = channel; life = life; item = item }) (option_to_list (item_ended (gathering (reverse (map payload_in earlier))) (payload_in frame)))
@@ -65,7 +65,7 @@ abbrev pub said_at : Role → (channel : ℕ) → Frame → (before : History) �
 said_at role zero frame before = []
 said_at role (suc n) frame before = ended_by_put role (suc n) (life_on role (suc n) (Put frame ∷ before)) frame before
 
--- the end goes on with the frame that it takes behind such a history
+-- the end goes on with the frame that it takes after such a history
 abbrev pub goes_on_with : (role : Role) → Config role → Frame → (before : History) → Bool
 goes_on_with role config frame before = goes_on (end_verdict config (end_from role config false before) frame)
 

@@ -2,7 +2,7 @@
 use Rattle.std.specs.Prelude.{◌≡◌, true, false, ℕ, List, [], ◌∷◌, ◌++◌}
 use Rattle.amqp_model.specs.Notes.{Role, other_end}
 use Rattle.amqp_model.specs.Carried.{Carried, message_frames, put_by, taken_by, acted}
-use Rattle.amqp_model.specs.Fronts.{IsFrontOf}
+use Rattle.amqp_model.specs.Prefixes.{IsPrefixOf}
 use Rattle.amqp_model.specs.Laws.{IsLive, EndedByPeer}
 use Rattle.amqp_model.specs.Histories.{Took, History, closes_connection}
 use Rattle.amqp_model.specs.Negotiation.{Config}
@@ -15,9 +15,9 @@ use Rattle.amqp_model.specs.Arrangement.{is_leaving}
 use Rattle.amqp_model.specs.Pairs.{ComesNext}
 use Rattle.amqp_model.specs.Sent.{items_in, items_sent, items_acted, life_on, told, said, items_of}
 
--- in each life, the items that an end acted on are a front of those that the other sent
-abbrev pub ActsOnFrontOfItems : Role → (channel : ℕ) → (mine theirs : History) → Type 0
-ActsOnFrontOfItems role channel mine theirs = (life : ℕ) → IsFrontOf (items_acted role channel life mine) (items_sent (other_end role) channel life theirs)
+-- in each life, the items that an end acted on are a prefix of those that the other sent
+abbrev pub ActsOnPrefixOfItems : Role → (channel : ℕ) → (mine theirs : History) → Type 0
+ActsOnPrefixOfItems role channel mine theirs = (life : ℕ) → IsPrefixOf (items_acted role channel life mine) (items_sent (other_end role) channel life theirs)
 
 -- all the items that the other sent in a life that its close ended were acted on
 abbrev pub AllItemsActedOnAtClose : Role → (channel : ℕ) → (mine theirs : History) → Type 0
@@ -49,9 +49,9 @@ AllItemsActedOnOfEnded role channel mine theirs =
     (life : ℕ) → EndedByConnectionClose role channel life mine → items_acted role channel life mine ≡ items_sent (other_end role) channel life theirs
 
 -- the items that the other sent in the life of a live end are those that the frames acted on and then the messages on
--- their way spell, read one behind the other
-abbrev pub ItemsSentAreActedOnOrOnTheirWay : Role → (channel : ℕ) → (mine theirs : History) → Type 0
-ItemsSentAreActedOnOrOnTheirWay role channel mine theirs =
+-- their way encode, read one after the other
+abbrev pub ItemsSentAreActedOnOrInFlight : Role → (channel : ℕ) → (mine theirs : History) → Type 0
+ItemsSentAreActedOnOrInFlight role channel mine theirs =
     (rest : List Carried)
     → IsLive role (notes_on channel mine)
     → put_by (notes_on channel theirs) ≡ taken_by (notes_on channel mine) ++ rest

@@ -22,25 +22,25 @@ FitsNext (Keeps kept) = Unit {0}
 FitsNext (Completes content) = Unit {0}
 FitsNext (Breaks misfit) = ⊥
 
--- where such is kept, each of these payloads can come next in turn, and nothing is under way behind them
-abbrev pub FitBehind : Gathering → List Payload → Type 0
-FitBehind kept [] = kept ≡ Nothing
-FitBehind kept (payload ∷ later) = FitsNext (step kept payload) × FitBehind (remains (step kept payload) payload) later
+-- where such is kept, each of these payloads can come next in turn, and nothing is under way after them
+abbrev pub FitAfter : Gathering → List Payload → Type 0
+FitAfter kept [] = kept ≡ Nothing
+FitAfter kept (payload ∷ later) = FitsNext (step kept payload) × FitAfter (remains (step kept payload) payload) later
 
--- the payloads are whole messages, one behind another
+-- the payloads are whole messages, one after another
 abbrev pub AreWholeMessages : List Payload → Type 0
-AreWholeMessages payloads = FitBehind Nothing payloads
+AreWholeMessages payloads = FitAfter Nothing payloads
 
--- where payloads are whole messages, each can come next behind those before it
-abbrev pub EachFitsNext : (front : List Payload) → Payload → (later : List Payload) → Type 0
-EachFitsNext front payload later = AreWholeMessages (front ++ payload ∷ later) → FitsNext (step (gathering (reverse front)) payload)
+-- where payloads are whole messages, each can come next after those before it
+abbrev pub EachFitsNext : (prefix : List Payload) → Payload → (later : List Payload) → Type 0
+EachFitsNext prefix payload later = AreWholeMessages (prefix ++ payload ∷ later) → FitsNext (step (gathering (reverse prefix)) payload)
 
 -- what an end puts on a channel in a life is whole messages
 abbrev pub PutsWholeMessages : (role : Role) → Config role → (failed : Bool) → History → (n life : ℕ) → Type 0
 PutsWholeMessages role config failed history n life =
     WritesReadBack role config → Lawful role config failed history → AreWholeMessages (map payload_in (sent role life (notes_on (suc n) history)))
 
--- a message that comes next to a Running end, on a channel that it has Open, fits behind the content that it keeps
+-- a message that comes next to a Running end, on a channel that it has Open, fits after the content that it keeps
 abbrev pub FitsWhatIsKept : Role → Config Client → Config Server → (mine theirs : History) → (n : ℕ) → Frame → Type 0
 FitsWhatIsKept role client_config server_config mine theirs n frame =
     PairAt role client_config server_config mine theirs

@@ -3,13 +3,13 @@
 //! What an end puts waits in queues, one for each channel, until it is written. The row of what waits is arranged
 //! anew at each put: plain frames of channel 0 first; then the channels above 0 in turn, counting up from the one
 //! whose frame was begun most recently, LAST; connection.close and close-ok last. A frame of which an octet is
-//! written stays in front of the row and is no part of it.
+//! written stays before the row and is no part of it.
 //!
 //! `IsArranged` is such a row, `placed` what a put makes of it, and `Writes` what a write leaves of an output.
 //! `IsOutputOf` joins an output with all that its end put and wrote.
 
 ghost use Rattle.amqp_model.specs.ArrangementExamples.{BegunAndPut, LeavingOnes, LongAndShort, RoundTheTop};
-ghost use Rattle.amqp_model.specs.ArrangementLaws.{AheadIsOfBegun, AllIsInOrder, AllIsPutAs, ArrangedByRules, ClosesStandBehind, LeavingIsPutLast, LeftIsArranged, LowestAboveComesFirst, NoFewerStepsLead, NothingLeavesBehind, NothingWritten, OneIsLeft, OneRow, OutputAfterPut, OutputAfterPuts, OutputAfterWrite, OutputBegins, OutputFollowsRules, PlaceIsBehindItsQueue, PutArranges, PutExtendsChannels, PutLeavesBegun, PutMovesNone, PutsMakeRow, StepsLead, WaitsWhatIsNotBegun, WriteLeaves, WrittenThenLeft};
+ghost use Rattle.amqp_model.specs.ArrangementLaws.{AheadIsOfBegun, AllIsInOrder, AllIsPutAs, ArrangedByRules, ClosesStandAfter, LeavingIsPutLast, LeftIsArranged, LowestAboveComesFirst, NoFewerStepsLead, NothingLeavesAfter, NothingWritten, OneIsLeft, OneRow, OutputAfterPut, OutputAfterPuts, OutputAfterWrite, OutputBegins, OutputFollowsRules, PlaceIsAfterItsQueue, PutArranges, PutExtendsChannels, PutLeavesBegun, PutMovesNone, PutsMakeRow, StepsLead, WaitsWhatIsNotBegun, WriteLeaves, WrittenThenLeft};
 
 /// From one channel to another it is as many steps as counting up takes, where 1 comes after 65535. So the lowest
 /// channel above LAST comes first, else the lowest one.
@@ -20,7 +20,7 @@ pub fn steps_are_counted()
 {}
 
 /// A row is arranged just where, read as a whole, it follows the rules: it stands in three parts, and where one
-/// channel follows another, no channel stands behind that would be met before.
+/// channel follows another, no channel stands after that would be met before.
 pub fn rows_follow_rules()
     ensures { ArrangedByRules }
 {}
@@ -32,17 +32,17 @@ pub fn one_row()
 {}
 
 /// A put keeps a row arranged. It moves no other frame, the new one is the last of its queue, and what is begun stays
-/// in front.
+/// at the start.
 pub fn put_keeps_arranged()
     ensures arranged { PutArranges }
     ensures others { PutMovesNone }
     ensures channels { PutExtendsChannels }
     ensures leaving { LeavingIsPutLast }
-    ensures place { PlaceIsBehindItsQueue }
+    ensures place { PlaceIsAfterItsQueue }
     ensures begun { PutLeavesBegun }
 {}
 
-/// A write leaves just one output: the octets behind those written, and a row that is arranged from the new LAST.
+/// A write leaves just one output: the octets after those written, and a row that is arranged from the new LAST.
 pub fn write_keeps_arranged()
     ensures leaves { WriteLeaves }
     ensures one { OneIsLeft }
@@ -62,22 +62,22 @@ pub fn output_follows()
     ensures rules { OutputFollowsRules }
 {}
 
-/// What an end wrote and its output are the frames that it put: each channel's in order, and none behind a
+/// What an end wrote and its output are the frames that it put: each channel's in order, and none after a
 /// connection.close or close-ok that was put before it.
 pub fn frames_leave_in_order()
     ensures octets { AllIsInOrder }
     ensures waiting { WaitsWhatIsNotBegun }
-    ensures behind { ClosesStandBehind }
+    ensures after { ClosesStandAfter }
 {}
 
-/// Where nothing but connection.close and close-ok is put behind one of these, nothing else leaves behind one, and
+/// Where nothing but connection.close and close-ok is put after one of these, nothing else leaves after one, and
 /// channel 0 is in order too.
 pub fn closes_leave_last()
-    ensures nothing_behind { NothingLeavesBehind }
+    ensures nothing_after { NothingLeavesAfter }
     ensures octets { AllIsPutAs }
 {}
 
-/// Rows, worked out: a long content beside a short one, a put behind a frame that is begun, and a count past 65535.
+/// Rows, worked out: a long content beside a short one, a put after a frame that is begun, and a count past 65535.
 pub fn example_rows()
     ensures leaving { LeavingOnes }
     ensures round { RoundTheTop }

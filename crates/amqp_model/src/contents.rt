@@ -9,17 +9,17 @@
 //! Payloads are in their order, the oldest first; what was taken is a history, the newest first.
 
 ghost use Rattle.std.specs.Prelude.{ℕ, List, [], ◌∷◌};
-ghost use Rattle.amqp_model.specs.ContentLaws.{ContentSpelledBehind, CutFits, CutIsContent, CutIsShortest, CutsTo, GathersAfresh, GoesOnAsDue, GoesOnWith, IsAtMostOneContent, IsRefusedPastSize, IsToldAtHeader, IsToldAtLastPart, ItemsAreSpelled, ItemsOfFront, KeepsItsOctets, KeepsUnderWay, MethodStandsAlone, NoContentInFront, NothingBehindContent, NothingBehindMethod, OneMoreSpelled, OneUnderWay, PartsInPlace, SpelledAfresh, TellsItems, TellsMisfits, TellsWhole, UnfinishedSpellsNothing};
+ghost use Rattle.amqp_model.specs.ContentLaws.{ContentEncodedAfter, CutFits, CutIsContent, CutIsShortest, CutsTo, GathersAfresh, GoesOnAsDue, GoesOnWith, IsAtMostOneContent, IsRefusedPastSize, IsToldAtHeader, IsToldAtLastPart, ItemsAreEncoded, ItemsOfPrefix, KeepsItsOctets, KeepsUnderWay, MethodStandsAlone, NoContentAtStart, NothingAfterContent, NothingAfterMethod, OneMoreEncoded, OneUnderWay, PartsInPlace, EncodedAfresh, TellsItems, TellsMisfits, TellsWhole, UnfinishedEncodesNothing};
 ghost use Rattle.amqp_model.specs.Contents.{Content, Payload};
 ghost use Rattle.amqp_model.specs.Gathering.{Gathering, Misfit};
 ghost use Rattle.amqp_model.specs.Items.{Item};
 ghost use Rattle.amqp_model.specs.Methods.{Method};
 
-/// Payloads are one content at most, and no content is a front of another. So a list of payloads falls into contents
+/// Payloads are one content at most, and no content is a prefix of another. So a list of payloads falls into contents
 /// in one way only.
 pub fn one_content()
     ensures unique { (payloads : List Payload) → IsAtMostOneContent payloads }
-    ensures no_front { (payloads : List Payload) → NoContentInFront payloads }
+    ensures no_prefix { (payloads : List Payload) → NoContentAtStart payloads }
 {}
 
 /// What is written of a content is that content, each part as long as fits, in as few frames as can be.
@@ -50,11 +50,11 @@ pub fn gathering_is_under_way()
     ensures octets { (taken since : List Payload) → KeepsItsOctets taken since }
 {}
 
-/// Nothing is under way behind a whole content, nor behind a method that carries none. What comes behind is gathered as
+/// Nothing is under way after a whole content, nor after a method that carries none. What comes after is gathered as
 /// if nothing had come before: so what an end keeps of a channel needs no scope, since a channel is opened by a method.
 pub fn gathering_begins_afresh()
-    ensures content { (taken : List Payload) (content : Content) → NothingBehindContent taken content }
-    ensures method { (before : List Payload) (method : Method) → NothingBehindMethod before method }
+    ensures content { (taken : List Payload) (content : Content) → NothingAfterContent taken content }
+    ensures method { (before : List Payload) (method : Method) → NothingAfterMethod before method }
     ensures later { (later before : List Payload) → GathersAfresh later before }
 {}
 
@@ -74,20 +74,20 @@ pub fn told_at_last()
     ensures past_size { IsRefusedPastSize }
 {}
 
-/// The items that the machine tells are those that the payloads spell.
-pub fn items_are_spelled()
+/// The items that the machine tells are those that the payloads encode.
+pub fn items_are_encoded()
     ensures item { (before : List Payload) (payload : Payload) (item : Item) → TellsItems before payload item }
-    ensures items { (taken : List Payload) (list : List Item) → ItemsAreSpelled taken list }
+    ensures items { (taken : List Payload) (list : List Item) → ItemsAreEncoded taken list }
 {}
 
-/// The items of a front are a front of the items. A payload adds the item that it ends; a content's payloads add that
-/// content; what is under way has added nothing; and where nothing is under way, as behind a method that carries no
-/// content, the items of what comes behind are just added.
+/// The items of a prefix are a prefix of the items. A payload adds the item that it ends; a content's payloads add that
+/// content; what is under way has added nothing; and where nothing is under way, as after a method that carries no
+/// content, the items of what comes after are just added.
 pub fn items_follow()
-    ensures front { (front whole : List Payload) → ItemsOfFront front whole }
-    ensures one_more { (front : List Payload) (payload : Payload) → OneMoreSpelled front payload }
-    ensures content { (front payloads : List Payload) (content : Content) → ContentSpelledBehind front payloads content }
-    ensures unfinished { (taken since : List Payload) → UnfinishedSpellsNothing taken since }
-    ensures later { (front later : List Payload) → SpelledAfresh front later }
-    ensures method { (front : List Payload) (method : Method) (later : List Payload) → MethodStandsAlone front method later }
+    ensures prefix { (prefix whole : List Payload) → ItemsOfPrefix prefix whole }
+    ensures one_more { (prefix : List Payload) (payload : Payload) → OneMoreEncoded prefix payload }
+    ensures content { (prefix payloads : List Payload) (content : Content) → ContentEncodedAfter prefix payloads content }
+    ensures unfinished { (taken since : List Payload) → UnfinishedEncodesNothing taken since }
+    ensures later { (prefix later : List Payload) → EncodedAfresh prefix later }
+    ensures method { (prefix : List Payload) (method : Method) (later : List Payload) → MethodStandsAlone prefix method later }
 {}

@@ -22,8 +22,8 @@ pub fn written_reads_back()
     ensures method { (method : Method) → MethodReadsBack method }
     ensures header { (header : Header) → HeaderReadsBack header }
 {
-    amqp_method::plain_is_spelled();
-    amqp_method::spelled_is_read();
+    amqp_method::plain_is_encoded();
+    amqp_method::encoded_is_read();
 }
 
 /// A configuration fits its fields just where it has no fault, if its numbers and its hello do. What an end says of itself

@@ -12,8 +12,8 @@ ghost use Rattle.std.specs.Prelude.{◌≡◌, ◌↔◌, true, ℕ, List};
 ghost use Rattle.amqp_model.specs.Carried.{puts, takes};
 ghost use Rattle.amqp_model.specs.Connections.{ConnectionNote, ConnectionRun, notes_of, overtaken_client, overtaking_server};
 ghost use Rattle.amqp_model.specs.Frame.{Frame};
-ghost use Rattle.amqp_model.specs.Laws.{ActsOnFront, ActsOnNothingAfterItsClose, ActsOnNothingAfterLeaving, AllActedOnAtClose, AllActedOnAtConnectionClose, FindsNoFault, NoPauseBeforeContent, OnItsWayIsOfItsLife, SentIsActedOnOrOnItsWay, SidesAgree, TakesNoContentPaused};
-ghost use Rattle.amqp_model.specs.Fronts.{IsFrontOf};
+ghost use Rattle.amqp_model.specs.Laws.{ActsOnPrefix, ActsOnNothingAfterItsClose, ActsOnNothingAfterLeaving, AllActedOnAtClose, AllActedOnAtConnectionClose, FindsNoFault, NoPauseBeforeContent, OnItsWayIsOfItsLife, SentIsActedOnOrOnItsWay, SidesAgree, TakesNoContentPaused};
+ghost use Rattle.amqp_model.specs.Prefixes.{IsPrefixOf};
 ghost use Rattle.amqp_model.specs.Lives.{awaits_flow_ok, before_leaving, has_left, has_open_ok, pauses_other, is_alive, is_opening, is_paused, lives, state, waits};
 ghost use Rattle.amqp_model.specs.Notes.{Note, Role, other_end};
 ghost use Rattle.amqp_model.specs.Runs.{Run, RunAt};
@@ -22,10 +22,10 @@ ghost use Rattle.amqp_model.specs.Sentences.{AwaitsFlowOk, HasLeft, HasOpenOk, P
 ghost use Rattle.amqp_model.specs.States.{State};
 
 /// Both ends mean the same life: the i-th note that one took has the life of the i-th note that the other put, and
-/// what was taken is, frame by frame, a front of what was put.
+/// what was taken is, frame by frame, a prefix of what was put.
 pub fn sides_agree()
     ensures lives { (role : Role) (mine theirs : List Note) → RunAt role mine theirs → SidesAgree role mine theirs }
-    ensures notes { (role : Role) (mine theirs : List Note) → RunAt role mine theirs → IsFrontOf (takes role mine) (puts (other_end role) theirs) }
+    ensures notes { (role : Role) (mine theirs : List Note) → RunAt role mine theirs → IsPrefixOf (takes role mine) (puts (other_end role) theirs) }
 {}
 
 /// Whatever comes next to an end has a verdict that goes on.
@@ -33,14 +33,14 @@ pub fn no_fault()
     ensures { (role : Role) (mine theirs : List Note) → RunAt role mine theirs → FindsNoFault role mine theirs }
 {}
 
-/// In each life, the frames that an end acted on are a front of those that the other sent.
-pub fn acted_is_front_of_sent()
-    ensures { (role : Role) (mine theirs : List Note) → RunAt role mine theirs → ActsOnFront role mine theirs }
+/// In each life, the frames that an end acted on are a prefix of those that the other sent.
+pub fn acted_is_prefix_of_sent()
+    ensures { (role : Role) (mine theirs : List Note) → RunAt role mine theirs → ActsOnPrefix role mine theirs }
 {}
 
 /// Where the channel is Opening or Open at an end that has not put connection.close, all that is on its way to it is
 /// of its own life, and with what it acted on it is all that the other sent in that life.
-pub fn on_its_way()
+pub fn in_flight()
     ensures life { (role : Role) (mine theirs : List Note) → RunAt role mine theirs → OnItsWayIsOfItsLife role mine theirs }
     ensures sent { (role : Role) (mine theirs : List Note) → RunAt role mine theirs → SentIsActedOnOrOnItsWay role mine theirs }
 {}

@@ -95,8 +95,8 @@ pub fn answers_are_of_history()
     ensures { (role : Role) (config : Config role) (failed : Bool) (end : End) (history : History) (number : ℕ) → AnswersOfHistory role config failed end history number }
 {}
 
-/// Behind a connection.close or close-ok an end puts only these. So the octets that it has put, written or not, hold each
-/// channel's frames in order, and no frame of a channel above 0 behind a close.
+/// After a connection.close or close-ok an end puts only these. So the octets that it has put, written or not, hold each
+/// channel's frames in order, and no frame of a channel above 0 after a close.
 pub fn closes_are_put_last()
     ensures frames { (role : Role) (config : Config role) (failed : Bool) (history : History) → ClosesArePutLast role config failed history }
     ensures octets { (role : Role) (config : Config role) (failed : Bool) (history : History) (opening written : List ℕ) (output : Output) → OctetsArePutAs role config failed history opening written output }

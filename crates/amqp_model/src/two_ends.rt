@@ -1,20 +1,20 @@
 //! What two ends of a connection send each other, and what becomes of it.
 //!
-//! The frames of a channel spell items: methods that are messages of their own, whole contents, flows and flow-oks.
+//! The frames of a channel encode items: methods that are messages of their own, whole contents, flows and flow-oks.
 //! `Pair` is every two histories that two ends come to, in any interleaving, while neither fails. Of these the laws of
 //! the lives of a channel are said once more, of items in place of frames, for each channel above 0 and for both ends
 //! alike: `mine` is the history of the end in that role, `theirs` that of the other. The last law says which frames the
 //! octets of one end carry to the other, channel by channel.
 
 ghost use Rattle.std.specs.Prelude.{Bool, ℕ, suc, List, Option};
-ghost use Rattle.amqp_model.specs.CarryingLaws.{CompletedComesNext, FramesAreOfChannel, NotesAreOfFrames, OpeningsMeet, TakesFrontOnEach};
+ghost use Rattle.amqp_model.specs.CarryingLaws.{CompletedComesNext, FramesAreOfChannel, NotesAreOfFrames, OpeningsMeet, TakesPrefixOnEach};
 ghost use Rattle.amqp_model.specs.Contents.{Payload};
 ghost use Rattle.amqp_model.specs.Frame.{Frame};
 ghost use Rattle.amqp_model.specs.Histories.{History};
 ghost use Rattle.amqp_model.specs.Negotiation.{Config};
 ghost use Rattle.amqp_model.specs.Notes.{Client, Role, Server};
 ghost use Rattle.amqp_model.specs.Pairs.{NewEndsPair, PairAt, StepStaysPair};
-ghost use Rattle.amqp_model.specs.SentLaws.{ActsOnFrontOfItems, AllItemsActedOnAtClose, AllItemsActedOnAtConnectionClose, AllItemsActedOnOfEnded, FaultTellsNothing, ItemsSentAreActedOnOrOnTheirWay, NoItemsBeforeFirstLife, NothingOfChannel0, SaysWhatIsSent, TellsWhatIsActedOn};
+ghost use Rattle.amqp_model.specs.SentLaws.{ActsOnPrefixOfItems, AllItemsActedOnAtClose, AllItemsActedOnAtConnectionClose, AllItemsActedOnOfEnded, FaultTellsNothing, ItemsSentAreActedOnOrInFlight, NoItemsBeforeFirstLife, NothingOfChannel0, SaysWhatIsSent, TellsWhatIsActedOn};
 ghost use Rattle.amqp_model.specs.WholeMessages.{EachFitsNext, FitsWhatIsKept, PutsWholeMessages};
 
 /// Two new ends are a pair, and a pair stays one with each step of either end, where a frame that it takes is the next on
@@ -24,18 +24,18 @@ pub fn steps_stay_pairs()
     ensures step { (role : Role) (client_config : Config Client) (server_config : Config Server) (mine theirs : History) (taken : Option Frame) (after : History) → StepStaysPair role client_config server_config mine theirs taken after }
 {}
 
-/// What an end puts on a channel in a life is whole messages, one behind another, so that each of their payloads can come
-/// next behind those before it. And so it is taken: what comes next to a Running end, on a channel that it has Open, fits
-/// behind the content that it keeps. No part of a content is out of place, and no message stands inside one.
+/// What an end puts on a channel in a life is whole messages, one after another, so that each of their payloads can come
+/// next after those before it. And so it is taken: what comes next to a Running end, on a channel that it has Open, fits
+/// after the content that it keeps. No part of a content is out of place, and no message stands inside one.
 pub fn whole_messages_are_put()
     ensures whole { (role : Role) (config : Config role) (failed : Bool) (history : History) (n life : ℕ) → PutsWholeMessages role config failed history n life }
-    ensures each { (front : List Payload) (payload : Payload) (later : List Payload) → EachFitsNext front payload later }
+    ensures each { (prefix : List Payload) (payload : Payload) (later : List Payload) → EachFitsNext prefix payload later }
     ensures taken { (role : Role) (client_config : Config Client) (server_config : Config Server) (mine theirs : History) (n : ℕ) (frame : Frame) → FitsWhatIsKept role client_config server_config mine theirs n frame }
 {}
 
-/// In each life of a channel, the items that an end acted on are a front of those that the other sent.
-pub fn items_acted_on_are_front()
-    ensures { (role : Role) (client_config : Config Client) (server_config : Config Server) (mine theirs : History) (n : ℕ) → PairAt role client_config server_config mine theirs → ActsOnFrontOfItems role (suc n) mine theirs }
+/// In each life of a channel, the items that an end acted on are a prefix of those that the other sent.
+pub fn items_acted_on_are_prefix()
+    ensures { (role : Role) (client_config : Config Client) (server_config : Config Server) (mine theirs : History) (n : ℕ) → PairAt role client_config server_config mine theirs → ActsOnPrefixOfItems role (suc n) mine theirs }
 {}
 
 /// Where the other's close ended a life, of the channel or of the connection, and was taken before the end put one,
@@ -47,9 +47,9 @@ pub fn all_items_acted_on_at_close()
 {}
 
 /// Where the channel is Opening or Open at an end that has not put connection.close, the items that the other sent in
-/// that life are those that the frames acted on and then the messages on their way spell, read one behind the other.
-pub fn items_on_their_way()
-    ensures { (role : Role) (client_config : Config Client) (server_config : Config Server) (mine theirs : History) (n : ℕ) → PairAt role client_config server_config mine theirs → ItemsSentAreActedOnOrOnTheirWay role (suc n) mine theirs }
+/// that life are those that the frames acted on and then the messages on their way encode, read one after the other.
+pub fn items_in_flight()
+    ensures { (role : Role) (client_config : Config Client) (server_config : Config Server) (mine theirs : History) (n : ℕ) → PairAt role client_config server_config mine theirs → ItemsSentAreActedOnOrInFlight role (suc n) mine theirs }
 {}
 
 /// Before a channel's first life its end sends nothing, and acts on nothing.
@@ -73,10 +73,10 @@ pub fn notes_are_of_frames()
     ensures notes { (channel : ℕ) (history : History) → NotesAreOfFrames channel history }
 {}
 
-/// Where the octets that an end was fed are a front of those that the other put, the frames that it took are on each
-/// channel a front of those that the other put, and a frame that the next octets complete comes next.
+/// Where the octets that an end was fed are a prefix of those that the other put, the frames that it took are on each
+/// channel a prefix of those that the other put, and a frame that the next octets complete comes next.
 pub fn octets_carry_channels()
     ensures opening { (role : Role) → OpeningsMeet role }
-    ensures taken { (role : Role) (limit : ℕ) (mine theirs : History) (put fed unfinished rest : List ℕ) → TakesFrontOnEach role limit mine theirs put fed unfinished rest }
+    ensures taken { (role : Role) (limit : ℕ) (mine theirs : History) (put fed unfinished rest : List ℕ) → TakesPrefixOnEach role limit mine theirs put fed unfinished rest }
     ensures next { (role : Role) (limit : ℕ) (mine theirs : History) (put fed unfinished rest : List ℕ) → CompletedComesNext role limit mine theirs put fed unfinished rest }
 {}

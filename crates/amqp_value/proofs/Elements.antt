@@ -3,7 +3,7 @@ use Rattle.std.proofs.Common.{◌≡◌, ℕ, zero, suc, ◌-◌, ◌≤◌, ◌
 use Rattle.std.proofs.lemmas.Bool.{eqb-true}
 use Rattle.std.proofs.lemmas.List.{append-nil}
 use Rattle.byteorder.specs.Endian.{big_number}
-use Rattle.amqp_value.specs.Reading.{◌>>=◌, Fails, Reader, front_of, counted, name_at, many, elements, named, behind_tag, tagged, tag_of, value_at}
+use Rattle.amqp_value.specs.Reading.{◌>>=◌, Fails, Reader, prefix_of, counted, name_at, many, elements, named, after_tag, tagged, tag_of, value_at}
 use Rattle.amqp_value.specs.Values.{Datum}
 use Rattle.amqp_value.specs.declared.fault.ValueFault.{ValueFault}
 use Rattle.amqp_value.specs.declared.tag.Tag.{Tag}
@@ -58,41 +58,41 @@ elements-next read end h (octet ∷ octets) long =
     ap (λ r. r >>= λ others. Ok (x.0 ∷ others)) (many-fuel read end h (length octets) (length x.1) x.1 (omega arith) (omega arith)))
 
 -- what was read before, and what is still read
-abbrev pub with_front : {X : Type 0} → List X → Result (List X) ValueFault → Result (List X) ValueFault
-with_front front read = read >>= λ xs. Ok (front ++ xs)
+abbrev pub with_prefix : {X : Type 0} → List X → Result (List X) ValueFault → Result (List X) ValueFault
+with_prefix prefix read = read >>= λ xs. Ok (prefix ++ xs)
 
-pub with_front-nil : {X : Type 0} (read : Result (List X) ValueFault) → with_front [] read ≡ read
-with_front-nil (Ok xs) = refl
-with_front-nil (Err e) = refl
+pub with_prefix-nil : {X : Type 0} (read : Result (List X) ValueFault) → with_prefix [] read ≡ read
+with_prefix-nil (Ok xs) = refl
+with_prefix-nil (Err e) = refl
 
-regroup : {X : Type 0} (front : List X) (x : X) (read : Result (List X) ValueFault) → with_front front (read >>= λ others. Ok (x ∷ others)) ≡ with_front (front ++ x ∷ []) read
-regroup front x (Ok xs) = ap (λ ys. Ok ys) (sym (append_assoc front (x ∷ []) xs))
-regroup front x (Err e) = refl
+regroup : {X : Type 0} (prefix : List X) (x : X) (read : Result (List X) ValueFault) → with_prefix prefix (read >>= λ others. Ok (x ∷ others)) ≡ with_prefix (prefix ++ x ∷ []) read
+regroup prefix x (Ok xs) = ap (λ ys. Ok ys) (sym (append_assoc prefix (x ∷ []) xs))
+regroup prefix x (Err e) = refl
 
-pub goes_on : {X : Type 0} (read : Reader X) (end : ℕ) → Consumes read end → (front : List X) (octets : List ℕ) (x : X) (behind : List ℕ) (total : Result (List X) ValueFault)
-    → 0 < length octets → read end octets ≡ Ok (x, behind) → with_front front (elements read end octets) ≡ total → with_front (front ++ x ∷ []) (elements read end behind) ≡ total
-goes_on read end h front octets x behind total long is so_far =
-    let one : with_front front (elements read end octets) ≡ with_front (front ++ x ∷ []) (elements read end behind) =
-    rw (elements-next read end h octets long, is) (regroup front x (elements read end behind)) in
+pub goes_on : {X : Type 0} (read : Reader X) (end : ℕ) → Consumes read end → (prefix : List X) (octets : List ℕ) (x : X) (after : List ℕ) (total : Result (List X) ValueFault)
+    → 0 < length octets → read end octets ≡ Ok (x, after) → with_prefix prefix (elements read end octets) ≡ total → with_prefix (prefix ++ x ∷ []) (elements read end after) ≡ total
+goes_on read end h prefix octets x after total long is so_far =
+    let one : with_prefix prefix (elements read end octets) ≡ with_prefix (prefix ++ x ∷ []) (elements read end after) =
+    rw (elements-next read end h octets long, is) (regroup prefix x (elements read end after)) in
     sym one ∙ so_far
 
-pub ends : {X : Type 0} (read : Reader X) (end : ℕ) → Consumes read end → (e : ValueFault) (front : List X) (octets : List ℕ) (total : Result (List X) ValueFault)
-    → 0 < length octets → Fails e (read end octets) → with_front front (elements read end octets) ≡ total → Fails e total
-ends read end h e front octets total long (inl memory) so_far = inl memory
-ends read end h e front octets total long (inr is) so_far =
-    let one : with_front front (elements read end octets) ≡ Err e = rw (elements-next read end h octets long, is) refl in
+pub ends : {X : Type 0} (read : Reader X) (end : ℕ) → Consumes read end → (e : ValueFault) (prefix : List X) (octets : List ℕ) (total : Result (List X) ValueFault)
+    → 0 < length octets → Fails e (read end octets) → with_prefix prefix (elements read end octets) ≡ total → Fails e total
+ends read end h e prefix octets total long (inl memory) so_far = inl memory
+ends read end h e prefix octets total long (inr is) so_far =
+    let one : with_prefix prefix (elements read end octets) ≡ Err e = rw (elements-next read end h octets long, is) refl in
     inr (sym so_far ∙ one)
 
-pub is_done : {X : Type 0} (read : Reader X) (end : ℕ) (front : List X) (octets : List ℕ) (total : Result (List X) ValueFault) → length octets ≡ 0 → with_front front (elements read end octets) ≡ total → total ≡ Ok front
-is_done read end front [] total none so_far =
-    let one : with_front front (elements read end []) ≡ Ok front = rw (elements-nil read end) (ap (λ xs. Ok xs) (append-nil front)) in
+pub is_done : {X : Type 0} (read : Reader X) (end : ℕ) (prefix : List X) (octets : List ℕ) (total : Result (List X) ValueFault) → length octets ≡ 0 → with_prefix prefix (elements read end octets) ≡ total → total ≡ Ok prefix
+is_done read end prefix [] total none so_far =
+    let one : with_prefix prefix (elements read end []) ≡ Ok prefix = rw (elements-nil read end) (ap (λ xs. Ok xs) (append-nil prefix)) in
     sym so_far ∙ one
-is_done read end front (octet ∷ octets) total none so_far = absurd (omega arith)
+is_done read end prefix (octet ∷ octets) total none so_far = absurd (omega arith)
 
 -- ---- what a field leaves
 
-pub front_of-shorter : (n end : ℕ) (octets : List ℕ) (x : List ℕ × List ℕ) → front_of n end octets ≡ Ok x → length x.1 ≤ length octets
-front_of-shorter n end octets x e =
+pub prefix_of-shorter : (n end : ℕ) (octets : List ℕ) (x : List ℕ × List ℕ) → prefix_of n end octets ≡ Ok x → length x.1 ≤ length octets
+prefix_of-shorter n end octets x e =
     let g = guard_ok (ltb (length octets) n) _ _ x e in
     let is : (take n octets, drop n octets) ≡ x = ok_is _ _ g.1 in
     rw (← is) (omega (arith, length-drop n octets))
@@ -112,25 +112,25 @@ name_at-shorter end (n ∷ octets) x e =
     let is : (take n octets, drop n octets) ≡ x = ok_is _ _ g.1 in
     rw (← is) (omega (arith, length-drop n octets))
 
-behind_tag-shorter : (inner : Option (Reader Datum)) (end : ℕ) (octets rest : List ℕ) (tag : Option Tag) (x : Datum × List ℕ) → behind_tag inner end octets rest tag ≡ Ok x → length x.1 ≤ length rest
-unfolding behind_tag
-behind_tag-shorter inner end octets rest None x e = absurd cc
-behind_tag-shorter inner end octets rest (Some (Fixed tag)) x e =
-    let b = bind_ok (front_of _ end rest) _ x e in
-    rw (← ok_is _ _ b.2) (front_of-shorter _ end rest b.0 b.1)
-behind_tag-shorter inner end octets rest (Some LongString) x e =
+after_tag-shorter : (inner : Option (Reader Datum)) (end : ℕ) (octets rest : List ℕ) (tag : Option Tag) (x : Datum × List ℕ) → after_tag inner end octets rest tag ≡ Ok x → length x.1 ≤ length rest
+unfolding after_tag
+after_tag-shorter inner end octets rest None x e = absurd cc
+after_tag-shorter inner end octets rest (Some (Fixed tag)) x e =
+    let b = bind_ok (prefix_of _ end rest) _ x e in
+    rw (← ok_is _ _ b.2) (prefix_of-shorter _ end rest b.0 b.1)
+after_tag-shorter inner end octets rest (Some LongString) x e =
     let b = bind_ok (counted end rest) _ x e in
     rw (← ok_is _ _ b.2) (counted-shorter end rest b.0 b.1)
-behind_tag-shorter inner end octets rest (Some ByteArray) x e =
+after_tag-shorter inner end octets rest (Some ByteArray) x e =
     let b = bind_ok (counted end rest) _ x e in
     rw (← ok_is _ _ b.2) (counted-shorter end rest b.0 b.1)
-behind_tag-shorter None end octets rest (Some Array) x e = absurd cc
-behind_tag-shorter (Some read) end octets rest (Some Array) x e =
+after_tag-shorter None end octets rest (Some Array) x e = absurd cc
+after_tag-shorter (Some read) end octets rest (Some Array) x e =
     let b = bind_ok (counted end rest) _ x e in
     let d = bind_ok (elements read (end - length b.0.1) b.0.0) _ x b.2 in
     rw (← ok_is _ _ d.2) (counted-shorter end rest b.0 b.1)
-behind_tag-shorter None end octets rest (Some Table) x e = absurd cc
-behind_tag-shorter (Some read) end octets rest (Some Table) x e =
+after_tag-shorter None end octets rest (Some Table) x e = absurd cc
+after_tag-shorter (Some read) end octets rest (Some Table) x e =
     let b = bind_ok (counted end rest) _ x e in
     let d = bind_ok (elements (named read) (end - length b.0.1) b.0.0) _ x b.2 in
     rw (← ok_is _ _ d.2) (counted-shorter end rest b.0 b.1)
@@ -141,7 +141,7 @@ tagged-consumes inner end = record { consumes = tagged_case inner end }
   where
     tagged_case : (inner : Option (Reader Datum)) (end : ℕ) (octets : List ℕ) (x : Datum × List ℕ) → tagged inner end octets ≡ Ok x → length x.1 < length octets
     tagged_case inner end [] x e = absurd cc
-    tagged_case inner end (octet ∷ rest) x e = let h = behind_tag-shorter inner end (octet ∷ rest) rest (tag_of octet) x e in omega arith
+    tagged_case inner end (octet ∷ rest) x e = let h = after_tag-shorter inner end (octet ∷ rest) rest (tag_of octet) x e in omega arith
 
 pub value_at-consumes : (levels end : ℕ) → Consumes (value_at levels) end
 unfolding value_at
@@ -160,12 +160,12 @@ named-shorter read end h octets x e =
 pub named-consumes : {X : Type 0} (read : Reader X) (end : ℕ) → Consumes read end → Consumes (named read) end
 named-consumes read end h = record { consumes = named-shorter read end h }
 
--- ---- a name, and what is read behind it
+-- ---- a name, and what is read after it
 
-pub named-ok : {X : Type 0} (read : Reader X) (end : ℕ) (octets name field behind : List ℕ) (x : X)
-    → name_at end octets ≡ Ok (name, field) → read end field ≡ Ok (x, behind) → named read end octets ≡ Ok ((name, x), behind)
+pub named-ok : {X : Type 0} (read : Reader X) (end : ℕ) (octets name field after : List ℕ) (x : X)
+    → name_at end octets ≡ Ok (name, field) → read end field ≡ Ok (x, after) → named read end octets ≡ Ok ((name, x), after)
 unfolding named
-named-ok read end octets name field behind x first second = rw (first, second) refl
+named-ok read end octets name field after x first second = rw (first, second) refl
 
 pub named-no_name : {X : Type 0} (read : Reader X) (end : ℕ) (octets : List ℕ) (e : ValueFault) → Fails e (name_at end octets) → Fails e (named read end octets)
 unfolding named

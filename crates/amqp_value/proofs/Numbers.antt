@@ -10,7 +10,7 @@ use Rattle.std.proofs.lemmas.List.{append-nil, get_or-drop, get_or-take, get_or_
 use Rattle.std.proofs.lemmas.Nat.{same_from_place}
 use Rattle.byteorder.specs.Endian.{big_from, big_number, big_bytes}
 use Rattle.byteorder.specs.Numbers.{big_from-cons, big_from-lt, big_number-reads_back, length-bytes_high_first}
-use Rattle.amqp_value.specs.Fields.{SpellsNumber, SpellsSigned}
+use Rattle.amqp_value.specs.Fields.{EncodesNumber, EncodesSigned}
 
 abbrev pub IsBytes : List ℕ → Type 0
 IsBytes octets = (i : ℕ) → get_or octets i 0 < 256
@@ -59,34 +59,34 @@ big_bytes-back n octets len fits =
     let x = big_number n octets in
     same_number n (big_bytes n x) octets (IsBytes-big_bytes n x) fits (length-bytes_high_first n x) len (reads_own n x (big_from-lt 0 n octets fits))
 
--- ---- n octets spell the number that they are
+-- ---- n octets encode the number that they are
 
-pub number_spelled : (n : ℕ) (octets : List ℕ) → length octets ≡ n → IsBytes octets → SpellsNumber n (big_number n octets) octets
-number_spelled n octets len fits = record { fits = big_from-lt 0 n octets fits; octets_are = sym (big_bytes-back n octets len fits) }
+pub number_encoded : (n : ℕ) (octets : List ℕ) → length octets ≡ n → IsBytes octets → EncodesNumber n (big_number n octets) octets
+number_encoded n octets len fits = record { fits = big_from-lt 0 n octets fits; octets_are = sym (big_bytes-back n octets len fits) }
 
-pub octet_spelled : (octets : List ℕ) → length octets ≡ 1 → IsBytes octets → SpellsNumber 1 (get_or octets 0 0) octets
-octet_spelled [] len fits = absurd (omega arith)
-octet_spelled (x ∷ []) len fits = let below : x < 256 = fits 0 in record { fits = fits 0; octets_are = ap (λ y. y ∷ []) (sym (mod-eq_of_lt below)) }
-octet_spelled (x ∷ y ∷ octets) len fits = absurd (omega arith)
+pub octet_encoded : (octets : List ℕ) → length octets ≡ 1 → IsBytes octets → EncodesNumber 1 (get_or octets 0 0) octets
+octet_encoded [] len fits = absurd (omega arith)
+octet_encoded (x ∷ []) len fits = let below : x < 256 = fits 0 in record { fits = fits 0; octets_are = ap (λ y. y ∷ []) (sym (mod-eq_of_lt below)) }
+octet_encoded (x ∷ y ∷ octets) len fits = absurd (omega arith)
 
-pub signed_spelled : (w : Width) (number : ℕ) (octets : List ℕ) → number < 2 ^ bits w → SpellsNumber (byte_len w) number octets → SpellsSigned w (cast_signed w number) octets
-signed_spelled w number octets below spelled =
-    record { fits = sfits_to_z (record { fits = below }); octets_are = spelled.octets_are ∙ ap (big_bytes (byte_len w)) (sym (of_z-to_z w number below)) }
+pub signed_encoded : (w : Width) (number : ℕ) (octets : List ℕ) → number < 2 ^ bits w → EncodesNumber (byte_len w) number octets → EncodesSigned w (cast_signed w number) octets
+signed_encoded w number octets below encoded =
+    record { fits = sfits_to_z (record { fits = below }); octets_are = encoded.octets_are ∙ ap (big_bytes (byte_len w)) (sym (of_z-to_z w number below)) }
 
 -- ---- and no other
 
-pub number_read : (n number : ℕ) (octets rest : List ℕ) → SpellsNumber n number octets → big_number n (octets ++ rest) ≡ number
-number_read n number octets rest spelled = ap (λ o. big_number n (o ++ rest)) spelled.octets_are ∙ big_number-reads_back n number rest spelled.fits
+pub number_read : (n number : ℕ) (octets rest : List ℕ) → EncodesNumber n number octets → big_number n (octets ++ rest) ≡ number
+number_read n number octets rest encoded = ap (λ o. big_number n (o ++ rest)) encoded.octets_are ∙ big_number-reads_back n number rest encoded.fits
 
-pub number_read_whole : (n number : ℕ) (octets : List ℕ) → SpellsNumber n number octets → big_number n octets ≡ number
-number_read_whole n number octets spelled = ap (big_number n) spelled.octets_are ∙ reads_own n number spelled.fits
+pub number_read_whole : (n number : ℕ) (octets : List ℕ) → EncodesNumber n number octets → big_number n octets ≡ number
+number_read_whole n number octets encoded = ap (big_number n) encoded.octets_are ∙ reads_own n number encoded.fits
 
-pub number_length : (n number : ℕ) (octets : List ℕ) → SpellsNumber n number octets → length octets ≡ n
-number_length n number octets spelled = ap length spelled.octets_are ∙ length-bytes_high_first n number
+pub number_length : (n number : ℕ) (octets : List ℕ) → EncodesNumber n number octets → length octets ≡ n
+number_length n number octets encoded = ap length encoded.octets_are ∙ length-bytes_high_first n number
 
-pub signed_read : (w : Width) (number : ℤ) (octets : List ℕ) → 256 ^ byte_len w ≡ 2 ^ bits w → SpellsSigned w number octets
+pub signed_read : (w : Width) (number : ℤ) (octets : List ℕ) → 256 ^ byte_len w ≡ 2 ^ bits w → EncodesSigned w number octets
     → (length octets ≡ byte_len w) × (cast_signed w (big_number (byte_len w) octets) ≡ number)
-signed_read w number octets wide spelled =
-    let below : cast_unsigned w number < 2 ^ bits w = (Fits-of_z spelled.fits).fits in
-    let unsigned : SpellsNumber (byte_len w) (cast_unsigned w number) octets = record { fits = rw wide below; octets_are = spelled.octets_are } in
-    (number_length (byte_len w) _ octets unsigned, ap (cast_signed w) (number_read_whole (byte_len w) _ octets unsigned) ∙ to_z-of_z w number spelled.fits)
+signed_read w number octets wide encoded =
+    let below : cast_unsigned w number < 2 ^ bits w = (Fits-of_z encoded.fits).fits in
+    let unsigned : EncodesNumber (byte_len w) (cast_unsigned w number) octets = record { fits = rw wide below; octets_are = encoded.octets_are } in
+    (number_length (byte_len w) _ octets unsigned, ap (cast_signed w) (number_read_whole (byte_len w) _ octets unsigned) ∙ to_z-of_z w number encoded.fits)

@@ -4,10 +4,10 @@ use Rattle.std.proofs.lemmas.Bool.{lt-ltb, ltb-false, ne_eqb}
 use Rattle.byteorder.specs.Endian.{big_number, big_bytes}
 use Rattle.byteorder.specs.Numbers.{length-bytes_high_first}
 use Rattle.amqp_value.specs.Faults.{fault_at}
-use Rattle.amqp_value.specs.Fields.{SpellsLongString}
+use Rattle.amqp_value.specs.Fields.{EncodesLongString}
 use Rattle.amqp_value.specs.FirstFault.{PassesCounted, PassesName, IsTextTag, IsNestingTag, FaultInItems, in_item, FaultInPairs, in_name, in_value, FaultInValue, no_tag, unknown_tag, too_deep, passes, text_passes, count_passes, in_array, in_table, FirstFault, ends, inside}
-use Rattle.amqp_value.specs.Reading.{Gives, Reader, fault_here, counted, name_at, width_of, elements, named, behind_tag, tagged, tag_of, value_at, table_at}
-use Rattle.amqp_value.specs.Spelling.{IsNoTag, SpellsItems, SpellsPairs, tag_octet}
+use Rattle.amqp_value.specs.Reading.{Gives, Reader, fault_here, counted, name_at, width_of, elements, named, after_tag, tagged, tag_of, value_at, table_at}
+use Rattle.amqp_value.specs.Encoding.{IsNoTag, EncodesItems, EncodesPairs, tag_octet}
 use Rattle.amqp_value.specs.Tables.{read_view}
 use Rattle.amqp_value.specs.Values.{Datum, Items, no_items, item, Pairs, no_pairs, pair, items_depth, pairs_depth}
 use Rattle.amqp_value.specs.declared.fault.ValueFault.{ValueFault}
@@ -40,37 +40,37 @@ name_at-passes end (n ∷ octets) passed = rw (lt-ltb _ _ passed) refl
 place : (at end : ℕ) (octets : List ℕ) (kind : ValueFaultKind) (e : ValueFault) → at + length octets ≡ end → e ≡ fault_at at kind → fault_here end octets kind ≡ e
 place at end octets kind e sum is = let same : end - length octets ≡ at = omega arith in ap (λ p. fault_at p kind) same ∙ sym is
 
--- ---- whole elements in front
+-- ---- whole elements at the start
 
 elements-fail : {X : Type 0} (read : Reader X) (end : ℕ) (octets : List ℕ) (e : ValueFault) → Consumes read end → 0 < length octets → read end octets ≡ Err e → elements read end octets ≡ Err e
 elements-fail read end octets e consumes long is = elements-next read end consumes octets long ∙ rw is refl
 
-items_fail : (levels : ℕ) (read : Reader Datum) → IsComplete levels read → (end : ℕ) (items : Items) (front rest : List ℕ) (e : ValueFault) → SpellsItems items front → items_depth items ≤ levels → 0 < length rest → read end rest ≡ Err e
-    → elements read end (front ++ rest) ≡ Err e
-items_fail levels read complete end no_items front rest e is within long fails = ap (λ o. elements read end (o ++ rest)) is ∙ elements-fail read end rest e (complete.consumes end) long fails
-items_fail levels read complete end (item value items) front rest e spells within long fails =
-    let field = spells.0 in
-    let behind = spells.1 in
-    let octets : front ++ rest ≡ (tag_octet value ∷ field) ++ (behind ++ rest) = ap (λ o. o ++ rest) spells.2 ∙ append_assoc (tag_octet value ∷ field) behind rest in
-    let first = complete.again end value field (behind ++ rest) spells.3 (omega arith) in
-    let others = items_fail levels read complete end items behind rest e spells.4 (omega arith) long fails in
-    ap (elements read end) octets ∙ elements-next read end (complete.consumes end) ((tag_octet value ∷ field) ++ (behind ++ rest)) (omega arith) ∙ rw (first, others) refl
+items_fail : (levels : ℕ) (read : Reader Datum) → IsComplete levels read → (end : ℕ) (items : Items) (prefix rest : List ℕ) (e : ValueFault) → EncodesItems items prefix → items_depth items ≤ levels → 0 < length rest → read end rest ≡ Err e
+    → elements read end (prefix ++ rest) ≡ Err e
+items_fail levels read complete end no_items prefix rest e is within long fails = ap (λ o. elements read end (o ++ rest)) is ∙ elements-fail read end rest e (complete.consumes end) long fails
+items_fail levels read complete end (item value items) prefix rest e encodes within long fails =
+    let field = encodes.0 in
+    let after = encodes.1 in
+    let octets : prefix ++ rest ≡ (tag_octet value ∷ field) ++ (after ++ rest) = ap (λ o. o ++ rest) encodes.2 ∙ append_assoc (tag_octet value ∷ field) after rest in
+    let first = complete.again end value field (after ++ rest) encodes.3 (omega arith) in
+    let others = items_fail levels read complete end items after rest e encodes.4 (omega arith) long fails in
+    ap (elements read end) octets ∙ elements-next read end (complete.consumes end) ((tag_octet value ∷ field) ++ (after ++ rest)) (omega arith) ∙ rw (first, others) refl
 
-pairs_fail : (levels : ℕ) (read : Reader Datum) → IsComplete levels read → (end : ℕ) (pairs : Pairs) (front rest : List ℕ) (e : ValueFault) → SpellsPairs pairs front → pairs_depth pairs ≤ levels → 0 < length rest → named read end rest ≡ Err e
-    → elements (named read) end (front ++ rest) ≡ Err e
-pairs_fail levels read complete end no_pairs front rest e is within long fails =
+pairs_fail : (levels : ℕ) (read : Reader Datum) → IsComplete levels read → (end : ℕ) (pairs : Pairs) (prefix rest : List ℕ) (e : ValueFault) → EncodesPairs pairs prefix → pairs_depth pairs ≤ levels → 0 < length rest → named read end rest ≡ Err e
+    → elements (named read) end (prefix ++ rest) ≡ Err e
+pairs_fail levels read complete end no_pairs prefix rest e is within long fails =
     ap (λ o. elements (named read) end (o ++ rest)) is ∙ elements-fail (named read) end rest e (named-consumes read end (complete.consumes end)) long fails
-pairs_fail levels read complete end (pair name value pairs) front rest e spells within long fails =
-    let first = spells.0 in
-    let field = spells.1 in
-    let behind = spells.2 in
-    let octets : front ++ rest ≡ first ++ ((tag_octet value ∷ field) ++ (behind ++ rest)) = ap (λ o. o ++ rest) spells.3 ∙ append_assoc first ((tag_octet value ∷ field) ++ behind) rest ∙ ap (λ o. first ++ o) (append_assoc (tag_octet value ∷ field) behind rest) in
-    let name_is = name_at-again end name first ((tag_octet value ∷ field) ++ (behind ++ rest)) spells.4 in
-    let value_is = complete.again end value field (behind ++ rest) spells.5 (omega arith) in
-    let both = named-ok read end (first ++ ((tag_octet value ∷ field) ++ (behind ++ rest))) name ((tag_octet value ∷ field) ++ (behind ++ rest)) (behind ++ rest) value name_is value_is in
-    let others = pairs_fail levels read complete end pairs behind rest e spells.6 (omega arith) long fails in
-    let some : 0 < length (first ++ ((tag_octet value ∷ field) ++ (behind ++ rest))) = omega (arith, length-append first ((tag_octet value ∷ field) ++ (behind ++ rest))) in
-    ap (elements (named read) end) octets ∙ elements-next (named read) end (named-consumes read end (complete.consumes end)) (first ++ ((tag_octet value ∷ field) ++ (behind ++ rest))) some ∙ rw (both, others) refl
+pairs_fail levels read complete end (pair name value pairs) prefix rest e encodes within long fails =
+    let first = encodes.0 in
+    let field = encodes.1 in
+    let after = encodes.2 in
+    let octets : prefix ++ rest ≡ first ++ ((tag_octet value ∷ field) ++ (after ++ rest)) = ap (λ o. o ++ rest) encodes.3 ∙ append_assoc first ((tag_octet value ∷ field) ++ after) rest ∙ ap (λ o. first ++ o) (append_assoc (tag_octet value ∷ field) after rest) in
+    let name_is = name_at-again end name first ((tag_octet value ∷ field) ++ (after ++ rest)) encodes.4 in
+    let value_is = complete.again end value field (after ++ rest) encodes.5 (omega arith) in
+    let both = named-ok read end (first ++ ((tag_octet value ∷ field) ++ (after ++ rest))) name ((tag_octet value ∷ field) ++ (after ++ rest)) (after ++ rest) value name_is value_is in
+    let others = pairs_fail levels read complete end pairs after rest e encodes.6 (omega arith) long fails in
+    let some : 0 < length (first ++ ((tag_octet value ∷ field) ++ (after ++ rest))) = omega (arith, length-append first ((tag_octet value ∷ field) ++ (after ++ rest))) in
+    ap (elements (named read) end) octets ∙ elements-next (named read) end (named-consumes read end (complete.consumes end)) (first ++ ((tag_octet value ∷ field) ++ (after ++ rest))) some ∙ rw (both, others) refl
 
 -- ---- one value
 
@@ -79,7 +79,7 @@ inner_of : ℕ → Option (Reader Datum)
 inner_of zero = None
 inner_of (suc levels) = Some (value_at levels)
 
-value_at-is : (levels end octet : ℕ) (rest : List ℕ) → value_at levels end (octet ∷ rest) ≡ behind_tag (inner_of levels) end (octet ∷ rest) rest (tag_of octet)
+value_at-is : (levels end octet : ℕ) (rest : List ℕ) → value_at levels end (octet ∷ rest) ≡ after_tag (inner_of levels) end (octet ∷ rest) rest (tag_of octet)
 unfolding value_at tagged inner_of
 value_at-is zero end octet rest = refl
 value_at-is (suc levels) end octet rest = refl
@@ -125,97 +125,97 @@ some_name : (octets : List ℕ) → PassesName octets → 0 < length octets
 some_name [] passed = absurd passed
 some_name (n ∷ octets) passed = omega arith
 
--- ---- what stands behind a tag
+-- ---- what stands after a tag
 
-behind_unknown : (levels end octet : ℕ) (rest : List ℕ) → IsNoTag octet → value_at levels end (octet ∷ rest) ≡ Err (fault_here end (octet ∷ rest) UnknownTag)
-unfolding behind_tag
-behind_unknown levels end octet rest none = value_at-is levels end octet rest ∙ rw (none_of octet none) refl
+after_unknown : (levels end octet : ℕ) (rest : List ℕ) → IsNoTag octet → value_at levels end (octet ∷ rest) ≡ Err (fault_here end (octet ∷ rest) UnknownTag)
+unfolding after_tag
+after_unknown levels end octet rest none = value_at-is levels end octet rest ∙ rw (none_of octet none) refl
 
-behind_deep : (levels end octet : ℕ) (rest : List ℕ) → IsNestingTag octet → levels ≡ 0 → value_at levels end (octet ∷ rest) ≡ Err (fault_here end (octet ∷ rest) TooDeep)
-unfolding behind_tag inner_of
-behind_deep levels end octet rest (inl is) bare = value_at-is levels end octet rest ∙ rw (is, bare) refl
-behind_deep levels end octet rest (inr is) bare = value_at-is levels end octet rest ∙ rw (is, bare) refl
+after_deep : (levels end octet : ℕ) (rest : List ℕ) → IsNestingTag octet → levels ≡ 0 → value_at levels end (octet ∷ rest) ≡ Err (fault_here end (octet ∷ rest) TooDeep)
+unfolding after_tag inner_of
+after_deep levels end octet rest (inl is) bare = value_at-is levels end octet rest ∙ rw (is, bare) refl
+after_deep levels end octet rest (inr is) bare = value_at-is levels end octet rest ∙ rw (is, bare) refl
 
-behind_fixed : (levels end octet : ℕ) (rest : List ℕ) (tag : ScalarTag) → tag_of octet ≡ Some (tags.Fixed tag) → length rest < width_of tag → value_at levels end (octet ∷ rest) ≡ Err (fault_here end rest PassesItsEnd)
-unfolding behind_tag
-behind_fixed levels end octet rest tag is short = value_at-is levels end octet rest ∙ rw (is, lt-ltb _ _ short) refl
+after_fixed : (levels end octet : ℕ) (rest : List ℕ) (tag : ScalarTag) → tag_of octet ≡ Some (tags.Fixed tag) → length rest < width_of tag → value_at levels end (octet ∷ rest) ≡ Err (fault_here end rest PassesItsEnd)
+unfolding after_tag
+after_fixed levels end octet rest tag is short = value_at-is levels end octet rest ∙ rw (is, lt-ltb _ _ short) refl
 
-behind_text : (levels end octet : ℕ) (rest : List ℕ) → IsTextTag octet → PassesCounted rest → value_at levels end (octet ∷ rest) ≡ Err (fault_here end rest PassesItsEnd)
-unfolding behind_tag
-behind_text levels end octet rest (inl is) passed = value_at-is levels end octet rest ∙ rw (is, counted-passes end rest passed) refl
-behind_text levels end octet rest (inr is) passed = value_at-is levels end octet rest ∙ rw (is, counted-passes end rest passed) refl
+after_text : (levels end octet : ℕ) (rest : List ℕ) → IsTextTag octet → PassesCounted rest → value_at levels end (octet ∷ rest) ≡ Err (fault_here end rest PassesItsEnd)
+unfolding after_tag
+after_text levels end octet rest (inl is) passed = value_at-is levels end octet rest ∙ rw (is, counted-passes end rest passed) refl
+after_text levels end octet rest (inr is) passed = value_at-is levels end octet rest ∙ rw (is, counted-passes end rest passed) refl
 
-behind_count : (levels end octet : ℕ) (rest : List ℕ) → IsNestingTag octet → 0 < levels → PassesCounted rest → value_at levels end (octet ∷ rest) ≡ Err (fault_here end rest PassesItsEnd)
-unfolding behind_tag inner_of
-behind_count zero end octet rest nests some passed = absurd (omega arith)
-behind_count (suc levels) end octet rest (inl is) some passed = value_at-is (suc levels) end octet rest ∙ rw (is, counted-passes end rest passed) refl
-behind_count (suc levels) end octet rest (inr is) some passed = value_at-is (suc levels) end octet rest ∙ rw (is, counted-passes end rest passed) refl
+after_count : (levels end octet : ℕ) (rest : List ℕ) → IsNestingTag octet → 0 < levels → PassesCounted rest → value_at levels end (octet ∷ rest) ≡ Err (fault_here end rest PassesItsEnd)
+unfolding after_tag inner_of
+after_count zero end octet rest nests some passed = absurd (omega arith)
+after_count (suc levels) end octet rest (inl is) some passed = value_at-is (suc levels) end octet rest ∙ rw (is, counted-passes end rest passed) refl
+after_count (suc levels) end octet rest (inr is) some passed = value_at-is (suc levels) end octet rest ∙ rw (is, counted-passes end rest passed) refl
 
-behind_array : (inner end : ℕ) (field body behind : List ℕ) (e : ValueFault) → SpellsLongString body field → elements (value_at inner) (end - length behind) body ≡ Err e → value_at (suc inner) end (65 ∷ (field ++ behind)) ≡ Err e
-unfolding behind_tag inner_of
-behind_array inner end field body behind e spells fails = value_at-is (suc inner) end 65 (field ++ behind) ∙ rw (counted-again end body field behind spells, fails) refl
+after_array : (inner end : ℕ) (field body after : List ℕ) (e : ValueFault) → EncodesLongString body field → elements (value_at inner) (end - length after) body ≡ Err e → value_at (suc inner) end (65 ∷ (field ++ after)) ≡ Err e
+unfolding after_tag inner_of
+after_array inner end field body after e encodes fails = value_at-is (suc inner) end 65 (field ++ after) ∙ rw (counted-again end body field after encodes, fails) refl
 
-behind_table : (inner end : ℕ) (field body behind : List ℕ) (e : ValueFault) → SpellsLongString body field → elements (named (value_at inner)) (end - length behind) body ≡ Err e → value_at (suc inner) end (70 ∷ (field ++ behind)) ≡ Err e
-unfolding behind_tag inner_of
-behind_table inner end field body behind e spells fails = value_at-is (suc inner) end 70 (field ++ behind) ∙ rw (counted-again end body field behind spells, fails) refl
+after_table : (inner end : ℕ) (field body after : List ℕ) (e : ValueFault) → EncodesLongString body field → elements (named (value_at inner)) (end - length after) body ≡ Err e → value_at (suc inner) end (70 ∷ (field ++ after)) ≡ Err e
+unfolding after_tag inner_of
+after_table inner end field body after e encodes fails = value_at-is (suc inner) end 70 (field ++ after) ∙ rw (counted-again end body field after encodes, fails) refl
 
 -- where the octets of an array or a table begin and end
-inside_place : (at end octet : ℕ) (octets field body behind : List ℕ) → at + length octets ≡ end → octets ≡ octet ∷ (field ++ behind) → SpellsLongString body field → (at + 5) + length body ≡ end - length behind
-inside_place at end octet octets field body behind sum is spells =
-    let whole : length octets ≡ suc (length (field ++ behind)) = ap length is in
-    let parts : length (field ++ behind) ≡ length field + length behind = length-append field behind in
-    let counted_len : length field ≡ length (big_bytes 4 (length body)) + length body = ap length spells.octets_are ∙ length-append (big_bytes 4 (length body)) body in
+inside_place : (at end octet : ℕ) (octets field body after : List ℕ) → at + length octets ≡ end → octets ≡ octet ∷ (field ++ after) → EncodesLongString body field → (at + 5) + length body ≡ end - length after
+inside_place at end octet octets field body after sum is encodes =
+    let whole : length octets ≡ suc (length (field ++ after)) = ap length is in
+    let parts : length (field ++ after) ≡ length field + length after = length-append field after in
+    let counted_len : length field ≡ length (big_bytes 4 (length body)) + length body = ap length encodes.octets_are ∙ length-append (big_bytes 4 (length body)) body in
     let four : length (big_bytes 4 (length body)) ≡ 4 = length-bytes_high_first 4 (length body) in
     omega arith
 
--- the fault of the octets behind a tag
+-- the fault of the octets after a tag
 later : (at end octet : ℕ) (octets rest : List ℕ) (e : ValueFault) → at + length octets ≡ end → octets ≡ octet ∷ rest → e ≡ fault_at (at + 1) PassesItsEnd → fault_here end rest PassesItsEnd ≡ e
 later at end octet octets rest e sum is told =
     let whole : length octets ≡ suc (length rest) = ap length is in
     place (at + 1) end rest PassesItsEnd e (omega arith) told
 
-rest_place : (at end : ℕ) (octets front rest : List ℕ) → at + length octets ≡ end → octets ≡ front ++ rest → (at + length front) + length rest ≡ end
-rest_place at end octets front rest sum is = let whole : length octets ≡ length front + length rest = ap length is ∙ length-append front rest in omega arith
+rest_place : (at end : ℕ) (octets prefix rest : List ℕ) → at + length octets ≡ end → octets ≡ prefix ++ rest → (at + length prefix) + length rest ≡ end
+rest_place at end octets prefix rest sum is = let whole : length octets ≡ length prefix + length rest = ap length is ∙ length-append prefix rest in omega arith
 
 mutual
   told_items : (levels at end : ℕ) (octets : List ℕ) (e : ValueFault) → at + length octets ≡ end → FaultInItems levels at octets e → elements (value_at levels) end octets ≡ Err e
-  told_items levels at end octets e sum (in_item items front rest is spells within long fault) =
+  told_items levels at end octets e sum (in_item items prefix rest is encodes within long fault) =
       ap (elements (value_at levels) end) is
-      ∙ items_fail levels (value_at levels) (value_at-complete levels) end items front rest e spells within long (told_value levels (at + length front) end rest e (rest_place at end octets front rest sum is) fault)
+      ∙ items_fail levels (value_at levels) (value_at-complete levels) end items prefix rest e encodes within long (told_value levels (at + length prefix) end rest e (rest_place at end octets prefix rest sum is) fault)
 
   told_pairs : (levels at end : ℕ) (octets : List ℕ) (e : ValueFault) → at + length octets ≡ end → FaultInPairs levels at octets e → elements (named (value_at levels)) end octets ≡ Err e
-  told_pairs levels at end octets e sum (in_name pairs front rest is spells within passed told) =
-      let here = name_at-passes end rest passed ∙ ap (λ f. Err f) (place (at + length front) end rest PassesItsEnd e (rest_place at end octets front rest sum is) told) in
+  told_pairs levels at end octets e sum (in_name pairs prefix rest is encodes within passed told) =
+      let here = name_at-passes end rest passed ∙ ap (λ f. Err f) (place (at + length prefix) end rest PassesItsEnd e (rest_place at end octets prefix rest sum is) told) in
       ap (elements (named (value_at levels)) end) is
-      ∙ pairs_fail levels (value_at levels) (value_at-complete levels) end pairs front rest e spells within (some_name rest passed) (named-err_name (value_at levels) end rest e here)
-  told_pairs levels at end octets e sum (in_value pairs name front first rest is spells within named_spelled fault) =
+      ∙ pairs_fail levels (value_at levels) (value_at-complete levels) end pairs prefix rest e encodes within (some_name rest passed) (named-err_name (value_at levels) end rest e here)
+  told_pairs levels at end octets e sum (in_value pairs name prefix first rest is encodes within named_encoded fault) =
       let read = value_at levels in
-      let outer = rest_place at end octets front (first ++ rest) sum is in
-      let value = told_value levels (at + length front + length first) end rest e (rest_place (at + length front) end (first ++ rest) first rest outer refl) fault in
-      let first_len : length first ≡ suc (length name) = ap length named_spelled.octets_are in
+      let outer = rest_place at end octets prefix (first ++ rest) sum is in
+      let value = told_value levels (at + length prefix + length first) end rest e (rest_place (at + length prefix) end (first ++ rest) first rest outer refl) fault in
+      let first_len : length first ≡ suc (length name) = ap length named_encoded.octets_are in
       let long : 0 < length (first ++ rest) = omega (arith, length-append first rest) in
       ap (elements (named read) end) is
-      ∙ pairs_fail levels read (value_at-complete levels) end pairs front (first ++ rest) e spells within long (named-err_value read end (first ++ rest) name rest e (name_at-again end name first rest named_spelled) value)
+      ∙ pairs_fail levels read (value_at-complete levels) end pairs prefix (first ++ rest) e encodes within long (named-err_value read end (first ++ rest) name rest e (name_at-again end name first rest named_encoded) value)
 
   told_value : (levels at end : ℕ) (octets : List ℕ) (e : ValueFault) → at + length octets ≡ end → FaultInValue levels at octets e → value_at levels end octets ≡ Err e
   told_value levels at end octets e sum (no_tag is told) =
       ap (value_at levels end) is ∙ value_at-nil levels end ∙ ap (λ f. Err f) (place at end [] PassesItsEnd e (subst (λ o. at + length o ≡ end) is sum) told)
   told_value levels at end octets e sum (unknown_tag octet rest is none told) =
-      ap (value_at levels end) is ∙ behind_unknown levels end octet rest none ∙ ap (λ f. Err f) (place at end (octet ∷ rest) UnknownTag e (subst (λ o. at + length o ≡ end) is sum) told)
+      ap (value_at levels end) is ∙ after_unknown levels end octet rest none ∙ ap (λ f. Err f) (place at end (octet ∷ rest) UnknownTag e (subst (λ o. at + length o ≡ end) is sum) told)
   told_value levels at end octets e sum (too_deep octet rest is nests bare told) =
-      ap (value_at levels end) is ∙ behind_deep levels end octet rest nests bare ∙ ap (λ f. Err f) (place at end (octet ∷ rest) TooDeep e (subst (λ o. at + length o ≡ end) is sum) told)
+      ap (value_at levels end) is ∙ after_deep levels end octet rest nests bare ∙ ap (λ f. Err f) (place at end (octet ∷ rest) TooDeep e (subst (λ o. at + length o ≡ end) is sum) told)
   told_value levels at end octets e sum (passes octet rest tag is found short told) =
-      ap (value_at levels end) is ∙ behind_fixed levels end octet rest tag found short ∙ ap (λ f. Err f) (later at end octet octets rest e sum is told)
+      ap (value_at levels end) is ∙ after_fixed levels end octet rest tag found short ∙ ap (λ f. Err f) (later at end octet octets rest e sum is told)
   told_value levels at end octets e sum (text_passes octet rest is texts passed told) =
-      ap (value_at levels end) is ∙ behind_text levels end octet rest texts passed ∙ ap (λ f. Err f) (later at end octet octets rest e sum is told)
+      ap (value_at levels end) is ∙ after_text levels end octet rest texts passed ∙ ap (λ f. Err f) (later at end octet octets rest e sum is told)
   told_value levels at end octets e sum (count_passes octet rest is nests some passed told) =
-      ap (value_at levels end) is ∙ behind_count levels end octet rest nests some passed ∙ ap (λ f. Err f) (later at end octet octets rest e sum is told)
-  told_value levels at end octets e sum (in_array inner field body behind is spells one fault) =
+      ap (value_at levels end) is ∙ after_count levels end octet rest nests some passed ∙ ap (λ f. Err f) (later at end octet octets rest e sum is told)
+  told_value levels at end octets e sum (in_array inner field body after is encodes one fault) =
       ap (λ l. value_at l end octets) one ∙ ap (value_at (suc inner) end) is
-      ∙ behind_array inner end field body behind e spells (told_items inner (at + 5) (end - length behind) body e (inside_place at end 65 octets field body behind sum is spells) fault)
-  told_value levels at end octets e sum (in_table inner field body behind is spells one fault) =
+      ∙ after_array inner end field body after e encodes (told_items inner (at + 5) (end - length after) body e (inside_place at end 65 octets field body after sum is encodes) fault)
+  told_value levels at end octets e sum (in_table inner field body after is encodes one fault) =
       ap (λ l. value_at l end octets) one ∙ ap (value_at (suc inner) end) is
-      ∙ behind_table inner end field body behind e spells (told_pairs inner (at + 5) (end - length behind) body e (inside_place at end 70 octets field body behind sum is spells) fault)
+      ∙ after_table inner end field body after e encodes (told_pairs inner (at + 5) (end - length after) body e (inside_place at end 70 octets field body after sum is encodes) fault)
 
 -- ---- tables
 
@@ -231,16 +231,16 @@ table_ends octets (inr short) = ends_at (ltb (length octets) 4) refl
         let passed : ltb (length octets - 4) (big_number 4 octets) ≡ true = lt-ltb _ _ (omega arith) in
         rw (is, passed) refl
 
-table_inside : (field body behind : List ℕ) (e : ValueFault) → SpellsLongString body field → FaultInPairs 31 4 body e → table_at (field ++ behind) ≡ Err e
+table_inside : (field body after : List ℕ) (e : ValueFault) → EncodesLongString body field → FaultInPairs 31 4 body e → table_at (field ++ after) ≡ Err e
 unfolding table_at
-table_inside field body behind e spells fault =
-    let octets = field ++ behind in
-    let c = counted-is (length octets) octets body behind (counted-again (length octets) body field behind spells) in
+table_inside field body after e encodes fault =
+    let octets = field ++ after in
+    let c = counted-is (length octets) octets body after (counted-again (length octets) body field after encodes) in
     rw (c.four, c.enough, c.body_is, told_pairs 31 4 (4 + big_number 4 octets) body e (ap (λ m. 4 + m) (sym c.count_is)) fault) refl
 
 pub first_fault_told : (octets : List ℕ) (e : ValueFault) → FirstFault octets e → table_at octets ≡ Err e
 first_fault_told octets e (ends passed told) = table_ends octets passed ∙ ap (λ f. Err f) (sym told)
-first_fault_told octets e (inside field body behind is spells fault) = ap table_at is ∙ table_inside field body behind e spells fault
+first_fault_told octets e (inside field body after is encodes fault) = ap table_at is ∙ table_inside field body after e encodes fault
 
 -- what a call that gives this may promise of every first fault
 pub told : (octets : List ℕ) (r : Result (Table × ℕ) ValueFault) → Gives read_view r (table_at octets) → (e : ValueFault) → FirstFault octets e → Gives read_view r (Err e)

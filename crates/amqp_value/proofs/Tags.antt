@@ -2,7 +2,7 @@
 use Rattle.std.proofs.Common.{◌≡◌, ◌≢◌, ℕ, ◌==◌, Bool, true, false, cond, Option, Some, None, refl, sym, ap, ◌∙◌}
 use Rattle.std.proofs.lemmas.Bool.{eqb-true, eqb-false}
 use Rattle.amqp_value.specs.Reading.{tag_of}
-use Rattle.amqp_value.specs.Spelling.{IsNoTag}
+use Rattle.amqp_value.specs.Encoding.{IsNoTag}
 use Rattle.amqp_value.specs.declared.tag.Tag.{Tag}
 use Rattle.amqp_value.specs.declared.tag.Tag.TheVariants.{Fixed, LongString, ByteArray, Array, Table}
 use Rattle.amqp_value.specs.declared.tag.ScalarTag.{ScalarTag}

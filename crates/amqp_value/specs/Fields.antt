@@ -6,30 +6,30 @@ use Rattle.std.specs.Int.{Width, byte_len, cast_unsigned}
 use Rattle.byteorder.specs.Endian.{big_bytes}
 
 -- an unsigned number of n octets
-pub record SpellsNumber (n number : ℕ) (octets : List ℕ) : Type 0 where
+pub record EncodesNumber (n number : ℕ) (octets : List ℕ) : Type 0 where
   pub fits : number < 256 ^ n
   pub octets_are : octets ≡ big_bytes n number
 
 -- a signed number of that width
-pub record SpellsSigned (w : Width) (number : ℤ) (octets : List ℕ) : Type 0 where
+pub record EncodesSigned (w : Width) (number : ℤ) (octets : List ℕ) : Type 0 where
   pub fits : FitsSigned w number
   pub octets_are : octets ≡ big_bytes (byte_len w) (cast_unsigned w number)
 
 -- n octets, as they are
-pub record SpellsOctets (n : ℕ) (text octets : List ℕ) : Type 0 where
+pub record EncodesOctets (n : ℕ) (text octets : List ℕ) : Type 0 where
   pub fits : length text ≡ n
   pub octets_are : octets ≡ text
 
-pub record SpellsShortString (text octets : List ℕ) : Type 0 where
+pub record EncodesShortString (text octets : List ℕ) : Type 0 where
   pub fits : length text < 2 ^ 8
   pub octets_are : octets ≡ length text ∷ text
 
--- a long string, and likewise the octets of an array or a table behind their count
-pub record SpellsLongString (text octets : List ℕ) : Type 0 where
+-- a long string, and likewise the octets of an array or a table after their count
+pub record EncodesLongString (text octets : List ℕ) : Type 0 where
   pub fits : length text < 2 ^ 32
   pub octets_are : octets ≡ big_bytes 4 (length text) ++ text
 
--- the one spelling of a short string, and of a long one
+-- the one encoding of a short string, and of a long one
 abbrev pub plain_short_string : List ℕ → List ℕ
 plain_short_string text = length text ∷ text
 

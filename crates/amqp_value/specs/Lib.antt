@@ -5,7 +5,7 @@ pub mod Laws
 pub mod Plain
 pub mod Reading
 pub mod ShortStrs
-pub mod Spelling
+pub mod Encoding
 pub mod Tables
 pub mod Text
 pub mod Values

@@ -1,9 +1,9 @@
--- The one spelling of a value that is written: a truth value that holds is 1.
+-- The one encoding of a value that is written: a truth value that holds is 1.
 use Rattle.std.specs.Prelude.{ℕ, ◌^◌, ◌<◌, List, [], ◌∷◌, ◌++◌, length, Bool, true, false}
 use Rattle.std.specs.Int.{w8, w16, w32, w64, cast_unsigned}
 use Rattle.byteorder.specs.Endian.{big_bytes}
 use Rattle.amqp_value.specs.Fields.{plain_short_string, plain_long_string}
-use Rattle.amqp_value.specs.Spelling.{tag_octet}
+use Rattle.amqp_value.specs.Encoding.{tag_octet}
 use Rattle.amqp_value.specs.Values.{Scalar, boolean, short_short_int, short_short_uint, errata_short_int, short_int, short_uint, long_int, long_uint, errata_long_long_int, long_long_int, float, double, decimal, timestamp, void, Datum, scalar, long_string, byte_array, array, table, Items, no_items, item, Pairs, no_pairs, pair}
 
 abbrev pub plain_truth : Bool → List ℕ
@@ -28,7 +28,7 @@ plain_scalar (timestamp n) = big_bytes 8 n
 plain_scalar void = []
 
 abbrev mutual
-  -- the octets behind the tag of a value
+  -- the octets after the tag of a value
   pub plain_field : Datum → List ℕ
   plain_field (scalar s) = plain_scalar s
   plain_field (long_string text) = plain_long_string text

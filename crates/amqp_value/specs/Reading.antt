@@ -1,4 +1,4 @@
--- Reading from the front, with the first fault that is met. `end` is the place behind the octets, so the first of
+-- Reading from the prefix, with the first fault that is met. `end` is the place after the octets, so the first of
 -- them stands at `end - length octets`.
 use Rattle.std.specs.Prelude.{◌≡◌, ℕ, zero, suc, ◌+◌, ◌-◌, ◌==◌, List, [], ◌∷◌, length, take, drop, slice_index, not, Option, Some, None, Result, Ok, Err, nat_lt, if◌then◌else◌, ◌⊎◌}
 use Rattle.std.specs.Int.{w8, w16, w32, w64, cast_signed}
@@ -26,7 +26,7 @@ abbrev pub Gives : {X Y : Type 0} → (X → Y) → Result X ValueFault → Resu
 Gives view (Ok x) read = read ≡ Ok (view x)
 Gives view (Err e) read = Fails e read
 
--- what is read from the front, and the octets behind it
+-- what is read from the prefix, and the octets after it
 abbrev pub Read : Type 0 → Type 0
 Read X = Result (X × List ℕ) ValueFault
 
@@ -38,8 +38,8 @@ abbrev pub fault_here : ℕ → List ℕ → ValueFaultKind → ValueFault
 fault_here end octets kind = fault_at (end - length octets) kind
 
 -- the first n octets
-abbrev pub front_of : ℕ → Reader (List ℕ)
-front_of n end octets =
+abbrev pub prefix_of : ℕ → Reader (List ℕ)
+prefix_of n end octets =
     if nat_lt (length octets) n then Err (fault_here end octets PassesItsEnd) else Ok (take n octets, drop n octets)
 
 -- a count of four octets, and that many
@@ -78,7 +78,7 @@ tag_of octet =
     else (if octet == 70 then Some Table
     else None))))))))))))))))))
 
--- how many octets stand behind the tag
+-- how many octets stand after the tag
 abbrev pub width_of : ScalarTag → ℕ
 width_of scalars.Boolean = 1
 width_of scalars.ShortShortInt = 1
@@ -127,39 +127,39 @@ many read (suc fuel) end (octet ∷ octets) = do
 unfoldable pub elements : {X : Type 0} → Reader X → ℕ → List ℕ → Result (List X) ValueFault
 elements read end octets = many read (length octets) end octets
 
--- a name, and what is read behind it
+-- a name, and what is read after it
 unfoldable pub named : {X : Type 0} → Reader X → Reader (List ℕ × X)
 named read end octets = do
   name ← name_at end octets
   value ← read end name.1
   Ok ((name.0, value.0), value.1)
 
--- What stands behind a tag, the first of the octets. The values in an array or a table are read by inner, if any may be there.
-unfoldable pub behind_tag : Option (Reader Datum) → ℕ → List ℕ → List ℕ → Option Tag → Read Datum
-behind_tag inner end octets rest None = Err (fault_here end octets UnknownTag)
-behind_tag inner end octets rest (Some (Fixed tag)) = do
-  field ← front_of (width_of tag) end rest
+-- What stands after a tag, the first of the octets. The values in an array or a table are read by inner, if any may be there.
+unfoldable pub after_tag : Option (Reader Datum) → ℕ → List ℕ → List ℕ → Option Tag → Read Datum
+after_tag inner end octets rest None = Err (fault_here end octets UnknownTag)
+after_tag inner end octets rest (Some (Fixed tag)) = do
+  field ← prefix_of (width_of tag) end rest
   Ok (scalar (scalar_of tag field.0), field.1)
-behind_tag inner end octets rest (Some LongString) = do
+after_tag inner end octets rest (Some LongString) = do
   text ← counted end rest
   Ok (long_string text.0, text.1)
-behind_tag inner end octets rest (Some ByteArray) = do
+after_tag inner end octets rest (Some ByteArray) = do
   text ← counted end rest
   Ok (byte_array text.0, text.1)
-behind_tag None end octets rest (Some Array) = Err (fault_here end octets TooDeep)
-behind_tag (Some read) end octets rest (Some Array) = do
+after_tag None end octets rest (Some Array) = Err (fault_here end octets TooDeep)
+after_tag (Some read) end octets rest (Some Array) = do
   body ← counted end rest
   values ← elements read (end - length body.1) body.0
   Ok (array (items_of values), body.1)
-behind_tag None end octets rest (Some Table) = Err (fault_here end octets TooDeep)
-behind_tag (Some read) end octets rest (Some Table) = do
+after_tag None end octets rest (Some Table) = Err (fault_here end octets TooDeep)
+after_tag (Some read) end octets rest (Some Table) = do
   body ← counted end rest
   pairs ← elements (named read) (end - length body.1) body.0
   Ok (table (pairs_of pairs), body.1)
 
 unfoldable pub tagged : Option (Reader Datum) → Reader Datum
 tagged inner end [] = Err (fault_here end [] PassesItsEnd)
-tagged inner end (octet ∷ rest) = behind_tag inner end (octet ∷ rest) rest (tag_of octet)
+tagged inner end (octet ∷ rest) = after_tag inner end (octet ∷ rest) rest (tag_of octet)
 
 -- a value, in which arrays and tables may nest so many levels deep
 unfoldable pub value_at : ℕ → Reader Datum

@@ -39,7 +39,7 @@ scalar_text (scaled scale number) = codes "D:" ++ (decimal scale ++ (codes ":" +
 scalar_text (timestamp n) = codes "T:" ++ decimal n
 scalar_text void = codes "V"
 
--- a comma, but in front of the first
+-- a comma, but before the first
 abbrev pub comma_before : ℕ → List ℕ
 comma_before zero = []
 comma_before (suc n) = codes ","

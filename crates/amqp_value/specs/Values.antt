@@ -60,7 +60,7 @@ abbrev mutual
   pairs_depth no_pairs = 0
   pairs_depth (pair name value pairs) = max (depth value) (pairs_depth pairs)
 
--- a table with a pair behind its last
+-- a table with a pair after its last
 abbrev pub with_pair : Pairs → List ℕ → Datum → Pairs
 with_pair no_pairs name value = pair name value no_pairs
 with_pair (pair first held pairs) name value = pair first held (with_pair pairs name value)

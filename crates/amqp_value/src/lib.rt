@@ -1,5 +1,5 @@
 //! Field values and field tables of AMQP 0-9-1: the grammar of the nineteen tags, read with the first fault
-//! that is met, and written in its one plain spelling (AMQP 0-9-1 specification, 4.2.1 and 4.2.5).
+//! that is met, and written in its one plain encoding (AMQP 0-9-1 specification, 4.2.1 and 4.2.5).
 #![tactic(auto)]
 
 mod fault;

@@ -1,11 +1,11 @@
-//! Reading a table from the front of octets.
+//! Reading a table from the prefix of octets.
 
 ghost use Rattle.std.specs.Prelude.{◌≡◌, ◌⊎◌, ◌++◌, ◌+◌, ◌≤◌, ◌<◌, ℕ, List, length, take, map, IfOk, IfErr, Ok, Err};
 ghost use Rattle.amqp_value.specs.Faults.{out_of_memory};
-ghost use Rattle.amqp_value.specs.Spelling.{SpellsTable};
+ghost use Rattle.amqp_value.specs.Encoding.{EncodesTable};
 ghost use Rattle.amqp_value.specs.Tables.{table_view, read_view};
 ghost use Rattle.amqp_value.specs.FirstFault.{FirstFault};
-ghost use Rattle.amqp_value.specs.Reading.{fault_here as place_fault, Gives, front_of, counted, name_at, width_of, scalar_of, elements, named, value_at, table_at};
+ghost use Rattle.amqp_value.specs.Reading.{fault_here as place_fault, Gives, prefix_of, counted, name_at, width_of, scalar_of, elements, named, value_at, table_at};
 ghost use Rattle.amqp_value.specs.Values.{scalar, Pairs};
 ghost use Rattle.amqp_value.specs.View.{view, named_view, pairs_view};
 ghost use Rattle.amqp_value.specs.declared.fault.ValueFault.{ValueFault};
@@ -37,11 +37,11 @@ fn fault_here(octets: &[u8], end: usize, kind: ValueFaultKind) -> ValueFault
     }
 }
 
-/// The first `n` octets, and those behind them.
+/// The first `n` octets, and those after them.
 #[inline(always)]
-fn front(octets: &[u8], n: usize, end: usize) -> Result<(&[u8], &[u8]), ValueFault>
+fn prefix(octets: &[u8], n: usize, end: usize) -> Result<(&[u8], &[u8]), ValueFault>
     requires { length octets.now ≤ end }
-    ensures read { Gives (λ x. (x.0.now, x.1.now)) result (front_of n end octets.now) }
+    ensures read { Gives (λ x. (x.0.now, x.1.now)) result (prefix_of n end octets.now) }
     ensures within { IfOk result (λ x. length x.0.now + length x.1.now ≡ length octets.now) }
     ensures width { IfOk result (λ x. length x.0.now ≡ n) }
 {
@@ -51,7 +51,7 @@ fn front(octets: &[u8], n: usize, end: usize) -> Result<(&[u8], &[u8]), ValueFau
     Ok(octets.split_at(n))
 }
 
-/// A count of four octets and that many octets, and those behind them.
+/// A count of four octets and that many octets, and those after them.
 #[inline(always)]
 fn counted_octets(octets: &[u8], end: usize) -> Result<(&[u8], &[u8]), ValueFault>
     requires { length octets.now ≤ end }
@@ -61,36 +61,36 @@ fn counted_octets(octets: &[u8], end: usize) -> Result<(&[u8], &[u8]), ValueFaul
     if octets.len() < 4 {
         return Err(fault_here(octets, end, ValueFaultKind::PassesItsEnd));
     }
-    let (count, behind) = octets.split_at(4);
+    let (count, after) = octets.split_at(4);
     let count = BigEndian::read_u32(count) as usize;
-    if behind.len() < count {
+    if after.len() < count {
         return Err(fault_here(octets, end, ValueFaultKind::PassesItsEnd));
     }
-    Ok(behind.split_at(count))
+    Ok(after.split_at(count))
 }
 
-/// A length octet and that many octets, these and all that follow the length octet, and those behind the name.
+/// A length octet and that many octets, these and all that follow the length octet, and those after the name.
 #[inline(always)]
 fn name_octets(octets: &[u8], end: usize) -> Result<(&[u8], &[u8], &[u8]), ValueFault>
     requires { length octets.now ≤ end }
     ensures read { Gives (λ x. (x.0.now, x.2.now)) result (name_at end octets.now) }
     ensures within { IfOk result (λ x. length x.0.now + length x.2.now < length octets.now) }
     ensures short { IfOk result (λ x. length x.0.now ≤ 255) }
-    ensures front { IfOk result (λ x. x.0.now ≡ take (length x.0.now) x.1.now) }
+    ensures prefix { IfOk result (λ x. x.0.now ≡ take (length x.0.now) x.1.now) }
     ensures room { IfOk result (λ x. length x.0.now ≤ length x.1.now) }
 {
-    let Some((length, behind)) = octets.split_first() else {
+    let Some((length, after)) = octets.split_first() else {
         return Err(fault_here(octets, end, ValueFaultKind::PassesItsEnd));
     };
     let length = *length as usize;
-    if behind.len() < length {
+    if after.len() < length {
         return Err(fault_here(octets, end, ValueFaultKind::PassesItsEnd));
     }
-    let (name, field) = behind.split_at(length);
-    Ok((name, behind, field))
+    let (name, field) = after.split_at(length);
+    Ok((name, after, field))
 }
 
-/// The value of fixed size that the octets behind its tag are.
+/// The value of fixed size that the octets after its tag are.
 #[inline(always)]
 fn scalar_value(tag: ScalarTag, field: &[u8]) -> Value
     requires { length field.now ≡ width_of tag }
@@ -126,10 +126,10 @@ fn scalar_value(tag: ScalarTag, field: &[u8]) -> Value
     }
 }
 
-/// A tag with its value, and the octets behind it.
+/// A tag with its value, and the octets after it.
 #[inline(always)]
 #[cycle(read)]
-#[tactic(auto, unfolding(crate::specs::Reading::value_at, crate::specs::Reading::tagged, crate::specs::Reading::behind_tag))]
+#[tactic(auto, unfolding(crate::specs::Reading::value_at, crate::specs::Reading::tagged, crate::specs::Reading::after_tag))]
 fn read_value(
     alloc: Global,
     octets: &[u8],
@@ -147,32 +147,32 @@ fn read_value(
     };
     match tag {
         Tag::Fixed(tag) => {
-            let (field, behind) = front(rest, tag.width(), end)?;
-            Ok((scalar_value(tag, field), behind))
+            let (field, after) = prefix(rest, tag.width(), end)?;
+            Ok((scalar_value(tag, field), after))
         }
         Tag::LongString => {
-            let (text, behind) = counted_octets(rest, end)?;
-            Ok((Value::LongString(Vec::from_slice(alloc, text)?), behind))
+            let (text, after) = counted_octets(rest, end)?;
+            Ok((Value::LongString(Vec::from_slice(alloc, text)?), after))
         }
         Tag::ByteArray => {
-            let (text, behind) = counted_octets(rest, end)?;
-            Ok((Value::ByteArray(Vec::from_slice(alloc, text)?), behind))
+            let (text, after) = counted_octets(rest, end)?;
+            Ok((Value::ByteArray(Vec::from_slice(alloc, text)?), after))
         }
         Tag::Array => {
             let Some(inner) = levels.checked_sub(1) else {
                 return Err(fault_here(octets, end, ValueFaultKind::TooDeep));
             };
-            let (body, behind) = counted_octets(rest, end)?;
-            let values = read_items(alloc, body, end - behind.len(), inner)?;
-            Ok((Value::Array(values), behind))
+            let (body, after) = counted_octets(rest, end)?;
+            let values = read_items(alloc, body, end - after.len(), inner)?;
+            Ok((Value::Array(values), after))
         }
         Tag::Table => {
             let Some(inner) = levels.checked_sub(1) else {
                 return Err(fault_here(octets, end, ValueFaultKind::TooDeep));
             };
-            let (body, behind) = counted_octets(rest, end)?;
-            let pairs = read_pairs(alloc, body, end - behind.len(), inner)?;
-            Ok((Value::Table(pairs), behind))
+            let (body, after) = counted_octets(rest, end)?;
+            let pairs = read_pairs(alloc, body, end - after.len(), inner)?;
+            Ok((Value::Table(pairs), after))
         }
     }
 }
@@ -191,9 +191,9 @@ fn read_items(
     let mut values = Vec::with_capacity(alloc, body.len().div_ceil(EXPECTED_VALUE).min(FEW))?;
     let mut rest = body;
     while !rest.is_empty() {
-        let (value, behind) = read_value(alloc, rest, end, levels)?;
+        let (value, after) = read_value(alloc, rest, end, levels)?;
         values.push(value)?;
-        rest = behind;
+        rest = after;
     }
     Ok(values)
 }
@@ -213,34 +213,34 @@ fn read_pairs(
     let mut rest = body;
     while !rest.is_empty() {
         let (octets, from_name, field) = name_octets(rest, end)?;
-        let name = ShortStr::front(alloc, from_name, octets.len())?;
-        let (value, behind) = read_value(alloc, field, end, levels)?;
+        let name = ShortStr::prefix(alloc, from_name, octets.len())?;
+        let (value, after) = read_value(alloc, field, end, levels)?;
         pairs.push((name, value))?;
-        rest = behind;
+        rest = after;
     }
     Ok(pairs)
 }
 
-/// The table that a front of the octets spells, and how many octets that front has: a count of 32 bits,
+/// The table that a prefix of the octets encodes, and how many octets that prefix has: a count of 32 bits,
 /// and that many octets of pairs.
 ///
 /// A fault tells the first element that can't be read, in order: the outer count, a name with its length
-/// octet, a tag octet, the value behind a tag with its count where it has one. Ends is told at 0 only,
+/// octet, a tag octet, the value after a tag with its count where it has one. Ends is told at 0 only,
 /// where the octets have fewer than four, or fewer than the outer count says; inside, what doesn't fit
 /// the table or the array round it passes its end. UnknownTag and TooDeep are told at the tag. Want of
 /// memory is told at 0. Memory is asked only for octets that are there, whatever a count says.
 pub fn read_table(alloc: Global, octets: &[u8]) -> Result<(Table, usize), ValueFault>
-    // What is read is spelled so.
-    ensures found { IfOk result (λ x. SpellsTable (table_view x.0) (take x.1 octets.now)) }
+    // What is read is encoded so.
+    ensures found { IfOk result (λ x. EncodesTable (table_view x.0) (take x.1 octets.now)) }
     ensures within { IfOk result (λ x. x.1 ≤ length octets.now) }
 
-    // What is spelled so is read, whatever stands behind it, unless memory runs out.
-    ensures only { (pairs : Pairs) (front behind : List ℕ) → SpellsTable pairs front
-        → octets.now ≡ front ++ behind → Gives read_view result (Ok (pairs, length front)) }
+    // What is encoded so is read, whatever stands after it, unless memory runs out.
+    ensures only { (pairs : Pairs) (prefix after : List ℕ) → EncodesTable pairs prefix
+        → octets.now ≡ prefix ++ after → Gives read_view result (Ok (pairs, length prefix)) }
 
-    // Every other fault comes where no front spells a table.
+    // Every other fault comes where no prefix encodes a table.
     ensures refused { IfErr result (λ e. (e ≡ out_of_memory)
-        ⊎ ((pairs : Pairs) (front behind : List ℕ) → SpellsTable pairs front → octets.now ≡ front ++ behind → ⊥)) }
+        ⊎ ((pairs : Pairs) (prefix after : List ℕ) → EncodesTable pairs prefix → octets.now ≡ prefix ++ after → ⊥)) }
 
     // It is the fault of the first element that can't be read, and that one is told, unless memory runs out.
     ensures fault { IfErr result (λ e. (e ≡ out_of_memory) ⊎ FirstFault octets.now e) }
@@ -249,11 +249,11 @@ pub fn read_table(alloc: Global, octets: &[u8]) -> Result<(Table, usize), ValueF
     // What is read, as a function of the octets.
     ensures exact { Gives read_view result (table_at octets.now) }
 {
-    table_front(alloc, octets)
+    table_prefix(alloc, octets)
 }
 
 #[tactic(auto, unfolding(crate::specs::Reading::table_at))]
-fn table_front(alloc: Global, octets: &[u8]) -> Result<(Table, usize), ValueFault>
+fn table_prefix(alloc: Global, octets: &[u8]) -> Result<(Table, usize), ValueFault>
     ensures { Gives read_view result (table_at octets.now) }
 {
     if octets.len() < 4 {

@@ -18,7 +18,7 @@ pub struct ShortStr {
     store: Store,
 }
 
-/// The octets behind `len` say nothing.
+/// The octets after `len` say nothing.
 #[derive(Drop)]
 enum Store {
     InPlace { len: usize, octets: [u8; IN_PLACE] },
@@ -67,7 +67,7 @@ impl ShortStr {
                 kind: ValueFaultKind::TooLong,
             });
         }
-        Ok(ShortStr::front(alloc, octets, octets.len())?)
+        Ok(ShortStr::prefix(alloc, octets, octets.len())?)
     }
 
     /// An equal short string.
@@ -89,7 +89,7 @@ impl ShortStr {
     /// The first `len` octets, of which there may be more. Where there are, the room in place is filled with them, which
     /// is one copy of a fixed size.
     #[inline(always)]
-    pub(crate) fn front(alloc: Global, octets: &[u8], len: usize) -> Result<ShortStr, AllocError>
+    pub(crate) fn prefix(alloc: Global, octets: &[u8], len: usize) -> Result<ShortStr, AllocError>
         requires within { len ≤ length octets.now }
         requires short { len ≤ 255 }
         ensures { IfOk result (λ s. s ≡ take len octets.now) }

@@ -43,7 +43,7 @@ impl Table {
         Table { pairs }
     }
 
-    /// Adds a pair behind the last. TooDeep at 0 where the table would nest deeper than [`MAX_DEPTH`];
+    /// Adds a pair after the last. TooDeep at 0 where the table would nest deeper than [`MAX_DEPTH`];
     /// after a fault the table is as it was, and the pair is dropped.
     pub fn push(&mut self, name: ShortStr, value: Value) -> Result<(), ValueFault>
         ensures ok { OnOk result (table_view self.new ≡ with_pair (table_view self.old) name (view value)) }

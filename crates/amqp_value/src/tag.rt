@@ -3,7 +3,7 @@
 ghost use Rattle.std.specs.Prelude.{◌≡◌};
 ghost use Rattle.amqp_value.specs.Reading.{tag_of, width_of};
 
-/// What a tag octet says of the octets behind it.
+/// What a tag octet says of the octets after it.
 #[derive(Clone, Copy, Debug, PartialEq, Eq)]
 pub enum Tag {
     Fixed(ScalarTag),

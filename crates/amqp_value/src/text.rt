@@ -123,7 +123,7 @@ fn put_void(text: &mut String) -> Result<(), OutOfMemory>
     Ok(())
 }
 
-/// The comma in front of an element, unless it is the first.
+/// The comma before an element, unless it is the first.
 fn put_comma(text: &mut String, index: usize) -> Result<(), OutOfMemory>
     ensures { OnOk result (string_bytes text.new ≡ string_bytes text.old ++ comma_before index) }
 {

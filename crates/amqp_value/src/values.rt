@@ -40,13 +40,13 @@ pub enum Value {
     Timestamp(u64),
     /// `V`: no octets.
     Void,
-    /// `S`: any octets, behind a count of 32 bits.
+    /// `S`: any octets, after a count of 32 bits.
     LongString(Vec<u8>),
-    /// `x`: any octets, behind a count of 32 bits.
+    /// `x`: any octets, after a count of 32 bits.
     ByteArray(Vec<u8>),
-    /// `A`: tags with values, behind a count of 32 bits.
+    /// `A`: tags with values, after a count of 32 bits.
     Array(Vec<Value>),
-    /// `F`: names and tags with values, behind a count of 32 bits.
+    /// `F`: names and tags with values, after a count of 32 bits.
     Table(Vec<(ShortStr, Value)>),
 }
 

@@ -1,12 +1,12 @@
-//! Writing a table, each value in its one plain spelling.
+//! Writing a table, each value in its one plain encoding.
 
 ghost use Rattle.std.specs.Prelude.{◌≡◌, ◌⊎◌, ◌+◌, ◌-◌, ◌≤◌, ◌<◌, ◌^◌, ◌↔◌, ◌++◌, [], ◌∷◌, length, take, drop, OnOk, OnErr, IfErr, Err};
 ghost use Rattle.std.specs.Int.{w8, w16, w32, w64, cast_unsigned};
 ghost use Rattle.byteorder.specs.Endian.{big_bytes};
 ghost use Rattle.amqp_value.specs.Faults.{fault_at, out_of_memory};
-ghost use Rattle.amqp_value.specs.Fields.{SpellsShortString, plain_short_string, plain_long_string};
+ghost use Rattle.amqp_value.specs.Fields.{EncodesShortString, plain_short_string, plain_long_string};
 ghost use Rattle.amqp_value.specs.Plain.{plain_value, plain_field, plain_items, plain_pairs, plain_table, CountsFit, ItemsCountsFit, PairsCountsFit};
-ghost use Rattle.amqp_value.specs.Spelling.{SpellsField, SpellsItems, SpellsPairs, SpellsTable};
+ghost use Rattle.amqp_value.specs.Encoding.{EncodesField, EncodesItems, EncodesPairs, EncodesTable};
 ghost use Rattle.amqp_value.specs.Tables.{table_view};
 ghost use Rattle.amqp_value.specs.Values.{array, table as table_of};
 ghost use Rattle.amqp_value.specs.View.{view, items_view, pairs_view};
@@ -103,7 +103,7 @@ fn put_text(out: &mut Vec<u8>, tag: u8, text: &[u8]) -> Result<(), ValueFault>
     put_field(out, text)
 }
 
-/// Writes the count of all that stands behind the four octets at `hole` into them.
+/// Writes the count of all that stands after the four octets at `hole` into them.
 fn fill_count(out: &mut Vec<u8>, hole: usize) -> Result<(), ValueFault>
     requires { hole + 4 ≤ length out.old.items }
     ensures ok { OnOk result (out.new.items ≡ take hole out.old.items
@@ -128,7 +128,7 @@ fn fill_count(out: &mut Vec<u8>, hole: usize) -> Result<(), ValueFault>
 #[cycle(write)]
 fn put_value(out: &mut Vec<u8>, value: &Value) -> Result<(), ValueFault>
     ensures ok { OnOk result (out.new.items ≡ out.old.items ++ plain_value (view value.now)) }
-    ensures spelled { OnOk result (SpellsField (view value.now) (plain_field (view value.now))) }
+    ensures encoded { OnOk result (EncodesField (view value.now) (plain_field (view value.now))) }
     ensures err { IfErr result (λ e. (e ≡ fault_at 0 TooLong) ⊎ (e ≡ out_of_memory)) }
     ensures too_long { result ≡ Err (fault_at 0 TooLong) → CountsFit (view value.now) → ⊥ }
     ensures kept { OnErr result (take (length out.old.items) out.new.items ≡ out.old.items) }
@@ -160,7 +160,7 @@ fn put_value(out: &mut Vec<u8>, value: &Value) -> Result<(), ValueFault>
 #[cycle(write)]
 fn put_array(out: &mut Vec<u8>, values: &[Value]) -> Result<(), ValueFault>
     ensures ok { OnOk result (out.new.items ≡ out.old.items ++ plain_value (array (items_view values.now))) }
-    ensures spelled { OnOk result (SpellsField (array (items_view values.now)) (plain_field (array (items_view values.now)))) }
+    ensures encoded { OnOk result (EncodesField (array (items_view values.now)) (plain_field (array (items_view values.now)))) }
     ensures err { IfErr result (λ e. (e ≡ fault_at 0 TooLong) ⊎ (e ≡ out_of_memory)) }
     ensures too_long { result ≡ Err (fault_at 0 TooLong) → CountsFit (array (items_view values.now)) → ⊥ }
     ensures kept { OnErr result (take (length out.old.items) out.new.items ≡ out.old.items) }
@@ -175,7 +175,7 @@ fn put_array(out: &mut Vec<u8>, values: &[Value]) -> Result<(), ValueFault>
 #[cycle(write)]
 fn put_table(out: &mut Vec<u8>, pairs: &[(ShortStr, Value)]) -> Result<(), ValueFault>
     ensures ok { OnOk result (out.new.items ≡ out.old.items ++ plain_value (table_of (pairs_view pairs.now))) }
-    ensures spelled { OnOk result (SpellsField (table_of (pairs_view pairs.now)) (plain_field (table_of (pairs_view pairs.now)))) }
+    ensures encoded { OnOk result (EncodesField (table_of (pairs_view pairs.now)) (plain_field (table_of (pairs_view pairs.now)))) }
     ensures err { IfErr result (λ e. (e ≡ fault_at 0 TooLong) ⊎ (e ≡ out_of_memory)) }
     ensures too_long { result ≡ Err (fault_at 0 TooLong) → CountsFit (table_of (pairs_view pairs.now)) → ⊥ }
     ensures kept { OnErr result (take (length out.old.items) out.new.items ≡ out.old.items) }
@@ -190,7 +190,7 @@ fn put_table(out: &mut Vec<u8>, pairs: &[(ShortStr, Value)]) -> Result<(), Value
 #[cycle(write)]
 fn put_items(out: &mut Vec<u8>, values: &[Value]) -> Result<(), ValueFault>
     ensures ok { OnOk result (out.new.items ≡ out.old.items ++ plain_items (items_view values.now)) }
-    ensures spelled { OnOk result (SpellsItems (items_view values.now) (plain_items (items_view values.now))) }
+    ensures encoded { OnOk result (EncodesItems (items_view values.now) (plain_items (items_view values.now))) }
     ensures err { IfErr result (λ e. (e ≡ fault_at 0 TooLong) ⊎ (e ≡ out_of_memory)) }
     ensures too_long { result ≡ Err (fault_at 0 TooLong) → ItemsCountsFit (items_view values.now) → ⊥ }
     ensures kept { OnErr result (take (length out.old.items) out.new.items ≡ out.old.items) }
@@ -205,7 +205,7 @@ fn put_items(out: &mut Vec<u8>, values: &[Value]) -> Result<(), ValueFault>
 #[cycle(write)]
 fn put_pairs(out: &mut Vec<u8>, pairs: &[(ShortStr, Value)]) -> Result<(), ValueFault>
     ensures ok { OnOk result (out.new.items ≡ out.old.items ++ plain_pairs (pairs_view pairs.now)) }
-    ensures spelled { OnOk result (SpellsPairs (pairs_view pairs.now) (plain_pairs (pairs_view pairs.now))) }
+    ensures encoded { OnOk result (EncodesPairs (pairs_view pairs.now) (plain_pairs (pairs_view pairs.now))) }
     ensures err { IfErr result (λ e. (e ≡ fault_at 0 TooLong) ⊎ (e ≡ out_of_memory)) }
     ensures too_long { result ≡ Err (fault_at 0 TooLong) → PairsCountsFit (pairs_view pairs.now) → ⊥ }
     ensures kept { OnErr result (take (length out.old.items) out.new.items ≡ out.old.items) }
@@ -217,10 +217,10 @@ fn put_pairs(out: &mut Vec<u8>, pairs: &[(ShortStr, Value)]) -> Result<(), Value
     Ok(())
 }
 
-/// A name behind its length octet.
+/// A name after its length octet.
 fn put_name(out: &mut Vec<u8>, name: &ShortStr) -> Result<(), ValueFault>
     ensures ok { OnOk result (out.new.items ≡ out.old.items ++ plain_short_string name.now) }
-    ensures spelled { SpellsShortString name.now (plain_short_string name.now) }
+    ensures encoded { EncodesShortString name.now (plain_short_string name.now) }
     ensures err { IfErr result (λ e. e ≡ out_of_memory) }
     ensures kept { OnErr result (take (length out.old.items) out.new.items ≡ out.old.items) }
 {
@@ -229,11 +229,11 @@ fn put_name(out: &mut Vec<u8>, name: &ShortStr) -> Result<(), ValueFault>
     put_field(out, octets)
 }
 
-/// Appends the table's one plain spelling. TooLong at 0 where a count inside passes 4294967295; after a
+/// Appends the table's one plain encoding. TooLong at 0 where a count inside passes 4294967295; after a
 /// fault the output is as it was.
 pub fn write_table(table: &Table, out: &mut Vec<u8>) -> Result<(), ValueFault>
     ensures ok { OnOk result (out.new.items ≡ out.old.items ++ plain_table (table_view table.now)) }
-    ensures spelled { OnOk result (SpellsTable (table_view table.now) (plain_table (table_view table.now))) }
+    ensures encoded { OnOk result (EncodesTable (table_view table.now) (plain_table (table_view table.now))) }
     ensures err { IfErr result (λ e. (e ≡ fault_at 0 TooLong) ⊎ (e ≡ out_of_memory)) }
     ensures too_long { result ≡ Err (fault_at 0 TooLong) → CountsFit (table_of (table_view table.now)) → ⊥ }
     ensures same { OnErr result (out.new.items ≡ out.old.items) }
@@ -249,7 +249,7 @@ pub fn write_table(table: &Table, out: &mut Vec<u8>) -> Result<(), ValueFault>
 /// A table without a tag: its count and its pairs.
 fn put_outer(out: &mut Vec<u8>, pairs: &[(ShortStr, Value)]) -> Result<(), ValueFault>
     ensures ok { OnOk result (out.new.items ≡ out.old.items ++ plain_table (pairs_view pairs.now)) }
-    ensures spelled { OnOk result (SpellsField (table_of (pairs_view pairs.now)) (plain_table (pairs_view pairs.now))) }
+    ensures encoded { OnOk result (EncodesField (table_of (pairs_view pairs.now)) (plain_table (pairs_view pairs.now))) }
     ensures err { IfErr result (λ e. (e ≡ fault_at 0 TooLong) ⊎ (e ≡ out_of_memory)) }
     ensures too_long { result ≡ Err (fault_at 0 TooLong) → CountsFit (table_of (pairs_view pairs.now)) → ⊥ }
     ensures kept { OnErr result (take (length out.old.items) out.new.items ≡ out.old.items) }

@@ -1,11 +1,11 @@
 use Rattle.amqp_method.specs.HeaderView.{header_view}
-use Rattle.amqp_method.proofs.HeaderLemmas.{header_spelled}
+use Rattle.amqp_method.proofs.HeaderLemmas.{header_encoded}
 use Rattle.amqp_method.proofs.PropertyKinds.{properties_have_kinds}
 use Rattle.amqp_method.proofs.WritingLemmas.{both_ok}
 use Rattle.amqp_method.proofs.header_octets.write_header.Goals as goal
 
-pub returns-else-is_err-clause-spelled : goal.returns-else-is_err-clause-spelled
-returns-else-is_err-clause-spelled c =
+pub returns-else-is_err-clause-encoded : goal.returns-else-is_err-clause-encoded
+returns-else-is_err-clause-encoded c =
     both_ok c.append_header-written.result
-    (λ size fits. header_spelled (header_view c.args.header.now) size (properties_have_kinds c.args.header.now.properties) fits)
+    (λ size fits. header_encoded (header_view c.args.header.now) size (properties_have_kinds c.args.header.now.properties) fits)
     c.append_header-written.ensures.size c.append_header-written.ensures.fits

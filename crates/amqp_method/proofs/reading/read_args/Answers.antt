@@ -16,17 +16,17 @@ returns-in_err-arg-clause-read c =
 pub loop-field-preserved : goal.loop-field-preserved
 loop-field-preserved c = elim c.if-not-field.branch [
   | then-not-field+in_ok-push w ↦
-      let within : length c.in_ok-arg.behind.now ≤ length c.args.octets.now = omega (arith, c.loop-field.invariant.0, c.in_ok-arg.ensures.within) in
+      let within : length c.in_ok-arg.after.now ≤ length c.args.octets.now = omega (arith, c.loop-field.invariant.0, c.in_ok-arg.ensures.within) in
       rw (w.args-is, w.bits-is, w.rest-is) (
         within,
-        goes_on (args_view c.loop-field.args.items) _ c.args.fields.now c.loop-field.field-index _ (bits_view c.loop-field.bits) (bits_view c.in_ok-arg.others) c.args.end c.loop-field.rest.now c.in_ok-arg.behind.now (arg_view c.in_ok-arg.arg) _
+        goes_on (args_view c.loop-field.args.items) _ c.args.fields.now c.loop-field.field-index _ (bits_view c.loop-field.bits) (bits_view c.in_ok-arg.others) c.args.end c.loop-field.rest.now c.in_ok-arg.after.now (arg_view c.in_ok-arg.arg) _
             c.loop-field-test.true c.in_ok-arg.ensures.read (ap args_view w.in_ok-push.ensures.items ∙ map_push arg_view c.loop-field.args.items c.in_ok-arg.arg ∙ is_kept _ _ _ w.if-not-field.true) c.loop-field.invariant.1,
       )
   | else-not-field w ↦
-      let within : length c.in_ok-arg.behind.now ≤ length c.args.octets.now = omega (arith, c.loop-field.invariant.0, c.in_ok-arg.ensures.within) in
+      let within : length c.in_ok-arg.after.now ≤ length c.args.octets.now = omega (arith, c.loop-field.invariant.0, c.in_ok-arg.ensures.within) in
       rw (w.args-is, w.bits-is, w.rest-is) (
         within,
-        goes_on (args_view c.loop-field.args.items) _ c.args.fields.now c.loop-field.field-index _ (bits_view c.loop-field.bits) (bits_view c.in_ok-arg.others) c.args.end c.loop-field.rest.now c.in_ok-arg.behind.now (arg_view c.in_ok-arg.arg) _
+        goes_on (args_view c.loop-field.args.items) _ c.args.fields.now c.loop-field.field-index _ (bits_view c.loop-field.bits) (bits_view c.in_ok-arg.others) c.args.end c.loop-field.rest.now c.in_ok-arg.after.now (arg_view c.in_ok-arg.arg) _
             c.loop-field-test.true c.in_ok-arg.ensures.read (is_left _ _ _ w.if-not-field.false) c.loop-field.invariant.1,
       )
 ]

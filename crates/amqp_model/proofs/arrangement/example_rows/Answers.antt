@@ -1,4 +1,4 @@
--- The rows compute. In the last of them header 1 would stand in front of publish 2.
+-- The rows compute. In the last of them header 1 would stand before publish 2.
 use Rattle.std.proofs.Common.{◌≤◌, refl, arith}
 use Rattle.amqp_frame.specs.Frame.{octets}
 use Rattle.amqp_model.specs.ArrangementExamples.{close}

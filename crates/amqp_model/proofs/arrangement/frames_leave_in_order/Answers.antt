@@ -6,8 +6,8 @@ use Rattle.amqp_model.proofs.arrangement.frames_leave_in_order.Goals as goal
 pub returns-clause-octets : goal.returns-clause-octets
 returns-clause-octets c = output-in-order
 
-pub returns-clause-behind : goal.returns-clause-behind
-returns-clause-behind c = close-split
+pub returns-clause-after : goal.returns-clause-after
+returns-clause-after c = close-split
 
 pub returns-clause-waiting : goal.returns-clause-waiting
 returns-clause-waiting c = output-queues

@@ -2,7 +2,7 @@
 use Rattle.std.proofs.Common.{refl, sym, ◌∷◌, [], ◌++◌, ◌==◌, ◌∙◌}
 use Rattle.std.proofs.lemmas.List.Elements.{filter-append}
 use Rattle.amqp_model.specs.Arrangement.{FramesOn, placed}
-use Rattle.amqp_model.proofs.Rows.{placed-arranges, placed-gains, placed-behind-queue, gains-queued}
+use Rattle.amqp_model.proofs.Rows.{placed-arranges, placed-gains, placed-after-queue, gains-queued}
 use Rattle.amqp_model.proofs.Departing.{placed-leaves}
 use Rattle.amqp_model.proofs.LeavingLast.{on-above}
 use Rattle.amqp_model.proofs.arrangement.put_keeps_arranged.Goals as goal
@@ -23,7 +23,7 @@ pub returns-clause-leaving : goal.returns-clause-leaving
 returns-clause-leaving c = placed-leaves
 
 pub returns-clause-place : goal.returns-clause-place
-returns-clause-place c = placed-behind-queue
+returns-clause-place c = placed-after-queue
 
 pub returns-clause-begun : goal.returns-clause-begun
 returns-clause-begun c = λ f o. (refl, refl)

@@ -1,9 +1,9 @@
 -- Each clause is a lemma on lists of payloads.
-use Rattle.amqp_model.proofs.ItemLemmas.{items-front, items-more, items-content, items-unfinished, items-apart, items-method}
+use Rattle.amqp_model.proofs.ItemLemmas.{items-prefix, items-more, items-content, items-unfinished, items-apart, items-method}
 use Rattle.amqp_model.proofs.contents.items_follow.Goals as goal
 
-pub returns-clause-front : goal.returns-clause-front
-returns-clause-front c = items-front
+pub returns-clause-prefix : goal.returns-clause-prefix
+returns-clause-prefix c = items-prefix
 
 pub returns-clause-one_more : goal.returns-clause-one_more
 returns-clause-one_more c = items-more

@@ -1,6 +1,6 @@
 -- The scripts compute.
 use Rattle.amqp_model.specs.Scripts.{crossing_steps}
-use Rattle.amqp_model.proofs.Scripts.{replay_runs, crossing, reopened, closed_early, discarded, paused, restarted, closed_behind_message, dropped, server_left}
+use Rattle.amqp_model.proofs.Scripts.{replay_runs, crossing, reopened, closed_early, discarded, paused, restarted, closed_after_message, dropped, server_left}
 use Rattle.amqp_model.proofs.lives.scripts_run.Goals as goal
 
 pub returns-clause-runs : goal.returns-clause-runs
@@ -28,7 +28,7 @@ pub returns-clause-restarted_server : goal.returns-clause-restarted_server
 returns-clause-restarted_server c = restarted
 
 pub returns-clause-message_then_close : goal.returns-clause-message_then_close
-returns-clause-message_then_close c = closed_behind_message
+returns-clause-message_then_close c = closed_after_message
 
 pub returns-clause-dropped_client : goal.returns-clause-dropped_client
 returns-clause-dropped_client c = dropped

@@ -15,20 +15,20 @@ read_items-returns-in_err-value t c =
 
 pub read_items-loop-rest-smaller : goal.read_items-loop-rest-smaller
 read_items-loop-rest-smaller t c =
-    (value_at-consumes c.args.levels c.args.end).consumes c.loop-rest.rest.now (view c.in_ok-value.value, c.in_ok-value.behind.now) c.in_ok-value.ensures
+    (value_at-consumes c.args.levels c.args.end).consumes c.loop-rest.rest.now (view c.in_ok-value.value, c.in_ok-value.after.now) c.in_ok-value.ensures
 
 pub read_items-loop-rest-preserved : goal.read_items-loop-rest-preserved
 read_items-loop-rest-preserved t c =
     let read = value_at c.args.levels in
     let consumes = value_at-consumes c.args.levels c.args.end in
     let value = c.in_ok-value.value in
-    let behind = c.in_ok-value.behind.now in
+    let after = c.in_ok-value.after.now in
     let long = some_left c.loop-rest.rest.now _ c.is_empty.ensures c.loop-rest-test.true in
-    let shorter : length behind < length c.loop-rest.rest.now = consumes.consumes c.loop-rest.rest.now (view value, behind) c.in_ok-value.ensures in
+    let shorter : length after < length c.loop-rest.rest.now = consumes.consumes c.loop-rest.rest.now (view value, after) c.in_ok-value.ensures in
     let within : length c.loop-rest.rest.now ≤ c.args.end = c.loop-rest.invariant.0 in (
       omega arith,
       rw (c.in_ok-push.ensures.items, map_push _ c.loop-rest.values.items value)
-          (goes_on read c.args.end consumes (map view c.loop-rest.values.items) c.loop-rest.rest.now (view value) behind (elements read c.args.end c.args.body.now) long c.in_ok-value.ensures c.loop-rest.invariant.1),
+          (goes_on read c.args.end consumes (map view c.loop-rest.values.items) c.loop-rest.rest.now (view value) after (elements read c.args.end c.args.body.now) long c.in_ok-value.ensures c.loop-rest.invariant.1),
     )
 
 pub read_items-returns : goal.read_items-returns
@@ -57,8 +57,8 @@ read_pairs-returns-in_err-value t c =
 pub read_pairs-loop-rest-smaller : goal.read_pairs-loop-rest-smaller
 read_pairs-loop-rest-smaller t c =
     let read = value_at c.args.levels in
-    (named-consumes read c.args.end (value_at-consumes c.args.levels c.args.end)).consumes c.loop-rest.rest.now ((c.in_ok-octets.octets.now, view c.in_ok-value.value), c.in_ok-value.behind.now)
-    (named-ok read c.args.end c.loop-rest.rest.now c.in_ok-octets.octets.now c.in_ok-octets.field.now c.in_ok-value.behind.now (view c.in_ok-value.value) c.in_ok-octets.ensures.read c.in_ok-value.ensures)
+    (named-consumes read c.args.end (value_at-consumes c.args.levels c.args.end)).consumes c.loop-rest.rest.now ((c.in_ok-octets.octets.now, view c.in_ok-value.value), c.in_ok-value.after.now)
+    (named-ok read c.args.end c.loop-rest.rest.now c.in_ok-octets.octets.now c.in_ok-octets.field.now c.in_ok-value.after.now (view c.in_ok-value.value) c.in_ok-octets.ensures.read c.in_ok-value.ensures)
 
 pub read_pairs-loop-rest-preserved : goal.read_pairs-loop-rest-preserved
 read_pairs-loop-rest-preserved t c =
@@ -66,14 +66,14 @@ read_pairs-loop-rest-preserved t c =
     let consumes = named-consumes read c.args.end (value_at-consumes c.args.levels c.args.end) in
     let name = c.in_ok-octets.octets.now in
     let value = c.in_ok-value.value in
-    let behind = c.in_ok-value.behind.now in
+    let after = c.in_ok-value.after.now in
     let long = some_left c.loop-rest.rest.now _ c.is_empty.ensures c.loop-rest-test.true in
-    let is = named-ok read c.args.end c.loop-rest.rest.now name c.in_ok-octets.field.now behind (view value) c.in_ok-octets.ensures.read c.in_ok-value.ensures in
-    let shorter : length behind < length c.loop-rest.rest.now = consumes.consumes c.loop-rest.rest.now ((name, view value), behind) is in
+    let is = named-ok read c.args.end c.loop-rest.rest.now name c.in_ok-octets.field.now after (view value) c.in_ok-octets.ensures.read c.in_ok-value.ensures in
+    let shorter : length after < length c.loop-rest.rest.now = consumes.consumes c.loop-rest.rest.now ((name, view value), after) is in
     let within : length c.loop-rest.rest.now ≤ c.args.end = c.loop-rest.invariant.0 in (
       omega arith,
-      rw (c.in_ok-push.ensures.items, map_push _ c.loop-rest.pairs.items (c.in_ok-name.name, value), c.in_ok-name.ensures ∙ sym c.in_ok-octets.ensures.front)
-          (goes_on (named read) c.args.end consumes (map named_view c.loop-rest.pairs.items) c.loop-rest.rest.now (name, view value) behind (elements (named read) c.args.end c.args.body.now) long is c.loop-rest.invariant.1),
+      rw (c.in_ok-push.ensures.items, map_push _ c.loop-rest.pairs.items (c.in_ok-name.name, value), c.in_ok-name.ensures ∙ sym c.in_ok-octets.ensures.prefix)
+          (goes_on (named read) c.args.end consumes (map named_view c.loop-rest.pairs.items) c.loop-rest.rest.now (name, view value) after (elements (named read) c.args.end c.args.body.now) long is c.loop-rest.invariant.1),
     )
 
 pub read_pairs-returns : goal.read_pairs-returns

@@ -4,7 +4,7 @@ use Rattle.amqp_value.specs.Plain.{plain_items, plain_pairs, plain_value, Counts
 use Rattle.amqp_value.specs.Values.{table}
 use Rattle.amqp_value.specs.View.{view, items_view, pairs_view}
 use Rattle.amqp_value.proofs.Depths.{view-Table}
-use Rattle.amqp_value.proofs.Written.{kept_behind, filled_count, on_ok, ItemsPut-next, PairsPut-next, item_count_fits, pair_count_fits}
+use Rattle.amqp_value.proofs.Written.{kept_after, filled_count, on_ok, ItemsPut-next, PairsPut-next, item_count_fits, pair_count_fits}
 use Rattle.amqp_value.proofs.write.+write.Goals as goal
 
 pub put_array-returns-clause-ok : goal.put_array-returns-clause-ok
@@ -32,18 +32,18 @@ pub put_items-returns-in_err-put_value-clause-kept :
     goal.put_items-returns-in_err-put_value-clause-kept
 put_items-returns-in_err-put_value-clause-kept t c =
     let p = err_from_is_err_and c.from_residual.result c.from_residual.ensures.1 in
-    rw p.1 (kept_behind c.args.out.now.items _ c.loop-value.out.items c.put_value.new.out.items c.loop-value.invariant.out_is c.in_err-put_value.ensures.kept)
+    rw p.1 (kept_after c.args.out.now.items _ c.loop-value.out.items c.put_value.new.out.items c.loop-value.invariant.out_is c.in_err-put_value.ensures.kept)
 
 pub put_items-loop-value-preserved : goal.put_items-loop-value-preserved
 put_items-loop-value-preserved t c =
     ItemsPut-next c.args.out.now.items c.loop-value.out.items c.put_value.new.out.items c.args.values.now c.loop-value.value-index c.value-item.result c.loop-value-test.true c.value-item.is c.loop-value.invariant
-    c.in_ok-put_value.ensures.ok c.in_ok-put_value.ensures.spelled
+    c.in_ok-put_value.ensures.ok c.in_ok-put_value.ensures.encoded
 
 pub put_pairs-returns-in_err-put_name-clause-kept :
     goal.put_pairs-returns-in_err-put_name-clause-kept
 put_pairs-returns-in_err-put_name-clause-kept t c =
     let p = err_from_is_err_and c.from_residual.result c.from_residual.ensures.1 in
-    rw p.1 (kept_behind c.args.out.now.items _ c.loop-pair.out.items c.put_name.new.out.items c.loop-pair.invariant.out_is c.in_err-put_name.ensures.kept)
+    rw p.1 (kept_after c.args.out.now.items _ c.loop-pair.out.items c.put_name.new.out.items c.loop-pair.invariant.out_is c.in_err-put_name.ensures.kept)
 
 pub put_pairs-returns-in_err-put_value-clause-too_long :
     goal.put_pairs-returns-in_err-put_value-clause-too_long
@@ -56,13 +56,13 @@ pub put_pairs-returns-in_err-put_value-clause-kept :
     goal.put_pairs-returns-in_err-put_value-clause-kept
 put_pairs-returns-in_err-put_value-clause-kept t c =
     let p = err_from_is_err_and c.from_residual-in_err-put_value.result c.from_residual-in_err-put_value.ensures.1 in
-    let named = kept_behind c.loop-pair.out.items _ c.put_name.new.out.items c.put_value.new.out.items c.in_ok-put_name.ensures.ok c.in_err-put_value.ensures.kept in
-    rw p.1 (kept_behind c.args.out.now.items _ c.loop-pair.out.items c.put_value.new.out.items c.loop-pair.invariant.out_is named)
+    let named = kept_after c.loop-pair.out.items _ c.put_name.new.out.items c.put_value.new.out.items c.in_ok-put_name.ensures.ok c.in_err-put_value.ensures.kept in
+    rw p.1 (kept_after c.args.out.now.items _ c.loop-pair.out.items c.put_value.new.out.items c.loop-pair.invariant.out_is named)
 
 pub put_pairs-loop-pair-preserved : goal.put_pairs-loop-pair-preserved
 put_pairs-loop-pair-preserved t c =
     PairsPut-next c.args.out.now.items c.loop-pair.out.items c.put_name.new.out.items c.put_value.new.out.items c.args.pairs.now c.loop-pair.pair-index c.pair-item.result c.loop-pair-test.true c.pair-item.is c.loop-pair.invariant
-    c.in_ok-put_name.ensures.ok c.in_ok-put_name.ensures.spelled c.in_ok-put_value.ensures.ok c.in_ok-put_value.ensures.spelled
+    c.in_ok-put_name.ensures.ok c.in_ok-put_name.ensures.encoded c.in_ok-put_value.ensures.ok c.in_ok-put_value.ensures.encoded
 
 pub put_value-returns-in-Table-clause-ok : goal.put_value-returns-in-Table-clause-ok
 put_value-returns-in-Table-clause-ok t c =

@@ -3,13 +3,13 @@ use Rattle.std.proofs.lemmas.List.{nil_from_length}
 use Rattle.std.proofs.lemmas.Grind.{common_steps}
 use Rattle.amqp_frame.specs.Judging.{pending_of}
 use Rattle.amqp_frame.specs.SplitterFields.{stream_of}
-use Rattle.amqp_frame.proofs.SplitterLemmas.{begun_without_frame, told_without_frame, told_before, told_behind, whole_piece, fault_of, completed, some_taken, waiting, buffer_is, some_octets, same_stream}
+use Rattle.amqp_frame.proofs.SplitterLemmas.{begun_without_frame, told_without_frame, told_before, told_after, whole_piece, fault_of, completed, some_taken, waiting, buffer_is, some_octets, same_stream}
 use Rattle.amqp_frame.proofs.splitting.Splitter.feed_ref.Goals as goal
 use Rattle.amqp_frame.proofs.splitting.Splitter.feed_ref.Goals.{then-is_empty+in-Begun, else-is_empty}
 
 pub overflow_sub-place : goal.overflow_sub-place
 overflow_sub-place c =
-    let behind = told_behind c.self.inside.limit c.renew.new.buffer.items c.args.piece.now c.fill.new.buffer.items c.in-Ok.taken c.in-Wrong-judge.kind c.in-Wrong-judge.place
+    let after = told_after c.self.inside.limit c.renew.new.buffer.items c.args.piece.now c.fill.new.buffer.items c.in-Ok.taken c.in-Wrong-judge.kind c.in-Wrong-judge.place
     (rw c.renew.ensures c.self.invariant.begun) c.in-Ok.ensures (rw c.deref.ensures.value at c.in-Wrong-judge.ensures) in
     omega (arith, c.len-begun.ensures)
 
@@ -77,7 +77,7 @@ returns-in-Wrong-judge c =
     let pending = pending_of c.self.inside.spent c.self.inside.buffer.items in
     let filled = rw c.renew.ensures at c.in-Ok.ensures in
     let in_buffer = rw c.deref.ensures.value at c.in-Wrong-judge.ensures in
-    let behind = told_behind c.self.inside.limit pending c.args.piece.now c.fill.new.buffer.items c.in-Ok.taken c.in-Wrong-judge.kind c.in-Wrong-judge.place
+    let after = told_after c.self.inside.limit pending c.args.piece.now c.fill.new.buffer.items c.in-Ok.taken c.in-Wrong-judge.kind c.in-Wrong-judge.place
     c.self.invariant.begun filled in_buffer in
     let told = rw (whole_piece pending c.args.piece.now c.fill.new.buffer.items c.in-Ok.taken filled.joined) at
     (told_before c.self.inside.limit c.fill.new.buffer.items (drop c.in-Ok.taken c.args.piece.now) c.in-Wrong-judge.kind c.in-Wrong-judge.place in_buffer) in
@@ -88,7 +88,7 @@ returns-in-Wrong-judge c =
         frame = tt;
         rest = tt;
         fault = fault_of c.self.inside.fault (stream_of c.self.inside) c.args.piece.now c.in-Wrong-judge.kind c.in-Wrong-judge.place c.saturating_add-at-in-Wrong-judge.result
-            c.in_default.is told behind (rw (← begun) c.saturating_add-at-in-Wrong-judge.ensures);
+            c.in_default.is told after (rw (← begun) c.saturating_add-at-in-Wrong-judge.ensures);
         running = λ _. c.in_default.is;
         within = tt;
         progress = tt;

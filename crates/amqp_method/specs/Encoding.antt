@@ -1,21 +1,21 @@
--- Which octets spell the arguments of a method, and which a method: AMQP 0-9-1 specification, 2.3.5.2, 4.2.4 and 4.2.5.
+-- Which octets encode the arguments of a method, and which a method: AMQP 0-9-1 specification, 2.3.5.2, 4.2.4 and 4.2.5.
 use Rattle.std.specs.Prelude.{◌≡◌, ◌≢◌, ◌==◌, ℕ, ◌/◌, ◌%◌, ◌<◌, List, [], ◌∷◌, ◌++◌, map, take, drop, Bool}
-use Rattle.amqp_value.specs.Fields.{SpellsNumber, SpellsShortString, SpellsLongString}
-use Rattle.amqp_value.specs.Spelling.{SpellsTable}
+use Rattle.amqp_value.specs.Fields.{EncodesNumber, EncodesShortString, EncodesLongString}
+use Rattle.amqp_value.specs.Encoding.{EncodesTable}
 use Rattle.amqp_method.specs.Arguments.{Argument, bit, octet, short, long, long_long, short_string, long_string, table, kind_of, kept, Call}
 use Rattle.amqp_method.specs.Kinds.{fields_of}
 use Rattle.amqp_method.specs.Methods.{FieldRow, row}
 
 -- the octets of a value that has octets of its own: a bit shares them with its run
-abbrev pub SpellsArgument : Argument → List ℕ → Type 0
-SpellsArgument (bit holds) octets = ⊥
-SpellsArgument (octet n) octets = SpellsNumber 1 n octets
-SpellsArgument (short n) octets = SpellsNumber 2 n octets
-SpellsArgument (long n) octets = SpellsNumber 4 n octets
-SpellsArgument (long_long n) octets = SpellsNumber 8 n octets
-SpellsArgument (short_string text) octets = SpellsShortString text octets
-SpellsArgument (long_string text) octets = SpellsLongString text octets
-SpellsArgument (table pairs) octets = SpellsTable pairs octets
+abbrev pub EncodesArgument : Argument → List ℕ → Type 0
+EncodesArgument (bit holds) octets = ⊥
+EncodesArgument (octet n) octets = EncodesNumber 1 n octets
+EncodesArgument (short n) octets = EncodesNumber 2 n octets
+EncodesArgument (long n) octets = EncodesNumber 4 n octets
+EncodesArgument (long_long n) octets = EncodesNumber 8 n octets
+EncodesArgument (short_string text) octets = EncodesShortString text octets
+EncodesArgument (long_string text) octets = EncodesLongString text octets
+EncodesArgument (table pairs) octets = EncodesTable pairs octets
 
 -- The low bits of an octet are these, the lowest first. The bits above them are free.
 abbrev pub HasLowBits : List Bool → ℕ → Type 0
@@ -23,17 +23,17 @@ HasLowBits [] x = Unit {0}
 HasLowBits (holds ∷ bits) x = ((x % 2 == 1) ≡ holds) × HasLowBits bits (x / 2)
 
 -- a run of bits: an octet for each eight of them begun
-abbrev pub SpellsBits : List Bool → List ℕ → Type 0
-SpellsBits bits [] = bits ≡ []
-SpellsBits bits (x ∷ octets) =
-    (bits ≢ []) × (x < 256) × HasLowBits (take 8 bits) x × SpellsBits (drop 8 bits) octets
+abbrev pub EncodesBits : List Bool → List ℕ → Type 0
+EncodesBits bits [] = bits ≡ []
+EncodesBits bits (x ∷ octets) =
+    (bits ≢ []) × (x < 256) × HasLowBits (take 8 bits) x × EncodesBits (drop 8 bits) octets
 
 -- values, with each run of bits taken together
 pub data Part : Type 0 where
   one : Argument → Part
   run : List Bool → Part
 
--- a bit in front of parts: it joins the run that they begin with
+-- a bit before parts: it joins the run that they begin with
 abbrev pub with_bit : Bool → List Part → List Part
 with_bit holds [] = run (holds ∷ []) ∷ []
 with_bit holds (one value ∷ parts) = run (holds ∷ []) ∷ one value ∷ parts
@@ -50,30 +50,30 @@ parts_of (short_string text ∷ values) = one (short_string text) ∷ parts_of v
 parts_of (long_string text ∷ values) = one (long_string text) ∷ parts_of values
 parts_of (table pairs ∷ values) = one (table pairs) ∷ parts_of values
 
--- the join of a spelling of each part, in order
-abbrev pub SpellsParts : List Part → List ℕ → Type 0
-SpellsParts [] octets = octets ≡ []
-SpellsParts (one value ∷ parts) octets =
-    (first rest : List ℕ) × (octets ≡ first ++ rest) × SpellsArgument value first × SpellsParts parts rest
-SpellsParts (run bits ∷ parts) octets =
-    (first rest : List ℕ) × (octets ≡ first ++ rest) × SpellsBits bits first × SpellsParts parts rest
+-- the join of a encoding of each part, in order
+abbrev pub EncodesParts : List Part → List ℕ → Type 0
+EncodesParts [] octets = octets ≡ []
+EncodesParts (one value ∷ parts) octets =
+    (first rest : List ℕ) × (octets ≡ first ++ rest) × EncodesArgument value first × EncodesParts parts rest
+EncodesParts (run bits ∷ parts) octets =
+    (first rest : List ℕ) × (octets ≡ first ++ rest) × EncodesBits bits first × EncodesParts parts rest
 
-abbrev pub SpellsValues : List Argument → List ℕ → Type 0
-SpellsValues values octets = SpellsParts (parts_of values) octets
+abbrev pub EncodesValues : List Argument → List ℕ → Type 0
+EncodesValues values octets = EncodesParts (parts_of values) octets
 
 -- Each field has a value of its kind, and the arguments are the values of those that aren't reserved.
-pub record SpellsArgs (fields : List FieldRow) (args : List Argument) (octets : List ℕ) : Type 0 where
+pub record EncodesArgs (fields : List FieldRow) (args : List Argument) (octets : List ℕ) : Type 0 where
   pub values : List Argument
   pub kinds_are : map kind_of values ≡ map (λ (f : FieldRow). f.kind) fields
   pub args_are : args ≡ kept fields values
-  pub spelled : SpellsValues values octets
+  pub encoded : EncodesValues values octets
 
 -- the class id, the method id, and the arguments
-pub record SpellsMethod (call : Call) (octets : List ℕ) : Type 0 where
+pub record EncodesMethod (call : Call) (octets : List ℕ) : Type 0 where
   pub class : List ℕ
   pub id : List ℕ
   pub arguments : List ℕ
   pub octets_are : octets ≡ class ++ (id ++ arguments)
-  pub class_is : SpellsNumber 2 (row call.kind).class class
-  pub id_is : SpellsNumber 2 (row call.kind).id id
-  pub args : SpellsArgs (fields_of call.kind) call.args arguments
+  pub class_is : EncodesNumber 2 (row call.kind).class class
+  pub id_is : EncodesNumber 2 (row call.kind).id id
+  pub args : EncodesArgs (fields_of call.kind) call.args arguments

@@ -1,6 +1,6 @@
 use Rattle.amqp_method.proofs.HeaderLemmas.{header_at-again}
 use Rattle.amqp_method.proofs.MethodLemmas.{method_at-again}
-use Rattle.amqp_method.proofs.laws.spelled_is_read.Goals as goal
+use Rattle.amqp_method.proofs.laws.encoded_is_read.Goals as goal
 
 pub returns-clause-method : goal.returns-clause-method
 returns-clause-method p = λ c octets s. method_at-again octets c s

@@ -2,7 +2,7 @@ use Rattle.std.proofs.Common.{◌≤◌, take, map, ap, arith}
 use Rattle.amqp_value.specs.Values.{pairs_depth}
 use Rattle.amqp_value.specs.View.{named_view, pairs_view}
 use Rattle.amqp_value.proofs.TableLaws.{pairs_within}
-use Rattle.amqp_value.proofs.read.table_front.Goals as goal
+use Rattle.amqp_value.proofs.read.table_prefix.Goals as goal
 
 pub from_pairs-requires : goal.from_pairs-requires
 from_pairs-requires c =
