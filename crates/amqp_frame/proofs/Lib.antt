@@ -1,5 +1,6 @@
 pub mod FrameLemmas
 pub mod SplittingLemmas
 pub mod JudgingLemmas
+pub mod JudgedLemmas
 pub mod FillingLemmas
 pub mod SplitterLemmas

@@ -2,6 +2,7 @@
 use Rattle.std.specs.Prelude.{◌≡◌, ℕ, ◌+◌, ◌<◌, ◌≤◌, Bool, true, false, List, [], ◌++◌, length, take, slice_index}
 use Rattle.amqp_frame.specs.Frame.{octets, Fits, frame_length, lent}
 use Rattle.amqp_frame.specs.Splitting.{IsTypeOctet, size_of, TellsFirst}
+use Rattle.amqp_frame.specs.Judged as judged
 use Rattle.amqp_frame.specs.declared.judging.Judgement.{Judgement}
 use Rattle.amqp_frame.specs.declared.judging.Judgement.TheVariants.{Begun, Wrong, Whole}
 
@@ -22,6 +23,12 @@ IsJudged limit xs Begun = IsBegun limit xs
 IsJudged limit xs (Wrong kind place) = TellsFirst limit xs kind place
 IsJudged limit xs (Whole f) =
     (frame_length (lent f) ≤ length xs) × (frame_length (lent f) ≤ limit) × Fits (lent f) × (take (frame_length (lent f)) xs ≡ octets (lent f))
+
+-- the judgement, apart from where the frame lies and where the fault is shown
+abbrev pub judgement_view : Judgement → judged.Judgement
+judgement_view Begun = judged.Begun
+judgement_view (Wrong kind place) = judged.Wrong kind
+judgement_view (Whole f) = judged.Whole (lent f)
 
 -- Octets of the piece were added to those of a frame begun, up to the end of that frame and no further.
 pub record IsFilled (limit : ℕ) (old piece new : List ℕ) (taken : ℕ) : Type 0 where

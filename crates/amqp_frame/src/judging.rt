@@ -1,7 +1,8 @@
 //! Whether octets are a frame begun, a whole frame, or none.
 ghost use Rattle.std.specs.Prelude.{◌≡◌, ◌+◌, ◌≤◌, ◌^◌, ◌<◌, length, IfOk, vec_len};
 ghost use Rattle.amqp_frame.specs.Splitting.{size_of};
-ghost use Rattle.amqp_frame.specs.Judging.{IsBegun, IsJudged, IsFilled, pending_of};
+ghost use Rattle.amqp_frame.specs.Judged.{judged as judgement_on};
+ghost use Rattle.amqp_frame.specs.Judging.{IsBegun, IsJudged, IsFilled, judgement_view, pending_of};
 
 use crate::faults::FrameFaultKind;
 use crate::frames::{END, FrameKind, FrameRef, HEADER_LENGTH, OVERHEAD};
@@ -32,7 +33,8 @@ fn frame_length(octets: &[u8]) -> usize
 /// Looks at the type octet, the payload's size and the end octet alone.
 #[inline(always)]
 pub(crate) fn judge(octets: &[u8], limit: u32) -> Judgement<'_>
-    ensures { IsJudged limit octets.now result }
+    ensures is { IsJudged limit octets.now result }
+    ensures same { judgement_view result ≡ judgement_on limit octets.now }
 {
     if octets.is_empty() {
         return Judgement::Begun;

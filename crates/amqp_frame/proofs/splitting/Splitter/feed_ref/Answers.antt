@@ -10,7 +10,7 @@ use Rattle.amqp_frame.proofs.splitting.Splitter.feed_ref.Goals.{then-is_empty+in
 pub overflow_sub-place : goal.overflow_sub-place
 overflow_sub-place c =
     let after = told_after c.self.inside.limit c.renew.new.buffer.items c.args.piece.now c.fill.new.buffer.items c.in-Ok.taken c.in-Wrong-judge.kind c.in-Wrong-judge.place
-    (rw c.renew.ensures c.self.invariant.begun) c.in-Ok.ensures (rw c.deref.ensures.value at c.in-Wrong-judge.ensures) in
+    (rw c.renew.ensures c.self.invariant.begun) c.in-Ok.ensures (rw c.deref.ensures.value at c.in-Wrong-judge.ensures.is) in
     omega (arith, c.len-begun.ensures)
 
 pub returns-in-Wrong : goal.returns-in-Wrong
@@ -23,11 +23,11 @@ returns-in-Wrong c =
         frame = tt;
         rest = tt;
         fault = fault_of c.self.inside.fault (stream_of c.self.inside) c.args.piece.now c.in-Wrong.kind c.in-Wrong.place c.saturating_add-at.result c.in_default.is
-            (rw empty c.in-Wrong.ensures) (omega arith) (omega arith);
+            (rw empty c.in-Wrong.ensures.is) (omega arith) (omega arith);
         running = λ _. c.in_default.is;
         within = tt;
         progress = tt;
-        in_place = λ _ _ here. absurd (told_without_frame c.self.inside.limit c.args.piece.now c.in-Wrong.kind c.in-Wrong.place c.in-Wrong.ensures here);
+        in_place = λ _ _ here. absurd (told_without_frame c.self.inside.limit c.args.piece.now c.in-Wrong.kind c.in-Wrong.place c.in-Wrong.ensures.is here);
         after = tt;
       },
     )
@@ -44,7 +44,7 @@ returns-in_default-fill c =
         within = tt;
         progress = tt;
         in_place = λ _ empty here. elim c.if-is_empty.branch [
-          | then-is_empty+in-Begun w ↦ absurd (begun_without_frame c.self.inside.limit c.args.piece.now w.in-Begun.ensures here)
+          | then-is_empty+in-Begun w ↦ absurd (begun_without_frame c.self.inside.limit c.args.piece.now w.in-Begun.ensures.is here)
           | else-is_empty w ↦
               let none : length c.renew.new.buffer.items ≡ 0 = rw c.renew.ensures (ap length empty) in
               grind (arith, common_steps, none)
@@ -56,7 +56,7 @@ returns-in_default-fill c =
 pub returns-in-Whole-judge : goal.returns-in-Whole-judge
 returns-in-Whole-judge c =
     let filled = rw c.renew.ensures at c.in-Ok.ensures in
-    let whole = rw c.deref.ensures.value at c.in-Whole-judge.ensures in
+    let whole = rw c.deref.ensures.value at c.in-Whole-judge.ensures.is in
     let frame = completed (stream_of c.self.inside) c.args.piece.now c.fill.new.buffer.items c.in-Ok.taken _ c.self.invariant.begun filled whole.0 whole.1 whole.2 whole.3 in
     rw (← c.self.view_is) (
       (refl, λ _. tt, same_stream [] [] c.self.inside.limit _ _ c.self.inside.fault refl c.saturating_add-self-inside-in-Whole-judge.ensures),
@@ -76,7 +76,7 @@ pub returns-in-Wrong-judge : goal.returns-in-Wrong-judge
 returns-in-Wrong-judge c =
     let pending = pending_of c.self.inside.spent c.self.inside.buffer.items in
     let filled = rw c.renew.ensures at c.in-Ok.ensures in
-    let in_buffer = rw c.deref.ensures.value at c.in-Wrong-judge.ensures in
+    let in_buffer = rw c.deref.ensures.value at c.in-Wrong-judge.ensures.is in
     let after = told_after c.self.inside.limit pending c.args.piece.now c.fill.new.buffer.items c.in-Ok.taken c.in-Wrong-judge.kind c.in-Wrong-judge.place
     c.self.invariant.begun filled in_buffer in
     let told = rw (whole_piece pending c.args.piece.now c.fill.new.buffer.items c.in-Ok.taken filled.joined) at
@@ -101,7 +101,7 @@ returns-in-Wrong-judge c =
 pub returns-in-Begun-judge : goal.returns-in-Begun-judge
 returns-in-Begun-judge c =
     let filled = rw c.renew.ensures at c.in-Ok.ensures in
-    let begun = rw c.deref.ensures.value at c.in-Begun-judge.ensures in
+    let begun = rw c.deref.ensures.value at c.in-Begun-judge.ensures.is in
     let waits = waiting (stream_of c.self.inside) c.args.piece.now c.fill.new.buffer.items c.in-Ok.taken filled begun in
     rw (← c.self.view_is) (
       (

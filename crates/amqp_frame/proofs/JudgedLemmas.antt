@@ -1,0 +1,42 @@
+-- What octets are, as a function of them, from what a look at them finds.
+use Rattle.std.proofs.Common.{◌≡◌, inl, inr, Bool, true, false, cond, ℕ, ◌+◌, ◌-◌, ◌<◌, ◌≤◌, ◌==◌, nat_lt, List, [], ◌∷◌, length, take, drop, get_or, Option, Some, None, refl, sym, ap, ◌∙◌, arith, eq-eqb}
+use Rattle.std.proofs.lemmas.Bool.{eqb-true, eqb-false}
+use Rattle.std.proofs.lemmas.Bool.Decides.{nat_tests}
+use Rattle.byteorder.specs.Endian.{big_number}
+use Rattle.amqp_frame.specs.Frame.{Frame, END, type_octet}
+use Rattle.amqp_frame.specs.Splitting.{IsTypeOctet, size_of}
+use Rattle.amqp_frame.specs.Judged.{Judgement, Begun, Whole, Wrong, kind_of_type, channel_in, frame_in, judged_by_type, judged}
+use Rattle.amqp_frame.specs.declared.faults.FrameFaultKind.TheVariants.{UnknownType, TooLarge, BadEnd}
+use Rattle.amqp_frame.specs.declared.frames.FrameKind.{FrameKind}
+use Rattle.amqp_frame.proofs.FrameLemmas.{same_frame}
+use Rattle.amqp_frame.specs.declared.frames.FrameKind.TheVariants.{Method, Header, Body, Heartbeat}
+
+kind_of-type : (kind : FrameKind) → kind_of_type (type_octet kind) ≡ Some kind
+kind_of-type Method = refl
+kind_of-type Header = refl
+kind_of-type Body = refl
+kind_of-type Heartbeat = refl
+
+-- octets with a known type
+typed : (limit : ℕ) (xs : List ℕ) (kind : FrameKind) → 0 < length xs → type_octet kind ≡ get_or xs 0 0 → judged_by_type limit (Some kind) xs ≡ judged limit xs
+typed limit [] kind some e = absurd (omega arith)
+typed limit (x ∷ xs) kind some e = ap (λ k. judged_by_type limit k (x ∷ xs)) (sym (kind_of-type kind) ∙ ap kind_of_type e)
+
+-- octets with a known type, a size within the limit and an end octet in its place
+pub judged_frame : (limit : ℕ) (xs : List ℕ) (f : Frame) (n : ℕ)
+    → 7 ≤ length xs → n ≡ size_of xs + 8 → n ≤ limit → n ≤ length xs
+    → type_octet f.kind ≡ get_or xs 0 0 → f.channel ≡ big_number 2 (drop 1 xs) → f.payload ≡ take (n - 1 - 7) (drop 7 xs) → get_or xs (n - 1) 0 ≡ END
+    → Whole f ≡ judged limit xs
+judged_frame limit [] f n long n_is within here kind channel payload end = absurd (omega arith)
+judged_frame limit (x ∷ xs) f n long n_is within here kind channel payload end =
+    let all : List ℕ = x ∷ xs in
+    let seven : nat_lt (length all) 7 ≡ false = grind (arith, nat_tests) in
+    let limited : nat_lt limit (size_of all + 8) ≡ false = grind (arith, nat_tests) in
+    let there : nat_lt (length all) (size_of all + 8) ≡ false = grind (arith, nat_tests) in
+    let place : n - 1 ≡ size_of all + 7 = omega arith in
+    let ending : (get_or all (size_of all + 7) 0 == END) ≡ true = eq-eqb _ _ (ap (λ k. get_or all k 0) (sym place) ∙ end) in
+    let same_channel : f.channel ≡ channel_in all = omega arith in
+    let size : n - 1 - 7 ≡ size_of all = omega arith in
+    let same_payload : f.payload ≡ take (size_of all) (drop 7 all) = payload ∙ ap (λ k. take k (drop 7 all)) size in
+    let same : f ≡ frame_in f.kind all = same_frame f (frame_in f.kind all) refl same_channel same_payload in
+    ap Whole same ∙ sym (simp (seven, limited, there, ending)) ∙ typed limit all f.kind (omega arith) kind
