@@ -6,7 +6,8 @@ use Rattle.byteorder.specs.Endian.{big_number}
 use Rattle.amqp_frame.specs.Frame.{Frame, END, type_octet}
 use Rattle.amqp_frame.specs.Splitting.{IsTypeOctet, size_of}
 use Rattle.amqp_frame.specs.Judged.{Judgement, Begun, Whole, Wrong, kind_of_type, channel_in, frame_in, judged_by_type, judged}
-use Rattle.amqp_frame.specs.declared.faults.FrameFaultKind.TheVariants.{UnknownType, TooLarge, BadEnd}
+use Rattle.amqp_frame.specs.declared.faults.FrameFaultKind.{FrameFaultKind}
+use Rattle.amqp_frame.specs.declared.faults.FrameFaultKind.TheVariants.{BadEnd}
 use Rattle.amqp_frame.specs.declared.frames.FrameKind.{FrameKind}
 use Rattle.amqp_frame.proofs.FrameLemmas.{same_frame}
 use Rattle.amqp_frame.specs.declared.frames.FrameKind.TheVariants.{Method, Header, Body, Heartbeat}
@@ -40,3 +41,30 @@ judged_frame limit (x ∷ xs) f n long n_is within here kind channel payload end
     let same_payload : f.payload ≡ take (size_of all) (drop 7 all) = payload ∙ ap (λ k. take k (drop 7 all)) size in
     let same : f ≡ frame_in f.kind all = same_frame f (frame_in f.kind all) refl same_channel same_payload in
     ap Whole same ∙ sym (simp (seven, limited, there, ending)) ∙ typed limit all f.kind (omega arith) kind
+
+-- with no end octet in its place
+pub judged_unended : (limit : ℕ) (xs : List ℕ) (kind : FrameKind) (n : ℕ)
+    → 7 ≤ length xs → n ≡ size_of xs + 8 → n ≤ limit → n ≤ length xs → type_octet kind ≡ get_or xs 0 0 → (get_or xs (n - 1) 0 ≡ END → ⊥)
+    → judged limit xs ≡ Wrong BadEnd
+judged_unended limit xs kind n long n_is within here type open_end =
+    let seven : nat_lt (length xs) 7 ≡ false = grind (arith, nat_tests) in
+    let limited : nat_lt limit (size_of xs + 8) ≡ false = grind (arith, nat_tests) in
+    let there : nat_lt (length xs) (size_of xs + 8) ≡ false = grind (arith, nat_tests) in
+    let place : n - 1 ≡ size_of xs + 7 = omega arith in
+    let other : get_or xs (size_of xs + 7) 0 ≡ END → ⊥ = λ e. open_end (ap (λ k. get_or xs k 0) place ∙ e) in
+    let ending : (get_or xs (size_of xs + 7) 0 == END) ≡ false = grind (arith, nat_tests) in
+    sym (typed limit xs kind (omega arith) type) ∙ simp (seven, limited, there, ending)
+
+-- with one
+pub judged_ended : (limit : ℕ) (xs : List ℕ) (kind : FrameKind) (n : ℕ)
+    → 7 ≤ length xs → n ≡ size_of xs + 8 → n ≤ limit → n ≤ length xs → type_octet kind ≡ get_or xs 0 0 → get_or xs (n - 1) 0 ≡ END
+    → (fault : FrameFaultKind) → judged limit xs ≡ Wrong fault → ⊥
+judged_ended limit xs kind n long n_is within here type ended fault wrong =
+    let seven : nat_lt (length xs) 7 ≡ false = grind (arith, nat_tests) in
+    let limited : nat_lt limit (size_of xs + 8) ≡ false = grind (arith, nat_tests) in
+    let there : nat_lt (length xs) (size_of xs + 8) ≡ false = grind (arith, nat_tests) in
+    let place : n - 1 ≡ size_of xs + 7 = omega arith in
+    let ending : (get_or xs (size_of xs + 7) 0 == END) ≡ true = eq-eqb _ _ (ap (λ k. get_or xs k 0) (sym place) ∙ ended) in
+    let whole : judged limit xs ≡ Whole (frame_in kind xs) = sym (typed limit xs kind (omega arith) type) ∙ simp (seven, limited, there, ending) in
+    let clash : Whole (frame_in kind xs) ≡ Wrong fault = sym whole ∙ wrong in
+    cc
