@@ -14,8 +14,6 @@ mod frames;
 mod judging;
 mod laws;
 mod splitting;
-#[cfg(test)]
-mod tests;
 
 pub use crate::faults::{FrameFault, FrameFaultKind, OutOfMemory};
 pub use crate::frames::{

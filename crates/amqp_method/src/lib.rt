@@ -23,8 +23,6 @@ mod methods;
 mod properties;
 mod reading;
 mod table;
-#[cfg(test)]
-mod tests;
 mod texts;
 mod writing;
 
