@@ -1,11 +1,10 @@
 -- What octets are, as a function of them, from what a look at them finds.
-use Rattle.std.proofs.Common.{◌≡◌, inl, inr, Bool, true, false, cond, ℕ, ◌+◌, ◌-◌, ◌<◌, ◌≤◌, ◌==◌, nat_lt, List, [], ◌∷◌, length, take, drop, get_or, Option, Some, None, refl, sym, ap, ◌∙◌, arith, eq-eqb}
-use Rattle.std.proofs.lemmas.Bool.{eqb-true, eqb-false}
+use Rattle.std.proofs.Common.{◌≡◌, true, false, ℕ, ◌+◌, ◌-◌, ◌<◌, ◌≤◌, ◌==◌, nat_lt, List, [], ◌∷◌, length, take, drop, get_or, Some, refl, sym, ap, ◌∙◌, arith, eq-eqb}
 use Rattle.std.proofs.lemmas.Bool.Decides.{nat_tests}
 use Rattle.byteorder.specs.Endian.{big_number}
 use Rattle.amqp_frame.specs.Frame.{Frame, END, type_octet}
-use Rattle.amqp_frame.specs.Splitting.{IsTypeOctet, size_of}
-use Rattle.amqp_frame.specs.Judged.{Judgement, Begun, Whole, Wrong, kind_of_type, channel_in, frame_in, judged_by_type, judged}
+use Rattle.amqp_frame.specs.Splitting.{size_of}
+use Rattle.amqp_frame.specs.Judged.{Whole, Wrong, kind_of_type, channel_in, frame_in, judged_by_type, judged}
 use Rattle.amqp_frame.specs.declared.faults.FrameFaultKind.{FrameFaultKind}
 use Rattle.amqp_frame.specs.declared.faults.FrameFaultKind.TheVariants.{BadEnd}
 use Rattle.amqp_frame.specs.declared.frames.FrameKind.{FrameKind}

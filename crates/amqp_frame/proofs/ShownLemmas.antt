@@ -1,9 +1,9 @@
 -- Octets are judged to show a fault exactly when a prefix of them is the first to show it.
-use Rattle.std.proofs.Common.{◌≡◌, ◌⊎◌, inl, inr, Bool, true, false, cond, ℕ, ◌+◌, ◌<◌, ◌≤◌, ◌==◌, nat_lt, List, [], ◌∷◌, length, take, drop, get_or, Option, Some, None, refl, sym, ap, ◌∙◌, subst, arith}
+use Rattle.std.proofs.Common.{◌≡◌, inl, inr, Bool, true, false, cond, ℕ, ◌+◌, ◌<◌, ◌≤◌, ◌==◌, nat_lt, List, [], ◌∷◌, length, take, get_or, Option, Some, None, refl, sym, ap, subst, arith}
 use Rattle.std.proofs.lemmas.Bool.{cases_lt, eqb-true, eqb-false, ltb-true, ltb-false}
-use Rattle.std.proofs.lemmas.List.{take_all, length-take, length-take-le, get_or-take}
+use Rattle.std.proofs.lemmas.List.{length-take, length-take-le, get_or-take}
 use Rattle.amqp_frame.specs.Frame.{END, type_octet}
-use Rattle.amqp_frame.specs.Splitting.{IsTypeOctet, size_of, Tells, TellsFirst}
+use Rattle.amqp_frame.specs.Splitting.{IsTypeOctet, size_of, TellsFirst}
 use Rattle.amqp_frame.specs.Judging.{IsBegun}
 use Rattle.amqp_frame.specs.Judged.{Judgement, Begun, Whole, Wrong, kind_of_type, frame_in, judged_by_end, judged_by_size, judged_by_type, judged, fault_place}
 use Rattle.amqp_frame.specs.declared.faults.FrameFaultKind.{FrameFaultKind}

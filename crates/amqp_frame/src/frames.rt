@@ -150,11 +150,7 @@ pub fn write_frame_ref(frame: FrameRef, out: &mut Vec<u8>) -> Result<(), OutOfMe
 
 /// Begins a frame whose payload is to be written straight into `out`: appends the type, the channel and four octets
 /// for the payload's size, which [`finish_frame`] fills in. The answer is where the frame starts.
-pub fn begin_frame(
-    kind: FrameKind,
-    channel: u16,
-    out: &mut Vec<u8>,
-) -> Result<usize, OutOfMemory>
+pub fn begin_frame(kind: FrameKind, channel: u16, out: &mut Vec<u8>) -> Result<usize, OutOfMemory>
     ensures start { IfOk result (λ start. start ≡ length out.old.items) }
     ensures ok { OnOk result (out.new.items ≡ out.old.items ++ header kind channel 0) }
     ensures err { OnErr result (out.new.items ≡ out.old.items) }

@@ -1,4 +1,4 @@
-use Rattle.std.proofs.Common.{◌≡◌, ◌∙◌, ◌-◌, ◌∷◌, [], ◌++◌, length, ap, arith}
+use Rattle.std.proofs.Common.{◌≡◌, ◌-◌, ◌∷◌, [], ◌++◌, length, arith}
 use Rattle.amqp_frame.specs.Frame.{END}
 use Rattle.amqp_frame.proofs.FrameLemmas.{finished, payload_size}
 use Rattle.amqp_frame.proofs.frames.finish_frame.Goals as goal

@@ -1,4 +1,4 @@
-use Rattle.std.proofs.Common.{◌≡◌, ◌+◌, ◌≤◌, ◌++◌, ◌∙◌, List, ℕ, length, sym, arith, length-append}
+use Rattle.std.proofs.Common.{◌≡◌, ◌+◌, ◌++◌, ◌∙◌, List, ℕ, length, sym, arith, length-append}
 use Rattle.amqp_frame.proofs.JudgedLemmas.{judged_unended, judged_ended}
 use Rattle.amqp_frame.proofs.judging.fault_across.Goals as goal
 

@@ -1,9 +1,9 @@
-use Rattle.std.proofs.Common.{◌≡◌, [], length, drop, arith, refl, sym, ap, ◌∙◌}
+use Rattle.std.proofs.Common.{◌≡◌, [], length, arith, refl, ap, ◌∙◌}
 use Rattle.std.proofs.lemmas.List.{nil_from_length}
 use Rattle.std.proofs.lemmas.Grind.{common_steps}
 use Rattle.amqp_frame.specs.Judging.{pending_of}
 use Rattle.amqp_frame.specs.SplitterFields.{stream_of}
-use Rattle.amqp_frame.proofs.SplitterLemmas.{begun_without_frame, told_without_frame, told_before, told_after, whole_piece, fault_of, completed, some_taken, waiting, buffer_is, some_octets, same_stream, shown_after, taken_to_is, failed_stream, memory_aside, nothing_waits, shown_first, none_in_part, nothing_added}
+use Rattle.amqp_frame.proofs.SplitterLemmas.{begun_without_frame, told_without_frame, fault_of, completed, some_taken, waiting, buffer_is, some_octets, same_stream, shown_after, taken_to_is, failed_stream, memory_aside, nothing_waits, shown_first, none_in_part, nothing_added}
 use Rattle.amqp_frame.proofs.splitting.Splitter.feed_ref.Goals as goal
 use Rattle.amqp_frame.proofs.splitting.Splitter.feed_ref.Goals.{then-is_empty+in-Wrong, then-is_empty+in-Begun, else-is_empty}
 
