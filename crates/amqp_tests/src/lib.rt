@@ -7,6 +7,12 @@
 #[cfg(test)]
 mod frames;
 #[cfg(test)]
+mod method_facts;
+#[cfg(test)]
+mod method_octets;
+#[cfg(test)]
+mod method_samples;
+#[cfg(test)]
 mod methods;
 #[cfg(test)]
 mod tables;
