@@ -20,3 +20,5 @@ pub mod Messages
 pub mod MessageView
 pub mod Fitting
 pub mod Laws
+pub mod Lengths
+pub mod Places
