@@ -22,3 +22,6 @@ pub mod Fitting
 pub mod Laws
 pub mod Lengths
 pub mod Places
+pub mod Requests
+pub mod Sorts
+pub mod Wanted

@@ -24,6 +24,7 @@ mod methods;
 mod places;
 mod properties;
 mod reading;
+mod requests;
 mod table;
 #[cfg(test)]
 mod tests;
@@ -37,7 +38,7 @@ pub use crate::headers::{Header, Properties};
 pub use crate::kinds::{Kind, schema, sends};
 pub use crate::laws::{
     content_kinds, distinct_ids, each_is_sent, encoded_is_read, one_header, one_method,
-    only_client_opens, plain_is_encoded,
+    only_client_opens, plain_is_encoded, wanted_replies,
 };
 pub use crate::messages::Message;
 pub use crate::method_octets::{read_method, write_method};
