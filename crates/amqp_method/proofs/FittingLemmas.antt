@@ -105,7 +105,6 @@ present-fitting (Some value ∷ properties) fit = (argument-fitting value fit.0,
 
 -- the class id and the method id are numbers of two octets
 ids-fit : (kind : Kind) → ((row kind).class < 2 ^ 16) × ((row kind).id < 2 ^ 16)
-unfolding row
 ids-fit ConnectionStart = (omega arith, omega arith)
 ids-fit ConnectionStartOk = (omega arith, omega arith)
 ids-fit ConnectionSecure = (omega arith, omega arith)

@@ -39,31 +39,24 @@ with_id-named class id (kind ∷ others) k all e =
     ]
 
 connection-all : all_in 10 connection_kinds ≡ true
-unfolding row
 connection-all = refl
 
 channel-all : all_in 20 channel_kinds ≡ true
-unfolding row
 channel-all = refl
 
 exchange-all : all_in 40 exchange_kinds ≡ true
-unfolding row
 exchange-all = refl
 
 queue-all : all_in 50 queue_kinds ≡ true
-unfolding row
 queue-all = refl
 
 basic-all : all_in 60 basic_kinds ≡ true
-unfolding row
 basic-all = refl
 
 tx-all : all_in 90 tx_kinds ≡ true
-unfolding row
 tx-all = refl
 
 confirm-all : all_in 85 confirm_kinds ≡ true
-unfolding row
 confirm-all = refl
 
 pub kind_with-named : (class id : ℕ) (k : Kind) → kind_with class id ≡ Some k → HasIds class id k
@@ -98,7 +91,7 @@ kind_with-named class id k e =
     ]
 
 pub kind_with-own : (k : Kind) → kind_with (row k).class (row k).id ≡ Some k
-unfolding row with_id
+unfolding with_id
 kind_with-own ConnectionStart = refl
 kind_with-own ConnectionStartOk = refl
 kind_with-own ConnectionSecure = refl
@@ -168,7 +161,6 @@ ids_distinct k l class id = some_is k l (sym (kind_with-own k) ∙ rw (class, id
 
 -- each kind is sent
 pub each_sent : (k : Kind) → (sends true k ≡ true) ⊎ (sends false k ≡ true)
-unfolding row
 each_sent ConnectionStart = inr refl
 each_sent ConnectionStartOk = inl refl
 each_sent ConnectionSecure = inr refl
@@ -233,7 +225,6 @@ each_sent ConfirmSelect = inl refl
 each_sent ConfirmSelectOk = inr refl
 
 pub content_is : (k : Kind) → has_content k ≡ true → (k ≡ BasicPublish) ⊎ (k ≡ BasicReturn) ⊎ (k ≡ BasicDeliver) ⊎ (k ≡ BasicGetOk)
-unfolding row
 content_is ConnectionStart e = absurd cc
 content_is ConnectionStartOk e = absurd cc
 content_is ConnectionSecure e = absurd cc

@@ -7,8 +7,10 @@ pub mod FittingLemmas
 pub mod HeaderFaults
 pub mod HeaderLemmas
 pub mod KindLemmas
+pub mod LengthLemmas
 pub mod MethodFaults
 pub mod MethodLemmas
+pub mod PlaceLemmas
 pub mod PlainLemmas
 pub mod PresentLemmas
 pub mod PropertyKinds

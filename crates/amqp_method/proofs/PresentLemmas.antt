@@ -20,7 +20,7 @@ pub record PresentOn (old done : List ℕ) (properties all : List (Option Argume
 pub present_begins : (old : List ℕ) (all : List (Option Argument)) → PresentOn old old all all
 present_begins old all = record { joined = refl; fits = λ h. h; counts = λ h. h; kept = ap (take (length old)) (sym (append-nil old)) ∙ take_at old [] (length old) refl }
 
-lent_here : (properties : List (Option Lent)) (i : ℕ) (d : Option Lent) → i < length properties → lent_views (drop i properties) ≡ lent_view (get_or properties i d) ∷ lent_views (drop (i + 1) properties)
+pub lent_here : (properties : List (Option Lent)) (i : ℕ) (d : Option Lent) → i < length properties → lent_views (drop i properties) ≡ lent_view (get_or properties i d) ∷ lent_views (drop (i + 1) properties)
 lent_here properties i d h = rw (add-one, drop-cons properties i d) refl
 
 pub present_next : (properties : List (Option Lent)) (i : ℕ) (d : Option Lent) (old done next : List ℕ) (all : List (Option Argument)) → i < length properties

@@ -1,5 +1,5 @@
 -- What the table of methods says of a kind, and which kind two numbers name.
-use Rattle.std.specs.Prelude.{◌≡◌, ℕ, ◌==◌, List, [], ◌∷◌, ◌++◌, Bool, true, false, Option, Some, None, if◌then◌else◌}
+use Rattle.std.specs.Prelude.{◌≡◌, ℕ, ◌==◌, ◌&&◌, List, [], ◌∷◌, ◌++◌, Bool, true, false, Option, Some, None, if◌then◌else◌}
 use Rattle.amqp_method.specs.declared.kinds.Kind.{Kind}
 use Rattle.amqp_method.specs.declared.kinds.Kind.TheVariants.{ConnectionStart, ConnectionStartOk, ConnectionSecure, ConnectionSecureOk, ConnectionTune, ConnectionTuneOk, ConnectionOpen, ConnectionOpenOk, ConnectionClose, ConnectionCloseOk, ConnectionBlocked, ConnectionUnblocked, ChannelOpen, ChannelOpenOk, ChannelFlow, ChannelFlowOk, ChannelClose, ChannelCloseOk, ExchangeDeclare, ExchangeDeclareOk, ExchangeDelete, ExchangeDeleteOk, ExchangeBind, ExchangeBindOk, ExchangeUnbind, ExchangeUnbindOk, QueueDeclare, QueueDeclareOk, QueueBind, QueueBindOk, QueueUnbind, QueueUnbindOk, QueuePurge, QueuePurgeOk, QueueDelete, QueueDeleteOk, BasicQos, BasicQosOk, BasicConsume, BasicConsumeOk, BasicCancel, BasicCancelOk, BasicPublish, BasicReturn, BasicDeliver, BasicGet, BasicGetOk, BasicGetEmpty, BasicAck, BasicReject, BasicRecoverAsync, BasicRecover, BasicRecoverOk, BasicNack, TxSelect, TxSelectOk, TxCommit, TxCommitOk, TxRollback, TxRollbackOk, ConfirmSelect, ConfirmSelectOk}
 use Rattle.amqp_method.specs.declared.table.Sender.{Sender}
@@ -54,6 +54,17 @@ kind_with class id =
     else (if class == 85 then with_id id confirm_kinds
     else None))))))
 
+-- the class id and the method id
+abbrev pub class_of : Kind → ℕ
+class_of kind = (row kind).class
+
+abbrev pub id_of : Kind → ℕ
+id_of kind = (row kind).id
+
+-- the same method
+abbrev pub same_kind : Kind → Kind → Bool
+same_kind kind other = (class_of kind == class_of other) && (id_of kind == id_of other)
+
 -- whether the client, or the server, sends it
 abbrev pub permits : Sender → Bool → Bool
 permits Client client = client
@@ -67,10 +78,6 @@ sends client kind = permits (row kind).sender client
 -- a content header and a content body follow
 abbrev pub has_content : Kind → Bool
 has_content kind = (row kind).content
-
--- the reply answers the request
-abbrev pub Answers : Kind → Kind → Type 0
-Answers reply request = (row reply).answers ≡ Some request
 
 abbrev pub fields_of : Kind → List FieldRow
 fields_of kind = (row kind).fields

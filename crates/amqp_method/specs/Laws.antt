@@ -8,6 +8,7 @@ use Rattle.amqp_method.specs.Methods.{row}
 use Rattle.amqp_method.specs.Plain.{plain_method, plain_header}
 use Rattle.amqp_method.specs.Properties.{ContentHeader, EncodesHeader, HaveKinds, property_kinds}
 use Rattle.amqp_method.specs.Reading.{method_at}
+use Rattle.amqp_method.specs.Requests.{wants, wanted_in_table}
 use Rattle.amqp_method.specs.Encoding.{EncodesMethod}
 use Rattle.amqp_method.specs.declared.kinds.Kind.{Kind}
 use Rattle.amqp_method.specs.declared.kinds.Kind.TheVariants.{ConnectionOpen, ChannelOpen, BasicPublish, BasicReturn, BasicDeliver, BasicGetOk}
@@ -54,3 +55,7 @@ EachIsSent = (k : Kind) → (sends true k ≡ true) ⊎ (sends false k ≡ true)
 -- the kinds that a content follows
 abbrev pub ContentKinds : Type 0
 ContentKinds = (k : Kind) → has_content k ≡ true → (k ≡ BasicPublish) ⊎ (k ≡ BasicReturn) ⊎ (k ≡ BasicDeliver) ⊎ (k ≡ BasicGetOk)
+
+-- what a kind asks for is what the table says
+abbrev pub WantsAsTable : Type 0
+WantsAsTable = (k : Kind) → wants k ≡ wanted_in_table k

@@ -20,3 +20,8 @@ pub mod Messages
 pub mod MessageView
 pub mod Fitting
 pub mod Laws
+pub mod Lengths
+pub mod Places
+pub mod Requests
+pub mod Sorts
+pub mod Wanted

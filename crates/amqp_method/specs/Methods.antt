@@ -40,7 +40,7 @@ abbrev pub method : ℕ → ℕ → List ℕ → Sender → Bool → Option Kind
 method class id name sender content answers fields =
     record { class = class; id = id; name = name; sender = sender; content = content; answers = answers; fields = fields }
 
-unfoldable pub row : Kind → Row
+abbrev pub row : Kind → Row
 row ConnectionStart = method 10 10 (codes "connection.start") Server false None (field Octet (codes "version-major") ∷ field Octet (codes "version-minor") ∷ field Table (codes "server-properties") ∷ field LongStr (codes "mechanisms") ∷ field LongStr (codes "locales") ∷ [])
 row ConnectionStartOk = method 10 11 (codes "connection.start-ok") Client false (Some ConnectionStart) (field Table (codes "client-properties") ∷ field ShortStr (codes "mechanism") ∷ field LongStr (codes "response") ∷ field ShortStr (codes "locale") ∷ [])
 row ConnectionSecure = method 10 20 (codes "connection.secure") Server false None (field LongStr (codes "challenge") ∷ [])

@@ -1,9 +1,13 @@
 //! Content headers.
-ghost use Rattle.std.specs.Prelude.{◌≡◌, IfOk};
+ghost use Rattle.std.specs.Prelude.{◌≡◌, ℕ, length, IfOk};
+ghost use Rattle.amqp_value.specs.Lengths.{capped};
 ghost use Rattle.amqp_method.specs.Arguments.{short_string};
 ghost use Rattle.amqp_method.specs.HeaderView.{present, table_argument, properties_view, header_view};
+ghost use Rattle.amqp_method.specs.Plain.{plain_header};
+ghost use Rattle.amqp_method.specs.Properties.{header};
 
 use crate::faults::OutOfMemory;
+use crate::lengths::properties_length;
 use amqp_value::{ShortStr, Table};
 
 /// The properties of a content: those of the class basic, in the order of their flags.
@@ -50,7 +54,32 @@ fn copy_table(table: &Option<Table>) -> Result<Option<Table>, OutOfMemory>
     }
 }
 
+impl Header {
+    /// How many octets [`write_header`](crate::write_header) writes of the header. `u64::MAX` stands for every number from
+    /// there on, which no header in memory reaches.
+    pub fn payload_length(&self) -> u64
+        ensures { result ≡ capped (length (plain_header (header_view self.now))) }
+    {
+        self.properties.header_length()
+    }
+
+    /// The size of the body and the properties, out of the header.
+    pub fn into_parts(self) -> (u64, Properties)
+        ensures { header (result.0) (properties_view result.1) ≡ header_view self }
+    {
+        (self.body_size, self.properties)
+    }
+}
+
 impl Properties {
+    /// How many octets a header with these properties is written in: the same for every size of a body. `u64::MAX` stands
+    /// for every number from there on, which no properties in memory reach.
+    pub fn header_length(&self) -> u64
+        ensures { (body_size : ℕ) → result ≡ capped (length (plain_header (header body_size (properties_view self.now)))) }
+    {
+        14_u64.saturating_add(properties_length(self))
+    }
+
     /// Equal properties.
     pub fn copy(&self) -> Result<Properties, OutOfMemory>
         ensures { IfOk result (λ p. properties_view p ≡ properties_view self.now) }

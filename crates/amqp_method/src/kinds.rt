@@ -1,8 +1,9 @@
 //! The kinds of method.
-ghost use Rattle.std.specs.Prelude.{◌≡◌, ◌↔◌, IsTrue, map};
+ghost use Rattle.std.specs.Prelude.{◌≡◌, ◌↔◌, IsTrue, Bool, map};
 ghost use Rattle.amqp_method.specs.Methods.{row};
-ghost use Rattle.amqp_method.specs.Kinds.{sends as is_sent, has_content, Answers, fields_of, with_id, kind_with, connection_kinds, channel_kinds, exchange_kinds, queue_kinds, basic_kinds, tx_kinds, confirm_kinds};
+ghost use Rattle.amqp_method.specs.Kinds.{same_kind, sends as is_sent, has_content, fields_of, with_id, kind_with, connection_kinds, channel_kinds, exchange_kinds, queue_kinds, basic_kinds, tx_kinds, confirm_kinds};
 ghost use Rattle.amqp_method.specs.Rows.{field_view};
+ghost use Rattle.amqp_method.specs.Sorts.{sort_by, begins_content};
 
 use crate::fields::Field;
 use crate::table::{Sender, row_for};
@@ -112,9 +113,17 @@ impl Kind {
         row_for(self).name
     }
 
+    /// Whether it is the same method.
+    pub(crate) fn is_same(self, other: Kind) -> bool
+        ensures { result ≡ same_kind self other }
+    {
+        self.class_id() == other.class_id() && self.method_id() == other.method_id()
+    }
+
     /// Whether a content header and a content body follow.
     pub fn has_content(self) -> bool
-        ensures { result ≡ has_content self }
+        ensures content { result ≡ has_content self }
+        ensures sort { (active : Bool) → result ≡ begins_content (sort_by self active) }
     {
         row_for(self).content
     }
@@ -145,7 +154,7 @@ pub fn sends(client: bool, kind: Kind) -> bool
     }
 }
 
-#[tactic(auto, unfolding(crate::specs::Methods::row, crate::specs::Kinds::with_id))]
+#[tactic(auto, unfolding(crate::specs::Kinds::with_id))]
 fn connection_kind(id: u16) -> Option<Kind>
     ensures { result ≡ with_id id connection_kinds }
 {
@@ -166,7 +175,7 @@ fn connection_kind(id: u16) -> Option<Kind>
     }
 }
 
-#[tactic(auto, unfolding(crate::specs::Methods::row, crate::specs::Kinds::with_id))]
+#[tactic(auto, unfolding(crate::specs::Kinds::with_id))]
 fn channel_kind(id: u16) -> Option<Kind>
     ensures { result ≡ with_id id channel_kinds }
 {
@@ -181,7 +190,7 @@ fn channel_kind(id: u16) -> Option<Kind>
     }
 }
 
-#[tactic(auto, unfolding(crate::specs::Methods::row, crate::specs::Kinds::with_id))]
+#[tactic(auto, unfolding(crate::specs::Kinds::with_id))]
 fn exchange_kind(id: u16) -> Option<Kind>
     ensures { result ≡ with_id id exchange_kinds }
 {
@@ -198,7 +207,7 @@ fn exchange_kind(id: u16) -> Option<Kind>
     }
 }
 
-#[tactic(auto, unfolding(crate::specs::Methods::row, crate::specs::Kinds::with_id))]
+#[tactic(auto, unfolding(crate::specs::Kinds::with_id))]
 fn queue_kind(id: u16) -> Option<Kind>
     ensures { result ≡ with_id id queue_kinds }
 {
@@ -217,7 +226,7 @@ fn queue_kind(id: u16) -> Option<Kind>
     }
 }
 
-#[tactic(auto, unfolding(crate::specs::Methods::row, crate::specs::Kinds::with_id))]
+#[tactic(auto, unfolding(crate::specs::Kinds::with_id))]
 fn basic_kind(id: u16) -> Option<Kind>
     ensures { result ≡ with_id id basic_kinds }
 {
@@ -244,7 +253,7 @@ fn basic_kind(id: u16) -> Option<Kind>
     }
 }
 
-#[tactic(auto, unfolding(crate::specs::Methods::row, crate::specs::Kinds::with_id))]
+#[tactic(auto, unfolding(crate::specs::Kinds::with_id))]
 fn tx_kind(id: u16) -> Option<Kind>
     ensures { result ≡ with_id id tx_kinds }
 {
@@ -259,7 +268,7 @@ fn tx_kind(id: u16) -> Option<Kind>
     }
 }
 
-#[tactic(auto, unfolding(crate::specs::Methods::row, crate::specs::Kinds::with_id))]
+#[tactic(auto, unfolding(crate::specs::Kinds::with_id))]
 fn confirm_kind(id: u16) -> Option<Kind>
     ensures { result ≡ with_id id confirm_kinds }
 {

@@ -1,5 +1,5 @@
 //! Laws of methods and headers that the layers above rest on.
-ghost use Rattle.amqp_method.specs.Laws.{OneMethod, OneHeader, MethodIsRead, HeaderIsRead, MethodIsEncoded, HeaderIsEncoded, DistinctIds, OnlyClientOpens, EachIsSent, ContentKinds};
+ghost use Rattle.amqp_method.specs.Laws.{OneMethod, OneHeader, MethodIsRead, HeaderIsRead, MethodIsEncoded, HeaderIsEncoded, DistinctIds, OnlyClientOpens, EachIsSent, ContentKinds, WantsAsTable};
 
 /// No octets encode two methods.
 pub fn one_method()
@@ -30,7 +30,6 @@ pub fn distinct_ids()
 {}
 
 /// Only the client opens a connection or a channel.
-#[tactic(auto, unfolding(crate::specs::Methods::row))]
 pub fn only_client_opens()
     ensures { OnlyClientOpens }
 {}
@@ -43,4 +42,10 @@ pub fn each_is_sent()
 /// A content follows basic.publish, return, deliver and get-ok, and no other method.
 pub fn content_kinds()
     ensures { ContentKinds }
+{}
+
+/// A reply is wanted of exactly the kinds that some method answers, apart from the classes connection and channel, and
+/// unless the argument no-wait is set.
+pub fn wanted_replies()
+    ensures { WantsAsTable }
 {}

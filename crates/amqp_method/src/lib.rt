@@ -17,11 +17,14 @@ mod header_octets;
 mod headers;
 mod kinds;
 mod laws;
+mod lengths;
 mod messages;
 mod method_octets;
 mod methods;
+mod places;
 mod properties;
 mod reading;
+mod requests;
 mod table;
 mod texts;
 mod writing;
@@ -33,7 +36,7 @@ pub use crate::headers::{Header, Properties};
 pub use crate::kinds::{Kind, schema, sends};
 pub use crate::laws::{
     content_kinds, distinct_ids, each_is_sent, encoded_is_read, one_header, one_method,
-    only_client_opens, plain_is_encoded,
+    only_client_opens, plain_is_encoded, wanted_replies,
 };
 pub use crate::messages::Message;
 pub use crate::method_octets::{read_method, write_method};

@@ -68,6 +68,19 @@ impl Message {
         }
     }
 
+    /// The method, and the properties and the body of the content if the message has one, out of the message.
+    pub fn into_parts(self) -> (Method, Option<(Properties, Vec<u8>)>)
+        ensures method { method_view result.0 ≡ (message_view self).call }
+        ensures content { MatchOption result.1 ((message_view self).properties ≡ None)
+            (λ p. ((message_view self).properties ≡ Some (properties_view p.0)) × ((message_view self).body ≡ p.1.items)) }
+    {
+        let form = self.form;
+        match form {
+            Form::Plain(method) => (method, None),
+            Form::Content(method, properties, body) => (method, Some((properties, body))),
+        }
+    }
+
     /// An equal message.
     pub fn copy(&self) -> Result<Message, OutOfMemory>
         ensures { IfOk result (λ m. message_view m ≡ message_view self.now) }

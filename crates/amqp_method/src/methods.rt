@@ -6,6 +6,7 @@ ghost use Rattle.amqp_method.specs.Views.{args_view};
 use crate::faults::OutOfMemory;
 use crate::fields::{Arg, copy_args};
 use crate::kinds::{Kind, schema};
+use crate::lengths::args_length;
 use std::alloc::Global;
 
 /// A method with its arguments, which fit it.
@@ -36,8 +37,10 @@ pub fn fits(kind: Kind, args: &[Arg]) -> bool
 }
 
 impl Method {
-    ghost use Rattle.std.specs.Prelude.{IfOk};
+    ghost use Rattle.std.specs.Prelude.{length, IfOk};
+    ghost use Rattle.amqp_value.specs.Lengths.{capped};
     ghost use Rattle.amqp_method.specs.MethodView.{method_view};
+    ghost use Rattle.amqp_method.specs.Plain.{plain_method};
 
     /// The method with these arguments. [`fits`] tells whether they fit.
     pub fn new(kind: Kind, args: Vec<Arg>) -> Method
@@ -59,6 +62,28 @@ impl Method {
         ensures fit { Fits (method_view self.now) }
     {
         self.args.as_slice()
+    }
+
+    /// The arguments, out of the method.
+    pub fn into_args(self) -> Vec<Arg>
+        ensures { args_view result.items ≡ (method_view self).args }
+    {
+        self.args
+    }
+
+    /// The kind and the arguments, out of the method.
+    pub fn into_parts(self) -> (Kind, Vec<Arg>)
+        ensures { call result.0 (args_view result.1.items) ≡ method_view self }
+    {
+        (self.kind, self.args)
+    }
+
+    /// How many octets [`write_method`](crate::write_method) writes of the method. `u64::MAX` stands for every number from
+    /// there on, which no method in memory reaches.
+    pub fn payload_length(&self) -> u64
+        ensures { result ≡ capped (length (plain_method (method_view self.now))) }
+    {
+        4_u64.saturating_add(args_length(schema(self.kind), &self.args))
     }
 
     /// The allocator of the arguments.

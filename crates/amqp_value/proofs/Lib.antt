@@ -1,6 +1,7 @@
 pub mod Complete
 pub mod Depths
 pub mod Elements
+pub mod Lengths
 pub mod Numbers
 pub mod One
 pub mod OnlyTold

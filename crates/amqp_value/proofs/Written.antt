@@ -46,7 +46,7 @@ after_hole old head four body hole at len =
 
 -- ---- one element more
 
-plain_items-push : (items : List Datum) (value : Datum) → plain_items (items_of (items ++ value ∷ [])) ≡ plain_items (items_of items) ++ (tag_octet value ∷ plain_field value)
+pub plain_items-push : (items : List Datum) (value : Datum) → plain_items (items_of (items ++ value ∷ [])) ≡ plain_items (items_of items) ++ (tag_octet value ∷ plain_field value)
 plain_items-push [] value = append-nil (tag_octet value ∷ plain_field value)
 plain_items-push (v ∷ items) value = ap (λ o. (tag_octet v ∷ plain_field v) ++ o) (plain_items-push items value) ∙ sym (append_assoc (tag_octet v ∷ plain_field v) (plain_items (items_of items)) (tag_octet value ∷ plain_field value))
 
@@ -55,7 +55,7 @@ EncodesItems-push [] value octets field is encoded = (field, [], ap (λ o. o ++ 
 EncodesItems-push (v ∷ items) value octets field encodes encoded =
     (encodes.0, encodes.1 ++ (tag_octet value ∷ field), ap (λ o. o ++ (tag_octet value ∷ field)) encodes.2 ∙ append_assoc (tag_octet v ∷ encodes.0) encodes.1 (tag_octet value ∷ field), encodes.3, EncodesItems-push items value encodes.1 field encodes.4 encoded)
 
-plain_pairs-push : (pairs : List (List ℕ × Datum)) (name : List ℕ) (value : Datum)
+pub plain_pairs-push : (pairs : List (List ℕ × Datum)) (name : List ℕ) (value : Datum)
     → plain_pairs (pairs_of (pairs ++ (name, value) ∷ [])) ≡ plain_pairs (pairs_of pairs) ++ (plain_short_string name ++ (tag_octet value ∷ plain_field value))
 plain_pairs-push [] name value = ap (λ o. plain_short_string name ++ o) (append-nil (tag_octet value ∷ plain_field value))
 plain_pairs-push (p ∷ pairs) name value =
@@ -77,7 +77,7 @@ pub record ItemsPut (old out : List ℕ) (values : List Value) (n : ℕ) : Type 
   pub out_is : out ≡ old ++ plain_items (items_view (take n values))
   pub encoded : EncodesItems (items_view (take n values)) (plain_items (items_view (take n values)))
 
-views_next : (values : List Value) (n : ℕ) (d : Value) → n < length values → map view (take (n + 1) values) ≡ map view (take n values) ++ view (get_or values n d) ∷ []
+pub views_next : (values : List Value) (n : ℕ) (d : Value) → n < length values → map view (take (n + 1) values) ≡ map view (take n values) ++ view (get_or values n d) ∷ []
 views_next values n d lt = ap (map view) (take_at_read values n d lt).1 ∙ map_push view (take n values) (get_or values n d)
 
 pub ItemsPut-next : (old out now : List ℕ) (values : List Value) (n : ℕ) (value : Value) → n < length values → value ≡ get_or values n value → ItemsPut old out values n
@@ -100,7 +100,7 @@ pub record PairsPut (old out : List ℕ) (pairs : List Pair) (n : ℕ) : Type 0 
   pub out_is : out ≡ old ++ plain_pairs (pairs_view (take n pairs))
   pub encoded : EncodesPairs (pairs_view (take n pairs)) (plain_pairs (pairs_view (take n pairs)))
 
-pair_views_next : (pairs : List Pair) (n : ℕ) (d : Pair) → n < length pairs → map named_view (take (n + 1) pairs) ≡ map named_view (take n pairs) ++ named_view (get_or pairs n d) ∷ []
+pub pair_views_next : (pairs : List Pair) (n : ℕ) (d : Pair) → n < length pairs → map named_view (take (n + 1) pairs) ≡ map named_view (take n pairs) ++ named_view (get_or pairs n d) ∷ []
 pair_views_next pairs n d lt = ap (map named_view) (take_at_read pairs n d lt).1 ∙ map_push named_view (take n pairs) (get_or pairs n d)
 
 pub PairsPut-next : (old out named now : List ℕ) (pairs : List Pair) (n : ℕ) (p : Pair) → n < length pairs → p ≡ get_or pairs n p → PairsPut old out pairs n

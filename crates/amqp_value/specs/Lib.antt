@@ -10,3 +10,4 @@ pub mod Tables
 pub mod Text
 pub mod Values
 pub mod View
+pub mod Lengths

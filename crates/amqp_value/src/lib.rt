@@ -4,6 +4,7 @@
 
 mod fault;
 mod laws;
+mod length;
 mod read;
 mod short_str;
 mod tables;

@@ -5,6 +5,7 @@ ghost use Rattle.amqp_value.specs.Values.{table_depth};
 ghost use Rattle.amqp_value.specs.View.{pairs_view};
 
 use crate::fault::{OutOfMemory, ValueFault, ValueFaultKind};
+use crate::length::table_length;
 use crate::short_str::ShortStr;
 use crate::values::{Value, copy_pairs, nests_within};
 use std::alloc::Global;
@@ -20,7 +21,9 @@ pub struct Table {
 }
 
 impl Table {
-    ghost use Rattle.std.specs.Prelude.{◌≡◌, ◌<◌, ◌↔◌, ◌⊎◌, OnOk, OnErr, IfOk, IfErr, Err};
+    ghost use Rattle.std.specs.Prelude.{◌≡◌, ◌<◌, ◌↔◌, ◌⊎◌, OnOk, OnErr, length, IfOk, IfErr, Err};
+    ghost use Rattle.amqp_value.specs.Lengths.{capped};
+    ghost use Rattle.amqp_value.specs.Plain.{plain_table};
     ghost use Rattle.amqp_value.specs.Faults.{fault_at, out_of_memory};
     ghost use Rattle.amqp_value.specs.Tables.{table_view};
     ghost use Rattle.amqp_value.specs.Values.{no_pairs, with_pair};
@@ -73,6 +76,14 @@ impl Table {
         ensures deep { table_depth (table_view self.now) ≤ 32 }
     {
         self.pairs.as_slice()
+    }
+
+    /// How many octets [`write_table`](crate::write_table) writes of the table. `u64::MAX` stands for every number from
+    /// there on, which no table in memory reaches.
+    pub fn encoded_length(&self) -> u64
+        ensures { result ≡ capped (length (plain_table (table_view self.now))) }
+    {
+        table_length(&self.pairs)
     }
 
     /// An equal table.

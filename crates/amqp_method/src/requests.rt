@@ -1,0 +1,88 @@
+//! Requests and replies.
+ghost use Rattle.std.specs.Prelude.{◌≡◌};
+ghost use Rattle.amqp_method.specs.MethodView.{method_view};
+ghost use Rattle.amqp_method.specs.Requests.{wants, is_request as asks, answered, is_reply as replies, answers};
+ghost use Rattle.amqp_method.specs.Wanted.{wanted_view};
+
+use crate::kinds::Kind;
+use crate::methods::Method;
+
+/// The last class whose methods have answers of their own: connection is 10, and channel is 20.
+const CHANNEL: u16 = 20;
+
+/// What a method asks for.
+#[derive(Clone, Copy, PartialEq, Eq, Debug)]
+enum Wanted {
+    /// A reply.
+    Always,
+    /// None.
+    Never,
+    /// A reply, unless the bit no-wait at this place is set.
+    UnlessNoWait(usize),
+}
+
+fn wanted_reply(kind: Kind) -> Wanted
+    ensures { wanted_view result ≡ wants kind }
+{
+    match kind {
+        Kind::ConfirmSelect => Wanted::UnlessNoWait(0),
+        Kind::QueuePurge | Kind::BasicCancel => Wanted::UnlessNoWait(1),
+        Kind::ExchangeDelete => Wanted::UnlessNoWait(2),
+        Kind::ExchangeBind | Kind::ExchangeUnbind | Kind::QueueBind | Kind::QueueDelete => {
+            Wanted::UnlessNoWait(3)
+        }
+        Kind::QueueDeclare | Kind::BasicConsume => Wanted::UnlessNoWait(5),
+        Kind::ExchangeDeclare => Wanted::UnlessNoWait(6),
+        Kind::QueueUnbind
+        | Kind::BasicQos
+        | Kind::BasicGet
+        | Kind::BasicRecover
+        | Kind::TxSelect
+        | Kind::TxCommit
+        | Kind::TxRollback => Wanted::Always,
+        _ => Wanted::Never,
+    }
+}
+
+impl Method {
+    /// Whether the server replies to the method: some method answers its kind, and its argument no-wait, if it has one, is
+    /// 0. The classes connection and channel have answers of their own, and no requests.
+    pub fn is_request(&self) -> bool
+        ensures { result ≡ asks (method_view self.now) }
+    {
+        match wanted_reply(self.kind()) {
+            Wanted::Always => true,
+            Wanted::Never => false,
+            Wanted::UnlessNoWait(place) => self.bit_at(place) != Some(true),
+        }
+    }
+}
+
+impl Kind {
+    /// The request that the method answers, but of the classes connection and channel.
+    pub fn request(self) -> Option<Kind>
+        ensures { result ≡ answered self }
+    {
+        if self.class_id() > CHANNEL {
+            return self.answers();
+        }
+        None
+    }
+
+    /// Whether the method answers a request. No method of the classes connection and channel does.
+    pub fn is_reply(self) -> bool
+        ensures { result ≡ replies self }
+    {
+        self.request().is_some()
+    }
+
+    /// Whether the method answers this request.
+    pub fn is_reply_to(self, request: Kind) -> bool
+        ensures { result ≡ answers self request }
+    {
+        match self.request() {
+            Some(kind) => request.is_same(kind),
+            None => false,
+        }
+    }
+}
