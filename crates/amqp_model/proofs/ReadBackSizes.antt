@@ -18,7 +18,7 @@ use Rattle.amqp_model.specs.Negotiation.{Config, FRAME_MIN}
 use Rattle.amqp_model.specs.Closes.{FrameError, Owed, without_arguments, flow_as, method_frame, frame_of}
 use Rattle.amqp_model.specs.Events.{Message, Plain, Whole, Peer, Faults}
 use Rattle.amqp_model.specs.FrameVerdict.{Facts, verdict_on, methods_put}
-use Rattle.amqp_model.specs.Asks.{Ask, Open, Send, Flow, CloseChannel, Close, Blocked, Unblocked, Refusal, channel_max, frame_max, lowest_free, refusal, not_running, bad_channel, not_open, paused, not_sendable, too_large, payload_frame, message_payloads, method_asked, opens_on, frames_asked}
+use Rattle.amqp_model.specs.Asks.{Ask, Open, Send, Flow, CloseChannel, Close, Blocked, Unblocked, Refusal, channel_max, frame_max, lowest_free, refusal, bad_channel, too_large, payload_frame, message_payloads, method_asked, opens_on, frames_asked}
 use Rattle.amqp_model.specs.EndLaws.{FindsLowest}
 use Rattle.amqp_model.specs.ReadingBack.{header_of, TextAskedFits}
 use Rattle.amqp_model.specs.Fitting.{FRAME_MOST}

@@ -1,6 +1,6 @@
 -- What is written reads as what it was made of: premises of the laws that speak of what an end puts. `Fitting` says when they
 -- hold.
-use Rattle.std.specs.Prelude.{◌≡◌, ℕ, List, length, Some}
+use Rattle.std.specs.Prelude.{◌≡◌, ℕ, length, Some}
 use Rattle.amqp_method.specs.Fitting.{FitsShort}
 use Rattle.amqp_model.specs.Notes.{Role, Client, Server}
 use Rattle.amqp_model.specs.Methods.{Header, ReadsBack, header_at, plain_header}
