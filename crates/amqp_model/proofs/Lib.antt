@@ -67,3 +67,9 @@ mod SentTelling
 mod WholeMessages
 mod KeptContents
 mod MethodTable
+mod Footings
+mod Together
+mod Hearing
+mod ZeroSteps
+mod BothEnds
+mod Agreements

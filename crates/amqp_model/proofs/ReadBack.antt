@@ -13,7 +13,7 @@ use Rattle.amqp_model.specs.Negotiation.{FRAME_MIN, Hello, OfClient, OfServer, C
 use Rattle.amqp_model.specs.Closes.{close_as, method_frame}
 use Rattle.amqp_model.specs.Events.{Message, Plain, Whole}
 use Rattle.amqp_model.specs.Asks.{Ask, Open, Send, Flow, CloseChannel, Close, Blocked, Unblocked, method_asked}
-use Rattle.amqp_model.specs.ReadingBack.{header_of, HeaderAskedReadsBack}
+use Rattle.amqp_model.specs.ReadingBack.{header_of, HeaderAskedReadsBack, TextAskedFits}
 use Rattle.amqp_model.specs.Fitting.{MethodFits, HelloFits, greeting, HostFits, PartsFit, FRAME_MOST, FrameMax, ChannelMax, HelloTooLong}
 use Rattle.amqp_model.specs.FittingLaws.{MethodReadsBack, HeaderReadsBack, FittingConfigWrites, AskedReadsBack, FaultlessConfigFits, FittingConfigIsFaultless}
 
@@ -106,8 +106,17 @@ header-asked reads (Close code text) fits = tt
 header-asked reads (Blocked reason) fits = tt
 header-asked reads Unblocked fits = tt
 
+text-asked : (ask : Ask) → PartsFit ask → TextAskedFits ask
+text-asked Open fits = tt
+text-asked (Send channel message) fits = tt
+text-asked (Flow channel active) fits = tt
+text-asked (CloseChannel channel code text) fits = fits.2
+text-asked (Close code text) fits = fits.1
+text-asked (Blocked reason) fits = fits
+text-asked Unblocked fits = tt
+
 pub asked-reads : ((method : Method) → MethodReadsBack method) → ((header : Header) → HeaderReadsBack header) → (ask : Ask) → AskedReadsBack ask
-asked-reads methods headers ask fits = record { method = methods (method_asked ask) (asked-fits ask fits.parts); header = header-asked headers ask fits.parts }
+asked-reads methods headers ask fits = record { method = methods (method_asked ask) (asked-fits ask fits.parts); header = header-asked headers ask fits.parts; text = text-asked ask fits.parts }
 
 -- A configuration without a fault.
 faultless : (a b c d : Bool) → cond (a || b) (Some FrameMax) (cond c (Some ChannelMax) (cond d (Some HelloTooLong) None)) ≡ None → (a ≡ false) × (b ≡ false) × (c ≡ false) × (d ≡ false)

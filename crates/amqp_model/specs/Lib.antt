@@ -39,6 +39,7 @@ pub mod Machine
 pub mod EndLaws
 pub mod Octets
 pub mod Pairs
+pub mod Agreement
 pub mod Sent
 pub mod SentLaws
 pub mod WholeMessages
