@@ -55,6 +55,8 @@ mod ReadBackFrames
 mod ReadBackSizes
 mod OctetJudging
 mod OctetCuts
+mod FeedingPieces
+mod HoldingPieces
 mod OctetHistories
 mod OctetAsks
 mod OctetSteps

@@ -50,3 +50,4 @@ pub mod Endpoint
 pub mod OctetLaws
 pub mod CarryingLaws
 pub mod MethodLaws
+pub mod Pieces
