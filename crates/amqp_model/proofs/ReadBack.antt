@@ -32,15 +32,12 @@ abbrev pub configured : {role : Role} → (frame_max channel_max max_body : ℕ)
 configured frame_max channel_max max_body hello = record { frame_max = frame_max; channel_max = channel_max; max_body = max_body; hello = hello }
 
 start-says : (a b c : ℕ) (hello : Hello Server) → HelloFits hello → MethodFits (start (configured a b c hello))
-unfolding row
 start-says a b c (OfServer properties mechanisms locales) fits = record { of_kind = refl; arguments = (omega arith, (omega arith, (fits.0, (fits.1, (fits.2, tt))))) }
 
 start_ok-says : (a b c : ℕ) (hello : Hello Client) → HelloFits hello → MethodFits (start_ok (configured a b c hello))
-unfolding row
 start_ok-says a b c (OfClient properties mechanism response locale virtual_host) fits = record { of_kind = refl; arguments = (fits.0, (fits.1, (fits.2, (fits.3, tt)))) }
 
 open-says : (a b c : ℕ) (hello : Hello Client) → HostFits hello → MethodFits (connection_open (configured a b c hello))
-unfolding row
 open-says a b c (OfClient properties mechanism response locale virtual_host) fits = record { of_kind = refl; arguments = (fits, tt) }
 
 pub start-fits : (config : Config Server) → HelloFits config.hello → MethodFits (start config)
@@ -75,11 +72,9 @@ config-writes reads role config fits =
 -- The method of an ask.
 
 pub connection_close-fits : (code : ℕ) (text : List ℕ) → code < 2 ^ 16 → FitsShort text → MethodFits (close_as kinds.ConnectionClose code text)
-unfolding row
 connection_close-fits code text small fits = record { of_kind = refl; arguments = (small, (fits, (omega arith, (omega arith, tt)))) }
 
 pub channel_close-fits : (code : ℕ) (text : List ℕ) → code < 2 ^ 16 → FitsShort text → MethodFits (close_as kinds.ChannelClose code text)
-unfolding row
 channel_close-fits code text small fits = record { of_kind = refl; arguments = (small, (fits, (omega arith, (omega arith, tt)))) }
 
 message-fits : (channel : ℕ) (message : Message) → PartsFit (Send channel message) → MethodFits (method_asked (Send channel message))
@@ -87,7 +82,6 @@ message-fits channel (Plain method) fits = fits.1
 message-fits channel (Whole content) fits = fits.1.method
 
 pub asked-fits : (ask : Ask) → PartsFit ask → MethodFits (method_asked ask)
-unfolding row
 asked-fits Open fits = record { of_kind = refl; arguments = tt }
 asked-fits (Send channel message) fits = message-fits channel message fits
 asked-fits (Flow channel active) fits = record { of_kind = refl; arguments = (tt, tt) }

@@ -73,20 +73,20 @@ message-within limit channel end (Whole content) least below e =
     (omega arith, (omega arith, pieces-within limit (frame_max end.agreed) least below channel ((length content.body + room_in (frame_max end.agreed) - 1) / room_in (frame_max end.agreed)) content.body))
 
 open-within : (limit : ℕ) (free : Option ℕ) → FRAME_MIN ≤ limit → AllWithin limit (opens_on free)
-unfolding row plain_method
+unfolding plain_method
 open-within limit (Some channel) least = (omega arith, tt)
 open-within limit None least = tt
 
 blocked-short : (reason : List ℕ) → length reason < 2 ^ 8 → frame_length (method_frame 0 (method_asked (Blocked reason))) ≤ FRAME_MIN
-unfolding row plain_method
+unfolding plain_method
 blocked-short reason small = omega (arith, length-append reason [])
 
 flow-short : (channel : ℕ) (active : Bool) → frame_length (method_frame channel (flow_as kinds.ChannelFlow active)) ≤ FRAME_MIN
-unfolding row plain_method
+unfolding plain_method
 flow-short channel active = omega arith
 
 unblocked-short : frame_length (method_frame 0 (without_arguments kinds.ConnectionUnblocked)) ≤ FRAME_MIN
-unfolding row plain_method
+unfolding plain_method
 unblocked-short = omega arith
 
 asked-within : (limit : ℕ) (end : End) (ask : Ask) → FRAME_MIN ≤ limit → frame_max end.agreed ≤ limit → TextAskedFits ask → too_large end ask ≡ None → AllWithin limit (frames_asked end ask)
