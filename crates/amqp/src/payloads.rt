@@ -5,7 +5,7 @@ use amqp_method::{
 };
 use std::alloc::{AllocError, Global};
 
-/// A line, and whether it tells a fault.
+/// A line, and whether it shows a fault.
 #[derive(Drop)]
 pub struct PayloadLine {
     pub text: String,

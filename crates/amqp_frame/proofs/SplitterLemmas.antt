@@ -14,7 +14,7 @@ use Rattle.amqp_frame.proofs.FrameLemmas.{size-at_start}
 use Rattle.amqp_frame.proofs.ShownLemmas.{first_is_judged, judged_is_first}
 use Rattle.amqp_frame.proofs.SplittingLemmas.{begun_prefix_tells_none, begun_tells_none, begun_prefix, begun_is_rest}
 
--- where a frame within the limit stands at the start, nothing tells a fault
+-- where a frame within the limit stands at the start, nothing shows a fault
 pub told_without_frame : (limit : ℕ) (xs : List ℕ) (kind : FrameFaultKind) (place : ℕ) → TellsFirst limit xs kind place → HasFrameAtStart limit xs → ⊥
 told_without_frame limit xs kind place told here =
     begun_prefix_tells_none limit here.f (take (place + 1) xs) (drop (place + 1) xs) here.tail kind here.fits here.within

@@ -37,7 +37,7 @@ size_of-take n xs long within =
     let room : 7 ≤ length (take n xs) = simp length-take (omega arith) in
     sym (size_of-append (take n xs) (drop n xs) room) ∙ ap size_of (take-append-drop n xs)
 
--- A prefix of octets that begin with a frame within the limit tells no fault.
+-- A prefix of octets that begin with a frame within the limit shows no fault.
 pub begun_prefix_tells_none : (limit : ℕ) (f : Frame) (prefix tail others : List ℕ) (kind : FrameFaultKind)
     → Fits f → frame_length f ≤ limit → octets f ++ others ≡ prefix ++ tail → Tells limit prefix kind → ⊥
 begun_prefix_tells_none limit f prefix tail others UnknownType fits within e told =
@@ -55,7 +55,7 @@ begun_prefix_tells_none limit f prefix tail others BadEnd fits within e told =
 begun_prefix_tells_none limit f prefix tail others OutOfMemory fits within e told = told
 begun_prefix_tells_none limit f prefix tail others Failed fits within e told = told
 
--- octets that a frame begins tell no fault
+-- octets that a frame begins show no fault
 pub begun_tells_none : (limit : ℕ) (xs : List ℕ) (kind : FrameFaultKind) → IsBegun limit xs → Tells limit xs kind → ⊥
 begun_tells_none limit xs UnknownType begun told = told.1 (begun.typed told.0)
 begun_tells_none limit xs TooLarge begun told = let sized = begun.sized told.0 in absurd (omega (arith, told.1))

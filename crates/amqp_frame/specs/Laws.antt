@@ -16,7 +16,7 @@ abbrev pub OneFrameAtStart : Type 0
 OneFrameAtStart =
     (f g : Frame) (xs ys : List ℕ) → Fits f → Fits g → octets f ++ xs ≡ octets g ++ ys → (f ≡ g) × (xs ≡ ys)
 
--- a prefix of a frame that is no longer than the limit tells no fault
+-- a prefix of a frame that is no longer than the limit shows no fault
 abbrev pub PrefixHasNoFault : Type 0
 PrefixHasNoFault =
     (limit : ℕ) (f : Frame) (prefix tail : List ℕ) (kind : FrameFaultKind)

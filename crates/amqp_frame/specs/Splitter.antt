@@ -23,12 +23,12 @@ pub record Completes (old : Stream) (taken : List ℕ) (f : Frame) : Type 0 wher
   pub fits : Fits f
   pub within : frame_length f ≤ old.limit
 
--- no octet of the piece ends a frame, and none tells a fault: the whole of it was taken
+-- no octet of the piece ends a frame, and none shows a fault: the whole of it was taken
 pub record Waits (old : Stream) (piece : List ℕ) (taken : ℕ) : Type 0 where
   pub all : taken ≡ length piece
   pub rest : IsRest old.limit (old.pending ++ piece)
 
--- The octet of the piece that tells the fault stands after the pending octets, which tell none.
+-- The octet of the piece that shows the fault stands after the pending octets, which show none.
 pub record ToldAt (old : Stream) (piece : List ℕ) (kind : FrameFaultKind) (at : ℕ) : Type 0 where
   pub place : ℕ
   pub told : TellsFirst old.limit (old.pending ++ piece) kind place
@@ -43,7 +43,7 @@ FirstFault old piece BadEnd at = ToldAt old piece BadEnd at
 FirstFault old piece OutOfMemory at = at ≡ old.taken
 FirstFault old piece Failed at = ⊥
 
--- The fault is the one that the octets tell, or want of memory; after a fault it is Failed, at the first one's place.
+-- The fault is the one that the octets tell, or out of memory; after a fault it is Failed, at the first one's place.
 abbrev pub Faults : Option ℕ → Stream → List ℕ → FrameFault → Type 0
 Faults None old piece fault = FirstFault old piece fault.kind fault.at
 Faults (Some place) old piece fault = (fault.kind ≡ Failed) × (fault.at ≡ place)

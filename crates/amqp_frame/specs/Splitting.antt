@@ -33,7 +33,7 @@ IsTypeOctet x = (x ≡ 1) ⊎ (x ≡ 2) ⊎ (x ≡ 3) ⊎ (x ≡ 8)
 abbrev pub size_of : List ℕ → ℕ
 size_of xs = big_number 4 (drop 3 xs)
 
--- Octets tell a fault, under a limit on a frame's octets. Want of memory and an earlier fault stand in no octet.
+-- Octets show a fault, under a limit on a frame's octets. Out of memory and an earlier fault stand in no octet.
 abbrev pub Tells : ℕ → List ℕ → FrameFaultKind → Type 0
 -- the first octet is the type of no frame
 Tells limit xs UnknownType = (0 < length xs) × (IsTypeOctet (slice_index xs 0) → ⊥)
@@ -44,13 +44,13 @@ Tells limit xs BadEnd = (size_of xs + 8 ≤ length xs) × (slice_index xs (size_
 Tells limit xs OutOfMemory = ⊥
 Tells limit xs Failed = ⊥
 
--- The octet at a place tells the fault: the octets up to and with it tell it, and no shorter prefix tells any.
+-- The octet at a place shows the fault: the octets up to and with it show it, and no shorter prefix tells any.
 pub record TellsFirst (limit : ℕ) (xs : List ℕ) (kind : FrameFaultKind) (place : ℕ) : Type 0 where
   pub within : place < length xs
   pub told : Tells limit (take (place + 1) xs) kind
   pub first : (n : ℕ) (other : FrameFaultKind) → n ≤ place → Tells limit (take n xs) other → ⊥
 
--- a frame begun: no prefix of the octets is a frame, and they tell no fault
+-- a frame begun: no prefix of the octets is a frame, and they show no fault
 pub record IsRest (limit : ℕ) (xs : List ℕ) : Type 0 where
   pub no_frame : BeginsWithFrame xs → ⊥
   pub no_fault : (kind : FrameFaultKind) → Tells limit xs kind → ⊥

@@ -25,19 +25,19 @@ impl<T: Drop> From<AllocFailed<T>> for OutOfMemory {
 /// The kinds of fault, each with its number.
 #[derive(Clone, Copy, PartialEq, Eq, Debug, Error)]
 pub enum FrameFaultKind {
-    /// A frame's first octet is none of 1, 2, 3 and 8: told at that octet.
+    /// A frame's first octet is none of 1, 2, 3 and 8: reported at that octet.
     #[error("unknown frame type")]
     UnknownType = 1,
-    /// A frame is longer than the limit: told at its seventh octet, the last of the payload's size.
+    /// A frame is longer than the limit: reported at its seventh octet, the last of the payload's size.
     #[error("frame longer than the limit")]
     TooLarge = 2,
-    /// A frame's last octet isn't `CE`: told at that octet.
+    /// A frame's last octet isn't `CE`: reported at that octet.
     #[error("wrong frame end octet")]
     BadEnd = 3,
-    /// Memory was refused: told at the number of octets that were taken before the call.
+    /// Memory was refused: reported at the number of octets that were taken before the call.
     #[error("out of memory")]
     OutOfMemory = 4,
-    /// The splitter has told a fault before: told at that first fault's place.
+    /// The splitter has told a fault before: reported at that first fault's place.
     #[error("fed after a fault")]
     Failed = 5,
 }
@@ -53,7 +53,7 @@ impl FrameFaultKind {
 
 /// A fault and its place.
 ///
-/// `at` is the place in the stream, counted from 0, of the octet that tells the fault. The count stays at the greatest
+/// `at` is the place in the stream, counted from 0, of the octet that shows the fault. The count stays at the greatest
 /// `u64` once it is there.
 #[derive(Clone, Copy, PartialEq, Eq, Debug, Error)]
 #[error("{kind} at octet {at}")]

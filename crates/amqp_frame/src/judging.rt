@@ -14,7 +14,7 @@ use std::alloc::AllocError;
 pub(crate) enum Judgement<'a> {
     /// A part of a frame, with nothing wrong in it.
     Begun,
-    /// The octet at the place, counted from the first, is the first to tell the fault.
+    /// The octet at the place, counted from the first, is the first to show the fault.
     Wrong(FrameFaultKind, usize),
     /// They begin with this frame.
     Whole(FrameRef<'a>),
@@ -132,7 +132,7 @@ pub(crate) fn renew(buffer: &mut Vec<u8>, spent: bool)
     }
 }
 
-/// Appends octets of the piece up to the end of the frame that the buffer begins, or to the octet that tells that the
+/// Appends octets of the piece up to the end of the frame that the buffer begins, or to the octet that shows that the
 /// frame is longer than the limit, and says how many. Room is made for no octet that isn't there.
 pub(crate) fn fill(buffer: &mut Vec<u8>, piece: &[u8], limit: u32) -> Result<usize, AllocError>
     requires { IsBegun limit buffer.old.items }

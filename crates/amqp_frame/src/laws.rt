@@ -12,7 +12,7 @@ pub fn one_frame_at_start()
     ensures { OneFrameAtStart }
 {}
 
-/// A prefix of a frame that is no longer than the limit tells no fault.
+/// A prefix of a frame that is no longer than the limit shows no fault.
 pub fn prefix_has_no_fault()
     ensures { PrefixHasNoFault }
 {}

@@ -114,9 +114,9 @@ impl Splitter {
     pub fn feed_ref<'a>(&'a mut self, piece: &'a [u8]) -> Result<FedRef<'a>, FrameFault>
         // With a frame, the octets pending and taken are that frame, no longer than the limit.
         ensures frame { IfOk result (λ fed. IfSome fed.frame (λ f. Completes self.old (take fed.taken piece.now) (lent f))) }
-        // Without one, all was taken, and what is pending now is a rest that tells no fault.
+        // Without one, all was taken, and what is pending now is a rest that shows no fault.
         ensures rest { IfOk result (λ fed. IfNone fed.frame (Waits self.old piece.now fed.taken)) }
-        // A fault is told by the stream, at the first octet that tells it, or it is want of memory.
+        // A fault is reported by the stream, at the first octet that shows it, or it is out of memory.
         ensures fault { IfErr result (λ fault. Faults self.old.fault self.old piece.now fault) }
         // Memory is refused only where an octet has to be kept, and never in place of a fault.
         ensures memory { IfErr result (λ fault. LacksMemoryIfNeeded fault.kind self.old piece.now) }
