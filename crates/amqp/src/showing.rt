@@ -35,19 +35,19 @@ fn print_frames<R: Read, W: Write>(alloc: Global, input: &mut R, output: &mut W)
             writeln!(output, "line {line}: not hex")?;
             return Ok(FAULT);
         }
-        Err(HexFault::OutOfMemory) => return print_want_of_memory(output),
+        Err(HexFault::OutOfMemory) => return print_out_of_memory(output),
     };
     let Ok(listing) = list(alloc, &octets) else {
-        return print_want_of_memory(output);
+        return print_out_of_memory(output);
     };
     let mut status = DONE;
     for frame in &listing.frames {
         let Ok(line) = frame_line(alloc, frame) else {
-            return print_want_of_memory(output);
+            return print_out_of_memory(output);
         };
         writeln!(output, "{line}")?;
         let Ok(below) = payload_line(alloc, frame) else {
-            return print_want_of_memory(output);
+            return print_out_of_memory(output);
         };
         if let Some(below) = below {
             let text = &below.text;
@@ -74,7 +74,7 @@ fn print_ending<W: Write>(end: Ending, output: &mut W) -> io::Result<u8> {
     Ok(FAULT)
 }
 
-fn print_want_of_memory<W: Write>(output: &mut W) -> io::Result<u8> {
+fn print_out_of_memory<W: Write>(output: &mut W) -> io::Result<u8> {
     writeln!(output, "fault memory")?;
     Ok(FAULT)
 }
