@@ -1,0 +1,11 @@
+#!/usr/bin/env bash
+# What the program asks of the allocator, counted: no contract speaks of how much memory is asked for. An input that announces
+# more than it has costs no more than one that has it, and a large one a small multiple of its octets.
+set -u
+cd "$(dirname "${BASH_SOURCE[0]}")/.." || exit 1
+
+place=$(mktemp -d) || exit 1
+trap 'rm -rf "$place"' EXIT
+gcc -O2 -shared -fPIC -o "$place/count.so" beside/memory/count.c -ldl || exit 1
+./amqp --version >/dev/null || exit 1
+python3 beside/memory/counted.py crates/amqp/out/amqp "$place/count.so"
