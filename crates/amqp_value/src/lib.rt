@@ -3,6 +3,7 @@
 #![tactic(auto)]
 
 mod fault;
+mod from;
 mod laws;
 mod length;
 mod read;
