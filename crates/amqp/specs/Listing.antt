@@ -10,7 +10,10 @@ use Rattle.amqp_frame.specs.declared.faults.FrameFaultKind.TheVariants.{UnknownT
 use Rattle.amqp.specs.declared.listing.Ending.{Ending}
 use Rattle.amqp.specs.declared.listing.Ending.TheVariants.{Whole, Rest, Fault}
 use Rattle.amqp.specs.declared.listing.Listing.{Listing}
-use Rattle.amqp.specs.declared.listing.TheConstants.{LIMIT}
+
+-- how many octets a frame may have
+abbrev pub GREATEST_FRAME : ℕ
+GREATEST_FRAME = 1048576
 
 -- the frames of a listing
 abbrev pub frames_of : Listing → List Frame
@@ -19,20 +22,20 @@ frames_of listing = map owned listing.frames.items
 -- each of the frames is within the limit
 abbrev pub AllWithin : List Frame → Type 0
 AllWithin [] = Unit {0}
-AllWithin (f ∷ frames) = (frame_length f ≤ LIMIT) × AllWithin frames
+AllWithin (f ∷ frames) = (frame_length f ≤ GREATEST_FRAME) × AllWithin frames
 
 -- a fault stands after so many octets
 abbrev pub FaultAfter : ℕ → List ℕ → FrameFaultKind → ℕ → Type 0
-FaultAfter taken rest UnknownType at = (place : ℕ) × TellsFirst LIMIT rest UnknownType place × (at ≡ place_after taken place)
-FaultAfter taken rest TooLarge at = (place : ℕ) × TellsFirst LIMIT rest TooLarge place × (at ≡ place_after taken place)
-FaultAfter taken rest BadEnd at = (place : ℕ) × TellsFirst LIMIT rest BadEnd place × (at ≡ place_after taken place)
+FaultAfter taken rest UnknownType at = (place : ℕ) × TellsFirst GREATEST_FRAME rest UnknownType place × (at ≡ place_after taken place)
+FaultAfter taken rest TooLarge at = (place : ℕ) × TellsFirst GREATEST_FRAME rest TooLarge place × (at ≡ place_after taken place)
+FaultAfter taken rest BadEnd at = (place : ℕ) × TellsFirst GREATEST_FRAME rest BadEnd place × (at ≡ place_after taken place)
 FaultAfter taken rest OutOfMemory at = at ≡ place_after taken 0
 FaultAfter taken rest Failed at = ⊥
 
 -- what follows the frames, after so many octets
 abbrev pub EndsWith : ℕ → List ℕ → Ending → Type 0
 EndsWith taken rest Whole = rest ≡ []
-EndsWith taken rest (Rest n) = (n ≡ length rest) × (0 < n) × IsRest LIMIT rest
+EndsWith taken rest (Rest n) = (n ≡ length rest) × (0 < n) × IsRest GREATEST_FRAME rest
 EndsWith taken rest (Fault fault) = FaultAfter taken rest fault.kind fault.at
 
 -- the octets are those of the frames, and then what the listing says

@@ -1,9 +1,9 @@
 -- Where the parts of a frame stand among its octets, and back.
-use Rattle.std.proofs.Common.{◌≡◌, ℕ, ◌+◌, List, [], ◌∷◌, ◌++◌, length, take, drop, get_or, refl, sym, ap, ◌∙◌, arith, append_assoc, length-append, inl, inr}
-use Rattle.std.proofs.lemmas.List.{take_at, get_or_at, append_cancel_left}
+use Rattle.std.proofs.Common.{◌≡◌, ℕ, ◌+◌, ◌-◌, List, [], ◌∷◌, ◌++◌, length, take, drop, get_or, refl, sym, ap, ◌∙◌, arith, append_assoc, length-append, inl, inr}
+use Rattle.std.proofs.lemmas.List.{take_at, drop_at, get_or_at, append_cancel_left}
 use Rattle.byteorder.specs.Endian.{big_bytes, big_number}
 use Rattle.byteorder.specs.Numbers.{big_number-reads_back}
-use Rattle.amqp_frame.specs.Frame.{Frame, octets, Fits, END, type_octet, frame_length}
+use Rattle.amqp_frame.specs.Frame.{Frame, octets, Fits, END, type_octet, header, frame_length}
 use Rattle.amqp_frame.specs.Splitting.{IsTypeOctet, size_of}
 use Rattle.amqp_frame.specs.declared.frames.FrameKind.{FrameKind}
 use Rattle.amqp_frame.specs.declared.frames.FrameKind.TheVariants.{Method, Header, Body, Heartbeat}
@@ -90,3 +90,28 @@ written f out header payload header_is payload_is =
     rw (header_is, payload_is)
     (append_assoc (out ++ (type_octet f.kind ∷ (big_bytes 2 f.channel ++ big_bytes 4 (length f.payload)))) f.payload (END ∷ [])
     ∙ append_assoc out (type_octet f.kind ∷ (big_bytes 2 f.channel ++ big_bytes 4 (length f.payload))) (f.payload ++ END ∷ []))
+
+-- the type and the channel, which stand before the size
+before_size : Frame → List ℕ
+before_size f = type_octet f.kind ∷ big_bytes 2 f.channel
+
+-- the end octet appended, and the size filled in
+pub finished : (before old pushed new : List ℕ) (f : Frame) (start size : ℕ)
+    → length before ≡ start → old ≡ before ++ (header f.kind f.channel 0 ++ f.payload) → pushed ≡ old ++ END ∷ [] → size ≡ length f.payload
+    → new ≡ take (start + 3) pushed ++ (big_bytes 4 size ++ drop (start + 3 + 4) pushed)
+    → new ≡ before ++ octets f
+unfolding octets before_size
+finished before old pushed new f start size at old_is pushed_is size_is new_is =
+    let parts : pushed ≡ (before ++ before_size f) ++ (big_bytes 4 0 ++ (f.payload ++ END ∷ [])) = rw (pushed_is, old_is) (simp append_assoc) in
+    let more : pushed ≡ ((before ++ before_size f) ++ big_bytes 4 0) ++ (f.payload ++ END ∷ []) = parts ∙ sym (append_assoc (before ++ before_size f) (big_bytes 4 0) (f.payload ++ END ∷ [])) in
+    let three : length (before ++ before_size f) ≡ start + 3 = length-append before (before_size f) ∙ omega arith in
+    let seven : length ((before ++ before_size f) ++ big_bytes 4 0) ≡ start + 3 + 4 = length-append (before ++ before_size f) (big_bytes 4 0) ∙ omega arith in
+    let first : take (start + 3) pushed ≡ before ++ before_size f = ap (take (start + 3)) parts ∙ take_at (before ++ before_size f) (big_bytes 4 0 ++ (f.payload ++ END ∷ [])) (start + 3) three in
+    let last : drop (start + 3 + 4) pushed ≡ f.payload ++ END ∷ [] = ap (drop (start + 3 + 4)) more ∙ drop_at ((before ++ before_size f) ++ big_bytes 4 0) (f.payload ++ END ∷ []) (start + 3 + 4) seven in
+    new_is ∙ rw (first, last, size_is) (append_assoc before (before_size f) (big_bytes 4 (length f.payload) ++ (f.payload ++ END ∷ [])))
+
+-- what stands after a header is as long as the output without it
+pub payload_size : (before old : List ℕ) (f : Frame) (start : ℕ) → length before ≡ start → old ≡ before ++ (header f.kind f.channel 0 ++ f.payload) → length old - start - 7 ≡ length f.payload
+payload_size before old f start at old_is =
+    let long : length old ≡ length before + (7 + length f.payload) = ap length old_is ∙ length-append before (header f.kind f.channel 0 ++ f.payload) ∙ omega arith in
+    omega arith

@@ -1,15 +1,17 @@
 -- What a splitter answers, from what it found in its buffer.
-use Rattle.std.proofs.Common.{◌≡◌, ℕ, zero, suc, inl, inr, ◌+◌, ◌-◌, ◌<◌, ◌≤◌, List, [], ◌∷◌, ◌++◌, length, take, drop, None, Option, refl, sym, ap, ◌∙◌, arith, append_assoc, length-append}
-use Rattle.std.proofs.lemmas.List.{take_all, take-append-le, take-append-drop, append-nil}
+use Rattle.std.proofs.Common.{◌≡◌, ℕ, zero, suc, inl, inr, ◌+◌, ◌-◌, ◌<◌, ◌≤◌, List, [], ◌∷◌, ◌++◌, length, take, drop, None, Option, refl, sym, ap, ◌∙◌, subst, arith, append_assoc, length-append}
+use Rattle.std.proofs.lemmas.List.{take_all, take-append-le, take-append-drop, append-nil, nil_from_length}
 use Rattle.std.proofs.lemmas.Bool.{cases_lt}
 use Rattle.amqp_frame.specs.Frame.{Frame, octets, Fits, frame_length}
 use Rattle.amqp_frame.specs.Splitting.{size_of, TellsFirst}
+use Rattle.amqp_frame.specs.Judged.{Wrong, judged, fault_place}
 use Rattle.amqp_frame.specs.Stream.{Stream}
-use Rattle.amqp_frame.specs.Splitter.{place_after, Completes, Waits, ToldAt, FirstFault, Faults, HasFrameAtStart}
+use Rattle.amqp_frame.specs.Splitter.{place_after, taken_to, LacksMemoryIfNeeded, MayLackMemory, Completes, Waits, ToldAt, FirstFault, Faults, HasFrameAtStart}
 use Rattle.amqp_frame.specs.Judging.{IsBegun, IsFilled}
 use Rattle.amqp_frame.specs.declared.faults.FrameFaultKind.{FrameFaultKind}
 use Rattle.amqp_frame.specs.declared.faults.FrameFaultKind.TheVariants.{UnknownType, TooLarge, BadEnd, OutOfMemory, Failed}
 use Rattle.amqp_frame.proofs.FrameLemmas.{size-at_start}
+use Rattle.amqp_frame.proofs.ShownLemmas.{first_is_judged, judged_is_first}
 use Rattle.amqp_frame.proofs.SplittingLemmas.{begun_prefix_tells_none, begun_tells_none, begun_prefix, begun_is_rest}
 
 -- where a frame within the limit stands at the start, nothing tells a fault
@@ -111,6 +113,71 @@ some_octets [] some = absurd (some refl)
 some_octets (x ∷ xs) some = omega arith
 
 -- splitters with equal parts are equal
-pub same_stream : (pending others : List ℕ) (limit taken other : ℕ) (fault : Option ℕ) → pending ≡ others → taken ≡ other
-    → ◌≡◌ {A = Stream} (record { pending = pending; limit = limit; taken = taken; fault = fault }) (record { pending = others; limit = limit; taken = other; fault = fault })
-same_stream pending others limit taken other fault p t = rw (p, t) refl
+pub same_stream : (pending others : List ℕ) (limit taken other : ℕ) (fault : Option ℕ) (to_fault : ℕ) → pending ≡ others → taken ≡ other
+    → ◌≡◌ {A = Stream} (record { pending = pending; limit = limit; taken = taken; fault = fault; taken_to_fault = to_fault }) (record { pending = others; limit = limit; taken = other; fault = fault; taken_to_fault = to_fault })
+same_stream pending others limit taken other fault to_fault p t = rw (p, t) refl
+
+-- a fault is shown after the octets that were pending
+pub shown_after : (limit : ℕ) (old piece : List ℕ) (kind : FrameFaultKind) (place : ℕ) → IsBegun limit old → TellsFirst limit (old ++ piece) kind place → length old ≤ place
+shown_after limit old piece kind place begun told = elim (cases_lt place (length old)) [
+  | inl before ↦
+      let prefix : take (place + 1) (old ++ piece) ≡ take (place + 1) old = take-append-le (place + 1) old piece (omega arith) in
+      absurd (begun_tells_none limit (take (place + 1) old) kind (begun_prefix limit (place + 1) old (omega arith) begun) (rw prefix at told.told))
+  | inr after ↦ after
+]
+
+-- the octets taken of the piece, with the one that shows the fault
+pub taken_to_is : (old : Stream) (piece : List ℕ) (kind : FrameFaultKind) (place n : ℕ) → TellsFirst old.limit (old.pending ++ piece) kind place → place ≡ fault_place kind (old.pending ++ piece) → length old.pending ≤ place → n ≡ place - length old.pending + 1 → n ≡ taken_to kind old piece
+taken_to_is old piece UnknownType place n told is after n_is = omega arith
+taken_to_is old piece TooLarge place n told is after n_is = omega arith
+taken_to_is old piece BadEnd place n told is after n_is = omega arith
+taken_to_is old piece OutOfMemory place n told is after n_is = absurd told.told
+taken_to_is old piece Failed place n told is after n_is = absurd told.told
+
+-- after a fault that was shown
+pub failed_stream : (limit taken : ℕ) (fault : Option ℕ) (n m : ℕ) → n ≡ m
+    → ◌≡◌ {A = Stream} (record { pending = []; limit = limit; taken = taken; fault = fault; taken_to_fault = n }) (record { pending = []; limit = limit; taken = taken; fault = fault; taken_to_fault = m })
+failed_stream limit taken fault n m e = rw e refl
+
+-- a fault that octets show is no refusal of memory
+pub memory_aside : (old : Stream) (piece : List ℕ) (kind : FrameFaultKind) (place : ℕ) → TellsFirst old.limit (old.pending ++ piece) kind place → LacksMemoryIfNeeded kind old piece
+memory_aside old piece UnknownType place told = tt
+memory_aside old piece TooLarge place told = tt
+memory_aside old piece BadEnd place told = tt
+memory_aside old piece OutOfMemory place told = absurd told.told
+memory_aside old piece Failed place told = tt
+
+-- an empty piece leaves a frame begun
+pub nothing_waits : (old : Stream) (piece : List ℕ) → IsBegun old.limit old.pending → length piece ≡ 0 → Waits old piece 0
+nothing_waits old piece begun empty =
+    let none : piece ≡ [] = nil_from_length piece empty in
+    record { all = sym empty; rest = rw (none, append-nil old.pending) (begun_is_rest old.limit old.pending begun) }
+
+-- what is found across two parts is shown first
+pub shown_first : (limit : ℕ) (old now piece : List ℕ) (kind : FrameFaultKind) (place : ℕ) → now ≡ old → (judged limit (now ++ piece) ≡ Wrong kind) × (place ≡ fault_place kind (now ++ piece)) → TellsFirst limit (old ++ piece) kind place × (place ≡ fault_place kind (old ++ piece))
+shown_first limit old now piece kind place same shows =
+    let wrong : judged limit (old ++ piece) ≡ Wrong kind = rw (← same) shows.0 in
+    let at : place ≡ fault_place kind (old ++ piece) = rw (← same) shows.1 in
+    (subst (TellsFirst limit (old ++ piece) kind) (sym at) (judged_is_first limit (old ++ piece) kind wrong), at)
+
+-- no fault is found across two parts, so a part of them shows none
+pub none_in_part : (limit : ℕ) (old now piece buffer : List ℕ) (taken : ℕ) (kind : FrameFaultKind) (place : ℕ) → now ≡ old → ((k : FrameFaultKind) → judged limit (now ++ piece) ≡ Wrong k → ⊥) → buffer ≡ old ++ take taken piece → TellsFirst limit buffer kind place → ⊥
+none_in_part limit old now piece buffer taken kind place same none joined told =
+    let whole = rw (whole_piece old piece buffer taken joined) at (told_before limit buffer (drop taken piece) kind place told) in
+    none kind (rw same (first_is_judged limit (old ++ piece) kind place whole).0)
+
+-- nothing is added by an empty piece
+pub nothing_added : (pending piece now : List ℕ) → now ≡ pending → piece ≡ [] → now ≡ pending ++ piece
+nothing_added pending piece now same none = rw none (same ∙ sym (append-nil pending))
+
+-- where a frame is whole, memory may be refused for a copy of its payload
+pub lacks_at_frame : (old : Stream) (piece : List ℕ) (taken : ℕ) (f : Frame) → IsBegun old.limit old.pending → taken ≤ length piece → Completes old (take taken piece) f → MayLackMemory old piece
+lacks_at_frame old piece taken f begun within completes =
+    let some = some_taken old piece taken f begun completes in
+    let at_start : old.pending ++ piece ≡ octets f ++ drop taken piece =
+    sym (whole_piece old.pending piece (old.pending ++ take taken piece) taken refl) ∙ ap (λ (zs : List ℕ). zs ++ drop taken piece) completes.is_frame in
+    record {
+      some = λ none. absurd (let e : length piece ≡ 0 = ap length none in omega arith);
+      no_fault = λ kind wrong. told_without_frame old.limit (old.pending ++ piece) kind (fault_place kind (old.pending ++ piece)) (judged_is_first old.limit (old.pending ++ piece) kind wrong)
+          (record { f = f; tail = drop taken piece; fits = completes.fits; within = completes.within; at_start = at_start });
+    }

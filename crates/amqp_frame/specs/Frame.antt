@@ -30,6 +30,10 @@ kind_name Heartbeat = codes "heartbeat"
 abbrev pub END : ℕ
 END = 206
 
+-- the octets before a payload: the type, the channel in two octets, the payload's size in four
+abbrev pub header : FrameKind → (channel size : ℕ) → List ℕ
+header kind channel size = type_octet kind ∷ (big_bytes 2 channel ++ big_bytes 4 size)
+
 -- the type, the channel in two octets, the payload's size in four, the payload, and CE
 unfoldable pub octets : Frame → List ℕ
 octets f = type_octet f.kind ∷ (big_bytes 2 f.channel ++ (big_bytes 4 (length f.payload) ++ (f.payload ++ END ∷ [])))

@@ -1,7 +1,9 @@
 -- How a splitter judges the octets of a frame begun, from the facts that it looks at.
-use Rattle.std.specs.Prelude.{◌≡◌, ℕ, ◌+◌, ◌<◌, ◌≤◌, Bool, true, false, List, [], ◌++◌, length, take, slice_index}
+use Rattle.std.specs.Prelude.{◌≡◌, ◌≢◌, ℕ, ◌+◌, ◌<◌, ◌≤◌, Bool, true, false, List, [], ◌++◌, length, take, slice_index}
 use Rattle.amqp_frame.specs.Frame.{octets, Fits, frame_length, lent}
 use Rattle.amqp_frame.specs.Splitting.{IsTypeOctet, size_of, TellsFirst}
+use Rattle.amqp_frame.specs.Judged as judged
+use Rattle.amqp_frame.specs.declared.faults.FrameFaultKind.{FrameFaultKind}
 use Rattle.amqp_frame.specs.declared.judging.Judgement.{Judgement}
 use Rattle.amqp_frame.specs.declared.judging.Judgement.TheVariants.{Begun, Wrong, Whole}
 
@@ -22,6 +24,26 @@ IsJudged limit xs Begun = IsBegun limit xs
 IsJudged limit xs (Wrong kind place) = TellsFirst limit xs kind place
 IsJudged limit xs (Whole f) =
     (frame_length (lent f) ≤ length xs) × (frame_length (lent f) ≤ limit) × Fits (lent f) × (take (frame_length (lent f)) xs ≡ octets (lent f))
+
+-- where the fault is shown
+abbrev pub IsPlaced : List ℕ → Judgement → Type 0
+IsPlaced xs Begun = Unit {0}
+IsPlaced xs (Wrong kind place) = place ≡ judged.fault_place kind xs
+IsPlaced xs (Whole f) = Unit {0}
+
+-- no octet of them shows a fault
+abbrev pub ShowsNoFault : (limit : ℕ) → List ℕ → Type 0
+ShowsNoFault limit xs = (kind : FrameFaultKind) → judged.judged limit xs ≢ judged.Wrong kind
+
+-- they show this fault, in this place
+abbrev pub ShowsFault : (limit : ℕ) → List ℕ → FrameFaultKind × ℕ → Type 0
+ShowsFault limit xs w = (judged.judged limit xs ≡ judged.Wrong w.0) × (w.1 ≡ judged.fault_place w.0 xs)
+
+-- the judgement, apart from where the frame lies and where the fault is shown
+abbrev pub judgement_view : Judgement → judged.Judgement
+judgement_view Begun = judged.Begun
+judgement_view (Wrong kind place) = judged.Wrong kind
+judgement_view (Whole f) = judged.Whole (lent f)
 
 -- Octets of the piece were added to those of a frame begun, up to the end of that frame and no further.
 pub record IsFilled (limit : ℕ) (old piece new : List ℕ) (taken : ℕ) : Type 0 where

@@ -1,8 +1,10 @@
 pub mod Faults
 pub mod Frame
 pub mod Splitting
+pub mod Writing
 pub mod Stream
 pub mod Splitter
+pub mod Judged
 pub mod Judging
 pub mod Laws
 pub mod SplitterFields

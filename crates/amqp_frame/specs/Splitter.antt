@@ -1,9 +1,10 @@
 -- What a piece of the stream does to a splitter, and what the splitter answers.
-use Rattle.std.specs.Prelude.{◌≡◌, ℕ, ◌+◌, ◌-◌, ◌^◌, ◌≤◌, List, [], ◌++◌, length, min, Option, Some, None, Result, Ok, Err}
+use Rattle.std.specs.Prelude.{◌≡◌, ◌≢◌, ℕ, ◌+◌, ◌-◌, ◌^◌, ◌≤◌, List, [], ◌++◌, length, min, Option, Some, None, Result, Ok, Err}
 use Rattle.std.specs.Borrow.{MutBor, Fml}
 use Rattle.std.specs.Io.BufRead.{Rests}
 use Rattle.amqp_frame.specs.Frame.{Frame, octets, Fits, frame_length}
 use Rattle.amqp_frame.specs.Splitting.{IsRest, TellsFirst}
+use Rattle.amqp_frame.specs.Judged.{Wrong, judged, fault_place}
 use Rattle.amqp_frame.specs.Stream.{Stream}
 use Rattle.amqp_frame.specs.contracts.splitting.Splitter.{the_row}
 use Rattle.amqp_frame.specs.declared.faults.FrameFault.{FrameFault}
@@ -47,6 +48,16 @@ abbrev pub Faults : Option ℕ → Stream → List ℕ → FrameFault → Type 0
 Faults None old piece fault = FirstFault old piece fault.kind fault.at
 Faults (Some place) old piece fault = (fault.kind ≡ Failed) × (fault.at ≡ place)
 
+-- Memory may be refused only where an octet of the piece has to be kept: there is one, and none shows a fault.
+pub record MayLackMemory (old : Stream) (piece : List ℕ) : Type 0 where
+  pub some : piece ≢ []
+  pub no_fault : (kind : FrameFaultKind) → judged old.limit (old.pending ++ piece) ≢ Wrong kind
+
+-- so it is of a fault, if that is a refusal of memory
+abbrev pub LacksMemoryIfNeeded : FrameFaultKind → Stream → (piece : List ℕ) → Type 0
+LacksMemoryIfNeeded OutOfMemory old piece = MayLackMemory old piece
+LacksMemoryIfNeeded kind old piece = Unit {0}
+
 -- a whole frame within the limit stands at the start
 pub record HasFrameAtStart (limit : ℕ) (piece : List ℕ) : Type 0 where
   pub f : Frame
@@ -60,17 +71,25 @@ abbrev pub after_taking : {A : Type 0} → Stream → List ℕ → ℕ → Optio
 after_taking old piece taken None = record old { pending = old.pending ++ piece; taken = place_after old.taken taken }
 after_taking old piece taken (Some f) = record old { pending = []; taken = place_after old.taken taken }
 
+-- how many octets of a piece are taken up to the octet that shows a fault, that octet included: none where memory was refused
+abbrev pub taken_to : FrameFaultKind → Stream → (piece : List ℕ) → ℕ
+taken_to UnknownType old piece = fault_place UnknownType (old.pending ++ piece) + 1 - length old.pending
+taken_to TooLarge old piece = fault_place TooLarge (old.pending ++ piece) + 1 - length old.pending
+taken_to BadEnd old piece = fault_place BadEnd (old.pending ++ piece) + 1 - length old.pending
+taken_to OutOfMemory old piece = 0
+taken_to Failed old piece = old.taken_to_fault
+
 -- after a fault nothing is pending, and the place of the first fault stays
-abbrev pub after_fault : Stream → FrameFault → Stream
-after_fault old fault = record old { pending = []; fault = Some fault.at }
+abbrev pub after_fault : Stream → (piece : List ℕ) → FrameFault → Stream
+after_fault old piece fault = record old { pending = []; fault = Some fault.at; taken_to_fault = taken_to fault.kind old piece }
 
 abbrev pub after_feed : Stream → List ℕ → Result Fed FrameFault → Stream
 after_feed old piece (Ok fed) = after_taking old piece fed.taken fed.frame
-after_feed old piece (Err fault) = after_fault old fault
+after_feed old piece (Err fault) = after_fault old piece fault
 
 abbrev pub after_feed_ref : Stream → List ℕ → Result FedRef FrameFault → Stream
 after_feed_ref old piece (Ok fed) = after_taking old piece fed.taken fed.frame
-after_feed_ref old piece (Err fault) = after_fault old fault
+after_feed_ref old piece (Err fault) = after_fault old piece fault
 
 -- what the splitter is once the frame that it lent is given up
 abbrev pub LeavesAfter : MutBor Stream → List ℕ → Result FedRef FrameFault → Fml

@@ -10,3 +10,5 @@ pub record Stream : Type 0 where
   pub taken : ℕ
   -- the place of the fault, once one was told
   pub fault : Option ℕ
+  -- how many octets of its piece were taken up to the octet that showed the fault, that octet included; 0 before any fault
+  pub taken_to_fault : ℕ

@@ -1,7 +1,8 @@
 //! Whether octets are a frame begun, a whole frame, or none.
-ghost use Rattle.std.specs.Prelude.{◌≡◌, ◌+◌, ◌≤◌, ◌^◌, ◌<◌, length, IfOk, vec_len};
+ghost use Rattle.std.specs.Prelude.{◌≡◌, ◌+◌, ◌≤◌, ◌^◌, ◌<◌, ◌++◌, length, slice_index, IfOk, MatchOption, vec_len};
 ghost use Rattle.amqp_frame.specs.Splitting.{size_of};
-ghost use Rattle.amqp_frame.specs.Judging.{IsBegun, IsJudged, IsFilled, pending_of};
+ghost use Rattle.amqp_frame.specs.Judged.{judged as judgement_on};
+ghost use Rattle.amqp_frame.specs.Judging.{IsBegun, IsJudged, IsFilled, IsPlaced, ShowsFault, ShowsNoFault, judgement_view, pending_of};
 
 use crate::faults::FrameFaultKind;
 use crate::frames::{END, FrameKind, FrameRef, HEADER_LENGTH, OVERHEAD};
@@ -32,7 +33,9 @@ fn frame_length(octets: &[u8]) -> usize
 /// Looks at the type octet, the payload's size and the end octet alone.
 #[inline(always)]
 pub(crate) fn judge(octets: &[u8], limit: u32) -> Judgement<'_>
-    ensures { IsJudged limit octets.now result }
+    ensures is { IsJudged limit octets.now result }
+    ensures same { judgement_view result ≡ judgement_on limit octets.now }
+    ensures place { IsPlaced octets.now result }
 {
     if octets.is_empty() {
         return Judgement::Begun;
@@ -58,6 +61,65 @@ pub(crate) fn judge(octets: &[u8], limit: u32) -> Judgement<'_>
         channel: BigEndian::read_u16(&octets[1..]),
         payload: &octets[HEADER_LENGTH..length - 1],
     })
+}
+
+/// The octet at a place of octets that lie in two parts.
+fn octet_at(pending: &[u8], piece: &[u8], place: usize) -> u8
+    requires { place < length (pending.now ++ piece.now) }
+    ensures { result ≡ slice_index (pending.now ++ piece.now) place }
+{
+    if place < pending.len() {
+        pending[place]
+    } else {
+        piece[place - pending.len()]
+    }
+}
+
+/// The total length of the frame that starts in octets that lie in two parts.
+fn frame_length_across(pending: &[u8], piece: &[u8]) -> usize
+    requires { 7 ≤ length (pending.now ++ piece.now) }
+    ensures value { result ≡ size_of (pending.now ++ piece.now) + 8 }
+    ensures bound { result < 2 ^ 33 }
+{
+    let size = [
+        octet_at(pending, piece, 3),
+        octet_at(pending, piece, 4),
+        octet_at(pending, piece, 5),
+        octet_at(pending, piece, 6),
+    ];
+    BigEndian::read_u32(&size) as usize + OVERHEAD
+}
+
+/// The fault that octets show which lie in two parts, and the place of the octet that shows it, counted from the first.
+/// It is found before an octet is kept, so that no refusal of memory comes in its place.
+pub(crate) fn fault_across(
+    pending: &[u8],
+    piece: &[u8],
+    limit: u32,
+) -> Option<(FrameFaultKind, usize)>
+    ensures { MatchOption result (ShowsNoFault limit (pending.now ++ piece.now)) (ShowsFault limit (pending.now ++ piece.now)) }
+{
+    let count = pending.len() + piece.len();
+    if count == 0 {
+        return None;
+    }
+    let Some(_kind) = FrameKind::from_octet(octet_at(pending, piece, 0)) else {
+        return Some((FrameFaultKind::UnknownType, 0));
+    };
+    if count < HEADER_LENGTH {
+        return None;
+    }
+    let total = frame_length_across(pending, piece);
+    if total > limit as usize {
+        return Some((FrameFaultKind::TooLarge, HEADER_LENGTH - 1));
+    }
+    if count < total {
+        return None;
+    }
+    if octet_at(pending, piece, total - 1) != END {
+        return Some((FrameFaultKind::BadEnd, total - 1));
+    }
+    None
 }
 
 /// Empties a buffer whose octets are spent.

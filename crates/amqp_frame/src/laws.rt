@@ -1,5 +1,5 @@
 //! Laws of frames that the layers above rest on.
-ghost use Rattle.amqp_frame.specs.Laws.{OneSplit, OneFrameAtStart, PrefixHasNoFault};
+ghost use Rattle.amqp_frame.specs.Laws.{OneSplit, OneFrameAtStart, PrefixHasNoFault, JudgedIsShown, ShownIsJudged};
 
 /// Octets split into frames and a rest in one way only.
 pub fn one_split()
@@ -15,4 +15,10 @@ pub fn one_frame_at_start()
 /// A prefix of a frame that is no longer than the limit tells no fault.
 pub fn prefix_has_no_fault()
     ensures { PrefixHasNoFault }
+{}
+
+/// Octets are judged to be wrong exactly when they show a fault: that one, first shown in its place.
+pub fn faults_are_judged()
+    ensures shown { JudgedIsShown }
+    ensures judged { ShownIsJudged }
 {}

@@ -14,10 +14,11 @@ mod frames;
 mod judging;
 mod laws;
 mod splitting;
-#[cfg(test)]
-mod tests;
 
 pub use crate::faults::{FrameFault, FrameFaultKind, OutOfMemory};
-pub use crate::frames::{FrameKind, FrameRef, RawFrame, write_frame};
-pub use crate::laws::{one_frame_at_start, one_split, prefix_has_no_fault};
+pub use crate::frames::{
+    FrameKind, FrameRef, PROTOCOL_HEADER, RawFrame, begin_frame, finish_frame, write_frame,
+    write_frame_ref,
+};
+pub use crate::laws::{faults_are_judged, one_frame_at_start, one_split, prefix_has_no_fault};
 pub use crate::splitting::{Fed, FedRef, Splitter};

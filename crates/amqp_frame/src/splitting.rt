@@ -2,11 +2,11 @@
 ghost use Rattle.std.specs.Prelude.{◌≡◌, ◌≢◌, ◌+◌, ◌<◌, ◌≤◌, [], ◌++◌, length, take, None, IsOk, IfOk, IfErr, IfSome, IfNone};
 ghost use Rattle.std.specs.Borrow.{sem};
 ghost use Rattle.amqp_frame.specs.Frame.{owned, lent};
-ghost use Rattle.amqp_frame.specs.Splitter.{Completes, Waits, Faults, HasFrameAtStart, after_feed, LeavesAfter};
+ghost use Rattle.amqp_frame.specs.Splitter.{Completes, Waits, Faults, LacksMemoryIfNeeded, HasFrameAtStart, after_feed, LeavesAfter};
 
 use crate::faults::{FrameFault, FrameFaultKind};
 use crate::frames::{FrameRef, OVERHEAD, RawFrame};
-use crate::judging::{Judgement, fill, judge, renew};
+use crate::judging::{Judgement, fault_across, fill, judge, renew};
 use std::alloc::Global;
 use std::marker::Model;
 
@@ -33,6 +33,8 @@ pub struct Splitter {
     taken: u64,
     /// the place of the first fault
     fault: Option<u64>,
+    /// how many octets of its piece were taken up to the octet that showed it
+    taken_to_fault: usize,
     /// the buffer's octets are pending no more: their frame was given, or a fault was told
     spent: bool,
     buffer: Vec<u8>,
@@ -58,12 +60,14 @@ impl Splitter {
         ensures limit { result.limit ≡ limit }
         ensures taken { result.taken ≡ 0 }
         ensures fault { result.fault ≡ None }
+        ensures taken_to_fault { result.taken_to_fault ≡ 0 }
     {
         Splitter {
             alloc,
             limit,
             taken: 0,
             fault: None,
+            taken_to_fault: 0,
             spent: false,
             buffer: Vec::new(alloc),
         }
@@ -75,6 +79,21 @@ impl Splitter {
         ensures below_limit { result < self.now.limit }
     {
         if self.spent { 0 } else { self.buffer.len() }
+    }
+
+    /// How many octets a frame may have.
+    pub fn limit(&self) -> u32
+        ensures { result ≡ self.now.limit }
+    {
+        self.limit
+    }
+
+    /// After a fault, how many octets of the piece that showed it were taken: those up to the octet that shows it, and that
+    /// one. 0 before any fault, and where memory was refused.
+    pub fn taken_to_fault(&self) -> usize
+        ensures { result ≡ self.now.taken_to_fault }
+    {
+        self.taken_to_fault
     }
 
     /// Changes the limit, between two frames, and nothing else.
@@ -99,6 +118,8 @@ impl Splitter {
         ensures rest { IfOk result (λ fed. IfNone fed.frame (Waits self.old piece.now fed.taken)) }
         // A fault is told by the stream, at the first octet that tells it, or it is want of memory.
         ensures fault { IfErr result (λ fault. Faults self.old.fault self.old piece.now fault) }
+        // Memory is refused only where an octet has to be kept, and never in place of a fault.
+        ensures memory { IfErr result (λ fault. LacksMemoryIfNeeded fault.kind self.old piece.now) }
         // After a fault there is no other answer.
         ensures running { IsOk result → self.old.fault ≡ None }
 
@@ -126,19 +147,28 @@ impl Splitter {
                         frame: Some(frame),
                     });
                 }
-                Judgement::Wrong(kind, place) => {
-                    let at = self.taken.saturating_add(place as u64);
-                    self.fault = Some(at);
-                    self.spent = true;
-                    return Err(FrameFault { at, kind });
-                }
+                Judgement::Wrong(_, _) => {}
                 Judgement::Begun => {}
             }
         }
+        if piece.is_empty() {
+            return Ok(FedRef {
+                taken: 0,
+                frame: None,
+            });
+        }
         let before = self.taken;
-        let begun = self.buffer.len();
+        if let Some((kind, place)) = fault_across(&self.buffer, piece, self.limit) {
+            let passed = place - self.buffer.len();
+            let at = before.saturating_add(passed as u64);
+            self.fault = Some(at);
+            self.taken_to_fault = passed + 1;
+            self.spent = true;
+            return Err(FrameFault { at, kind });
+        }
         let Ok(taken) = fill(&mut self.buffer, piece, self.limit) else {
             self.fault = Some(before);
+            self.taken_to_fault = 0;
             self.spent = true;
             return Err(FrameFault {
                 at: before,
@@ -154,12 +184,7 @@ impl Splitter {
                     frame: Some(frame),
                 })
             }
-            Judgement::Wrong(kind, place) => {
-                let at = before.saturating_add((place - begun) as u64);
-                self.fault = Some(at);
-                self.spent = true;
-                Err(FrameFault { at, kind })
-            }
+            Judgement::Wrong(_, _) => unreachable!(),
             Judgement::Begun => {
                 self.taken = before.saturating_add(taken as u64);
                 Ok(FedRef { taken, frame: None })
@@ -172,6 +197,7 @@ impl Splitter {
         ensures frame { IfOk result (λ fed. IfSome fed.frame (λ f. Completes self.old (take fed.taken piece.now) (owned f))) }
         ensures rest { IfOk result (λ fed. IfNone fed.frame (Waits self.old piece.now fed.taken)) }
         ensures fault { IfErr result (λ fault. Faults self.old.fault self.old piece.now fault) }
+        ensures memory { IfErr result (λ fault. LacksMemoryIfNeeded fault.kind self.old piece.now) }
         ensures running { IsOk result → self.old.fault ≡ None }
 
         ensures within { IfOk result (λ fed. fed.taken ≤ length piece.now) }
@@ -193,6 +219,7 @@ impl Splitter {
         }
         self.taken = start;
         self.fault = Some(start);
+        self.taken_to_fault = 0;
         self.spent = true;
         Err(FrameFault {
             at: start,

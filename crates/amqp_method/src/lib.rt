@@ -26,8 +26,6 @@ mod properties;
 mod reading;
 mod requests;
 mod table;
-#[cfg(test)]
-mod tests;
 mod texts;
 mod writing;
 

@@ -56,28 +56,28 @@ body_of payload = record { kind = FrameKind.Body; channel = 1; payload = payload
 
 -- A client asks for one thing at a time: while a request waits it puts no other, but one that wants no reply.
 second_request : OnOpenChannel Client (asked_for (kinds.TxSelect ∷ [])) (sends (without_arguments kinds.TxCommit)) (Refused Refusal.ReplyPending)
-unfolding plain_method row
+unfolding plain_method
 second_request = (refl, refl)
 
 first_request : OnOpenChannel Client new_life (sends (without_arguments kinds.TxCommit)) (Puts (method_of (0 ∷ 90 ∷ 0 ∷ 20 ∷ []) ∷ []))
-unfolding plain_method row
+unfolding plain_method
 first_request = (refl, refl)
 
 no_reply_wanted : OnOpenChannel Client (asked_for (kinds.TxSelect ∷ [])) (sends (record { kind = kinds.ConfirmSelect; args = bit true ∷ [] })) (Puts (method_of (0 ∷ 85 ∷ 0 ∷ 10 ∷ 1 ∷ []) ∷ []))
-unfolding plain_method row
+unfolding plain_method
 no_reply_wanted = (refl, refl)
 
 -- A server replies to the oldest request that it keeps, and to nothing else.
 reply_to_nothing : OnOpenChannel Server new_life (sends (without_arguments kinds.TxSelectOk)) (Refused Refusal.NoSuchRequest)
-unfolding plain_method row
+unfolding plain_method
 reply_to_nothing = (refl, refl)
 
 reply_out_of_turn : OnOpenChannel Server (asked_for (kinds.TxCommit ∷ kinds.TxSelect ∷ [])) (sends (without_arguments kinds.TxSelectOk)) (Refused Refusal.NoSuchRequest)
-unfolding plain_method row
+unfolding plain_method
 reply_out_of_turn = (refl, refl)
 
 reply_in_turn : OnOpenChannel Server (asked_for (kinds.TxCommit ∷ kinds.TxSelect ∷ [])) (sends (without_arguments kinds.TxCommitOk)) (Puts (method_of (0 ∷ 90 ∷ 0 ∷ 21 ∷ []) ∷ []))
-unfolding plain_method row
+unfolding plain_method
 reply_in_turn = (refl, refl)
 
 -- A paused server begins no content but get-ok, which a get has to have asked for.
@@ -99,16 +99,16 @@ deliver_paused = (refl, refl)
 
 deliver_active : OnOpenChannel Server new_life deliver
     (Puts (method_of (0 ∷ 60 ∷ 0 ∷ 60 ∷ 1 ∷ 99 ∷ 0 ∷ 0 ∷ 0 ∷ 0 ∷ 0 ∷ 0 ∷ 0 ∷ 1 ∷ 0 ∷ 0 ∷ 1 ∷ 113 ∷ []) ∷ header_of_two ∷ body_of (104 ∷ 105 ∷ []) ∷ []))
-unfolding plain_method plain_header row
+unfolding plain_method plain_header
 deliver_active = (refl, refl)
 
 get_ok_paused : OnOpenChannel Server (record paused_life { requests = kinds.BasicGet ∷ [] }) get_ok
     (Puts (method_of (0 ∷ 60 ∷ 0 ∷ 71 ∷ 0 ∷ 0 ∷ 0 ∷ 0 ∷ 0 ∷ 0 ∷ 0 ∷ 1 ∷ 0 ∷ 0 ∷ 1 ∷ 113 ∷ 0 ∷ 0 ∷ 0 ∷ 0 ∷ []) ∷ header_of_two ∷ body_of (104 ∷ 105 ∷ []) ∷ []))
-unfolding plain_method plain_header row
+unfolding plain_method plain_header
 get_ok_paused = (refl, refl)
 
 get_ok_unasked : OnOpenChannel Server paused_life get_ok (Refused Refusal.NoSuchRequest)
-unfolding plain_method plain_header row
+unfolding plain_method plain_header
 get_ok_unasked = (refl, refl)
 
 -- A content of a kind that the end may not send: Paused comes before NotSendable.
@@ -137,7 +137,7 @@ second_flow_of_server : OnOpenChannel Server (record new_life { awaits = true })
 second_flow_of_server = (refl, refl)
 
 first_flow : OnOpenChannel Server new_life (Ask.Flow 1 true) (Puts (method_of (0 ∷ 20 ∷ 0 ∷ 20 ∷ 1 ∷ []) ∷ []))
-unfolding plain_method row
+unfolding plain_method
 first_flow = (refl, refl)
 
 -- An open takes the lowest number that is Free, up to the agreed maximum, and a server asks for none.
@@ -151,7 +151,7 @@ ten_of_ten = (refl, refl)
 
 nine_of_ten : AtBothSizes Client (λ frame_max. ten_channels frame_max (λ number. cond (number == 7) Free (ten_taken number))) Ask.Open
     (Puts (record { kind = FrameKind.Method; channel = 7; payload = 0 ∷ 20 ∷ 0 ∷ 10 ∷ 0 ∷ [] } ∷ []))
-unfolding plain_method row
+unfolding plain_method
 nine_of_ten = (refl, refl)
 
 open_at_server : OnOpenChannel Server new_life Ask.Open (Refused Refusal.NotSendable)
@@ -174,13 +174,13 @@ abbrev published : (frame_max : ℕ) → AskVerdict
 published frame_max = ask_verdict Client (open_on_1 frame_max new_life) (publish (replicate 4089 120))
 
 long_body_in_small_frames : payload_lengths (published 4096) ≡ 10 ∷ 14 ∷ 4088 ∷ 1 ∷ []
-unfolding plain_method plain_header row
+unfolding plain_method plain_header
 long_body_in_small_frames = refl
 
 kinds_in_small_frames : frame_kinds (published 4096) ≡ FrameKind.Method ∷ FrameKind.Header ∷ FrameKind.Body ∷ FrameKind.Body ∷ []
-unfolding plain_method plain_header row
+unfolding plain_method plain_header
 kinds_in_small_frames = refl
 
 long_body_in_large_frames : payload_lengths (published 131072) ≡ 10 ∷ 14 ∷ 4089 ∷ []
-unfolding plain_method plain_header row
+unfolding plain_method plain_header
 long_body_in_large_frames = refl

@@ -11,7 +11,7 @@ abbrev pub is_departure : MethodKind → Bool
 is_departure kind = same_kind kind kinds.ConnectionClose || same_kind kind kinds.ConnectionCloseOk
 
 pub names-departure : (kind : MethodKind) (args : List Argument) → names_leaving (plain_method (record { kind = kind; args = args })) ≡ is_departure kind
-unfolding plain_method row
+unfolding plain_method
 names-departure kinds.ConnectionStart args = refl
 names-departure kinds.ConnectionStartOk args = refl
 names-departure kinds.ConnectionSecure args = refl

@@ -55,6 +55,8 @@ mod ReadBackFrames
 mod ReadBackSizes
 mod OctetJudging
 mod OctetCuts
+mod FeedingPieces
+mod HoldingPieces
 mod OctetHistories
 mod OctetAsks
 mod OctetSteps
@@ -67,3 +69,9 @@ mod SentTelling
 mod WholeMessages
 mod KeptContents
 mod MethodTable
+mod Footings
+mod Together
+mod Hearing
+mod ZeroSteps
+mod BothEnds
+mod Agreements

@@ -6,11 +6,9 @@ use Rattle.amqp_method.specs.declared.kinds.Kind.TheVariants.{ConnectionStart}
 use Rattle.amqp_model.specs.MethodLaws.{AsksAsTable, SaysAsTable}
 
 pub says_as_table : (kind : Kind) → SaysAsTable kind
-unfolding row
 says_as_table ConnectionStart = record { class = refl; id = refl; client = refl; server = refl; content = λ active. refl }
 says_as_table kind = record { class = refl; id = refl; client = refl; server = refl; content = λ active. refl }
 
 pub asks_as_table : (kind : Kind) → AsksAsTable kind
-unfolding row
 asks_as_table ConnectionStart = record { wanted = refl; reply = refl }
 asks_as_table kind = record { wanted = refl; reply = refl }

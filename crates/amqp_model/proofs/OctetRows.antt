@@ -78,7 +78,7 @@ above-limit : seen passed ≡ row_of (Found (Peer FrameError)) 7 Failed []
 above-limit = refl
 
 above-limit-output : passed.endpoint.output ≡ record { ahead = []; last = 0; row = method_frame 0 (start server_config) ∷ frame_of (connection_close FrameError) ∷ [] }
-unfolding plain_method row
+unfolding plain_method
 above-limit-output = refl
 
 -- 4096 octets

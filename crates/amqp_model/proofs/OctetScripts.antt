@@ -77,7 +77,7 @@ handshake_lines =
     ∷ []
 
 server_handshake : server_lines 16777216 handshake ≡ handshake_lines
-unfolding method_at header_at plain_method plain_header row frames.octets reading.method_at reading.args_at reading.field_at with_id header_reading.header_at header_reading.properties_at header_reading.optional_at table_at elements many named after_tag tagged value_at
+unfolding method_at header_at plain_method plain_header frames.octets reading.method_at reading.args_at reading.field_at with_id header_reading.header_at header_reading.properties_at header_reading.optional_at table_at elements many named after_tag tagged value_at
 server_handshake = refl
 
 -- A content of two octets, with a heartbeat and another channel's open between its frames.
@@ -101,7 +101,7 @@ server_content : server_lines 16777216 (handshake ++ content_pieces) ≡
     ∷ line (Finished (Some (Opened 2))) (hex (codes "010002000000080014000b00000000ce"))
     ∷ line (Finished (Some (Told 1 (Whole (record { method = publish; properties = replicate 14 None; body = codes "hi" }))))) []
     ∷ []
-unfolding method_at header_at plain_method plain_header row frames.octets reading.method_at reading.args_at reading.field_at with_id header_reading.header_at header_reading.properties_at header_reading.optional_at table_at elements many named after_tag tagged value_at
+unfolding method_at header_at plain_method plain_header frames.octets reading.method_at reading.args_at reading.field_at with_id header_reading.header_at header_reading.properties_at header_reading.optional_at table_at elements many named after_tag tagged value_at
 server_content = refl
 
 -- The same where the server takes no body above one octet.
@@ -113,7 +113,7 @@ server_content_refused : server_lines 1 (handshake ++ content_pieces) ≡
     ∷ line (Finished (Some (Opened 2))) (hex (codes "010002000000080014000b00000000ce"))
     ∷ line (Finished (Some (Discarded 1))) []
     ∷ []
-unfolding method_at header_at plain_method plain_header row frames.octets reading.method_at reading.args_at reading.field_at with_id header_reading.header_at header_reading.properties_at header_reading.optional_at table_at elements many named after_tag tagged value_at
+unfolding method_at header_at plain_method plain_header frames.octets reading.method_at reading.args_at reading.field_at with_id header_reading.header_at header_reading.properties_at header_reading.optional_at table_at elements many named after_tag tagged value_at
 server_content_refused = refl
 
 -- A frame above 4096 octets before tune-ok is told at the last octet of its size; one of 4096 is waited for.
@@ -121,17 +121,17 @@ too_large_told : server_lines 1 (protocol_header ∷ hex (codes "01000000000ff9"
     line (Finished (Some Quiet)) start_octets
     ∷ line (Found (Peer FrameError)) (hex (codes "01000000000016000a003201f50b6672616d652d6572726f7200000000ce"))
     ∷ []
-unfolding method_at header_at plain_method plain_header row frames.octets reading.method_at reading.args_at reading.field_at with_id header_reading.header_at header_reading.properties_at header_reading.optional_at table_at elements many named after_tag tagged value_at
+unfolding method_at header_at plain_method plain_header frames.octets reading.method_at reading.args_at reading.field_at with_id header_reading.header_at header_reading.properties_at header_reading.optional_at table_at elements many named after_tag tagged value_at
 too_large_told = refl
 
 longest_waited_for : server_lines 1 (protocol_header ∷ hex (codes "01000000000ff8") ∷ []) ≡ line (Finished (Some Quiet)) start_octets ∷ line Unfinished [] ∷ []
-unfolding method_at header_at plain_method plain_header row frames.octets reading.method_at reading.args_at reading.field_at with_id header_reading.header_at header_reading.properties_at header_reading.optional_at table_at elements many named after_tag tagged value_at
+unfolding method_at header_at plain_method plain_header frames.octets reading.method_at reading.args_at reading.field_at with_id header_reading.header_at header_reading.properties_at header_reading.optional_at table_at elements many named after_tag tagged value_at
 longest_waited_for = refl
 
 -- A tune-ok out of range is not answered; another protocol header is answered with this one.
 tune_ok_of_nothing : server_lines 1 (protocol_header ∷ start_ok_octets ∷ hex (codes "0100000000000c000a001f0000000200000000ce") ∷ []) ≡
     line (Finished (Some Quiet)) start_octets ∷ line (Finished (Some Quiet)) tune_octets ∷ line (Found Fatal) [] ∷ []
-unfolding method_at header_at plain_method plain_header row frames.octets reading.method_at reading.args_at reading.field_at with_id header_reading.header_at header_reading.properties_at header_reading.optional_at table_at elements many named after_tag tagged value_at
+unfolding method_at header_at plain_method plain_header frames.octets reading.method_at reading.args_at reading.field_at with_id header_reading.header_at header_reading.properties_at header_reading.optional_at table_at elements many named after_tag tagged value_at
 tune_ok_of_nothing = refl
 
 another_header : server_lines 1 (hex (codes "414d515000000800") ∷ []) ≡ line (Found WrongProtocolHeader) protocol_header ∷ []
@@ -140,7 +140,7 @@ another_header = refl
 -- an unknown method costs the connection
 unknown_method : server_lines 1 (handshake ++ hex (codes "01000000000004000a0046ce") ∷ []) ≡
     handshake_lines ++ line (Found (Peer NotImplemented)) (hex (codes "0100000000001a000a0032021c0f6e6f742d696d706c656d656e74656400000000ce")) ∷ []
-unfolding method_at header_at plain_method plain_header row frames.octets reading.method_at reading.args_at reading.field_at with_id header_reading.header_at header_reading.properties_at header_reading.optional_at table_at elements many named after_tag tagged value_at
+unfolding method_at header_at plain_method plain_header frames.octets reading.method_at reading.args_at reading.field_at with_id header_reading.header_at header_reading.properties_at header_reading.optional_at table_at elements many named after_tag tagged value_at
 unknown_method = refl
 
 -- A client that takes frames of 8192 octets and ten channels: its protocol header is written at first.
@@ -157,5 +157,5 @@ client_handshake : client_lines (start_octets ∷ tune_octets ∷ hex (codes "01
     ∷ line (Finished (Some (Negotiated (record { channel_max = 10; frame_max = 8192 })))) []
     ∷ line (Finished (Some (Blocked (codes "low")))) []
     ∷ []
-unfolding method_at header_at plain_method plain_header row frames.octets reading.method_at reading.args_at reading.field_at with_id header_reading.header_at header_reading.properties_at header_reading.optional_at table_at elements many named after_tag tagged value_at
+unfolding method_at header_at plain_method plain_header frames.octets reading.method_at reading.args_at reading.field_at with_id header_reading.header_at header_reading.properties_at header_reading.optional_at table_at elements many named after_tag tagged value_at
 client_handshake = refl

@@ -82,7 +82,7 @@ puts-fit reads role config end writes = record {
 
 -- a close at a frame above the limit fits a frame
 close-size : length (plain_method (connection_close FrameError).method) ≡ 22
-unfolding plain_method row
+unfolding plain_method
 close-size = refl
 
 close-fits : Fits (frame_of (connection_close FrameError))

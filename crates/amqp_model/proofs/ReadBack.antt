@@ -13,7 +13,7 @@ use Rattle.amqp_model.specs.Negotiation.{FRAME_MIN, Hello, OfClient, OfServer, C
 use Rattle.amqp_model.specs.Closes.{close_as, method_frame}
 use Rattle.amqp_model.specs.Events.{Message, Plain, Whole}
 use Rattle.amqp_model.specs.Asks.{Ask, Open, Send, Flow, CloseChannel, Close, Blocked, Unblocked, method_asked}
-use Rattle.amqp_model.specs.ReadingBack.{header_of, HeaderAskedReadsBack}
+use Rattle.amqp_model.specs.ReadingBack.{header_of, HeaderAskedReadsBack, TextAskedFits}
 use Rattle.amqp_model.specs.Fitting.{MethodFits, HelloFits, greeting, HostFits, PartsFit, FRAME_MOST, FrameMax, ChannelMax, HelloTooLong}
 use Rattle.amqp_model.specs.FittingLaws.{MethodReadsBack, HeaderReadsBack, FittingConfigWrites, AskedReadsBack, FaultlessConfigFits, FittingConfigIsFaultless}
 
@@ -32,15 +32,12 @@ abbrev pub configured : {role : Role} → (frame_max channel_max max_body : ℕ)
 configured frame_max channel_max max_body hello = record { frame_max = frame_max; channel_max = channel_max; max_body = max_body; hello = hello }
 
 start-says : (a b c : ℕ) (hello : Hello Server) → HelloFits hello → MethodFits (start (configured a b c hello))
-unfolding row
 start-says a b c (OfServer properties mechanisms locales) fits = record { of_kind = refl; arguments = (omega arith, (omega arith, (fits.0, (fits.1, (fits.2, tt))))) }
 
 start_ok-says : (a b c : ℕ) (hello : Hello Client) → HelloFits hello → MethodFits (start_ok (configured a b c hello))
-unfolding row
 start_ok-says a b c (OfClient properties mechanism response locale virtual_host) fits = record { of_kind = refl; arguments = (fits.0, (fits.1, (fits.2, (fits.3, tt)))) }
 
 open-says : (a b c : ℕ) (hello : Hello Client) → HostFits hello → MethodFits (connection_open (configured a b c hello))
-unfolding row
 open-says a b c (OfClient properties mechanism response locale virtual_host) fits = record { of_kind = refl; arguments = (fits, tt) }
 
 pub start-fits : (config : Config Server) → HelloFits config.hello → MethodFits (start config)
@@ -75,11 +72,9 @@ config-writes reads role config fits =
 -- The method of an ask.
 
 pub connection_close-fits : (code : ℕ) (text : List ℕ) → code < 2 ^ 16 → FitsShort text → MethodFits (close_as kinds.ConnectionClose code text)
-unfolding row
 connection_close-fits code text small fits = record { of_kind = refl; arguments = (small, (fits, (omega arith, (omega arith, tt)))) }
 
 pub channel_close-fits : (code : ℕ) (text : List ℕ) → code < 2 ^ 16 → FitsShort text → MethodFits (close_as kinds.ChannelClose code text)
-unfolding row
 channel_close-fits code text small fits = record { of_kind = refl; arguments = (small, (fits, (omega arith, (omega arith, tt)))) }
 
 message-fits : (channel : ℕ) (message : Message) → PartsFit (Send channel message) → MethodFits (method_asked (Send channel message))
@@ -87,7 +82,6 @@ message-fits channel (Plain method) fits = fits.1
 message-fits channel (Whole content) fits = fits.1.method
 
 pub asked-fits : (ask : Ask) → PartsFit ask → MethodFits (method_asked ask)
-unfolding row
 asked-fits Open fits = record { of_kind = refl; arguments = tt }
 asked-fits (Send channel message) fits = message-fits channel message fits
 asked-fits (Flow channel active) fits = record { of_kind = refl; arguments = (tt, tt) }
@@ -106,8 +100,17 @@ header-asked reads (Close code text) fits = tt
 header-asked reads (Blocked reason) fits = tt
 header-asked reads Unblocked fits = tt
 
+text-asked : (ask : Ask) → PartsFit ask → TextAskedFits ask
+text-asked Open fits = tt
+text-asked (Send channel message) fits = tt
+text-asked (Flow channel active) fits = tt
+text-asked (CloseChannel channel code text) fits = fits.2
+text-asked (Close code text) fits = fits.1
+text-asked (Blocked reason) fits = fits
+text-asked Unblocked fits = tt
+
 pub asked-reads : ((method : Method) → MethodReadsBack method) → ((header : Header) → HeaderReadsBack header) → (ask : Ask) → AskedReadsBack ask
-asked-reads methods headers ask fits = record { method = methods (method_asked ask) (asked-fits ask fits.parts); header = header-asked headers ask fits.parts }
+asked-reads methods headers ask fits = record { method = methods (method_asked ask) (asked-fits ask fits.parts); header = header-asked headers ask fits.parts; text = text-asked ask fits.parts }
 
 -- A configuration without a fault.
 faultless : (a b c d : Bool) → cond (a || b) (Some FrameMax) (cond c (Some ChannelMax) (cond d (Some HelloTooLong) None)) ≡ None → (a ≡ false) × (b ≡ false) × (c ≡ false) × (d ≡ false)

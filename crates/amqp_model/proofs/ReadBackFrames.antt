@@ -1,15 +1,14 @@
 -- The frames of a message say the payloads that they were made of.
 use Rattle.std.proofs.Common.{◌≡◌, ℕ, List, [], ◌∷◌, map, refl, ap}
 use Rattle.amqp_model.specs.Frame.{Frame}
-use Rattle.amqp_model.specs.Methods.{Method, Header}
+use Rattle.amqp_model.specs.Methods.{ReadsBack}
 use Rattle.amqp_model.specs.Contents as contents
 use Rattle.amqp_model.specs.Contents.{Payload, Content, pieces, room_in}
 use Rattle.amqp_model.specs.Readings.{method_reading, header_reading, reading, payload_of}
 use Rattle.amqp_model.specs.Events.{Message, Plain, Whole}
-use Rattle.amqp_model.specs.Asks.{Send, payload_frame, message_payloads}
-use Rattle.amqp_model.specs.ReadingBack.{header_of}
-use Rattle.amqp_model.specs.Fitting.{PartsFit}
-use Rattle.amqp_model.specs.FittingLaws.{MethodReadsBack, HeaderReadsBack, FramesSayPayloads}
+use Rattle.amqp_model.specs.Asks.{Send, payload_frame, message_payloads, method_asked}
+use Rattle.amqp_model.specs.ReadingBack.{header_of, HeaderAskedReadsBack}
+use Rattle.amqp_model.specs.FittingLaws.{FramesSayPayloads}
 
 -- what the frame of a payload says
 abbrev said : (channel : ℕ) → Payload → Payload
@@ -22,14 +21,14 @@ bodies-say : (channel : ℕ) (parts : List (List ℕ)) → all_said channel (map
 bodies-say channel [] = refl
 bodies-say channel (part ∷ parts) = ap (λ later. contents.Body part ∷ later) (bodies-say channel parts)
 
-pub frames-say : ((method : Method) → MethodReadsBack method) → ((header : Header) → HeaderReadsBack header) → (max channel : ℕ) (message : Message) → FramesSayPayloads max channel message
-frames-say methods headers max channel message fits = by message fits.parts
+pub frames-say : (max channel : ℕ) (message : Message) → FramesSayPayloads max channel message
+frames-say max channel message back = by message back.method back.header
   where
-    by : (message : Message) → PartsFit (Send channel message) → all_said channel (message_payloads max message) ≡ message_payloads max message
-    by (Plain method) parts = ap (λ read. payload_of (method_reading read) ∷ []) (methods method parts.1)
-    by (Whole content) parts =
-        let first : said channel (contents.Calls content.method) ≡ contents.Calls content.method = ap (λ read. payload_of (method_reading read)) (methods content.method parts.1.method) in
+    by : (message : Message) → ReadsBack (method_asked (Send channel message)) → HeaderAskedReadsBack (Send channel message) → all_said channel (message_payloads max message) ≡ message_payloads max message
+    by (Plain method) reads header = ap (λ read. payload_of (method_reading read) ∷ []) reads
+    by (Whole content) reads header =
+        let first : said channel (contents.Calls content.method) ≡ contents.Calls content.method = ap (λ read. payload_of (method_reading read)) reads in
         let second : said channel (contents.Header (header_of content).body_size content.properties) ≡ contents.Header (header_of content).body_size content.properties =
-        ap (λ read. payload_of (header_reading read)) (headers (header_of content) parts.1.header) in
+        ap (λ read. payload_of (header_reading read)) header in
         let later = bodies-say channel (pieces (room_in max) content.body) in
         rw (first, second, later) refl

@@ -70,11 +70,11 @@ code-fits NotImplemented = omega arith
 
 -- a close with a short text has a short frame
 pub connection_close-short : (channel code : ℕ) (text : List ℕ) → length text < 2 ^ 8 → frame_length (method_frame channel (close_as kinds.ConnectionClose code text)) ≤ FRAME_MIN
-unfolding row plain_method
+unfolding plain_method
 connection_close-short channel code text small = omega (arith, length-append text (0 ∷ 0 ∷ 0 ∷ 0 ∷ []))
 
 pub channel_close-short : (channel code : ℕ) (text : List ℕ) → length text < 2 ^ 8 → frame_length (method_frame channel (close_as kinds.ChannelClose code text)) ≤ FRAME_MIN
-unfolding row plain_method
+unfolding plain_method
 channel_close-short channel code text small = omega (arith, length-append text (0 ∷ 0 ∷ 0 ∷ 0 ∷ []))
 
 connection_close-sound : (number : ℕ) (code : CloseCode) → Sound number (connection_close code)
@@ -96,12 +96,12 @@ channel_close-sound number code =
     }
 
 connection_close_ok-sound : (number : ℕ) → Sound number connection_close_ok
-unfolding row plain_method
+unfolding plain_method
 connection_close_ok-sound number = record { back = λ reads. reads _ (record { of_kind = refl; arguments = tt }); channel = λ h. omega arith; short = omega arith; settles = λ e. absurd (false≢true e) }
 
 -- the replies to open, close and flow
 replies-sound : (number : ℕ) (owed : Option Kind) → AllSound number (map (on_channel number) (reply_to owed))
-unfolding row plain_method
+unfolding plain_method
 replies-sound number None = tt
 replies-sound number (Some Open) = tt
 replies-sound number (Some OpenOk) = (record { back = λ reads. reads _ (record { of_kind = refl; arguments = tt }); channel = λ h. h; short = omega arith; settles = λ e. absurd (false≢true e) }, tt)
@@ -129,18 +129,18 @@ start_ok-sound : (number : ℕ) (config : Config Client) → ConfigWrites config
 start_ok-sound number config fits = record { back = λ reads. fits.greeting_back; channel = λ h. omega arith; short = fits.greeting_short; settles = λ e. absurd (start_ok-settles config e) }
 
 open-short : (a b c : ℕ) (hello : Hello Client) → HostFits hello → frame_length (method_frame 0 (connection_open (configured a b c hello))) ≤ FRAME_MIN
-unfolding row plain_method
+unfolding plain_method
 open-short a b c (OfClient properties mechanism response locale virtual_host) fits = let small = fits.0 in omega (arith, length-append virtual_host (0 ∷ 0 ∷ []))
 
 open-sound : (number : ℕ) (config : Config Client) → ConfigWrites config → Sound number (on_zero (connection_open config))
 open-sound number config fits = record { back = λ reads. reads _ (open-fits config fits.host); channel = λ h. omega arith; short = open-short config.frame_max config.channel_max config.max_body config.hello fits.host; settles = λ e. absurd (connection_open-settles config e) }
 
 open_ok-sound : (number : ℕ) → Sound number (on_zero connection_open_ok)
-unfolding row plain_method
+unfolding plain_method
 open_ok-sound number = record { back = λ reads. reads _ (record { of_kind = refl; arguments = tt }); channel = λ h. omega arith; short = omega arith; settles = λ e. absurd (false≢true e) }
 
 tune-sound : (number : ℕ) (config : Config Server) → ConfigWrites config → Sound number (on_zero (tune config))
-unfolding row plain_method
+unfolding plain_method
 tune-sound number config fits =
     let channels = fits.channel_most in
     let most = fits.frame_most in
@@ -184,7 +184,7 @@ settled-fits config method large fits = record {
 }
 
 tune_ok-sound : (number : ℕ) (config : Config Client) (method : Method) → tunes_too_small method ≡ false → ConfigWrites config → Sound number (on_zero (tune_ok (settled config method)))
-unfolding row plain_method
+unfolding plain_method
 tune_ok-sound number config method large fits =
     let most = fits.frame_most in
     record {

@@ -1,5 +1,5 @@
 -- Each frame that an end puts fits its fields, and is no longer than the other end takes.
-use Rattle.std.proofs.Common.{◌≡◌, ◌<◌, ◌≤◌, ◌+◌, ◌-◌, ◌/◌, ◌^◌, Bool, true, false, ◌||◌, ℕ, zero, suc, arith, List, [], ◌∷◌, map, length, drop, Option, Some, None, refl, subst, length-append, length-take}
+use Rattle.std.proofs.Common.{◌≡◌, ◌<◌, ◌≤◌, ◌+◌, ◌-◌, ◌/◌, ◌^◌, Bool, true, false, ◌||◌, ◌==◌, ℕ, zero, suc, arith, List, [], ◌∷◌, map, length, drop, Option, Some, None, refl, subst, length-append, length-take}
 use Rattle.std.specs.Prelude.{nat_lt}
 use Rattle.std.specs.List.{AllByRecursion}
 use Rattle.std.proofs.lemmas.Bool.{ltb-false, true≢false}
@@ -18,12 +18,12 @@ use Rattle.amqp_model.specs.Negotiation.{Config, FRAME_MIN}
 use Rattle.amqp_model.specs.Closes.{FrameError, Owed, without_arguments, flow_as, method_frame, frame_of}
 use Rattle.amqp_model.specs.Events.{Message, Plain, Whole, Peer, Faults}
 use Rattle.amqp_model.specs.FrameVerdict.{Facts, verdict_on, methods_put}
-use Rattle.amqp_model.specs.Asks.{Ask, Open, Send, Flow, CloseChannel, Close, Blocked, Unblocked, Refusal, channel_max, frame_max, lowest_free, refusal, not_running, bad_channel, not_open, paused, not_sendable, too_large, payload_frame, message_payloads, method_asked, opens_on, frames_asked}
+use Rattle.amqp_model.specs.Asks.{Ask, Open, Send, Flow, CloseChannel, Close, Blocked, Unblocked, Refusal, channel_max, frame_max, lowest_free, refusal, bad_channel, too_large, payload_frame, message_payloads, method_asked, opens_on, frames_asked}
 use Rattle.amqp_model.specs.EndLaws.{FindsLowest}
-use Rattle.amqp_model.specs.ReadingBack.{header_of}
-use Rattle.amqp_model.specs.Fitting.{FRAME_MOST, PartsFit}
+use Rattle.amqp_model.specs.ReadingBack.{header_of, TextAskedFits}
+use Rattle.amqp_model.specs.Fitting.{FRAME_MOST}
 use Rattle.amqp_model.specs.FittingLaws.{StartFits, OwedFit, CloseFits, AskedFit, AllWithin, OwedAreShort, CloseIsShort, AskedAreWithin}
-use Rattle.amqp_model.proofs.Asking.{none-first, not-when, accepted-none}
+use Rattle.amqp_model.proofs.Asking.{accepted, not-when, accepted-none}
 use Rattle.amqp_model.proofs.Lowest.{finds-lowest}
 use Rattle.amqp_model.proofs.ReadBackOwed.{AllSound, fault-sound, owed-sound, connection_close-short, channel_close-short}
 
@@ -54,15 +54,6 @@ close-short role facts = all-short 0 (methods_put facts (Faults (Peer FrameError
 
 -- ---- what asks put: the lengths
 
-fits-size : (role : Role) (end : End) (ask : Ask) → refusal role end ask ≡ None → too_large end ask ≡ None
-fits-size role end ask e =
-    let a = none-first (not_running end) _ e in
-    let b = none-first (bad_channel end ask) _ a.1 in
-    let c = none-first (not_open end ask) _ b.1 in
-    let d = none-first (paused end ask) _ c.1 in
-    let f = none-first (not_sendable role ask) _ d.1 in
-    (none-first (too_large end ask) _ f.1).0
-
 neither : (a b : Bool) → (a || b) ≡ false → (a ≡ false) × (b ≡ false)
 neither true b e = absurd (true≢false e)
 neither false b e = (refl, e)
@@ -82,35 +73,35 @@ message-within limit channel end (Whole content) least below e =
     (omega arith, (omega arith, pieces-within limit (frame_max end.agreed) least below channel ((length content.body + room_in (frame_max end.agreed) - 1) / room_in (frame_max end.agreed)) content.body))
 
 open-within : (limit : ℕ) (free : Option ℕ) → FRAME_MIN ≤ limit → AllWithin limit (opens_on free)
-unfolding row plain_method
+unfolding plain_method
 open-within limit (Some channel) least = (omega arith, tt)
 open-within limit None least = tt
 
 blocked-short : (reason : List ℕ) → length reason < 2 ^ 8 → frame_length (method_frame 0 (method_asked (Blocked reason))) ≤ FRAME_MIN
-unfolding row plain_method
+unfolding plain_method
 blocked-short reason small = omega (arith, length-append reason [])
 
 flow-short : (channel : ℕ) (active : Bool) → frame_length (method_frame channel (flow_as kinds.ChannelFlow active)) ≤ FRAME_MIN
-unfolding row plain_method
+unfolding plain_method
 flow-short channel active = omega arith
 
 unblocked-short : frame_length (method_frame 0 (without_arguments kinds.ConnectionUnblocked)) ≤ FRAME_MIN
-unfolding row plain_method
+unfolding plain_method
 unblocked-short = omega arith
 
-asked-within : (limit : ℕ) (end : End) (ask : Ask) → FRAME_MIN ≤ limit → frame_max end.agreed ≤ limit → PartsFit ask → too_large end ask ≡ None → AllWithin limit (frames_asked end ask)
-asked-within limit end Open least below parts e = open-within limit (lowest_free end) least
-asked-within limit end (Send channel message) least below parts e = message-within limit channel end message least below e
-asked-within limit end (Flow channel active) least below parts e = let short = flow-short channel active in (omega arith, tt)
-asked-within limit end (CloseChannel channel code text) least below parts e = let short = channel_close-short channel code text parts.2.0 in (omega arith, tt)
-asked-within limit end (Close code text) least below parts e = let short = connection_close-short 0 code text parts.1.0 in (omega arith, tt)
-asked-within limit end (Blocked reason) least below parts e = let short = blocked-short reason parts.0 in (omega arith, tt)
-asked-within limit end Unblocked least below parts e = let short = unblocked-short in (omega arith, tt)
+asked-within : (limit : ℕ) (end : End) (ask : Ask) → FRAME_MIN ≤ limit → frame_max end.agreed ≤ limit → TextAskedFits ask → too_large end ask ≡ None → AllWithin limit (frames_asked end ask)
+asked-within limit end Open least below text e = open-within limit (lowest_free end) least
+asked-within limit end (Send channel message) least below text e = message-within limit channel end message least below e
+asked-within limit end (Flow channel active) least below text e = let short = flow-short channel active in (omega arith, tt)
+asked-within limit end (CloseChannel channel code words) least below text e = let short = channel_close-short channel code words text.0 in (omega arith, tt)
+asked-within limit end (Close code words) least below text e = let short = connection_close-short 0 code words text.0 in (omega arith, tt)
+asked-within limit end (Blocked reason) least below text e = let short = blocked-short reason text.0 in (omega arith, tt)
+asked-within limit end Unblocked least below text e = let short = unblocked-short in (omega arith, tt)
 
 pub asked-are-within : (role : Role) (end : End) (ask : Ask) (frames : List Frame) → AskedAreWithin role end ask frames
-asked-are-within role end ask frames fits least e =
+asked-are-within role end ask frames back least e =
     let put = accepted-none (refusal role end ask) (frames_asked end ask) frames e in
-    subst (AllWithin (frame_max end.agreed)) put.1 (asked-within (frame_max end.agreed) end ask least (omega arith) fits.parts (fits-size role end ask put.0))
+    subst (AllWithin (frame_max end.agreed)) put.1 (asked-within (frame_max end.agreed) end ask least (omega arith) back.text (accepted role end ask put.0).short)
 
 -- ---- what asks put: the channels
 
@@ -131,22 +122,26 @@ open-numbered : (end : End) (free : Option ℕ) → channel_max end.agreed < 2 ^
 open-numbered end (Some channel) small found = let below = found.below_end in (omega arith, tt)
 open-numbered end None small found = tt
 
-asked-numbered : (end : End) (ask : Ask) → channel_max end.agreed < 2 ^ 16 → PartsFit ask → AllNumbered (frames_asked end ask)
-asked-numbered end Open small parts = open-numbered end (lowest_free end) small (finds-lowest end.channels (channel_max end.agreed) 1)
-asked-numbered end (Send channel message) small parts = payloads-numbered channel (message_payloads (frame_max end.agreed) message) parts.0
-asked-numbered end (Flow channel active) small parts = (parts, tt)
-asked-numbered end (CloseChannel channel code text) small parts = (parts.0, tt)
-asked-numbered end (Close code text) small parts = (omega arith, tt)
-asked-numbered end (Blocked reason) small parts = (omega arith, tt)
-asked-numbered end Unblocked small parts = (omega arith, tt)
+-- a number that was not refused
+good-number : (end : End) (channel : ℕ) → channel_max end.agreed < 2 ^ 16 → ((channel == 0) || nat_lt (channel_max end.agreed) channel) ≡ false → channel < 2 ^ 16
+good-number end channel small e = let within = ltb-false (channel_max end.agreed) channel (neither (channel == 0) _ e).1 in omega arith
+
+asked-numbered : (end : End) (ask : Ask) → channel_max end.agreed < 2 ^ 16 → bad_channel end ask ≡ None → AllNumbered (frames_asked end ask)
+asked-numbered end Open small e = open-numbered end (lowest_free end) small (finds-lowest end.channels (channel_max end.agreed) 1)
+asked-numbered end (Send channel message) small e = payloads-numbered channel (message_payloads (frame_max end.agreed) message) (good-number end channel small (not-when _ Refusal.BadChannel e))
+asked-numbered end (Flow channel active) small e = (good-number end channel small (not-when _ Refusal.BadChannel e), tt)
+asked-numbered end (CloseChannel channel code text) small e = (good-number end channel small (not-when _ Refusal.BadChannel e), tt)
+asked-numbered end (Close code text) small e = (omega arith, tt)
+asked-numbered end (Blocked reason) small e = (omega arith, tt)
+asked-numbered end Unblocked small e = (omega arith, tt)
 
 numbered-fit : (frames : List Frame) → AllNumbered frames → AllWithin FRAME_MOST frames → AllFit frames
 numbered-fit [] numbered within = tt
 numbered-fit (frame ∷ frames) numbered within = let short = within.0 in (record { channel = numbered.0; size = omega arith }, numbered-fit frames numbered.1 within.1)
 
 pub asked-fit : (role : Role) (end : End) (ask : Ask) (frames : List Frame) → AskedFit role end ask frames
-asked-fit role end ask frames fits agreed e =
+asked-fit role end ask frames back agreed e =
     let put = accepted-none (refusal role end ask) (frames_asked end ask) frames e in
     subst AllFit put.1
-    (numbered-fit (frames_asked end ask) (asked-numbered end ask agreed.channel_most fits.parts)
-    (asked-within FRAME_MOST end ask (omega arith) agreed.frame_most fits.parts (fits-size role end ask put.0)))
+    (numbered-fit (frames_asked end ask) (asked-numbered end ask agreed.channel_most (accepted role end ask put.0).numbered)
+    (asked-within FRAME_MOST end ask (omega arith) agreed.frame_most back.text (accepted role end ask put.0).short))

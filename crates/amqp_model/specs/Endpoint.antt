@@ -1,13 +1,9 @@
 -- One end of a connection, octet by octet: what it keeps, and what becomes of it by the next octet, by a piece of octets, by
 -- an ask and by a write. AMQP 0-9-1 specification, sections 2.3.4, "Delimiting Frames", 4.2.2, "Protocol Header", and 4.2.3,
 -- "General Frame Format".
-use Rattle.std.specs.Prelude.{Bool, true, false, cond, ℕ, suc, ◌+◌, ◌*◌, ◌==◌, nat_lt, List, [], ◌∷◌, ◌++◌, length, map, take, drop, slice_index, Option, Some, None}
-use Rattle.amqp_frame.specs.declared.frames.FrameKind.{FrameKind}
-use Rattle.amqp_frame.specs.declared.frames.FrameKind.TheVariants as frames
+use Rattle.std.specs.Prelude.{Bool, true, false, cond, ℕ, suc, ◌==◌, List, [], ◌∷◌, ◌++◌, map, Option, Some, None}
 use Rattle.amqp_frame.specs.declared.faults.FrameFaultKind.{FrameFaultKind}
-use Rattle.amqp_frame.specs.declared.faults.FrameFaultKind.TheVariants.{UnknownType, TooLarge, BadEnd}
-use Rattle.amqp_frame.specs.Frame.{END}
-use Rattle.amqp_frame.specs.Splitting.{size_of}
+use Rattle.amqp_frame.specs.declared.faults.FrameFaultKind.TheVariants.{TooLarge}
 use Rattle.amqp_model.specs.Frame.{Frame}
 use Rattle.amqp_model.specs.Notes.{Role, Client, Server}
 use Rattle.amqp_model.specs.Readings.{reading}
@@ -21,50 +17,8 @@ use Rattle.amqp_model.specs.Outputs.{Output, after_puts, after_writing}
 use Rattle.amqp_model.specs.EndVerdict.{facts_at, end_verdict, end_puts}
 use Rattle.amqp_model.specs.Machine.{end_after_owed, end_after_put, end_after_taken, failed_by, new_end}
 use Rattle.amqp_model.specs.Octets.{opening_read, opening_written}
-
--- Octets of which no shorter prefix is a frame or tells a fault.
-
--- a frame begun, a whole frame, or octets of which the last tells a fault
-pub data Judgement : Type 0 where
-  Begun : Judgement
-  Whole : Frame → Judgement
-  Wrong : FrameFaultKind → Judgement
-
--- the kind of frame that a type octet stands for
-abbrev pub kind_of_type : (octet : ℕ) → Option FrameKind
-kind_of_type octet =
-    cond (octet == 1) (Some frames.Method)
-    (cond (octet == 2) (Some frames.Header)
-    (cond (octet == 3) (Some frames.Body)
-    (cond (octet == 8) (Some frames.Heartbeat) None)))
-
--- the channel, as the second and the third octet have it
-abbrev pub channel_encoded : List ℕ → ℕ
-channel_encoded octets = 256 * slice_index octets 1 + slice_index octets 2
-
--- the frame of this kind that octets encode
-abbrev pub frame_in : FrameKind → List ℕ → Frame
-frame_in kind octets = record { kind = kind; channel = channel_encoded octets; payload = take (size_of octets) (drop 7 octets) }
-
--- the octet is there that is to end the frame
-abbrev pub judged_by_end : FrameKind → List ℕ → Judgement
-judged_by_end kind octets = cond (slice_index octets (size_of octets + 7) == END) (Whole (frame_in kind octets)) (Wrong BadEnd)
-
--- the payload's size is there
-abbrev pub judged_by_size : (limit : ℕ) → FrameKind → List ℕ → Judgement
-judged_by_size limit kind octets =
-    cond (nat_lt limit (size_of octets + 8)) (Wrong TooLarge)
-    (cond (nat_lt (length octets) (size_of octets + 8)) Begun (judged_by_end kind octets))
-
--- the type octet is there
-abbrev pub judged_by_type : (limit : ℕ) → Option FrameKind → List ℕ → Judgement
-judged_by_type limit None octets = Wrong UnknownType
-judged_by_type limit (Some kind) octets = cond (nat_lt (length octets) 7) Begun (judged_by_size limit kind octets)
-
--- what the octets are, under a limit on a frame's octets
-abbrev pub judged : (limit : ℕ) → List ℕ → Judgement
-judged limit [] = Begun
-judged limit (type_octet ∷ later) = judged_by_type limit (kind_of_type type_octet) (type_octet ∷ later)
+-- What octets are: a frame begun, a whole frame, or octets of which the last shows a fault. Those who read of an end read of it here.
+pub use Rattle.amqp_frame.specs.Judged.{Judgement, Begun, Whole, Wrong, kind_of_type, frame_in, judged_by_end, judged_by_size, judged_by_type, judged}
 
 -- Octets beside those that are wanted.
 

@@ -51,10 +51,10 @@ OwedReadBack role facts reading = ConfigWrites facts.config → AllReadBack (met
 abbrev pub CloseReadsBack : (role : Role) → Facts role → Type 0
 CloseReadsBack role facts = AllReadBack (methods_put facts (Faults (Peer FrameError)))
 
--- each frame of a message says the payload that it was made of
+-- each frame of a message that reads back says the payload that it was made of
 abbrev pub FramesSayPayloads : (max channel : ℕ) → Message → Type 0
 FramesSayPayloads max channel message =
-    AskFits (Send channel message) → map (λ (frame : Frame). payload_of (reading_of frame)) (map (payload_frame channel) (message_payloads max message)) ≡ message_payloads max message
+    AskReadsBack (Send channel message) → map (λ (frame : Frame). payload_of (reading_of frame)) (map (payload_frame channel) (message_payloads max message)) ≡ message_payloads max message
 
 -- so all that an end of such a configuration writes of itself reads back
 abbrev pub AllReadsBack : (role : Role) → Config role → Type 0
@@ -72,9 +72,9 @@ OwedFit role facts reading = ConfigWrites facts.config → facts.number < 2 ^ 16
 abbrev pub CloseFits : (role : Role) → Facts role → Type 0
 CloseFits role facts = AllFit (map frame_of (methods_put facts (Faults (Peer FrameError))))
 
--- the frames that an accepted ask puts fit their fields
+-- the frames that an accepted ask puts fit their fields, where what is written for it reads back
 abbrev pub AskedFit : Role → End → Ask → List Frame → Type 0
-AskedFit role end ask frames = AskFits ask → AgreedFits end.agreed → ask_verdict role end ask ≡ Puts frames → AllFit frames
+AskedFit role end ask frames = AskReadsBack ask → AgreedFits end.agreed → ask_verdict role end ask ≡ Puts frames → AllFit frames
 
 -- no frame has more octets than this
 abbrev pub AllWithin : (limit : ℕ) → List Frame → Type 0
@@ -90,7 +90,7 @@ CloseIsShort role facts = AllWithin FRAME_MIN (map frame_of (methods_put facts (
 
 -- the frames that an accepted ask puts are no longer than was agreed
 abbrev pub AskedAreWithin : Role → End → Ask → List Frame → Type 0
-AskedAreWithin role end ask frames = AskFits ask → FRAME_MIN ≤ frame_max end.agreed → ask_verdict role end ask ≡ Puts frames → AllWithin (frame_max end.agreed) frames
+AskedAreWithin role end ask frames = AskReadsBack ask → FRAME_MIN ≤ frame_max end.agreed → ask_verdict role end ask ≡ Puts frames → AllWithin (frame_max end.agreed) frames
 
 -- what was agreed in a lawful history is within the limits
 abbrev pub AgreedIsWithin : (role : Role) → Config role → (failed : Bool) → History → Type 0

@@ -39,6 +39,7 @@ pub mod Machine
 pub mod EndLaws
 pub mod Octets
 pub mod Pairs
+pub mod Agreement
 pub mod Sent
 pub mod SentLaws
 pub mod WholeMessages
@@ -49,3 +50,4 @@ pub mod Endpoint
 pub mod OctetLaws
 pub mod CarryingLaws
 pub mod MethodLaws
+pub mod Pieces

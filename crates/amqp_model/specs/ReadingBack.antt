@@ -1,6 +1,7 @@
 -- What is written reads as what it was made of: premises of the laws that speak of what an end puts. `Fitting` says when they
 -- hold.
 use Rattle.std.specs.Prelude.{◌≡◌, ℕ, length, Some}
+use Rattle.amqp_method.specs.Fitting.{FitsShort}
 use Rattle.amqp_model.specs.Notes.{Role, Client, Server}
 use Rattle.amqp_model.specs.Methods.{Header, ReadsBack, header_at, plain_header}
 use Rattle.amqp_model.specs.Contents.{Content}
@@ -10,7 +11,7 @@ use Rattle.amqp_model.specs.Negotiation.{Config, start}
 use Rattle.amqp_model.specs.Closes.{FrameError, AllReadBack}
 use Rattle.amqp_model.specs.Events.{Whole, Peer, Faults}
 use Rattle.amqp_model.specs.FrameVerdict.{verdict_on, methods_put}
-use Rattle.amqp_model.specs.Asks.{Ask, Send, method_asked}
+use Rattle.amqp_model.specs.Asks.{Ask, Send, CloseChannel, Close, Blocked, method_asked}
 use Rattle.amqp_model.specs.EndVerdict.{facts_at}
 
 -- the header of a content, as it is written
@@ -21,10 +22,19 @@ abbrev pub HeaderAskedReadsBack : Ask → Type 0
 HeaderAskedReadsBack (Send channel (Whole content)) = header_at (plain_header (header_of content)) ≡ Some (header_of content)
 HeaderAskedReadsBack ask = Unit {0}
 
--- what is written for an ask reads back: its method, and the header of its content
+-- The text of a close, and the reason of a block, is a short string. The plain encoding of a longer one could read back too,
+-- with a length that is no octet.
+abbrev pub TextAskedFits : Ask → Type 0
+TextAskedFits (CloseChannel channel code text) = FitsShort text
+TextAskedFits (Close code text) = FitsShort text
+TextAskedFits (Blocked reason) = FitsShort reason
+TextAskedFits ask = Unit {0}
+
+-- what is written for an ask reads back: its method, with a text that fits its field, and the header of its content
 pub record AskReadsBack (ask : Ask) : Type 0 where
   pub method : ReadsBack (method_asked ask)
   pub header : HeaderAskedReadsBack ask
+  pub text : TextAskedFits ask
 
 abbrev pub GreetingReadsBack : (role : Role) → Config role → Type 0
 GreetingReadsBack Client config = Unit {0}

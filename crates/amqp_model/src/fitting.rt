@@ -53,12 +53,10 @@ pub fn owed_read_back()
     written_reads_back();
 }
 
-/// Each frame of a message says the payload that it was made of.
+/// Each frame of a message says the payload that it was made of, where its method and its header read back.
 pub fn frames_say_payloads()
     ensures { (max channel : ℕ) (message : Message) → FramesSayPayloads max channel message }
-{
-    written_reads_back();
-}
+{}
 
 /// Each frame that an end puts fits its fields: start, what verdicts and a frame above the limit make it put, and what it
 /// puts for an accepted ask.

@@ -6,6 +6,7 @@
 //! body. Who needs it calls the function and has its clauses.
 #![tactic(auto)]
 
+pub mod agreement;
 pub mod arrangement;
 pub mod contents;
 pub mod fitting;
@@ -13,4 +14,5 @@ pub mod lives;
 pub mod methods;
 pub mod octets;
 pub mod one_end;
+pub mod pieces;
 pub mod two_ends;

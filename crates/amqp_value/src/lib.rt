@@ -10,8 +10,6 @@ mod read;
 mod short_str;
 mod tables;
 mod tag;
-#[cfg(test)]
-mod tests;
 mod text;
 mod values;
 mod write;

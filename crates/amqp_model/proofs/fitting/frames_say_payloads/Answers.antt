@@ -3,4 +3,4 @@ use Rattle.amqp_model.proofs.ReadBackFrames.{frames-say}
 use Rattle.amqp_model.proofs.fitting.frames_say_payloads.Goals as goal
 
 pub returns : goal.returns
-returns c = frames-say c.written_reads_back.ensures.method c.written_reads_back.ensures.header
+returns c = frames-say

@@ -1,7 +1,7 @@
 //! Frames of known octets, each call with ample memory.
 ghost use Rattle.std.specs.Prelude.{◌≤◌};
 
-use crate::{
+use amqp_frame::{
     Fed, FrameFault, FrameFaultKind, FrameKind, FrameRef, RawFrame, Splitter, write_frame,
 };
 use std::alloc::Global;

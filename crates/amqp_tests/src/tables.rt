@@ -1,5 +1,7 @@
-use crate::fault::ValueFaultKind::{Ends, PassesItsEnd, TooDeep, TooLong, UnknownTag};
-use crate::{ShortStr, Table, Value, ValueFault, read_table, table_text, text_of, write_table};
+use amqp_value::ValueFaultKind::{Ends, PassesItsEnd, TooDeep, TooLong, UnknownTag};
+use amqp_value::{
+    ShortStr, Table, Value, ValueFault, read_table, table_text, text_of, write_table,
+};
 use std::alloc::Global;
 use std::test::*;
 

@@ -1,5 +1,5 @@
 //! Methods and headers as the standard lays them out, read, written and printed.
-use crate::{
+use amqp_method::{
     Arg, FieldKind, Header, Kind, Message, Method, MethodFault, MethodFaultKind, Properties, fits,
     header_text, method_text, read_header, read_method, schema, sends, write_header, write_method,
 };

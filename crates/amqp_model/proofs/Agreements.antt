@@ -1,0 +1,168 @@
+-- What two ends agree on, and what each goes on with on channel 0: the laws.
+use Rattle.std.proofs.Common.{◌≡◌, ◌⊎◌, inl, inr, Bool, true, false, ℕ, zero, suc, arith, List, [], ◌∷◌, ◌++◌, map, Some, None, refl, sym, ap, ◌∙◌, subst, append-nil}
+use Rattle.std.proofs.lemmas.Bool.{false≢true, true≢false}
+use Rattle.std.proofs.lemmas.List.{append_cancel_left}
+use Rattle.amqp_model.specs.Frame.{Frame}
+use Rattle.amqp_model.specs.Notes.{Role, Client, Server}
+use Rattle.amqp_model.specs.Arrangement.{on}
+use Rattle.amqp_model.specs.Methods.{Method}
+use Rattle.amqp_model.specs.Histories.{History}
+use Rattle.amqp_model.specs.Channels.{HandshakeStep, Phase, Handshake, Running, Closed, Failed, Agreed}
+use Rattle.amqp_model.specs.Negotiation.{Config}
+use Rattle.amqp_model.specs.FrameVerdict.{verdict_on}
+use Rattle.amqp_model.specs.EndVerdict.{facts_at, goes_on}
+use Rattle.amqp_model.specs.Fitting.{ConfigWrites}
+use Rattle.amqp_model.specs.FittingLaws.{MethodReadsBack}
+use Rattle.amqp_model.specs.Octets.{frames_put, frames_taken}
+use Rattle.amqp_model.specs.Pairs.{config_of}
+use Rattle.amqp_model.specs.Agreement.{PairWrites, end_in, smaller_limits, AgreesOnSmaller, AgreesPastHandshake, GoesOnWith, GoesOnAtZero, RunsWhereNextIsAbove, ClosedHasTakenAll}
+use Rattle.amqp_model.proofs.Acting.{reads-back}
+use Rattle.amqp_model.proofs.ReadBackOwed.{all-reads-back}
+use Rattle.amqp_model.proofs.Footings.{Footing, footing_of}
+use Rattle.amqp_model.proofs.Together.{Word, said, spoken, AllRead, both_settle, Together, new, greeted, answered, tuned, settled_once, both_closed, client_closed, server_closed, smaller-is}
+use Rattle.amqp_model.proofs.Hearing.{is_shut, shakes_hands}
+use Rattle.amqp_model.proofs.BothEnds.{TogetherAs, hears-as, mine_of, theirs_of, Joined, turned, pair-joined}
+
+module _ (reads : (method : Method) → MethodReadsBack method) where
+  pub joined : (role : Role) (client_config : Config Client) (server_config : Config Server) (mine theirs : History) → PairWrites role client_config server_config mine theirs → Joined role client_config server_config mine theirs
+  joined Client client_config server_config mine theirs p = pair-joined client_config server_config p.client_writes p.server_writes (all-reads-back reads Client client_config p.client_writes) (all-reads-back reads Server server_config p.server_writes) mine theirs p.pair
+  joined Server client_config server_config mine theirs p = turned client_config server_config theirs mine (pair-joined client_config server_config p.client_writes p.server_writes (all-reads-back reads Client client_config p.client_writes) (all-reads-back reads Server server_config p.server_writes) theirs mine p.pair)
+
+-- The limits.
+
+settled-smaller : (client_config : Config Client) (server_config : Config Server) → ConfigWrites server_config → both_settle client_config server_config ≡ smaller_limits client_config server_config
+settled-smaller client_config server_config writes =
+    let c = smaller-is client_config.channel_max server_config.channel_max writes.channel_least in
+    let f = smaller-is client_config.frame_max server_config.frame_max (let h = writes.frame_least in omega arith) in
+    λ i. record { channel_max = c i; frame_max = f i }
+
+-- nothing is agreed yet in the handshake, or this
+abbrev Settling : Agreed → Footing → Type 0
+Settling agreed footing = ((footing.agreed ≡ None) × (shakes_hands footing.phase ≡ true)) ⊎ (footing.agreed ≡ Some agreed)
+
+client-settling : (client_config : Config Client) (server_config : Config Server) {client server : Footing} {to_server to_client : List Word} → Together client_config server_config client server to_server to_client → Settling (both_settle client_config server_config) client
+client-settling client_config server_config new = inl (refl, refl)
+client-settling client_config server_config (greeted args) = inl (refl, refl)
+client-settling client_config server_config (answered args) = inl (refl, refl)
+client-settling client_config server_config tuned = inl (refl, refl)
+client-settling client_config server_config together = inr refl
+
+server-settling : (client_config : Config Client) (server_config : Config Server) {client server : Footing} {to_server to_client : List Word} → Together client_config server_config client server to_server to_client → Settling (both_settle client_config server_config) server
+server-settling client_config server_config new = inl (refl, refl)
+server-settling client_config server_config (greeted args) = inl (refl, refl)
+server-settling client_config server_config (answered args) = inl (refl, refl)
+server-settling client_config server_config tuned = inl (refl, refl)
+server-settling client_config server_config (settled_once args) = inl (refl, refl)
+server-settling client_config server_config together = inr refl
+
+settling : (role : Role) (client_config : Config Client) (server_config : Config Server) (mine theirs : Footing) (due sent : List Word) → TogetherAs role client_config server_config mine theirs due sent → Settling (both_settle client_config server_config) mine
+settling Client client_config server_config mine theirs due sent together = client-settling client_config server_config together
+settling Server client_config server_config mine theirs due sent together = server-settling client_config server_config together
+
+settling-of : (reads : (method : Method) → MethodReadsBack method) (role : Role) (client_config : Config Client) (server_config : Config Server) (mine theirs : History) → PairWrites role client_config server_config mine theirs → Settling (smaller_limits client_config server_config) (footing_of (end_in role client_config server_config mine))
+settling-of reads role client_config server_config mine theirs p =
+    let j = joined reads role client_config server_config mine theirs p in
+    subst (λ a. Settling a (footing_of (end_in role client_config server_config mine))) (settled-smaller client_config server_config p.server_writes) (settling role client_config server_config (footing_of (mine_of role client_config server_config mine)) (footing_of (theirs_of role client_config server_config theirs)) j.due j.sent j.together)
+
+pub agrees-on-smaller : (reads : (method : Method) → MethodReadsBack method) (role : Role) (client_config : Config Client) (server_config : Config Server) (mine theirs : History) (agreed : Agreed) → AgreesOnSmaller role client_config server_config mine theirs agreed
+agrees-on-smaller reads role client_config server_config mine theirs agreed p e = cases (settling-of reads role client_config server_config mine theirs p)
+  where
+    cases : Settling (smaller_limits client_config server_config) (footing_of (end_in role client_config server_config mine)) → agreed ≡ smaller_limits client_config server_config
+    cases (inl s) = absurd (let h : None ≡ Some agreed = sym s.0 ∙ e in cc)
+    cases (inr s) = let h : Some agreed ≡ Some (smaller_limits client_config server_config) = sym e ∙ s in cc
+
+pub agrees-past-handshake : (reads : (method : Method) → MethodReadsBack method) (role : Role) (client_config : Config Client) (server_config : Config Server) (mine theirs : History) → AgreesPastHandshake role client_config server_config mine theirs
+agrees-past-handshake reads role client_config server_config mine theirs p past = cases (settling-of reads role client_config server_config mine theirs p)
+  where
+    step-of : (phase : Phase) → shakes_hands phase ≡ true → (step : HandshakeStep) × (phase ≡ Handshake step)
+    step-of (Handshake step) e = (step, refl)
+    step-of Running e = absurd (false≢true e)
+    step-of Phase.Closing e = absurd (false≢true e)
+    step-of Closed e = absurd (false≢true e)
+    step-of Failed e = absurd (false≢true e)
+
+    cases : Settling (smaller_limits client_config server_config) (footing_of (end_in role client_config server_config mine)) → (end_in role client_config server_config mine).agreed ≡ Some (smaller_limits client_config server_config)
+    cases (inl s) = let step = step-of (end_in role client_config server_config mine).phase s.1 in absurd (past step.0 step.1)
+    cases (inr s) = s
+
+-- What comes next.
+
+-- of all that is in flight the first
+zero-next : (role : Role) (client_config : Config Client) (server_config : Config Server) → ConfigWrites client_config → ConfigWrites server_config → (mine theirs : History) (sent : List Word) (frame : Frame) (later : List Frame) (due : List Word) → TogetherAs role client_config server_config (footing_of (mine_of role client_config server_config mine)) (footing_of (theirs_of role client_config server_config theirs)) due sent → AllRead due → map spoken due ≡ frame ∷ later → GoesOnWith role client_config server_config mine frame
+zero-next role client_config server_config client_writes server_writes mine theirs sent frame later [] together read e = absurd cc
+zero-next role client_config server_config client_writes server_writes mine theirs sent frame later (word ∷ due) together read e =
+    let h = hears-as role client_config server_config client_writes server_writes due sent word together in
+    let same : spoken word ≡ frame = (let h : spoken word ∷ map spoken due ≡ frame ∷ later = e in cc) in
+    subst (λ f. GoesOnWith role client_config server_config mine f) same
+    (record { in_phase = h.hears.takes; goes = ap (λ r. goes_on (verdict_on (facts_at (config_of role client_config server_config) (end_in role client_config server_config mine) 0) r)) (reads-back 0 (said word) read.0) ∙ h.hears.goes })
+
+pub goes-on-at-zero : (reads : (method : Method) → MethodReadsBack method) (role : Role) (client_config : Config Client) (server_config : Config Server) (mine theirs : History) (frame : Frame) → GoesOnAtZero role client_config server_config mine theirs frame
+goes-on-at-zero reads role client_config server_config mine theirs frame p next here =
+    let j = joined reads role client_config server_config mine theirs p in
+    let there = subst (λ c. on c (frames_put theirs) ≡ on c (frames_taken mine) ++ frame ∷ next.later) here next.next in
+    zero-next role client_config server_config p.client_writes p.server_writes mine theirs j.sent frame next.later j.due j.together j.due_read (append_cancel_left (on 0 (frames_taken mine)) (map spoken j.due) (frame ∷ next.later) (sym j.due_is ∙ there))
+
+-- no end has failed
+abbrev has_failed : Phase → Bool
+has_failed Failed = true
+has_failed phase = false
+
+client-goes-on : (client_config : Config Client) (server_config : Config Server) {client server : Footing} {to_server to_client : List Word} → Together client_config server_config client server to_server to_client → has_failed client.phase ≡ false
+client-goes-on client_config server_config new = refl
+client-goes-on client_config server_config together = refl
+
+server-goes-on : (client_config : Config Client) (server_config : Config Server) {client server : Footing} {to_server to_client : List Word} → Together client_config server_config client server to_server to_client → has_failed server.phase ≡ false
+server-goes-on client_config server_config new = refl
+server-goes-on client_config server_config together = refl
+
+none-failed : (role : Role) (client_config : Config Client) (server_config : Config Server) (mine theirs : Footing) (due sent : List Word) → TogetherAs role client_config server_config mine theirs due sent → has_failed mine.phase ≡ false
+none-failed Client client_config server_config mine theirs due sent together = client-goes-on client_config server_config together
+none-failed Server client_config server_config mine theirs due sent together = server-goes-on client_config server_config together
+
+-- nothing comes after all
+none-after : (xs : List Frame) (frame : Frame) (later : List Frame) → xs ≡ xs ++ frame ∷ later → ⊥
+none-after [] frame later e = cc
+none-after (x ∷ xs) frame later e = none-after xs frame later (let h : x ∷ xs ≡ x ∷ (xs ++ frame ∷ later) = e in cc)
+
+none-before : (xs : List Frame) (frame : Frame) (later : List Frame) → [] ≡ xs ++ frame ∷ later → ⊥
+none-before [] frame later e = cc
+none-before (x ∷ xs) frame later e = cc
+
+pub runs-where-next-is-above : (reads : (method : Method) → MethodReadsBack method) (role : Role) (client_config : Config Client) (server_config : Config Server) (mine theirs : History) (frame : Frame) → RunsWhereNextIsAbove role client_config server_config mine theirs frame
+runs-where-next-is-above reads role client_config server_config mine theirs frame p next above = by-channel frame.channel refl
+  where
+    j : Joined role client_config server_config mine theirs
+    j = joined reads role client_config server_config mine theirs p
+
+    by-phase : (m : ℕ) → on (suc m) (frames_put theirs) ≡ on (suc m) (frames_taken mine) ++ frame ∷ next.later → (phase : Phase) → (end_in role client_config server_config mine).phase ≡ phase → (phase ≡ Running) ⊎ (phase ≡ Phase.Closing)
+    by-phase m there Running e = inl refl
+    by-phase m there Phase.Closing e = inr refl
+    by-phase m there (Handshake step) e = absurd (none-before (on (suc m) (frames_taken mine)) frame next.later (sym (j.early (inl (ap shakes_hands e)) m).theirs_none ∙ there))
+    by-phase m there Closed e = absurd (none-after (on (suc m) (frames_taken mine)) frame next.later (sym (j.mine_over (ap is_shut e) m) ∙ there))
+    by-phase m there Failed e = absurd (true≢false (sym (ap has_failed e) ∙ none-failed role client_config server_config (footing_of (mine_of role client_config server_config mine)) (footing_of (theirs_of role client_config server_config theirs)) j.due j.sent j.together))
+
+    by-channel : (c : ℕ) → frame.channel ≡ c → ((end_in role client_config server_config mine).phase ≡ Running) ⊎ ((end_in role client_config server_config mine).phase ≡ Phase.Closing)
+    by-channel zero here = absurd (above here)
+    by-channel (suc m) here = by-phase m (subst (λ c. on c (frames_put theirs) ≡ on c (frames_taken mine) ++ frame ∷ next.later) here next.next) (end_in role client_config server_config mine).phase refl
+
+-- nothing is in flight to an end that is closed
+client-over : (client_config : Config Client) (server_config : Config Server) {client server : Footing} {to_server to_client : List Word} → Together client_config server_config client server to_server to_client → is_shut client.phase ≡ true → to_client ≡ []
+client-over client_config server_config client_closed e = refl
+client-over client_config server_config both_closed e = refl
+client-over client_config server_config together e = absurd (false≢true e)
+
+server-over : (client_config : Config Client) (server_config : Config Server) {client server : Footing} {to_server to_client : List Word} → Together client_config server_config client server to_server to_client → is_shut server.phase ≡ true → to_server ≡ []
+server-over client_config server_config (server_closed b) e = refl
+server-over client_config server_config both_closed e = refl
+server-over client_config server_config together e = absurd (false≢true e)
+
+none-due : (role : Role) (client_config : Config Client) (server_config : Config Server) (mine theirs : Footing) (due sent : List Word) → TogetherAs role client_config server_config mine theirs due sent → is_shut mine.phase ≡ true → due ≡ []
+none-due Client client_config server_config mine theirs due sent together e = client-over client_config server_config together e
+none-due Server client_config server_config mine theirs due sent together e = server-over client_config server_config together e
+
+pub closed-has-taken-all : (reads : (method : Method) → MethodReadsBack method) (role : Role) (client_config : Config Client) (server_config : Config Server) (mine theirs : History) (channel : ℕ) → ClosedHasTakenAll role client_config server_config mine theirs channel
+closed-has-taken-all reads role client_config server_config mine theirs zero p e =
+    let j = joined reads role client_config server_config mine theirs p in
+    let none = none-due role client_config server_config (footing_of (mine_of role client_config server_config mine)) (footing_of (theirs_of role client_config server_config theirs)) j.due j.sent j.together (ap is_shut e) in
+    j.due_is ∙ (ap (λ l. on 0 (frames_taken mine) ++ map spoken l) none ∙ append-nil (on 0 (frames_taken mine)))
+closed-has-taken-all reads role client_config server_config mine theirs (suc m) p e = (joined reads role client_config server_config mine theirs p).mine_over (ap is_shut e) m

@@ -1,0 +1,36 @@
+//! What the two ends of a connection agree on, and that neither finds fault with the other.
+//!
+//! The premise of these laws is `PairWrites`: both ends are set up so that what they say of themselves can be written, and
+//! their histories are those that any steps of the two come to, in any interleaving, where each frame taken is the next on its
+//! channel. An end that is dropped just takes no further step. `mine` is the history of the end in the role, `theirs` that of
+//! the other.
+
+ghost use Rattle.std.specs.Prelude.{ℕ};
+ghost use Rattle.amqp_model.specs.Agreement.{AgreesOnSmaller, AgreesPastHandshake, ClosedHasTakenAll, GoesOnAtZero, RunsWhereNextIsAbove};
+ghost use Rattle.amqp_model.specs.Channels.{Agreed};
+ghost use Rattle.amqp_model.specs.Frame.{Frame};
+ghost use Rattle.amqp_model.specs.Histories.{History};
+ghost use Rattle.amqp_model.specs.Negotiation.{Config};
+ghost use Rattle.amqp_model.specs.Notes.{Client, Role, Server};
+
+use crate::fitting::written_reads_back;
+
+/// Whatever an end has agreed to is the smaller of the two ends' limits, so both agree to the same; and an end that is past
+/// its handshake has agreed to it.
+pub fn limits_are_the_smaller()
+    ensures agreed { (role : Role) (client_config : Config Client) (server_config : Config Server) (mine theirs : History) (agreed : Agreed) → AgreesOnSmaller role client_config server_config mine theirs agreed }
+    ensures past_handshake { (role : Role) (client_config : Config Client) (server_config : Config Server) (mine theirs : History) → AgreesPastHandshake role client_config server_config mine theirs }
+{
+    written_reads_back();
+}
+
+/// An end goes on with whatever comes next on channel 0, in the handshake, while both run, and where they close. Where a frame
+/// of another channel comes next, the end is Running, or has put connection.close. An end that is closed has taken all that the
+/// other put, on every channel.
+pub fn connection_goes_on()
+    ensures zero { (role : Role) (client_config : Config Client) (server_config : Config Server) (mine theirs : History) (frame : Frame) → GoesOnAtZero role client_config server_config mine theirs frame }
+    ensures above { (role : Role) (client_config : Config Client) (server_config : Config Server) (mine theirs : History) (frame : Frame) → RunsWhereNextIsAbove role client_config server_config mine theirs frame }
+    ensures closed { (role : Role) (client_config : Config Client) (server_config : Config Server) (mine theirs : History) (channel : ℕ) → ClosedHasTakenAll role client_config server_config mine theirs channel }
+{
+    written_reads_back();
+}
