@@ -17,4 +17,5 @@ pub mod PropertyKinds
 pub mod ReadingLemmas
 pub mod RunLemmas
 pub mod TableFaults
+pub mod TextLemmas
 pub mod WritingLemmas

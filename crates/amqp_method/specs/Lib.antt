@@ -24,4 +24,5 @@ pub mod Lengths
 pub mod Places
 pub mod Requests
 pub mod Sorts
+pub mod Texts
 pub mod Wanted

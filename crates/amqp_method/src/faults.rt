@@ -44,7 +44,7 @@ pub enum MethodFaultKind {
     #[error("unknown method")]
     UnknownMethod,
     /// 2: a field doesn't fit, told at its first octet, or a field table can't be read, told at the octet that tells it.
-    #[error("field value that can't be read or written")]
+    #[error("field value that can't be read or written: {0}")]
     Value(ValueFaultKind),
     /// 3: octets stand after the last field. Told at the first of them.
     #[error("octets after the last field")]

@@ -39,7 +39,7 @@ impl FieldKind {
 /// A field of a method: its name in `amqp0-9-1.xml`, its kind, and whether it is reserved.
 ///
 /// A reserved field is read in any value and dropped, and written zero or empty. It has no argument.
-#[derive(Clone, Copy, Debug)]
+#[derive(Clone, Copy, PartialEq, Eq, Debug)]
 pub struct Field {
     pub name: &'static str,
     pub kind: FieldKind,
@@ -47,7 +47,7 @@ pub struct Field {
 }
 
 /// An argument of a method.
-#[derive(Debug, Drop)]
+#[derive(Debug, Drop, PartialEq, Eq)]
 pub enum Arg {
     Bit(bool),
     Octet(u8),

@@ -11,7 +11,7 @@ use crate::lengths::properties_length;
 use amqp_value::{ShortStr, Table};
 
 /// The properties of a content: those of the class basic, in the order of their flags.
-#[derive(Debug, Default, Drop)]
+#[derive(Debug, Default, Drop, PartialEq, Eq)]
 pub struct Properties {
     pub content_type: Option<ShortStr>,
     pub content_encoding: Option<ShortStr>,
@@ -30,7 +30,7 @@ pub struct Properties {
 }
 
 /// A content header: the size of the body in octets, and the properties.
-#[derive(Debug, Default, Drop)]
+#[derive(Debug, Default, Drop, PartialEq, Eq)]
 pub struct Header {
     pub body_size: u64,
     pub properties: Properties,

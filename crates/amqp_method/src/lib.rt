@@ -40,5 +40,5 @@ pub use crate::laws::{
 };
 pub use crate::messages::Message;
 pub use crate::method_octets::{read_method, write_method};
-pub use crate::methods::{Method, fits};
+pub use crate::methods::{Method, Misfit, fits};
 pub use crate::texts::{header_text, method_text};

@@ -5,7 +5,7 @@ use crate::faults::OutOfMemory;
 use crate::headers::Properties;
 use crate::methods::Method;
 
-#[derive(Debug, Drop)]
+#[derive(Debug, Drop, PartialEq, Eq)]
 enum Form {
     Plain(Method),
     Content(Method, Properties, Vec<u8>),
@@ -13,7 +13,7 @@ enum Form {
 
 /// A message: a method alone, or one of the four methods that a content follows (basic.publish, return, deliver and
 /// get-ok) with the content's properties and its body.
-#[derive(Debug, Drop)]
+#[derive(Debug, Drop, PartialEq, Eq)]
 pub struct Message {
     form: Form,
     pub ghost kind_fits: { KindFits form },

@@ -8,9 +8,15 @@ use crate::fields::{Arg, copy_args};
 use crate::kinds::{Kind, schema};
 use crate::lengths::args_length;
 use std::alloc::Global;
+use thiserror::Error;
+
+/// Arguments that are not, in number, order and kind, those of a method's fields that aren't reserved.
+#[derive(Clone, Copy, PartialEq, Eq, Debug, Error)]
+#[error("arguments that don't fit the method")]
+pub struct Misfit;
 
 /// A method with its arguments, which fit it.
-#[derive(Debug, Drop)]
+#[derive(Debug, Drop, PartialEq, Eq)]
 pub struct Method {
     kind: Kind,
     args: Vec<Arg>,
@@ -37,7 +43,7 @@ pub fn fits(kind: Kind, args: &[Arg]) -> bool
 }
 
 impl Method {
-    ghost use Rattle.std.specs.Prelude.{length, IfOk};
+    ghost use Rattle.std.specs.Prelude.{length, IsOk, IfOk};
     ghost use Rattle.amqp_value.specs.Lengths.{capped};
     ghost use Rattle.amqp_method.specs.MethodView.{method_view};
     ghost use Rattle.amqp_method.specs.Plain.{plain_method};
@@ -48,6 +54,17 @@ impl Method {
         ensures { method_view result ≡ call kind (args_view args.items) }
     {
         Method { kind, args }
+    }
+
+    /// The method with these arguments, if they fit it. Those that don't are dropped.
+    pub fn try_new(kind: Kind, args: Vec<Arg>) -> Result<Method, Misfit>
+        ensures ok { IfOk result (λ m. method_view m ≡ call kind (args_view args.items)) }
+        ensures fits { IsOk result ↔ Fits (call kind (args_view args.items)) }
+    {
+        if !fits(kind, &args) {
+            return Err(Misfit);
+        }
+        Ok(Method { kind, args })
     }
 
     pub fn kind(&self) -> Kind

@@ -3,7 +3,6 @@ use Rattle.std.proofs.Common.{◌≡◌, true, false, cond, ◌==◌, nat_le, �
 use Rattle.amqp_frame.specs.declared.frames.FrameKind.{FrameKind}
 use Rattle.amqp_method.specs.declared.kinds.Kind.TheVariants as kinds
 use Rattle.amqp_method.specs.Arguments.{Argument, bit, long, long_long, short_string}
-use Rattle.amqp_method.specs.Methods.{row}
 use Rattle.amqp_model.specs.Frame.{Frame}
 use Rattle.amqp_model.specs.Notes.{Role, Client, Server}
 use Rattle.amqp_model.specs.Methods.{MethodKind, Method, plain_method, plain_header}

@@ -1,7 +1,6 @@
 -- Which methods an end's output keeps for the last, by their kinds.
 use Rattle.std.proofs.Common.{◌≡◌, Bool, ◌||◌, List, refl}
 use Rattle.amqp_method.specs.Arguments.{Argument}
-use Rattle.amqp_method.specs.Methods.{row}
 use Rattle.amqp_method.specs.declared.kinds.Kind.TheVariants as kinds
 use Rattle.amqp_model.specs.Arrangement.{names_leaving}
 use Rattle.amqp_model.specs.Methods.{MethodKind, same_kind, plain_method}

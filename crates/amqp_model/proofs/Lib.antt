@@ -68,7 +68,6 @@ mod ConnectionClosed
 mod SentTelling
 mod WholeMessages
 mod KeptContents
-mod MethodTable
 mod Footings
 mod Together
 mod Hearing

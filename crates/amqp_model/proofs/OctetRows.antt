@@ -1,7 +1,6 @@
 -- What one end makes of octets that are fed to it, computed.
 use Rattle.std.proofs.Common.{◌≡◌, ℕ, List, [], ◌∷◌, codes, Some, None, refl}
 use Rattle.amqp_value.specs.Values.{no_pairs}
-use Rattle.amqp_method.specs.Methods.{row}
 use Rattle.amqp_model.specs.Notes.{Client, Server}
 use Rattle.amqp_model.specs.Methods.{plain_method}
 use Rattle.amqp_model.specs.Channels.{Free, Phase, Handshake, Running, Closed, Failed, AwaitsStartOk}

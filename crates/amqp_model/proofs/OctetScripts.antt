@@ -4,7 +4,6 @@ use Rattle.std.proofs.Common.{◌≡◌, false, cond, ℕ, ◌+◌, ◌-◌, ◌
 use Rattle.amqp_frame.specs.Frame as frames
 use Rattle.amqp_method.specs.declared.kinds.Kind.TheVariants as kinds
 use Rattle.amqp_method.specs.Arguments.{bit, short_string}
-use Rattle.amqp_method.specs.Methods.{row}
 use Rattle.amqp_method.specs.Kinds.{with_id}
 use Rattle.amqp_method.specs.Reading as reading
 use Rattle.amqp_method.specs.HeaderReading as header_reading

@@ -8,7 +8,6 @@ use Rattle.amqp_frame.specs.declared.faults.FrameFaultKind.TheVariants as frame_
 use Rattle.amqp_frame.specs.Frame.{octets, Fits, frame_length}
 use Rattle.amqp_frame.specs.Splitting.{stream, AllFit, IsRest}
 use Rattle.amqp_frame.proofs.SplittingLemmas.{begun_is_rest}
-use Rattle.amqp_method.specs.Methods.{row}
 use Rattle.amqp_model.specs.Frame.{Frame}
 use Rattle.amqp_model.specs.Notes.{Role, Client, Server}
 use Rattle.amqp_model.specs.Methods.{Method, same_kind, plain_method}

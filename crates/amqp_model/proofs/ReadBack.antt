@@ -4,7 +4,6 @@ use Rattle.std.proofs.lemmas.Bool.{ltb-false, eqb-false, ne_eqb}
 use Rattle.amqp_frame.specs.Frame.{frame_length}
 use Rattle.amqp_method.specs.Fitting.{FitsShort}
 use Rattle.amqp_method.specs.Laws.{MethodIsRead, HeaderIsRead, MethodIsEncoded, HeaderIsEncoded}
-use Rattle.amqp_method.specs.Methods.{row}
 use Rattle.amqp_method.specs.Plain as plain
 use Rattle.amqp_method.specs.declared.kinds.Kind.TheVariants as kinds
 use Rattle.amqp_model.specs.Notes.{Role, Client, Server}

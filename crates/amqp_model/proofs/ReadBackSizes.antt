@@ -5,7 +5,6 @@ use Rattle.std.specs.List.{AllByRecursion}
 use Rattle.std.proofs.lemmas.Bool.{ltb-false, true≢false}
 use Rattle.amqp_frame.specs.Frame.{frame_length}
 use Rattle.amqp_frame.specs.Splitting.{AllFit}
-use Rattle.amqp_method.specs.Methods.{row}
 use Rattle.amqp_method.specs.declared.kinds.Kind.TheVariants as kinds
 use Rattle.amqp_model.specs.Frame.{Frame}
 use Rattle.amqp_model.specs.Notes.{Role, Server}

@@ -49,5 +49,4 @@ pub mod FittingLaws
 pub mod Endpoint
 pub mod OctetLaws
 pub mod CarryingLaws
-pub mod MethodLaws
 pub mod Pieces

@@ -11,7 +11,6 @@ pub mod arrangement;
 pub mod contents;
 pub mod fitting;
 pub mod lives;
-pub mod methods;
 pub mod octets;
 pub mod one_end;
 pub mod pieces;

@@ -5,6 +5,7 @@ pub mod Lengths
 pub mod Numbers
 pub mod One
 pub mod OnlyTold
+pub mod PairLemmas
 pub mod Sound
 pub mod TableLaws
 pub mod Tags

@@ -11,3 +11,4 @@ pub mod Text
 pub mod Values
 pub mod View
 pub mod Lengths
+pub mod Pairs

@@ -3,6 +3,7 @@
 #![tactic(auto)]
 
 mod fault;
+mod from;
 mod laws;
 mod length;
 mod read;
@@ -18,6 +19,6 @@ pub use laws::{one_table, one_value};
 pub use read::read_table;
 pub use short_str::ShortStr;
 pub use tables::{MAX_DEPTH, Table};
-pub use text::{table_text, text_of};
+pub use text::{put_quoted, table_text, text_of};
 pub use values::Value;
 pub use write::write_table;

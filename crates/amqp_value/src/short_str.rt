@@ -1,11 +1,15 @@
 //! Short strings.
 
 ghost use Rattle.std.specs.Prelude.{◌≡◌, ◌≤◌, ◌<◌, ◌↔◌, ◌⊎◌, length, take, IfOk, IfErr, Err};
+ghost use Rattle.std.specs.Prelude.{nat_eq, ◌==◌};
+ghost use Rattle.std.specs.Cmp.{partial_equiv_from_equiv};
+ghost use Rattle.std.specs.Cmp.Lexicographic.{pointwise, nat_list_eq_equiv};
 ghost use Rattle.amqp_value.specs.Faults.{fault_at, out_of_memory};
 ghost use Rattle.amqp_value.specs.declared.fault.ValueFaultKind.TheVariants.{TooLong};
 
 use crate::fault::{OutOfMemory, ValueFault, ValueFaultKind};
 use std::alloc::{AllocError, Global};
+use std::convert::AsSlice;
 use std::fmt;
 use std::marker::Model;
 
@@ -36,6 +40,28 @@ impl Model for ShortStr {
     ghost invariant = { λ s. IsStored s.store };
 }
 
+impl AsSlice<u8> for ShortStr {
+    ghost items = { λ octets. octets };
+
+    fn as_slice(&self) -> &[u8] {
+        self.as_bytes()
+    }
+}
+
+impl PartialEq for ShortStr {
+    ghost eq = { pointwise nat_eq };
+
+    ghost laws = { partial_equiv_from_equiv nat_list_eq_equiv };
+
+    fn eq(&self, other: &ShortStr) -> bool {
+        self.as_bytes() == other.as_bytes()
+    }
+}
+
+impl Eq for ShortStr {
+    ghost laws = { nat_list_eq_equiv };
+}
+
 impl fmt::Debug for ShortStr {
     fn fmt<W: fmt::Write>(&self, f: &mut fmt::Formatter<W>) -> fmt::Result {
         let octets = self.as_bytes();
@@ -53,6 +79,20 @@ impl ShortStr {
             Store::InPlace { len, octets } => &octets[..*len],
             Store::Allocated(octets) => octets.as_slice(),
         }
+    }
+
+    /// How many octets.
+    pub fn len(&self) -> usize
+        ensures length { result ≡ length self.now }
+        ensures short { result ≤ 255 }
+    {
+        self.as_bytes().len()
+    }
+
+    pub fn is_empty(&self) -> bool
+        ensures { result ≡ (length self.now == 0) }
+    {
+        self.as_bytes().is_empty()
     }
 
     /// These octets. TooLong at 0 for more than 255.

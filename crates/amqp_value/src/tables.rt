@@ -9,19 +9,22 @@ use crate::length::table_length;
 use crate::short_str::ShortStr;
 use crate::values::{Value, copy_pairs, nests_within};
 use std::alloc::Global;
+use std::slice;
 
 /// How deep tables and arrays may nest: a table has depth 1, and each table or array inside adds 1.
 pub const MAX_DEPTH: usize = 32;
 
 /// A field table: names with values, in order, repeats kept, at most [`MAX_DEPTH`] deep.
-#[derive(Debug, Drop)]
+#[derive(Debug, Drop, PartialEq, Eq)]
 pub struct Table {
     pairs: Vec<(ShortStr, Value)>,
     pub ghost depth_is_bounded: { table_depth (pairs_view pairs.items) ≤ 32 },
 }
 
 impl Table {
-    ghost use Rattle.std.specs.Prelude.{◌≡◌, ◌<◌, ◌↔◌, ◌⊎◌, OnOk, OnErr, length, IfOk, IfErr, Err};
+    ghost use Rattle.std.specs.Prelude.{◌≡◌, ◌<◌, ◌↔◌, ◌⊎◌, OnOk, OnErr, length, ◌==◌, IfOk, IfErr, MatchOption, Some, None, Err};
+    ghost use Rattle.std.specs.Slice.Iter.{iter_rest};
+    ghost use Rattle.amqp_value.specs.Pairs.{pair_count, value_named};
     ghost use Rattle.amqp_value.specs.Lengths.{capped};
     ghost use Rattle.amqp_value.specs.Plain.{plain_table};
     ghost use Rattle.amqp_value.specs.Faults.{fault_at, out_of_memory};
@@ -76,6 +79,49 @@ impl Table {
         ensures deep { table_depth (table_view self.now) ≤ 32 }
     {
         self.pairs.as_slice()
+    }
+
+    /// The pairs, out of the table.
+    pub fn into_pairs(self) -> Vec<(ShortStr, Value)>
+        ensures pairs { pairs_view result.items ≡ table_view self }
+        ensures deep { table_depth (pairs_view result.items) ≤ 32 }
+    {
+        self.pairs
+    }
+
+    /// How many pairs.
+    #[tactic(auto, using(crate::proofs::PairLemmas::count_of))]
+    pub fn len(&self) -> usize
+        ensures { result ≡ pair_count (table_view self.now) }
+    {
+        self.pairs().len()
+    }
+
+    #[tactic(auto, using(crate::proofs::PairLemmas::count_of))]
+    pub fn is_empty(&self) -> bool
+        ensures { result ≡ (pair_count (table_view self.now) == 0) }
+    {
+        self.pairs().is_empty()
+    }
+
+    /// The pairs, in order.
+    pub fn iter(&self) -> slice::Iter<'_, (ShortStr, Value)>
+        ensures { pairs_view (iter_rest result) ≡ table_view self.now }
+    {
+        self.pairs.iter()
+    }
+
+    /// The value of the first pair with this name: a name may stand more than once.
+    pub fn get(&self, name: &[u8]) -> Option<&Value>
+        ensures { MatchOption result (value_named name.now (table_view self.now) ≡ None)
+            (λ value. value_named name.now (table_view self.now) ≡ Some (view value.now)) }
+    {
+        for pair in &self.pairs {
+            if pair.0.as_bytes() == name {
+                return Some(&pair.1);
+            }
+        }
+        None
     }
 
     /// How many octets [`write_table`](crate::write_table) writes of the table. `u64::MAX` stands for every number from

@@ -58,7 +58,9 @@ fn put_quoted_octet(text: &mut String, octet: u8) -> Result<(), OutOfMemory>
     Ok(())
 }
 
-fn put_quoted(text: &mut String, octets: &[u8]) -> Result<(), OutOfMemory>
+/// Appends octets in quotes: those from 20 to 7e but the quote and the backslash as their characters, every other one as
+/// `\x` and two digits.
+pub fn put_quoted(text: &mut String, octets: &[u8]) -> Result<(), OutOfMemory>
     ensures { OnOk result (string_bytes text.new ≡ string_bytes text.old ++ quoted octets.now) }
 {
     text.push_str("\"")?;

@@ -8,7 +8,7 @@ use crate::fault::OutOfMemory;
 use crate::short_str::ShortStr;
 
 /// A field value, one variant for each tag. A value that is written again keeps its tag.
-#[derive(Debug, Drop)]
+#[derive(Debug, Drop, PartialEq, Eq)]
 pub enum Value {
     /// `t`: one octet, 0 where it doesn't hold.
     Boolean(bool),

@@ -1,0 +1,20 @@
+-- The pairs of a table: how many, and the value under a name.
+use Rattle.std.specs.Prelude.{ℕ, suc, List, Bool, true, false, cond, Option, Some, None}
+use Rattle.std.specs.Str.{bytes_eq}
+use Rattle.amqp_value.specs.Values.{Datum, scalar, long_string, byte_array, array, table, Pairs, no_pairs, pair}
+
+abbrev pub pair_count : Pairs → ℕ
+pair_count no_pairs = 0
+pair_count (pair name value pairs) = suc (pair_count pairs)
+
+-- the value of the first pair with the name: names may be repeated
+abbrev pub value_named : List ℕ → Pairs → Option Datum
+value_named name no_pairs = None
+value_named name (pair first value pairs) = cond (bytes_eq first name) (Some value) (value_named name pairs)
+
+abbrev pub is_table : Datum → Bool
+is_table (scalar s) = false
+is_table (long_string octets) = false
+is_table (byte_array octets) = false
+is_table (array items) = false
+is_table (table pairs) = true
