@@ -73,3 +73,5 @@ mod Hearing
 mod ZeroSteps
 mod BothEnds
 mod Agreements
+mod WellPut
+mod WellPutPairs

@@ -40,6 +40,7 @@ pub mod EndLaws
 pub mod Octets
 pub mod Pairs
 pub mod Agreement
+pub mod WellPut
 pub mod Sent
 pub mod SentLaws
 pub mod WholeMessages

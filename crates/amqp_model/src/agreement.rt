@@ -12,6 +12,7 @@ ghost use Rattle.amqp_model.specs.Frame.{Frame};
 ghost use Rattle.amqp_model.specs.Histories.{History};
 ghost use Rattle.amqp_model.specs.Negotiation.{Config};
 ghost use Rattle.amqp_model.specs.Notes.{Client, Role, Server};
+ghost use Rattle.amqp_model.specs.WellPut.{NextIsWellPut, PutsWell};
 
 use crate::fitting::written_reads_back;
 
@@ -31,6 +32,16 @@ pub fn connection_goes_on()
     ensures zero { (role : Role) (client_config : Config Client) (server_config : Config Server) (mine theirs : History) (frame : Frame) → GoesOnAtZero role client_config server_config mine theirs frame }
     ensures above { (role : Role) (client_config : Config Client) (server_config : Config Server) (mine theirs : History) (frame : Frame) → RunsWhereNextIsAbove role client_config server_config mine theirs frame }
     ensures closed { (role : Role) (client_config : Config Client) (server_config : Config Server) (mine theirs : History) (channel : ℕ) → ClosedHasTakenAll role client_config server_config mine theirs channel }
+{
+    written_reads_back();
+}
+
+/// Each frame that either end puts says a method that its sender may send, of the class connection on channel 0 and of no
+/// other there; or, above channel 0, a content header or a part of a body. On channel 0 it has at most 4096 octets; any other
+/// is of a channel up to the agreed maximum, and of at most the agreed size. So is each frame that comes next.
+pub fn frames_are_well_put()
+    ensures put { (role : Role) (client_config : Config Client) (server_config : Config Server) (mine theirs : History) → PutsWell role client_config server_config mine theirs }
+    ensures next { (role : Role) (client_config : Config Client) (server_config : Config Server) (mine theirs : History) (frame : Frame) → NextIsWellPut role client_config server_config mine theirs frame }
 {
     written_reads_back();
 }
