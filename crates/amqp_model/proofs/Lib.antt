@@ -75,3 +75,5 @@ mod BothEnds
 mod Agreements
 mod WellPut
 mod WellPutPairs
+mod FrameGoesOn
+mod NoFault

@@ -41,6 +41,7 @@ pub mod Octets
 pub mod Pairs
 pub mod Agreement
 pub mod WellPut
+pub mod NoFault
 pub mod Sent
 pub mod SentLaws
 pub mod WholeMessages
