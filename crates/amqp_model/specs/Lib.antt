@@ -50,3 +50,4 @@ pub mod OctetLaws
 pub mod CarryingLaws
 pub mod MethodLaws
 pub mod Pieces
+pub mod InTurn
