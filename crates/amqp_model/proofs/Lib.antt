@@ -40,6 +40,7 @@ mod VerdictRows
 mod AskRows
 mod Phases
 mod EndSteps
+mod Walking
 mod Lowest
 mod FrameSteps
 mod Failing
@@ -55,6 +56,8 @@ mod ReadBackFrames
 mod ReadBackSizes
 mod OctetJudging
 mod OctetCuts
+mod FeedingPieces
+mod HoldingPieces
 mod OctetHistories
 mod OctetAsks
 mod OctetSteps
@@ -62,6 +65,11 @@ mod Settling
 mod OctetRows
 mod OctetScripts
 mod Sent
+mod TurnLemmas
+mod ChannelWalks
+mod Turning
+mod Turned
+mod TurnLaws
 mod ConnectionClosed
 mod SentTelling
 mod WholeMessages

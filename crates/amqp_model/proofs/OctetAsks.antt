@@ -79,7 +79,7 @@ ask-keeps role config end (Ask.Blocked reason) back a = (method-keeps role confi
 ask-keeps role config end Ask.Unblocked back a = (method-keeps role config 0 (method_asked Ask.Unblocked) back refl, tt)
 
 -- An end that accepts an ask is Running, and so awaits no protocol header.
-running-opened : (role : Role) (phase : Phase) → not (is_running phase) ≡ false → awaits_opening role phase ≡ false
+pub running-opened : (role : Role) (phase : Phase) → not (is_running phase) ≡ false → awaits_opening role phase ≡ false
 running-opened Client phase e = refl
 running-opened Server Running e = refl
 running-opened Server (Handshake step) e = absurd (true≢false e)

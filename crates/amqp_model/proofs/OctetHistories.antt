@@ -84,7 +84,7 @@ phase-took-opened Server r frame Closing e = two-ways _ Closed Closing refl refl
 phase-took-opened Server r frame Closed e = refl
 phase-took-opened Server r frame Failed e = refl
 
-phase-put-opened : (role : Role) (r : Reading) (frame : Frame) (phase : Phase) → awaits_opening role phase ≡ false → awaits_opening role (phase_after role (PutHere r frame) phase) ≡ false
+pub phase-put-opened : (role : Role) (r : Reading) (frame : Frame) (phase : Phase) → awaits_opening role phase ≡ false → awaits_opening role (phase_after role (PutHere r frame) phase) ≡ false
 phase-put-opened Client r frame phase e = refl
 phase-put-opened Server r frame (Handshake step) e = put-opened (is_call kinds.ConnectionClose r) (is_call kinds.ConnectionOpenOk r) (is_call kinds.ConnectionStart r) step e
 phase-put-opened Server r frame Running e = two-ways (is_call kinds.ConnectionClose r) Closing Running refl refl

@@ -45,7 +45,7 @@ are-octets xs all i = cases (cases_lt i (length xs))
     cases (inl here) = let small : get_or xs i 0 < 2 ^ 8 = All-get_or IsOctet xs i 0 here all in omega arith
     cases (inr past) = rw (get_or_past xs i 0 past) (omega arith)
 
-prefix-octets : (prefix tail : List ℕ) → All IsOctet (prefix ++ tail) → All IsOctet prefix
+pub prefix-octets : (prefix tail : List ℕ) → All IsOctet (prefix ++ tail) → All IsOctet prefix
 prefix-octets prefix tail all = subst (All IsOctet) (take_at prefix tail (length prefix) refl) (All-take IsOctet (length prefix) (prefix ++ tail) all)
 
 -- Octets with a type, a size and an end in their places begin with the frame that they encode.
@@ -56,7 +56,7 @@ encoded limit first later kind are type seven within long ending =
     judged_whole limit (first ∷ later) (frame_in kind (first ∷ later)) (size_of (first ∷ later) + 8) are seven refl within long type (omega arith) (ap (λ n. take n (drop 7 (first ∷ later))) (sym size)) (ap (λ n. get_or (first ∷ later) n 0) place ∙ ending)
 
 -- A rest is a frame begun.
-begun-rest : (limit : ℕ) (xs : List ℕ) → All IsOctet xs → IsRest limit xs → IsBegun limit xs
+pub begun-rest : (limit : ℕ) (xs : List ℕ) → All IsOctet xs → IsRest limit xs → IsBegun limit xs
 begun-rest limit [] all rest = record { typed = λ some. absurd (omega arith); sized = λ seven. absurd (omega arith); short = λ seven. absurd (omega arith) }
 begun-rest limit (first ∷ later) all rest = by-type (kind_of_type first) (type-read first)
   where
@@ -144,7 +144,7 @@ judged-well limit (first ∷ prefix) octet all rest =
 
 -- Octets are but one of the things that they can be judged.
 
-told-whole : (limit : ℕ) (xs : List ℕ) (kind : FrameFaultKind) → TellsLast limit xs kind → Tells limit xs kind
+pub told-whole : (limit : ℕ) (xs : List ℕ) (kind : FrameFaultKind) → TellsLast limit xs kind → Tells limit xs kind
 told-whole limit xs kind last = let l = last.last in subst (λ xs. Tells limit xs kind) (take_all (last.place + 1) xs (omega arith)) last.told.told
 
 -- where a fault of this kind is told first

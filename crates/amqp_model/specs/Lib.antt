@@ -52,3 +52,5 @@ pub mod Endpoint
 pub mod OctetLaws
 pub mod CarryingLaws
 pub mod MethodLaws
+pub mod Pieces
+pub mod InTurn

@@ -14,4 +14,5 @@ pub mod lives;
 pub mod methods;
 pub mod octets;
 pub mod one_end;
+pub mod pieces;
 pub mod two_ends;
