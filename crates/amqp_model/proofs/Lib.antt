@@ -85,3 +85,4 @@ mod WellPut
 mod WellPutPairs
 mod FrameGoesOn
 mod NoFault
+mod Matching

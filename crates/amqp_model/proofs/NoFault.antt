@@ -17,7 +17,7 @@ use Rattle.amqp_model.specs.Pairs.{ComesNext, PairAt, config_of}
 use Rattle.amqp_model.specs.EndLaws.{notes_on}
 use Rattle.amqp_model.specs.Agreement.{PairWrites, end_in, smaller_limits}
 use Rattle.amqp_model.specs.WellPut.{SaysWell, IsWellPut}
-use Rattle.amqp_model.specs.NoFault.{NextIsMatched, TakesWithoutFault, FindsNoFault}
+use Rattle.amqp_model.specs.NoFault.{NextIsMatched, TakesWithoutFault, TakesWhatComesNext}
 use Rattle.amqp_model.proofs.Laws.{no_fault}
 use Rattle.amqp_model.proofs.Acting.{verdict-here}
 use Rattle.amqp_model.proofs.Agreeing.{facts_in}
@@ -31,7 +31,7 @@ use Rattle.amqp_model.proofs.Agreements.{agrees-on-smaller, agrees-past-handshak
 use Rattle.amqp_model.proofs.FrameGoesOn.{LivesGo, closing-goes, above-goes}
 use Rattle.amqp_model.proofs.WellPutPairs.{next-is-well-put}
 
-pair-at : (reads : (method : Method) → MethodReadsBack method) (role : Role) (client_config : Config Client) (server_config : Config Server) (mine theirs : History) → PairWrites role client_config server_config mine theirs → PairAt role client_config server_config mine theirs
+pub pair-at : (reads : (method : Method) → MethodReadsBack method) (role : Role) (client_config : Config Client) (server_config : Config Server) (mine theirs : History) → PairWrites role client_config server_config mine theirs → PairAt role client_config server_config mine theirs
 pair-at reads role client_config server_config mine theirs p = record { client_writes = all-reads-back reads Client client_config p.client_writes; server_writes = all-reads-back reads Server server_config p.server_writes; pair = p.pair }
 
 -- a frame that is well put fits its fields
@@ -107,7 +107,7 @@ module _ (reads : (method : Method) → MethodReadsBack method) (role : Role) (c
       by-phase (inr closing) = record { can = can (inr closing); goes = subst (λ q. goes_on (verdict_on (facts_in (config_of role client_config server_config) q (end_in role client_config server_config mine).agreed frame.channel ((end_in role client_config server_config mine).channels frame.channel)) (reading frame)) ≡ true) (sym closing) (closing-goes (config_of role client_config server_config) (end_in role client_config server_config mine).agreed frame.channel ((end_in role client_config server_config mine).channels frame.channel) (reading frame)) }
 
 -- where what comes next is matched with the requests kept, no fault is found with it
-pub finds-no-fault : (reads : (method : Method) → MethodReadsBack method) (role : Role) (client_config : Config Client) (server_config : Config Server) (mine theirs : History) (frame : Frame) → NextIsMatched role client_config server_config mine theirs frame → FindsNoFault role client_config server_config mine theirs frame
+pub finds-no-fault : (reads : (method : Method) → MethodReadsBack method) (role : Role) (client_config : Config Client) (server_config : Config Server) (mine theirs : History) (frame : Frame) → NextIsMatched role client_config server_config mine theirs frame → TakesWhatComesNext role client_config server_config mine theirs frame
 finds-no-fault reads role client_config server_config mine theirs frame matched p next = by-channel frame.channel refl
   where
     by-channel : (c : ℕ) → frame.channel ≡ c → TakesWithoutFault role client_config server_config mine frame

@@ -38,13 +38,13 @@ use Rattle.amqp_model.proofs.Turned.{matched}
 -- In whole messages the replies that begin are the replies that are items.
 
 -- the reply that is under way
-abbrev under_way : Gathering → List MethodKind
+abbrev pub under_way : Gathering → List MethodKind
 under_way Nothing = []
 under_way (HeaderDue method) = cond (is_reply method.kind) (method.kind ∷ []) []
 under_way (BodyDue method size properties body) = cond (is_reply method.kind) (method.kind ∷ []) []
 
 -- the items that payloads end, after what is kept
-abbrev ended_after : Gathering → List Payload → List Item
+abbrev pub ended_after : Gathering → List Payload → List Item
 ended_after kept [] = []
 ended_after kept (payload ∷ later) = option_to_list (item_ended kept payload) ++ ended_after (remains (step kept payload) payload) later
 
@@ -54,11 +54,11 @@ items-after (payload ∷ later) taken =
     ap items_taken (ap (λ l. l ++ taken) (reverse-append (payload ∷ []) later) ∙ append_assoc (reverse later) (payload ∷ []) taken)
     ∙ (items-after later (payload ∷ taken) ∙ append_assoc (items_taken taken) (option_to_list (item_ended (gathering taken) payload)) _)
 
-items-are : (payloads : List Payload) → items payloads ≡ ended_after Nothing payloads
+pub items-are : (payloads : List Payload) → items payloads ≡ ended_after Nothing payloads
 items-are payloads = ap items_taken (sym (append-nil (reverse payloads))) ∙ items-after payloads []
 
 -- a reading that begins no reply has a payload that ends none
-replies-from : (kept : Gathering) (payload : Payload) (later : List Payload) → replies_in (ended_after kept (payload ∷ later)) ≡ replies_in (option_to_list (item_ended kept payload)) ++ replies_in (ended_after (remains (step kept payload) payload) later)
+pub replies-from : (kept : Gathering) (payload : Payload) (later : List Payload) → replies_in (ended_after kept (payload ∷ later)) ≡ replies_in (option_to_list (item_ended kept payload)) ++ replies_in (ended_after (remains (step kept payload) payload) later)
 replies-from kept payload later = replies-append (option_to_list (item_ended kept payload)) _
 
 -- a method that stands by itself, or begins a content: its reply is told now, or is under way
@@ -75,7 +75,7 @@ part-reply method size properties body payload false true fit = refl
 part-reply method size properties body payload false false fit = absurd fit
 
 -- one payload that fits: what it begins goes to what it ends and what it leaves under way
-payload-reply : (kept : Gathering) (r : Reading) → FitsNext (step kept (payload_of r)) → under_way kept ++ begun_by r ≡ replies_in (option_to_list (item_ended kept (payload_of r))) ++ under_way (remains (step kept (payload_of r)) (payload_of r))
+pub payload-reply : (kept : Gathering) (r : Reading) → FitsNext (step kept (payload_of r)) → under_way kept ++ begun_by r ≡ replies_in (option_to_list (item_ended kept (payload_of r))) ++ under_way (remains (step kept (payload_of r)) (payload_of r))
 payload-reply Nothing (Calls method) fit = begins-reply method (is_reply method.kind) (carries_content method) (plain-reply method method.kind (bit_at 0 method) refl) refl
 payload-reply (HeaderDue other) (Calls method) fit = absurd fit
 payload-reply (BodyDue other size properties body) (Calls method) fit = absurd fit
@@ -99,7 +99,7 @@ whole-replies kept (frame ∷ later) fit =
     ∙ (ap (λ l. replies_in (option_to_list (item_ended kept (payload_in frame))) ++ l) (whole-replies (remains (step kept (payload_in frame)) (payload_in frame)) later fit.1)
     ∙ sym (replies-from kept (payload_in frame) (map payload_in later)))))
 
-begun-are-replies : (frames : List Frame) → AreWholeMessages (map payload_in frames) → begun_in frames ≡ replies_in (items_in frames)
+pub begun-are-replies : (frames : List Frame) → AreWholeMessages (map payload_in frames) → begun_in frames ≡ replies_in (items_in frames)
 begun-are-replies frames whole = whole-replies Nothing frames whole ∙ ap replies_in (sym (items-are (map payload_in frames)))
 
 -- One end.

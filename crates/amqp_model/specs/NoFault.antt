@@ -31,6 +31,6 @@ pub record TakesWithoutFault (role : Role) (client_config : Config Client) (serv
   pub goes : goes_on (end_verdict (config_of role client_config server_config) (end_in role client_config server_config mine) frame) ≡ true
 
 -- so it does with whatever comes next
-abbrev pub FindsNoFault : Role → Config Client → Config Server → (mine theirs : History) → Frame → Type 0
-FindsNoFault role client_config server_config mine theirs frame =
+abbrev pub TakesWhatComesNext : Role → Config Client → Config Server → (mine theirs : History) → Frame → Type 0
+TakesWhatComesNext role client_config server_config mine theirs frame =
     PairWrites role client_config server_config mine theirs → ComesNext theirs mine frame → TakesWithoutFault role client_config server_config mine frame

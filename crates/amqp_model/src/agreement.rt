@@ -12,6 +12,7 @@ ghost use Rattle.amqp_model.specs.Frame.{Frame};
 ghost use Rattle.amqp_model.specs.Histories.{History};
 ghost use Rattle.amqp_model.specs.Negotiation.{Config};
 ghost use Rattle.amqp_model.specs.Notes.{Client, Role, Server};
+ghost use Rattle.amqp_model.specs.NoFault.{NextIsMatched, TakesWhatComesNext};
 ghost use Rattle.amqp_model.specs.WellPut.{NextIsWellPut, PutsWell};
 
 use crate::fitting::written_reads_back;
@@ -42,6 +43,15 @@ pub fn connection_goes_on()
 pub fn frames_are_well_put()
     ensures put { (role : Role) (client_config : Config Client) (server_config : Config Server) (mine theirs : History) → PutsWell role client_config server_config mine theirs }
     ensures next { (role : Role) (client_config : Config Client) (server_config : Config Server) (mine theirs : History) (frame : Frame) → NextIsWellPut role client_config server_config mine theirs frame }
+{
+    written_reads_back();
+}
+
+/// An end can take whatever frame comes next, and goes on with it, on every channel and in every phase. A reply that comes next
+/// to a client answers the request that waits, and a request that comes next to a server finds it keeping fewer than it may.
+pub fn no_fault_over_frames()
+    ensures matched { (role : Role) (client_config : Config Client) (server_config : Config Server) (mine theirs : History) (frame : Frame) → NextIsMatched role client_config server_config mine theirs frame }
+    ensures takes { (role : Role) (client_config : Config Client) (server_config : Config Server) (mine theirs : History) (frame : Frame) → TakesWhatComesNext role client_config server_config mine theirs frame }
 {
     written_reads_back();
 }
