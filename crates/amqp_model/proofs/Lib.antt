@@ -86,3 +86,4 @@ mod WellPutPairs
 mod FrameGoesOn
 mod NoFault
 mod Matching
+mod OctetsInFlight

@@ -36,7 +36,7 @@ use Rattle.amqp_model.proofs.WellPut.{AllWell, all-well-join, all-well-on, well-
 least-frame : (client_config : Config Client) (server_config : Config Server) → ConfigWrites client_config → ConfigWrites server_config → FRAME_MIN ≤ (smaller_limits client_config server_config).frame_max
 least-frame client_config server_config client server = let a = client.frame_least in let b = server.frame_least in omega arith
 
-writes-of : (role : Role) (client_config : Config Client) (server_config : Config Server) → ConfigWrites client_config → ConfigWrites server_config → ConfigWrites (config_of role client_config server_config)
+pub writes-of : (role : Role) (client_config : Config Client) (server_config : Config Server) → ConfigWrites client_config → ConfigWrites server_config → ConfigWrites (config_of role client_config server_config)
 writes-of Client client_config server_config client server = client
 writes-of Server client_config server_config client server = server
 

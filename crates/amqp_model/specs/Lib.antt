@@ -42,6 +42,7 @@ pub mod Pairs
 pub mod Agreement
 pub mod WellPut
 pub mod NoFault
+pub mod OctetsInFlight
 pub mod Sent
 pub mod SentLaws
 pub mod WholeMessages

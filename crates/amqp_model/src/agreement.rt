@@ -5,14 +5,16 @@
 //! channel. An end that is dropped just takes no further step. `mine` is the history of the end in the role, `theirs` that of
 //! the other.
 
-ghost use Rattle.std.specs.Prelude.{ℕ};
+ghost use Rattle.std.specs.Prelude.{ℕ, List};
 ghost use Rattle.amqp_model.specs.Agreement.{AgreesOnSmaller, AgreesPastHandshake, ClosedHasTakenAll, GoesOnAtZero, RunsWhereNextIsAbove};
 ghost use Rattle.amqp_model.specs.Channels.{Agreed};
+ghost use Rattle.amqp_model.specs.Endpoint.{Endpoint};
 ghost use Rattle.amqp_model.specs.Frame.{Frame};
 ghost use Rattle.amqp_model.specs.Histories.{History};
 ghost use Rattle.amqp_model.specs.Negotiation.{Config};
 ghost use Rattle.amqp_model.specs.Notes.{Client, Role, Server};
 ghost use Rattle.amqp_model.specs.NoFault.{NextIsMatched, TakesWhatComesNext};
+ghost use Rattle.amqp_model.specs.OctetsInFlight.{FeedStaysPair, FindsNoFaultWithOctets, ItemsSentAreActedOnOrWaiting, NothingWaitsForClosed, OctetsInFlightAreFrames};
 ghost use Rattle.amqp_model.specs.WellPut.{NextIsWellPut, PutsWell};
 
 use crate::fitting::written_reads_back;
@@ -52,6 +54,32 @@ pub fn frames_are_well_put()
 pub fn no_fault_over_frames()
     ensures matched { (role : Role) (client_config : Config Client) (server_config : Config Server) (mine theirs : History) (frame : Frame) → NextIsMatched role client_config server_config mine theirs frame }
     ensures takes { (role : Role) (client_config : Config Client) (server_config : Config Server) (mine theirs : History) (frame : Frame) → TakesWhatComesNext role client_config server_config mine theirs frame }
+{
+    written_reads_back();
+}
+
+/// An end that is fed the next octets of what the other put finds no fault, in whatever pieces they come; and what it keeps
+/// then stands for a history that is a pair with the other's again.
+pub fn no_fault_over_octets()
+    ensures none { (role : Role) (client_config : Config Client) (server_config : Config Server) (mine theirs : History) (endpoint : Endpoint) (fed written piece later : List ℕ) → FindsNoFaultWithOctets role client_config server_config mine theirs endpoint fed written piece later }
+    ensures pair { (role : Role) (client_config : Config Client) (server_config : Config Server) (mine theirs : History) (endpoint : Endpoint) (fed written piece later : List ℕ) → FeedStaysPair role client_config server_config mine theirs endpoint fed written piece later }
+{
+    written_reads_back();
+}
+
+/// No octet waits for an end that is closed: it has none unfinished, and was fed all that the other put.
+pub fn nothing_waits_for_closed()
+    ensures { (role : Role) (client_config : Config Client) (server_config : Config Server) (mine theirs : History) (limit : ℕ) (put fed unfinished rest : List ℕ) → NothingWaitsForClosed role client_config server_config mine theirs limit put fed unfinished rest }
+{
+    written_reads_back();
+}
+
+/// The unfinished octets of an end and those that it was not fed yet are those of whole frames, and on each channel these are
+/// what the other put after what the end took. So the items that the other sent in the life of a live end are those that the
+/// frames acted on and then the waiting ones encode.
+pub fn octets_in_flight_are_frames()
+    ensures frames { (role : Role) (limit : ℕ) (mine theirs : History) (put fed unfinished rest : List ℕ) → OctetsInFlightAreFrames role limit mine theirs put fed unfinished rest }
+    ensures items { (role : Role) (client_config : Config Client) (server_config : Config Server) (mine theirs : History) (unfinished rest : List ℕ) (n : ℕ) → ItemsSentAreActedOnOrWaiting role client_config server_config mine theirs unfinished rest n }
 {
     written_reads_back();
 }
