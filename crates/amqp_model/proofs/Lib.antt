@@ -87,3 +87,4 @@ mod FrameGoesOn
 mod NoFault
 mod Matching
 mod OctetsInFlight
+mod EndsAgree

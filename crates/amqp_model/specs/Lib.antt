@@ -43,6 +43,7 @@ pub mod Agreement
 pub mod WellPut
 pub mod NoFault
 pub mod OctetsInFlight
+pub mod EndsAgree
 pub mod Sent
 pub mod SentLaws
 pub mod WholeMessages

@@ -9,6 +9,7 @@ ghost use Rattle.std.specs.Prelude.{ℕ, List};
 ghost use Rattle.amqp_model.specs.Agreement.{AgreesOnSmaller, AgreesPastHandshake, ClosedHasTakenAll, GoesOnAtZero, RunsWhereNextIsAbove};
 ghost use Rattle.amqp_model.specs.Channels.{Agreed};
 ghost use Rattle.amqp_model.specs.Endpoint.{Endpoint};
+ghost use Rattle.amqp_model.specs.EndsAgree.{LivesAgree, NoContentFromPaused};
 ghost use Rattle.amqp_model.specs.Frame.{Frame};
 ghost use Rattle.amqp_model.specs.Histories.{History};
 ghost use Rattle.amqp_model.specs.Negotiation.{Config};
@@ -80,6 +81,16 @@ pub fn nothing_waits_for_closed()
 pub fn octets_in_flight_are_frames()
     ensures frames { (role : Role) (limit : ℕ) (mine theirs : History) (put fed unfinished rest : List ℕ) → OctetsInFlightAreFrames role limit mine theirs put fed unfinished rest }
     ensures items { (role : Role) (client_config : Config Client) (server_config : Config Server) (mine theirs : History) (unfinished rest : List ℕ) (n : ℕ) → ItemsSentAreActedOnOrWaiting role client_config server_config mine theirs unfinished rest n }
+{
+    written_reads_back();
+}
+
+/// On each channel above 0 the i-th frame that an end took has the life, as that end counts, of the i-th frame that the other
+/// put. No content but get-ok comes to an end on a channel where it took flow-ok with active 0, and has since put no flow with
+/// active 1.
+pub fn ends_agree_on_lives()
+    ensures lives { (role : Role) (client_config : Config Client) (server_config : Config Server) (mine theirs : History) (n : ℕ) → LivesAgree role client_config server_config mine theirs n }
+    ensures pause { (role : Role) (client_config : Config Client) (server_config : Config Server) (mine theirs : History) (n : ℕ) → NoContentFromPaused role client_config server_config mine theirs n }
 {
     written_reads_back();
 }
