@@ -52,6 +52,7 @@ pub record Accepted (role : Role) (end : End) (ask : Ask) : Type 0 where
   pub short : too_large end ask ≡ None
   pub unanswered : flow_pending end ask ≡ None
   pub free : no_free_channel end ask ≡ None
+  pub unasked : reply_pending role end ask ≡ None
   pub in_turn : no_such_request role end ask ≡ None
 
 pub accepted : (role : Role) (end : End) (ask : Ask) → refusal role end ask ≡ None → Accepted role end ask
@@ -66,7 +67,7 @@ accepted role end ask e =
     let i = none-first (no_free_channel end ask) _ h.1 in
     let k = none-first (reply_pending role end ask) _ i.1 in
     let l = none-first (no_such_request role end ask) _ k.1 in
-    record { runs = a.0; numbered = b.0; opened = c.0; unpaused = d.0; sendable = f.0; short = g.0; unanswered = h.0; free = i.0; in_turn = l.0 }
+    record { runs = a.0; numbered = b.0; opened = c.0; unpaused = d.0; sendable = f.0; short = g.0; unanswered = h.0; free = i.0; unasked = k.0; in_turn = l.0 }
 
 -- What an Open channel's entries count to.
 

@@ -76,11 +76,11 @@ openings-meet Client = refl
 openings-meet Server = refl
 
 -- Frames begin with these ones, and the octets of the others are this rest.
-record BeginsWith (frames departing : List Frame) (rest : List ℕ) : Type 0 where
-  later : List Frame
-  departing_is : departing ≡ frames ++ later
-  rest_is : stream later ≡ rest
-  fit : AllFit later
+pub record BeginsWith (frames departing : List Frame) (rest : List ℕ) : Type 0 where
+  pub later : List Frame
+  pub departing_is : departing ≡ frames ++ later
+  pub rest_is : stream later ≡ rest
+  pub fit : AllFit later
 
 no-octets : (f : Frame) (xs : List ℕ) → [] ≡ octets f ++ xs → ⊥
 no-octets f xs e = let l : 0 ≡ length (octets f) + length xs = ap length e ∙ length-append (octets f) xs in let k = length-octets f in absurd (omega arith)
@@ -95,7 +95,7 @@ frames-first (f ∷ frames) (g ∷ departing) rest fits fit e =
     record { later = more.later; departing_is = ap (λ l. g ∷ l) more.departing_is ∙ ap (λ h. h ∷ (frames ++ more.later)) first.0; rest_is = more.rest_is; fit = more.fit }
 
 -- the frames that leave the other end begin with those that this one took
-taken-first : (role : Role) (departing : List Frame) (put fed unfinished rest : List ℕ) (history : History) → put ≡ opening_read role ++ stream departing → AllFit departing → put ≡ fed ++ rest → fed ≡ opening_read role ++ (stream (frames_taken history) ++ unfinished) → AllFit (frames_taken history) → BeginsWith (frames_taken history) departing (unfinished ++ rest)
+pub taken-first : (role : Role) (departing : List Frame) (put fed unfinished rest : List ℕ) (history : History) → put ≡ opening_read role ++ stream departing → AllFit departing → put ≡ fed ++ rest → fed ≡ opening_read role ++ (stream (frames_taken history) ++ unfinished) → AllFit (frames_taken history) → BeginsWith (frames_taken history) departing (unfinished ++ rest)
 taken-first role departing put fed unfinished rest history put_is fit whole fed_is fits = frames-first (frames_taken history) departing (unfinished ++ rest) fits fit same
   where
     same : stream departing ≡ stream (frames_taken history) ++ (unfinished ++ rest)

@@ -30,7 +30,7 @@ pub record Matches (role : Role) (kept : Gathering) (requests : List MethodKind)
   pub room : answered_by role entry kept ≤ length requests
   pub answerable : HasItsRequest role (content_after entry kept) (requests_after role entry kept requests)
 
-with-asked : (asked requests : List MethodKind) → with_asked asked requests ≡ requests ++ asked
+pub with-asked : (asked requests : List MethodKind) → with_asked asked requests ≡ requests ++ asked
 with-asked [] requests = sym (append-nil requests)
 with-asked (kind ∷ later) requests = refl
 

@@ -149,10 +149,10 @@ set-zero m after channels e = let apart : (0 == suc m) ≡ false = zero-not m in
 closed-words : (role : Role) (config : Config role) (end : End) (history : History) → StandsFor role config false end history → (phase : Phase) → end.phase ≡ phase → cond (is_closed (entries_on 0 history)) Closed (cond (has_put kinds.ConnectionClose (entries_on 0 history)) Phase.Closing (cond (is_negotiated role (entries_on 0 history)) Running (Handshake (step_from role (entries_on 0 history))))) ≡ phase
 closed-words role config end history stands phase p = stands.phase ∙ p
 
-stays-here : (role : Role) (config : Config role) (end : End) (history : History) (m : ℕ) → StandsFor role config false end history → end.phase ≡ Running → has_left (notes (entries_on (suc m) history)) ≡ false
+pub stays-here : (role : Role) (config : Config role) (end : End) (history : History) (m : ℕ) → StandsFor role config false end history → end.phase ≡ Running → has_left (notes (entries_on (suc m) history)) ≡ false
 stays-here role config end history m stands p = left-noted history m ∙ not-left (is_closed (entries_on 0 history)) (has_put kinds.ConnectionClose (entries_on 0 history)) (is_negotiated role (entries_on 0 history)) (step_from role (entries_on 0 history)) (ap is_over (closed-words role config end history stands Running p))
 
-left-here : (role : Role) (config : Config role) (end : End) (history : History) (m : ℕ) → StandsFor role config false end history → end.phase ≡ Phase.Closing → has_left (notes (entries_on (suc m) history)) ≡ true
+pub left-here : (role : Role) (config : Config role) (end : End) (history : History) (m : ℕ) → StandsFor role config false end history → end.phase ≡ Phase.Closing → has_left (notes (entries_on (suc m) history)) ≡ true
 left-here role config end history m stands p = left-noted history m ∙ has-left (is_closed (entries_on 0 history)) (has_put kinds.ConnectionClose (entries_on 0 history)) (is_negotiated role (entries_on 0 history)) (step_from role (entries_on 0 history)) (closed-words role config end history stands Phase.Closing p)
 
 -- the channel of a frame taken

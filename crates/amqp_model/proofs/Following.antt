@@ -57,7 +57,7 @@ open-takes role config agreed number life above r frame entries c g = go (runnin
         let stays : CountsOpen role (life_after role (TookHere r frame) life) (TookHere r frame ∷ entries) = took-stays_open role life r frame entries c h.0 (h.1 frame) in
         subst (λ channel. Counts role channel (TookHere r frame ∷ entries)) (sym (message-stays role (TookHere r frame) life (kind_of r) h.0)) stays
 
-takes-counted : (role : Role) (config : Config role) (agreed : Option Agreed) (number : ℕ) (channel : Channel) → (number == 0) ≡ false → (r : Reading) (frame : Frame) (entries : List ChannelEntry) → Counts role channel entries → goes_on (verdict_on (running config agreed number channel) r) ≡ true → Counts role (channel_after role (TookHere r frame) channel) (TookHere r frame ∷ entries)
+pub takes-counted : (role : Role) (config : Config role) (agreed : Option Agreed) (number : ℕ) (channel : Channel) → (number == 0) ≡ false → (r : Reading) (frame : Frame) (entries : List ChannelEntry) → Counts role channel entries → goes_on (verdict_on (running config agreed number channel) r) ≡ true → Counts role (channel_after role (TookHere r frame) channel) (TookHere r frame ∷ entries)
 takes-counted role config agreed number Free above r frame entries c g = free-takes role config agreed number above r frame entries c g
 takes-counted role config agreed number Opening above r frame entries c g = opening-takes role config agreed number above r frame entries c g
 takes-counted role config agreed number Closing above r frame entries c g = took-closing role r frame entries c

@@ -1,5 +1,5 @@
 -- What an end keeps follows each frame that it takes, with the frames that it owes.
-use Rattle.std.proofs.Common.{◌≡◌, ◌⊎◌, inl, inr, Bool, true, false, ℕ, zero, suc, ◌==◌, List, [], ◌∷◌, map, Option, Some, None, refl, sym, ap, subst}
+use Rattle.std.proofs.Common.{◌≡◌, inl, inr, Bool, true, false, ℕ, zero, suc, ◌==◌, List, [], ◌∷◌, map, Option, Some, None, refl, sym, ap, subst}
 use Rattle.std.proofs.lemmas.Bool.{false≢true, eq-eqb}
 use Rattle.amqp_method.specs.declared.kinds.Kind.TheVariants as kinds
 use Rattle.amqp_model.specs.Frame.{Frame}
@@ -16,27 +16,31 @@ use Rattle.amqp_model.specs.Negotiation.{Config}
 use Rattle.amqp_model.specs.Closes.{ContentTooLarge, Owed, AllReadBack, frame_of, reply_to, channel_close, without_arguments, flow_as}
 use Rattle.amqp_model.specs.Events.{FrameVerdict, Proceeds, RefusesContent, Faults}
 use Rattle.amqp_model.specs.FrameVerdict.{on_channel, awaits_in, verdict_on, methods_put}
-use Rattle.amqp_model.specs.EndVerdict.{facts_at, goes_on}
-use Rattle.amqp_model.specs.LawfulHistories.{then_put}
-use Rattle.amqp_model.specs.Machine.{after_taken, may_put_here, end_after, end_after_owed, failed_by, StandsFor}
+use Rattle.amqp_model.specs.EndVerdict.{facts_at, end_verdict, goes_on}
+use Rattle.amqp_model.specs.LawfulHistories.{then_put, then_taken}
+use Rattle.amqp_model.specs.ReadingBack.{WritesReadBack}
+use Rattle.amqp_model.specs.Replies.{request_made}
+use Rattle.amqp_model.specs.Machine.{after_taken, may_put_here, end_after, end_after_owed, end_after_taken, failed_by}
 use Rattle.amqp_model.specs.EndLaws.{is_over, AgreesWithLives, agrees, refuses, FrameFollows}
 use Rattle.amqp_model.proofs.Agreeing.{facts_in, is_closing, handshake-stops, frame-agrees}
 use Rattle.amqp_model.proofs.Acting.{reads-back, is_other, is_acted, acted-open}
 use Rattle.amqp_model.proofs.Elsewhere.{Each, verdict-zero}
 use Rattle.amqp_model.proofs.Taking.{puts-none}
-use Rattle.amqp_model.proofs.EndSteps.{not-zero, end-follows}
+use Rattle.amqp_model.proofs.EndSteps.{not-zero}
+use Rattle.amqp_model.proofs.Walking.{MayPut, IsKept, quiet-asks, Stands, stands-kept}
 
--- one method owed
-owed-follows : (role : Role) (config : Config role) (end : End) (history : History) (owed : Owed) → StandsFor role config false end history → ReadsBack owed.method → (owed.channel ≡ 0) ⊎ ((end.phase ≡ Running) × (may_put_here role (end.channels owed.channel) (Calls owed.method) ≡ true)) → StandsFor role config false (end_after role config owed.channel (PutHere (Calls owed.method) (frame_of owed)) end) (Put (frame_of owed) ∷ history)
-owed-follows role config end history owed stands back fits =
-    let said = reads-back owed.channel owed.method back in
-    subst (λ r. StandsFor role config false (end_after role config owed.channel (PutHere r (frame_of owed)) end) (Put (frame_of owed) ∷ history)) said (end-follows role config end history (Put (frame_of owed)) stands (subst (λ r. (owed.channel ≡ 0) ⊎ ((end.phase ≡ Running) × (may_put_here role (end.channels owed.channel) r ≡ true))) (sym said) fits))
+module _ (P : (role : Role) → Config role → End → History → Type 0) (k : IsKept P) where
+  -- one method owed
+  owed-follows : (role : Role) (config : Config role) (end : End) (history : History) (owed : Owed) → P role config end history → ReadsBack owed.method → MayPut role end owed.channel (Calls owed.method) → P role config (end_after role config owed.channel (PutHere (Calls owed.method) (frame_of owed)) end) (Put (frame_of owed) ∷ history)
+  owed-follows role config end history owed stands back fits =
+      let said = reads-back owed.channel owed.method back in
+      subst (λ r. P role config (end_after role config owed.channel (PutHere r (frame_of owed)) end) (Put (frame_of owed) ∷ history)) said (k.more role config end history (Put (frame_of owed)) stands (subst (MayPut role end owed.channel) (sym said) fits))
 
--- methods owed on channel 0
-zero-follow : (role : Role) (config : Config role) (owed : List Owed) (end : End) (history : History) → Each (λ owed. owed.channel ≡ 0) owed → AllReadBack owed → StandsFor role config false end history → StandsFor role config false (end_after_owed role config owed end) (then_put (map frame_of owed) history)
-zero-follow role config [] end history zeros back stands = stands
-zero-follow role config (owed ∷ later) end history zeros back stands =
-    zero-follow role config later (end_after role config owed.channel (PutHere (Calls owed.method) (frame_of owed)) end) (Put (frame_of owed) ∷ history) zeros.1 back.1 (owed-follows role config end history owed stands back.0 (inl zeros.0))
+  -- methods owed on channel 0
+  zero-follow : (role : Role) (config : Config role) (owed : List Owed) (end : End) (history : History) → Each (λ owed. owed.channel ≡ 0) owed → AllReadBack owed → P role config end history → P role config (end_after_owed role config owed end) (then_put (map frame_of owed) history)
+  zero-follow role config [] end history zeros back stands = stands
+  zero-follow role config (owed ∷ later) end history zeros back stands =
+      zero-follow role config later (end_after role config owed.channel (PutHere (Calls owed.method) (frame_of owed)) end) (Put (frame_of owed) ∷ history) zeros.1 back.1 (owed-follows role config end history owed stands back.0 (inl zeros.0))
 
 -- a verdict that goes on leaves the end as it is
 pub not-failed : (v : FrameVerdict) (end : End) → goes_on v ≡ true → failed_by v end ≡ end
@@ -90,48 +94,52 @@ may-refuse role entry Free kind number e k = absurd cc
 may-refuse role entry Opening kind number e k = absurd cc
 may-refuse role entry Closing kind number e k = absurd cc
 
--- A frame of a channel above 0, taken by an end that is Running.
-module _ (role : Role) (config : Config role) (end : End) (history : History) (frame : Frame) (m : ℕ) (is_running : end.phase ≡ Running) (stands : StandsFor role config false (end_after role config (suc m) (TookHere (reading frame) frame) end) (Took frame ∷ history)) where
-  channel-is : (end_after role config (suc m) (TookHere (reading frame) frame) end).channels (suc m) ≡ after_taken role (TookHere (reading frame) frame) (end.channels (suc m)) (kind_of (reading frame))
-  channel-is = let here : (suc m == suc m) ≡ true = eq-eqb (suc m) (suc m) refl in simp (here, is_running)
+module _ (P : (role : Role) → Config role → End → History → Type 0) (k : IsKept P) where
+  -- A frame of a channel above 0, taken by an end that is Running.
+  module _ (role : Role) (config : Config role) (end : End) (history : History) (frame : Frame) (m : ℕ) (is_running : end.phase ≡ Running) (stands : P role config (end_after role config (suc m) (TookHere (reading frame) frame) end) (Took frame ∷ history)) where
+    channel-is : (end_after role config (suc m) (TookHere (reading frame) frame) end).channels (suc m) ≡ after_taken role (TookHere (reading frame) frame) (end.channels (suc m)) (kind_of (reading frame))
+    channel-is = let here : (suc m == suc m) ≡ true = eq-eqb (suc m) (suc m) refl in simp (here, is_running)
 
-  one : (method : Method) → ReadsBack method → may_put_here role (after_taken role (TookHere (reading frame) frame) (end.channels (suc m)) (kind_of (reading frame))) (Calls method) ≡ true → StandsFor role config false (end_after_owed role config (record { channel = suc m; method = method } ∷ []) (end_after role config (suc m) (TookHere (reading frame) frame) end)) (then_put (map frame_of (record { channel = suc m; method = method } ∷ [])) (Took frame ∷ history))
-  one method back may = owed-follows role config (end_after role config (suc m) (TookHere (reading frame) frame) end) (Took frame ∷ history) (record { channel = suc m; method = method }) stands back (inr (is_running, subst (λ channel. may_put_here role channel (Calls method) ≡ true) (sym channel-is) may))
+    one : (method : Method) → ReadsBack method → request_made (Calls method) ≡ [] → may_put_here role (after_taken role (TookHere (reading frame) frame) (end.channels (suc m)) (kind_of (reading frame))) (Calls method) ≡ true → P role config (end_after_owed role config (record { channel = suc m; method = method } ∷ []) (end_after role config (suc m) (TookHere (reading frame) frame) end)) (then_put (map frame_of (record { channel = suc m; method = method } ∷ [])) (Took frame ∷ history))
+    one method back quiet may = owed-follows P k role config (end_after role config (suc m) (TookHere (reading frame) frame) end) (Took frame ∷ history) (record { channel = suc m; method = method }) stands back (inr (is_running, subst (λ channel. may_put_here role channel (Calls method) ≡ true) (sym channel-is) may, quiet-asks role _ (Calls method) quiet))
 
-  by-owed : (event : lives.Event) (owed : Option Kind) → MayReply role (after_taken role (TookHere (reading frame) frame) (end.channels (suc m)) (kind_of (reading frame))) (lives.GoesOn event owed) → AllReadBack (map (on_channel (suc m)) (reply_to owed)) → StandsFor role config false (end_after_owed role config (map (on_channel (suc m)) (reply_to owed)) (end_after role config (suc m) (TookHere (reading frame) frame) end)) (then_put (map frame_of (map (on_channel (suc m)) (reply_to owed))) (Took frame ∷ history))
-  by-owed event None may back = stands
-  by-owed event (Some OpenOk) may back = one (without_arguments kinds.ChannelOpenOk) back.0 may
-  by-owed event (Some CloseOk) may back = one (without_arguments kinds.ChannelCloseOk) back.0 may
-  by-owed event (Some (FlowOk active)) may back = one (flow_as kinds.ChannelFlowOk active) back.0 may
-  by-owed event (Some kind) may back = stands
+    by-owed : (event : lives.Event) (owed : Option Kind) → MayReply role (after_taken role (TookHere (reading frame) frame) (end.channels (suc m)) (kind_of (reading frame))) (lives.GoesOn event owed) → AllReadBack (map (on_channel (suc m)) (reply_to owed)) → P role config (end_after_owed role config (map (on_channel (suc m)) (reply_to owed)) (end_after role config (suc m) (TookHere (reading frame) frame) end)) (then_put (map frame_of (map (on_channel (suc m)) (reply_to owed))) (Took frame ∷ history))
+    by-owed event None may back = stands
+    by-owed event (Some OpenOk) may back = one (without_arguments kinds.ChannelOpenOk) back.0 refl may
+    by-owed event (Some CloseOk) may back = one (without_arguments kinds.ChannelCloseOk) back.0 refl may
+    by-owed event (Some (FlowOk active)) may back = one (flow_as kinds.ChannelFlowOk active) back.0 refl may
+    by-owed event (Some kind) may back = stands
 
-  running-follows : (v : FrameVerdict) → AgreesWithLives role (suc m) (end.channels (suc m)) (reading frame) v → AllReadBack (methods_put (facts_at config end (suc m)) v) → StandsFor role config false (end_after_owed role config (methods_put (facts_at config end (suc m)) v) (end_after role config (suc m) (TookHere (reading frame) frame) end)) (then_put (map frame_of (methods_put (facts_at config end (suc m)) v)) (Took frame ∷ history))
-  running-follows v (agrees event owed told e is) back =
-      let may = subst (MayReply role (after_taken role (TookHere (reading frame) frame) (end.channels (suc m)) (kind_of (reading frame)))) e (may-reply role (TookHere (reading frame) frame) (end.channels (suc m)) (awaits_in (end.channels (suc m))) (kind_of (reading frame))) in
-      let put : methods_put (facts_at config end (suc m)) v ≡ map (on_channel (suc m)) (reply_to owed) = ap (methods_put (facts_at config end (suc m))) is in
-      subst (λ l. StandsFor role config false (end_after_owed role config l (end_after role config (suc m) (TookHere (reading frame) frame) end)) (then_put (map frame_of l) (Took frame ∷ history))) (sym put) (by-owed event owed may (subst AllReadBack put back))
-  running-follows v (refuses e is) back =
-      let put : methods_put (facts_at config end (suc m)) v ≡ channel_close (suc m) ContentTooLarge ∷ [] = ap (methods_put (facts_at config end (suc m))) is in
-      let acted = acted-open role (state_of (end.channels (suc m))) (awaits_in (end.channels (suc m))) (kind_of (reading frame)) (ap is_acted e) in
-      subst (λ l. StandsFor role config false (end_after_owed role config l (end_after role config (suc m) (TookHere (reading frame) frame) end)) (then_put (map frame_of l) (Took frame ∷ history))) (sym put) (one (channel_close (suc m) ContentTooLarge).method (subst AllReadBack put back).0 (may-refuse role (TookHere (reading frame) frame) (end.channels (suc m)) (kind_of (reading frame)) (suc m) acted.0 acted.1))
+    running-follows : (v : FrameVerdict) → AgreesWithLives role (suc m) (end.channels (suc m)) (reading frame) v → AllReadBack (methods_put (facts_at config end (suc m)) v) → P role config (end_after_owed role config (methods_put (facts_at config end (suc m)) v) (end_after role config (suc m) (TookHere (reading frame) frame) end)) (then_put (map frame_of (methods_put (facts_at config end (suc m)) v)) (Took frame ∷ history))
+    running-follows v (agrees event owed told e is) back =
+        let may = subst (MayReply role (after_taken role (TookHere (reading frame) frame) (end.channels (suc m)) (kind_of (reading frame)))) e (may-reply role (TookHere (reading frame) frame) (end.channels (suc m)) (awaits_in (end.channels (suc m))) (kind_of (reading frame))) in
+        let put : methods_put (facts_at config end (suc m)) v ≡ map (on_channel (suc m)) (reply_to owed) = ap (methods_put (facts_at config end (suc m))) is in
+        subst (λ l. P role config (end_after_owed role config l (end_after role config (suc m) (TookHere (reading frame) frame) end)) (then_put (map frame_of l) (Took frame ∷ history))) (sym put) (by-owed event owed may (subst AllReadBack put back))
+    running-follows v (refuses e is) back =
+        let put : methods_put (facts_at config end (suc m)) v ≡ channel_close (suc m) ContentTooLarge ∷ [] = ap (methods_put (facts_at config end (suc m))) is in
+        let acted = acted-open role (state_of (end.channels (suc m))) (awaits_in (end.channels (suc m))) (kind_of (reading frame)) (ap is_acted e) in
+        subst (λ l. P role config (end_after_owed role config l (end_after role config (suc m) (TookHere (reading frame) frame) end)) (then_put (map frame_of l) (Took frame ∷ history))) (sym put) (one (channel_close (suc m) ContentTooLarge).method (subst AllReadBack put back).0 refl (may-refuse role (TookHere (reading frame) frame) (end.channels (suc m)) (kind_of (reading frame)) (suc m) acted.0 acted.1))
 
--- a frame of a channel above 0
-above-follows : (role : Role) (config : Config role) (end : End) (history : History) (frame : Frame) (m : ℕ) → StandsFor role config false end history → StandsFor role config false (end_after role config (suc m) (TookHere (reading frame) frame) end) (Took frame ∷ history) → AllReadBack (methods_put (facts_at config end (suc m)) (verdict_on (facts_at config end (suc m)) (reading frame))) → goes_on (verdict_on (facts_at config end (suc m)) (reading frame)) ≡ true → (phase : Phase) → end.phase ≡ phase → StandsFor role config false (end_after_owed role config (methods_put (facts_at config end (suc m)) (verdict_on (facts_at config end (suc m)) (reading frame))) (end_after role config (suc m) (TookHere (reading frame) frame) end)) (then_put (map frame_of (methods_put (facts_at config end (suc m)) (verdict_on (facts_at config end (suc m)) (reading frame)))) (Took frame ∷ history))
-above-follows role config end history frame m stands taken back g Running p =
-    running-follows role config end history frame m p taken (verdict_on (facts_at config end (suc m)) (reading frame)) (frame-agrees config end.phase end.agreed (suc m) (end.channels (suc m)) (ap is_over p) (not-zero m) (reading frame) g) back
-above-follows role config end history frame m stands taken back g (Handshake step) p =
-    handshake-stops config step end.agreed (suc m) (end.channels (suc m)) (ap is_closing (stands.free_before step p (suc m))) (not-zero m) (reading frame) (subst (λ p. goes_on (verdict_on (facts_in config p end.agreed (suc m) (end.channels (suc m))) (reading frame)) ≡ true) p g)
-above-follows role config end history frame m stands taken back g Phase.Closing p =
-    let none : methods_put (facts_at config end (suc m)) (verdict_on (facts_at config end (suc m)) (reading frame)) ≡ [] = subst (λ p. methods_put (facts_in config p end.agreed (suc m) (end.channels (suc m))) (verdict_on (facts_in config p end.agreed (suc m) (end.channels (suc m))) (reading frame)) ≡ []) (sym p) (puts-none config end.agreed m (end.channels (suc m)) (reading frame)) in
-    subst (λ l. StandsFor role config false (end_after_owed role config l (end_after role config (suc m) (TookHere (reading frame) frame) end)) (then_put (map frame_of l) (Took frame ∷ history))) (sym none) taken
-above-follows role config end history frame m stands taken back g Closed p = absurd (false≢true (subst (λ p. goes_on (verdict_on (facts_in config p end.agreed (suc m) (end.channels (suc m))) (reading frame)) ≡ true) p g))
-above-follows role config end history frame m stands taken back g Failed p = absurd (false≢true (subst (λ p. goes_on (verdict_on (facts_in config p end.agreed (suc m) (end.channels (suc m))) (reading frame)) ≡ true) p g))
+  -- a frame of a channel above 0
+  above-follows : (role : Role) (config : Config role) (end : End) (history : History) (frame : Frame) (m : ℕ) → P role config end history → P role config (end_after role config (suc m) (TookHere (reading frame) frame) end) (Took frame ∷ history) → AllReadBack (methods_put (facts_at config end (suc m)) (verdict_on (facts_at config end (suc m)) (reading frame))) → goes_on (verdict_on (facts_at config end (suc m)) (reading frame)) ≡ true → (phase : Phase) → end.phase ≡ phase → P role config (end_after_owed role config (methods_put (facts_at config end (suc m)) (verdict_on (facts_at config end (suc m)) (reading frame))) (end_after role config (suc m) (TookHere (reading frame) frame) end)) (then_put (map frame_of (methods_put (facts_at config end (suc m)) (verdict_on (facts_at config end (suc m)) (reading frame)))) (Took frame ∷ history))
+  above-follows role config end history frame m stands taken back g Running p =
+      running-follows role config end history frame m p taken (verdict_on (facts_at config end (suc m)) (reading frame)) (frame-agrees config end.phase end.agreed (suc m) (end.channels (suc m)) (ap is_over p) (not-zero m) (reading frame) g) back
+  above-follows role config end history frame m stands taken back g (Handshake step) p =
+      handshake-stops config step end.agreed (suc m) (end.channels (suc m)) (ap is_closing ((k.stands role config end history stands).free_before step p (suc m))) (not-zero m) (reading frame) (subst (λ p. goes_on (verdict_on (facts_in config p end.agreed (suc m) (end.channels (suc m))) (reading frame)) ≡ true) p g)
+  above-follows role config end history frame m stands taken back g Phase.Closing p =
+      let none : methods_put (facts_at config end (suc m)) (verdict_on (facts_at config end (suc m)) (reading frame)) ≡ [] = subst (λ p. methods_put (facts_in config p end.agreed (suc m) (end.channels (suc m))) (verdict_on (facts_in config p end.agreed (suc m) (end.channels (suc m))) (reading frame)) ≡ []) (sym p) (puts-none config end.agreed m (end.channels (suc m)) (reading frame)) in
+      subst (λ l. P role config (end_after_owed role config l (end_after role config (suc m) (TookHere (reading frame) frame) end)) (then_put (map frame_of l) (Took frame ∷ history))) (sym none) taken
+  above-follows role config end history frame m stands taken back g Closed p = absurd (false≢true (subst (λ p. goes_on (verdict_on (facts_in config p end.agreed (suc m) (end.channels (suc m))) (reading frame)) ≡ true) p g))
+  above-follows role config end history frame m stands taken back g Failed p = absurd (false≢true (subst (λ p. goes_on (verdict_on (facts_in config p end.agreed (suc m) (end.channels (suc m))) (reading frame)) ≡ true) p g))
+
+  pub frame-kept : (role : Role) (config : Config role) (end : End) (history : History) (frame : Frame) → WritesReadBack role config → P role config end history → goes_on (end_verdict config end frame) ≡ true → P role config (end_after_taken role config end (reading frame) frame) (then_taken config end frame history)
+  frame-kept role config end history frame back stands g = by-channel frame.channel refl (back.owed end frame.channel (reading frame)) g (k.more role config end history (Took frame) stands g)
+    where
+      by-channel : (c : ℕ) → frame.channel ≡ c → AllReadBack (methods_put (facts_at config end c) (verdict_on (facts_at config end c) (reading frame))) → goes_on (verdict_on (facts_at config end c) (reading frame)) ≡ true → P role config (end_after role config c (TookHere (reading frame) frame) end) (Took frame ∷ history) → P role config (failed_by (verdict_on (facts_at config end c) (reading frame)) (end_after_owed role config (methods_put (facts_at config end c) (verdict_on (facts_at config end c) (reading frame))) (end_after role config c (TookHere (reading frame) frame) end))) (then_put (map frame_of (methods_put (facts_at config end c) (verdict_on (facts_at config end c) (reading frame)))) (Took frame ∷ history))
+      by-channel zero e back g taken =
+          subst (λ after. P role config after (then_put (map frame_of (methods_put (facts_at config end 0) (verdict_on (facts_at config end 0) (reading frame)))) (Took frame ∷ history))) (sym (not-failed (verdict_on (facts_at config end 0) (reading frame)) _ g)) (zero-follow P k role config _ _ (Took frame ∷ history) (verdict-zero (facts_at config end 0) refl (reading frame) g) back taken)
+      by-channel (suc m) e back g taken =
+          subst (λ after. P role config after (then_put (map frame_of (methods_put (facts_at config end (suc m)) (verdict_on (facts_at config end (suc m)) (reading frame)))) (Took frame ∷ history))) (sym (not-failed (verdict_on (facts_at config end (suc m)) (reading frame)) _ g)) (above-follows role config end history frame m stands taken back g end.phase refl)
 
 pub frame-follows : (role : Role) (config : Config role) (end : End) (history : History) (frame : Frame) → FrameFollows role config end history frame
-frame-follows role config end history frame back stands g = by-channel frame.channel refl (back.owed end frame.channel (reading frame)) g (end-follows role config end history (Took frame) stands g)
-  where
-    by-channel : (c : ℕ) → frame.channel ≡ c → AllReadBack (methods_put (facts_at config end c) (verdict_on (facts_at config end c) (reading frame))) → goes_on (verdict_on (facts_at config end c) (reading frame)) ≡ true → StandsFor role config false (end_after role config c (TookHere (reading frame) frame) end) (Took frame ∷ history) → StandsFor role config false (failed_by (verdict_on (facts_at config end c) (reading frame)) (end_after_owed role config (methods_put (facts_at config end c) (verdict_on (facts_at config end c) (reading frame))) (end_after role config c (TookHere (reading frame) frame) end))) (then_put (map frame_of (methods_put (facts_at config end c) (verdict_on (facts_at config end c) (reading frame)))) (Took frame ∷ history))
-    by-channel zero e back g taken =
-        subst (λ after. StandsFor role config false after (then_put (map frame_of (methods_put (facts_at config end 0) (verdict_on (facts_at config end 0) (reading frame)))) (Took frame ∷ history))) (sym (not-failed (verdict_on (facts_at config end 0) (reading frame)) _ g)) (zero-follow role config _ _ (Took frame ∷ history) (verdict-zero (facts_at config end 0) refl (reading frame) g) back taken)
-    by-channel (suc m) e back g taken =
-        subst (λ after. StandsFor role config false after (then_put (map frame_of (methods_put (facts_at config end (suc m)) (verdict_on (facts_at config end (suc m)) (reading frame)))) (Took frame ∷ history))) (sym (not-failed (verdict_on (facts_at config end (suc m)) (reading frame)) _ g)) (above-follows role config end history frame m stands taken back g end.phase refl)
+frame-follows = frame-kept Stands stands-kept

@@ -21,7 +21,7 @@ use Rattle.amqp_model.specs.Machine.{HasItsRequest, IsAnswerable}
 use Rattle.amqp_model.proofs.ClassMethods.{is_class_kind, class-plain}
 use Rattle.amqp_model.proofs.ChannelSteps.{Matches}
 
-abbrev is_close : Kind → Bool
+abbrev pub is_close : Kind → Bool
 is_close Close = true
 is_close kind = false
 
@@ -40,7 +40,7 @@ peel false n false d on_zero last e g = absurd (false≢true g)
 peel false n true true on_zero last e g = absurd (false≢true g)
 peel false n true false on_zero last e g = g
 
-method-goes : {role : Role} (config : Config role) (agreed : Option Agreed) (number : ℕ) (channel : Channel) (method : Method) → (number == 0) ≡ false → goes_on (on_method (running config agreed number channel) method) ≡ true → goes_on (by_state (running config agreed number channel) channel method) ≡ true
+pub method-goes : {role : Role} (config : Config role) (agreed : Option Agreed) (number : ℕ) (channel : Channel) (method : Method) → (number == 0) ≡ false → goes_on (on_method (running config agreed number channel) method) ≡ true → goes_on (by_state (running config agreed number channel) channel method) ≡ true
 method-goes {role} config agreed number channel method above g = peel _ (number == 0) _ (is_no_channel (running config agreed number channel)) _ _ above g
 
 -- a heartbeat off channel 0
@@ -156,15 +156,15 @@ unanswerable true true last g e = refl
 unanswerable true false last g e = absurd (false≢true g)
 unanswerable false c last g e = absurd (false≢true e)
 
-matched-goes : (role : Role) (number : ℕ) (requests : List MethodKind) (method : Method) → goes_on (on_matched role number requests method) ≡ true → role ≡ Client → IsAnswerable method requests
+pub matched-goes : (role : Role) (number : ℕ) (requests : List MethodKind) (method : Method) → goes_on (on_matched role number requests method) ≡ true → role ≡ Client → IsAnswerable method requests
 matched-goes Client number requests method g e = unanswerable (is_reply method.kind) (answers_first method.kind requests) _ g
 matched-goes Server number requests method g e = absurd (false≢true (ap is_client e))
 
 -- flow and flow-ok are no replies
-class-answerable : (method : Method) (requests : List MethodKind) → is_class_kind (kind_of (Calls method)) ≡ true → IsAnswerable method requests
+pub class-answerable : (method : Method) (requests : List MethodKind) → is_class_kind (kind_of (Calls method)) ≡ true → IsAnswerable method requests
 class-answerable method requests e h = absurd (true≢false (sym h ∙ (class-plain method.kind (bit_at 0 method) e).1))
 
-no-more-opening : (role : Role) (awaits : Bool) (number : ℕ) (reading : Reading) (kind : Kind) → is_message kind ≡ false → is_close kind ≡ false → goes_on (as_lives number reading (when_open role awaits kind)) ≡ true → ⊥
+pub no-more-opening : (role : Role) (awaits : Bool) (number : ℕ) (reading : Reading) (kind : Kind) → is_message kind ≡ false → is_close kind ≡ false → goes_on (as_lives number reading (when_open role awaits kind)) ≡ true → ⊥
 no-more-opening role awaits number reading Close e f g = true≢false f
 no-more-opening Client awaits number reading Open e f g = false≢true g
 no-more-opening Server awaits number reading Open e f g = false≢true g
@@ -185,7 +185,7 @@ idle Nothing e = refl
 idle (HeaderDue method) e = absurd (true≢false e)
 idle (BodyDue method size properties body) e = absurd (true≢false e)
 
-not-inside : (b : Bool) (last : FrameVerdict) → goes_on (cond b (Faults (Peer CloseCode.UnexpectedFrame)) last) ≡ true → (b ≡ false) × (goes_on last ≡ true)
+pub not-inside : (b : Bool) (last : FrameVerdict) → goes_on (cond b (Faults (Peer CloseCode.UnexpectedFrame)) last) ≡ true → (b ≡ false) × (goes_on last ≡ true)
 not-inside true last g = absurd (false≢true g)
 not-inside false last g = (refl, g)
 

@@ -2,7 +2,8 @@
 use Rattle.std.proofs.Common.{◌≡◌, Bool, true, false, ℕ, List, [], ◌∷◌, ◌++◌, map, Option, Some, None, refl, ap}
 use Rattle.std.proofs.lemmas.Bool.{false≢true}
 use Rattle.amqp_method.specs.Arguments.{Argument}
-use Rattle.amqp_model.specs.Notes.{Role, Client, Server}
+use Rattle.amqp_model.specs.Notes.{Role, Client, Server, is_client}
+use Rattle.amqp_model.specs.Methods.{sends}
 use Rattle.amqp_model.specs.Arrangement.{is_leaving}
 use Rattle.amqp_model.specs.Channels.{Phase, Handshake, Running, Closed, Agreed, AwaitsStart, AwaitsStartOk, AwaitsTune, AwaitsTuneOk, AwaitsOpen, AwaitsOpenOk}
 use Rattle.amqp_model.specs.Negotiation.{Config, Hello, OfClient, OfServer, start, start_ok, connection_open}
@@ -22,12 +23,18 @@ abbrev pub shakes_hands : Phase → Bool
 shakes_hands (Handshake step) = true
 shakes_hands phase = false
 
+-- words that an end in this role may send
+abbrev pub AllSent : Role → List Word → Type 0
+AllSent role [] = Unit {0}
+AllSent role (word ∷ later) = (sends (is_client role) (said word).kind ≡ true) × AllSent role later
+
 -- A word comes next to an end of this footing: the end goes on, its footing is the next, and it puts these words.
 pub record Hears (role : Role) (config : Config role) (footing : Footing) (word : Word) (next : Footing) (words : List Word) : Type 0 where
   pub takes : takes_frames footing.phase ≡ true
   pub goes : goes_on (verdict_of config footing (said word)) ≡ true
   pub heard : footing_heard role config footing (said word) ≡ next
   pub puts : owed_of config footing (said word) ≡ map owes words
+  pub sent : AllSent role words
   -- only a close, or its answer, closes the connection; and no end begins to shake hands again
   pub closes : is_shut next.phase ≡ true → is_leaving (spoken word) ≡ true
   pub begins : shakes_hands next.phase ≡ true → shakes_hands footing.phase ≡ true
@@ -65,30 +72,30 @@ pub record ServerHears (client_config : Config Client) (server_config : Config S
 
 -- a word that moves nothing
 client-block : (client_config : Config Client) (agreed : Option Agreed) (reason : List ℕ) → Hears Client client_config (at Running agreed) (Blocked reason) (at Running agreed) ([])
-client-block client_config agreed reason = record { takes = refl; goes = refl; heard = refl; puts = refl; closes = λ e. absurd (false≢true e); begins = λ e. e }
+client-block client_config agreed reason = record { takes = refl; goes = refl; heard = refl; puts = refl; sent = tt; closes = λ e. absurd (false≢true e); begins = λ e. e }
 
 client-unblock : (client_config : Config Client) (agreed : Option Agreed) → Hears Client client_config (at Running agreed) Unblocked (at Running agreed) ([])
-client-unblock client_config agreed = record { takes = refl; goes = refl; heard = refl; puts = refl; closes = λ e. absurd (false≢true e); begins = λ e. e }
+client-unblock client_config agreed = record { takes = refl; goes = refl; heard = refl; puts = refl; sent = tt; closes = λ e. absurd (false≢true e); begins = λ e. e }
 
 -- and one that is dropped
 closing-block : (client_config : Config Client) (agreed : Option Agreed) (reason : List ℕ) → Hears Client client_config (at Phase.Closing agreed) (Blocked reason) (at Phase.Closing agreed) ([])
-closing-block client_config agreed reason = record { takes = refl; goes = refl; heard = refl; puts = refl; closes = λ e. absurd (false≢true e); begins = λ e. e }
+closing-block client_config agreed reason = record { takes = refl; goes = refl; heard = refl; puts = refl; sent = tt; closes = λ e. absurd (false≢true e); begins = λ e. e }
 
 closing-unblock : (client_config : Config Client) (agreed : Option Agreed) → Hears Client client_config (at Phase.Closing agreed) Unblocked (at Phase.Closing agreed) ([])
-closing-unblock client_config agreed = record { takes = refl; goes = refl; heard = refl; puts = refl; closes = λ e. absurd (false≢true e); begins = λ e. e }
+closing-unblock client_config agreed = record { takes = refl; goes = refl; heard = refl; puts = refl; sent = tt; closes = λ e. absurd (false≢true e); begins = λ e. e }
 
 -- closes
 running-close : (role : Role) (config : Config role) (agreed : Option Agreed) (code : ℕ) (text : List ℕ) → Hears role config (at Running agreed) (Close code text) (at Closed agreed) (CloseOk ∷ [])
-running-close Client config agreed code text = record { takes = refl; goes = refl; heard = refl; puts = refl; closes = λ e. leaving-is 0 (said (Close code text)); begins = λ e. e }
-running-close Server config agreed code text = record { takes = refl; goes = refl; heard = refl; puts = refl; closes = λ e. leaving-is 0 (said (Close code text)); begins = λ e. e }
+running-close Client config agreed code text = record { takes = refl; goes = refl; heard = refl; puts = refl; sent = (refl, tt); closes = λ e. leaving-is 0 (said (Close code text)); begins = λ e. e }
+running-close Server config agreed code text = record { takes = refl; goes = refl; heard = refl; puts = refl; sent = (refl, tt); closes = λ e. leaving-is 0 (said (Close code text)); begins = λ e. e }
 
 closing-close : (role : Role) (config : Config role) (agreed : Option Agreed) (code : ℕ) (text : List ℕ) → Hears role config (at Phase.Closing agreed) (Close code text) (at Phase.Closing agreed) (CloseOk ∷ [])
-closing-close Client config agreed code text = record { takes = refl; goes = refl; heard = refl; puts = refl; closes = λ e. absurd (false≢true e); begins = λ e. e }
-closing-close Server config agreed code text = record { takes = refl; goes = refl; heard = refl; puts = refl; closes = λ e. absurd (false≢true e); begins = λ e. e }
+closing-close Client config agreed code text = record { takes = refl; goes = refl; heard = refl; puts = refl; sent = (refl, tt); closes = λ e. absurd (false≢true e); begins = λ e. e }
+closing-close Server config agreed code text = record { takes = refl; goes = refl; heard = refl; puts = refl; sent = (refl, tt); closes = λ e. absurd (false≢true e); begins = λ e. e }
 
 closing-answered : (role : Role) (config : Config role) (agreed : Option Agreed) → Hears role config (at Phase.Closing agreed) CloseOk (at Closed agreed) ([])
-closing-answered Client config agreed = record { takes = refl; goes = refl; heard = refl; puts = refl; closes = λ e. leaving-is 0 (said CloseOk); begins = λ e. e }
-closing-answered Server config agreed = record { takes = refl; goes = refl; heard = refl; puts = refl; closes = λ e. leaving-is 0 (said CloseOk); begins = λ e. e }
+closing-answered Client config agreed = record { takes = refl; goes = refl; heard = refl; puts = refl; sent = tt; closes = λ e. leaving-is 0 (said CloseOk); begins = λ e. e }
+closing-answered Server config agreed = record { takes = refl; goes = refl; heard = refl; puts = refl; sent = tt; closes = λ e. leaving-is 0 (said CloseOk); begins = λ e. e }
 
 -- The handshake.
 
@@ -98,6 +105,7 @@ hears-start client_config args = record {
   goes = refl;
   heard = ap (λ m. footing_owed Client client_config (on_zero m ∷ []) (at (Handshake AwaitsTune) None)) (start_ok-is client_config);
   puts = ap (λ m. on_zero m ∷ []) (start_ok-is client_config);
+  sent = (refl, tt);
   closes = λ e. absurd (false≢true e);
   begins = λ e. e;
 }
@@ -108,6 +116,7 @@ hears-start_ok server_config args = record {
   goes = refl;
   heard = refl;
   puts = refl;
+  sent = (refl, tt);
   closes = λ e. absurd (false≢true e);
   begins = λ e. e;
 }
@@ -120,6 +129,7 @@ hears-tune client_config server_config writes =
       goes = simp large;
       heard = simp large (ap (λ m. footing_owed Client client_config (on_zero m ∷ []) (at (Handshake AwaitsOpenOk) (Some (both_settle client_config server_config)))) (open-is client_config));
       puts = simp large (ap (λ m. owes (TuneOk (both_settle client_config server_config)) ∷ on_zero m ∷ []) (open-is client_config));
+      sent = (refl, (refl, tt));
       closes = λ e. absurd (false≢true e);
       begins = λ e. e;
     }
@@ -132,15 +142,16 @@ hears-tune_ok client_config server_config client server =
       goes = simp within;
       heard = simp within;
       puts = simp within;
+      sent = tt;
       closes = λ e. absurd (false≢true e);
       begins = λ e. e;
     }
 
 hears-open : (server_config : Config Server) (agreed : Agreed) (args : List Argument) → Hears Server server_config (at (Handshake AwaitsOpen) (Some agreed)) (OpenAsked args) (at Running (Some agreed)) (OpenOk ∷ [])
-hears-open server_config agreed args = record { takes = refl; goes = refl; heard = refl; puts = refl; closes = λ e. absurd (false≢true e); begins = λ e. refl }
+hears-open server_config agreed args = record { takes = refl; goes = refl; heard = refl; puts = refl; sent = (refl, tt); closes = λ e. absurd (false≢true e); begins = λ e. refl }
 
 hears-open_ok : (client_config : Config Client) (agreed : Agreed) → Hears Client client_config (at (Handshake AwaitsOpenOk) (Some agreed)) OpenOk (at Running (Some agreed)) ([])
-hears-open_ok client_config agreed = record { takes = refl; goes = refl; heard = refl; puts = refl; closes = λ e. absurd (false≢true e); begins = λ e. refl }
+hears-open_ok client_config agreed = record { takes = refl; goes = refl; heard = refl; puts = refl; sent = tt; closes = λ e. absurd (false≢true e); begins = λ e. refl }
 
 module _ (client_config : Config Client) (server_config : Config Server) (client_writes : ConfigWrites client_config) (server_writes : ConfigWrites server_config) where
   pub client-hears : {client server : Footing} {to_server to_client : List Word} {word : Word} → Together client_config server_config client server to_server (word ∷ to_client) → ClientHears client_config server_config client server to_server to_client word

@@ -40,6 +40,7 @@ mod VerdictRows
 mod AskRows
 mod Phases
 mod EndSteps
+mod Walking
 mod Lowest
 mod FrameSteps
 mod Failing
@@ -64,6 +65,11 @@ mod Settling
 mod OctetRows
 mod OctetScripts
 mod Sent
+mod TurnLemmas
+mod ChannelWalks
+mod Turning
+mod Turned
+mod TurnLaws
 mod ConnectionClosed
 mod SentTelling
 mod WholeMessages
@@ -74,3 +80,10 @@ mod Hearing
 mod ZeroSteps
 mod BothEnds
 mod Agreements
+mod WellPut
+mod WellPutPairs
+mod FrameGoesOn
+mod NoFault
+mod Matching
+mod OctetsInFlight
+mod EndsAgree

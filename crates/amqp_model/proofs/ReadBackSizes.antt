@@ -76,7 +76,7 @@ unfolding plain_method
 open-within limit (Some channel) least = (omega arith, tt)
 open-within limit None least = tt
 
-blocked-short : (reason : List ℕ) → length reason < 2 ^ 8 → frame_length (method_frame 0 (method_asked (Blocked reason))) ≤ FRAME_MIN
+pub blocked-short : (reason : List ℕ) → length reason < 2 ^ 8 → frame_length (method_frame 0 (method_asked (Blocked reason))) ≤ FRAME_MIN
 unfolding plain_method
 blocked-short reason small = omega (arith, length-append reason [])
 
@@ -84,7 +84,7 @@ flow-short : (channel : ℕ) (active : Bool) → frame_length (method_frame chan
 unfolding plain_method
 flow-short channel active = omega arith
 
-unblocked-short : frame_length (method_frame 0 (without_arguments kinds.ConnectionUnblocked)) ≤ FRAME_MIN
+pub unblocked-short : frame_length (method_frame 0 (without_arguments kinds.ConnectionUnblocked)) ≤ FRAME_MIN
 unfolding plain_method
 unblocked-short = omega arith
 

@@ -28,11 +28,11 @@ kept_in phase channel = []
 abbrev pub gathered : End → (number : ℕ) → ℕ
 gathered end number = length (kept_in end.phase (end.channels number))
 
-abbrev first_of : List MethodKind → Option MethodKind
+abbrev pub first_of : List MethodKind → Option MethodKind
 first_of [] = None
 first_of (request ∷ later) = Some request
 
-abbrev due_by : Channel → Option MethodKind
+abbrev pub due_by : Channel → Option MethodKind
 due_by (Open life) = first_of life.requests
 due_by channel = None
 

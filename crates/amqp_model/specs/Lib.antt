@@ -40,6 +40,10 @@ pub mod EndLaws
 pub mod Octets
 pub mod Pairs
 pub mod Agreement
+pub mod WellPut
+pub mod NoFault
+pub mod OctetsInFlight
+pub mod EndsAgree
 pub mod Sent
 pub mod SentLaws
 pub mod WholeMessages
@@ -50,3 +54,4 @@ pub mod Endpoint
 pub mod OctetLaws
 pub mod CarryingLaws
 pub mod Pieces
+pub mod InTurn

@@ -5,13 +5,18 @@
 //! channel. An end that is dropped just takes no further step. `mine` is the history of the end in the role, `theirs` that of
 //! the other.
 
-ghost use Rattle.std.specs.Prelude.{ℕ};
+ghost use Rattle.std.specs.Prelude.{ℕ, List};
 ghost use Rattle.amqp_model.specs.Agreement.{AgreesOnSmaller, AgreesPastHandshake, ClosedHasTakenAll, GoesOnAtZero, RunsWhereNextIsAbove};
 ghost use Rattle.amqp_model.specs.Channels.{Agreed};
+ghost use Rattle.amqp_model.specs.Endpoint.{Endpoint};
+ghost use Rattle.amqp_model.specs.EndsAgree.{LivesAgree, NoContentFromPaused};
 ghost use Rattle.amqp_model.specs.Frame.{Frame};
 ghost use Rattle.amqp_model.specs.Histories.{History};
 ghost use Rattle.amqp_model.specs.Negotiation.{Config};
 ghost use Rattle.amqp_model.specs.Notes.{Client, Role, Server};
+ghost use Rattle.amqp_model.specs.NoFault.{NextIsMatched, TakesWhatComesNext};
+ghost use Rattle.amqp_model.specs.OctetsInFlight.{FeedStaysPair, FindsNoFaultWithOctets, ItemsSentAreActedOnOrWaiting, NothingWaitsForClosed, OctetsInFlightAreFrames};
+ghost use Rattle.amqp_model.specs.WellPut.{NextIsWellPut, PutsWell};
 
 use crate::fitting::written_reads_back;
 
@@ -31,6 +36,61 @@ pub fn connection_goes_on()
     ensures zero { (role : Role) (client_config : Config Client) (server_config : Config Server) (mine theirs : History) (frame : Frame) → GoesOnAtZero role client_config server_config mine theirs frame }
     ensures above { (role : Role) (client_config : Config Client) (server_config : Config Server) (mine theirs : History) (frame : Frame) → RunsWhereNextIsAbove role client_config server_config mine theirs frame }
     ensures closed { (role : Role) (client_config : Config Client) (server_config : Config Server) (mine theirs : History) (channel : ℕ) → ClosedHasTakenAll role client_config server_config mine theirs channel }
+{
+    written_reads_back();
+}
+
+/// Each frame that either end puts says a method that its sender may send, of the class connection on channel 0 and of no
+/// other there; or, above channel 0, a content header or a part of a body. On channel 0 it has at most 4096 octets; any other
+/// is of a channel up to the agreed maximum, and of at most the agreed size. So is each frame that comes next.
+pub fn frames_are_well_put()
+    ensures put { (role : Role) (client_config : Config Client) (server_config : Config Server) (mine theirs : History) → PutsWell role client_config server_config mine theirs }
+    ensures next { (role : Role) (client_config : Config Client) (server_config : Config Server) (mine theirs : History) (frame : Frame) → NextIsWellPut role client_config server_config mine theirs frame }
+{
+    written_reads_back();
+}
+
+/// An end can take whatever frame comes next, and goes on with it, on every channel and in every phase. A reply that comes next
+/// to a client answers the request that waits, and a request that comes next to a server finds it keeping fewer than it may.
+pub fn no_fault_over_frames()
+    ensures matched { (role : Role) (client_config : Config Client) (server_config : Config Server) (mine theirs : History) (frame : Frame) → NextIsMatched role client_config server_config mine theirs frame }
+    ensures takes { (role : Role) (client_config : Config Client) (server_config : Config Server) (mine theirs : History) (frame : Frame) → TakesWhatComesNext role client_config server_config mine theirs frame }
+{
+    written_reads_back();
+}
+
+/// An end that is fed the next octets of what the other put finds no fault, in whatever pieces they come; and what it keeps
+/// then stands for a history that is a pair with the other's again.
+pub fn no_fault_over_octets()
+    ensures none { (role : Role) (client_config : Config Client) (server_config : Config Server) (mine theirs : History) (endpoint : Endpoint) (fed written piece later : List ℕ) → FindsNoFaultWithOctets role client_config server_config mine theirs endpoint fed written piece later }
+    ensures pair { (role : Role) (client_config : Config Client) (server_config : Config Server) (mine theirs : History) (endpoint : Endpoint) (fed written piece later : List ℕ) → FeedStaysPair role client_config server_config mine theirs endpoint fed written piece later }
+{
+    written_reads_back();
+}
+
+/// No octet waits for an end that is closed: it has none unfinished, and was fed all that the other put.
+pub fn nothing_waits_for_closed()
+    ensures { (role : Role) (client_config : Config Client) (server_config : Config Server) (mine theirs : History) (limit : ℕ) (put fed unfinished rest : List ℕ) → NothingWaitsForClosed role client_config server_config mine theirs limit put fed unfinished rest }
+{
+    written_reads_back();
+}
+
+/// The unfinished octets of an end and those that it was not fed yet are those of whole frames, and on each channel these are
+/// what the other put after what the end took. So the items that the other sent in the life of a live end are those that the
+/// frames acted on and then the waiting ones encode.
+pub fn octets_in_flight_are_frames()
+    ensures frames { (role : Role) (limit : ℕ) (mine theirs : History) (put fed unfinished rest : List ℕ) → OctetsInFlightAreFrames role limit mine theirs put fed unfinished rest }
+    ensures items { (role : Role) (client_config : Config Client) (server_config : Config Server) (mine theirs : History) (unfinished rest : List ℕ) (n : ℕ) → ItemsSentAreActedOnOrWaiting role client_config server_config mine theirs unfinished rest n }
+{
+    written_reads_back();
+}
+
+/// On each channel above 0 the i-th frame that an end took has the life, as that end counts, of the i-th frame that the other
+/// put. No content but get-ok comes to an end on a channel where it took flow-ok with active 0, and has since put no flow with
+/// active 1.
+pub fn ends_agree_on_lives()
+    ensures lives { (role : Role) (client_config : Config Client) (server_config : Config Server) (mine theirs : History) (n : ℕ) → LivesAgree role client_config server_config mine theirs n }
+    ensures pause { (role : Role) (client_config : Config Client) (server_config : Config Server) (mine theirs : History) (n : ℕ) → NoContentFromPaused role client_config server_config mine theirs n }
 {
     written_reads_back();
 }
