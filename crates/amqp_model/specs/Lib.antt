@@ -51,3 +51,4 @@ pub mod CarryingLaws
 pub mod MethodLaws
 pub mod Pieces
 pub mod InTurn
+pub mod Bounds

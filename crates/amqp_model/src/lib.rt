@@ -7,6 +7,7 @@
 #![tactic(auto)]
 
 pub mod arrangement;
+pub mod bounds;
 pub mod contents;
 pub mod fitting;
 pub mod lives;
@@ -14,4 +15,5 @@ pub mod methods;
 pub mod octets;
 pub mod one_end;
 pub mod pieces;
+pub mod replies;
 pub mod two_ends;
