@@ -70,6 +70,7 @@ mod ChannelWalks
 mod Turning
 mod Turned
 mod TurnLaws
+mod Bounding
 mod ConnectionClosed
 mod SentTelling
 mod WholeMessages

@@ -16,11 +16,11 @@ state_in phase channel = state_of channel
 abbrev pub channel_state : End → (number : ℕ) → State
 channel_state end number = cond ((number == 0) || nat_lt (channel_max end.agreed) number) State.Free (state_in end.phase (end.channels number))
 
-abbrev kept_by : Channel → List ℕ
+abbrev pub kept_by : Channel → List ℕ
 kept_by (Open life) = kept life.content
 kept_by channel = []
 
-abbrev kept_in : Phase → Channel → List ℕ
+abbrev pub kept_in : Phase → Channel → List ℕ
 kept_in Running channel = kept_by channel
 kept_in phase channel = []
 

@@ -55,3 +55,4 @@ pub mod OctetLaws
 pub mod CarryingLaws
 pub mod Pieces
 pub mod InTurn
+pub mod Bounds

@@ -8,10 +8,12 @@
 
 pub mod agreement;
 pub mod arrangement;
+pub mod bounds;
 pub mod contents;
 pub mod fitting;
 pub mod lives;
 pub mod octets;
 pub mod one_end;
 pub mod pieces;
+pub mod replies;
 pub mod two_ends;
