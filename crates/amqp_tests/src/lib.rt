@@ -5,7 +5,13 @@
 #![tactic(auto)]
 
 #[cfg(test)]
+mod faults;
+#[cfg(test)]
 mod frames;
+#[cfg(test)]
+mod large;
+#[cfg(test)]
+mod memory;
 #[cfg(test)]
 mod method_facts;
 #[cfg(test)]
@@ -15,4 +21,8 @@ mod method_samples;
 #[cfg(test)]
 mod methods;
 #[cfg(test)]
+mod properties;
+#[cfg(test)]
 mod tables;
+#[cfg(test)]
+mod values;
