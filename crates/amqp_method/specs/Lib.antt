@@ -20,6 +20,7 @@ pub mod Messages
 pub mod MessageView
 pub mod Fitting
 pub mod Laws
+pub mod EarlyFaults
 pub mod Lengths
 pub mod Places
 pub mod Requests

@@ -1,5 +1,6 @@
 //! Content headers as octets.
-ghost use Rattle.std.specs.Prelude.{◌≡◌, ◌≤◌, ◌<◌, ◌⊎◌, ◌++◌, ◌^◌, length, take, IfOk, IfErr, OnOk, OnErr, Ok, Err};
+ghost use Rattle.std.specs.Prelude.{◌≡◌, ◌≤◌, ◌<◌, ◌⊎◌, ◌++◌, ◌^◌, length, take, IfOk, IfErr, OnOk, OnErr, Ok, Err, Some};
+ghost use Rattle.amqp_method.specs.EarlyFaults.{fault_of_start};
 ghost use Rattle.amqp_method.specs.Arguments.{octet, long_long, short_string};
 ghost use Rattle.amqp_method.specs.Faults.{out_of_memory, too_long};
 ghost use Rattle.amqp_method.specs.FirstFault.{FirstFaultOfHeader};
@@ -210,15 +211,19 @@ pub fn read_header(alloc: Global, octets: &[u8]) -> Result<Header, MethodFault>
     ensures fault { IfErr result (λ e. (e ≡ out_of_memory) ⊎ FirstFaultOfHeader octets.now e) }
     ensures told { (e : MethodFault) → FirstFaultOfHeader octets.now e → Gives header_view result (Err e) }
 
+    // A fault before the properties is reported whatever memory there is.
+    ensures early { (e : MethodFault) → fault_of_start octets.now ≡ Some e → result ≡ Err e }
+
     // What is read, as a function of the octets.
     ensures exact { Gives header_view result (header_at octets.now) }
 {
     exact_header(alloc, octets)
 }
 
-#[tactic(auto, unfolding(crate::specs::HeaderReading::header_at))]
+#[tactic(auto, unfolding(crate::specs::HeaderReading::header_at, crate::specs::EarlyFaults::fault_of_start))]
 fn exact_header(alloc: Global, octets: &[u8]) -> Result<Header, MethodFault>
-    ensures { Gives header_view result (header_at octets.now) }
+    ensures exact { Gives header_view result (header_at octets.now) }
+    ensures early { (e : MethodFault) → fault_of_start octets.now ≡ Some e → result ≡ Err e }
 {
     let end = octets.len();
     let (class, after) = read_short(octets, end)?;

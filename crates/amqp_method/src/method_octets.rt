@@ -1,5 +1,6 @@
 //! Methods as octets.
-ghost use Rattle.std.specs.Prelude.{◌⊎◌, ◌≡◌, ◌++◌, length, take, IfOk, IfErr, OnOk, OnErr, Ok, Err};
+ghost use Rattle.std.specs.Prelude.{◌⊎◌, ◌≡◌, ◌++◌, length, take, IfOk, IfErr, OnOk, OnErr, Ok, Err, Some};
+ghost use Rattle.amqp_method.specs.EarlyFaults.{fault_of_ids};
 ghost use Rattle.amqp_method.specs.Arguments.{Call};
 ghost use Rattle.amqp_method.specs.Faults.{out_of_memory, too_long};
 ghost use Rattle.amqp_method.specs.FirstFault.{FirstFaultOfMethod};
@@ -34,6 +35,9 @@ pub fn read_method(alloc: Global, octets: &[u8]) -> Result<Method, MethodFault>
     ensures fault { IfErr result (λ e. (e ≡ out_of_memory) ⊎ FirstFaultOfMethod octets.now e) }
     ensures told { (e : MethodFault) → FirstFaultOfMethod octets.now e → Gives method_view result (Err e) }
 
+    // A fault of the ids is reported whatever memory there is.
+    ensures early { (e : MethodFault) → fault_of_ids octets.now ≡ Some e → result ≡ Err e }
+
     // What is read, as a function of the octets.
     ensures exact { Gives method_view result (method_at octets.now) }
 {
@@ -41,7 +45,8 @@ pub fn read_method(alloc: Global, octets: &[u8]) -> Result<Method, MethodFault>
 }
 
 fn exact_method(alloc: Global, octets: &[u8]) -> Result<Method, MethodFault>
-    ensures { Gives method_view result (method_at octets.now) }
+    ensures exact { Gives method_view result (method_at octets.now) }
+    ensures early { (e : MethodFault) → fault_of_ids octets.now ≡ Some e → result ≡ Err e }
 {
     let (kind, args) = read_call(alloc, octets)?;
     Ok(Method::new(kind, args))

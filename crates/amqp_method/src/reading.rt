@@ -1,5 +1,7 @@
 //! Reading methods from octets.
-ghost use Rattle.std.specs.Prelude.{◌≡◌, ◌+◌, ◌^◌, ◌≤◌, ◌<◌, length, map, IfOk, []};
+ghost use Rattle.std.specs.Prelude.{◌≡◌, ◌+◌, ◌^◌, ◌≤◌, ◌<◌, length, map, drop, IfOk, IfErr, Some, Err, []};
+ghost use Rattle.byteorder.specs.Endian.{big_number};
+ghost use Rattle.amqp_method.specs.EarlyFaults.{fault_of_ids};
 ghost use Rattle.amqp_method.specs.Arguments.{bit, call};
 ghost use Rattle.amqp_method.specs.Faults.{in_table};
 ghost use Rattle.amqp_method.specs.Reading.{Gives, Bits as RunOfBits, no_bits, ends_at, number_at, short_string_at, long_string_at, field_table_at, bit_at, field_at, args_at, nothing_after, method_at};
@@ -57,6 +59,8 @@ pub(crate) fn read_short(octets: &[u8], end: usize) -> Result<(u16, &[u8]), Meth
     requires { length octets.now ≤ end }
     ensures read { Gives (λ x. (x.0, x.1.now)) result (number_at 2 end octets.now) }
     ensures within { IfOk result (λ x. length x.1.now ≤ length octets.now) }
+    ensures number { IfOk result (λ x. (2 ≤ length octets.now) × (x.0 ≡ big_number 2 octets.now) × (x.1.now ≡ drop 2 octets.now)) }
+    ensures ends { IfErr result (λ e. (length octets.now < 2) × (e ≡ ends_at end octets.now)) }
 {
     if octets.len() < 2 {
         return Err(ends_here(octets, end));
@@ -81,6 +85,8 @@ pub(crate) fn read_long_long(octets: &[u8], end: usize) -> Result<(u64, &[u8]), 
     requires { length octets.now ≤ end }
     ensures read { Gives (λ x. (x.0, x.1.now)) result (number_at 8 end octets.now) }
     ensures within { IfOk result (λ x. length x.1.now ≤ length octets.now) }
+    ensures number { IfOk result (λ x. (8 ≤ length octets.now) × (x.1.now ≡ drop 8 octets.now)) }
+    ensures ends { IfErr result (λ e. (length octets.now < 8) × (e ≡ ends_at end octets.now)) }
 {
     if octets.len() < 8 {
         return Err(ends_here(octets, end));
@@ -274,9 +280,10 @@ fn read_args<'a>(
 }
 
 /// The call that a payload encodes, by the machine.
-#[tactic(auto, unfolding(crate::specs::Reading::method_at))]
+#[tactic(auto, unfolding(crate::specs::Reading::method_at, crate::specs::EarlyFaults::fault_of_ids))]
 pub(crate) fn read_call(alloc: Global, octets: &[u8]) -> Result<(Kind, Vec<Arg>), MethodFault>
-    ensures { Gives (λ x. call x.0 (args_view x.1.items)) result (method_at octets.now) }
+    ensures exact { Gives (λ x. call x.0 (args_view x.1.items)) result (method_at octets.now) }
+    ensures early { (e : MethodFault) → fault_of_ids octets.now ≡ Some e → result ≡ Err e }
 {
     let end = octets.len();
     let (class, after) = read_short(octets, end)?;

@@ -1,5 +1,5 @@
 //! Methods and headers as text.
-ghost use Rattle.std.specs.Prelude.{◌≡◌, ◌<◌, ◌≤◌, ◌++◌, ℕ, List, length, map, get_or, codes, OnOk, IfOk};
+ghost use Rattle.std.specs.Prelude.{◌≡◌, ◌<◌, ◌≤◌, ◌++◌, ℕ, List, length, map, get_or, codes, OnOk, IfOk, Some};
 ghost use Rattle.std.specs.Fmt.{decimal};
 ghost use Rattle.std.specs.String.{string_bytes};
 ghost use Rattle.amqp_value.specs.Tables.{table_view};
@@ -20,6 +20,7 @@ use crate::methods::Method;
 use crate::properties::{Lent, PROPERTIES, lent_properties};
 use amqp_value::{Table, put_quoted, table_text};
 use std::alloc::Global;
+use std::fmt;
 
 /// The names of the properties, in the order of their flags.
 static PROPERTY_NAMES: [&str; PROPERTIES] = [
@@ -153,6 +154,19 @@ pub fn method_text(method: &Method) -> Result<String, OutOfMemory>
     let mut text = String::from_str(method.allocator(), kind.name())?;
     put_fields(&mut text, schema(kind), method.args())?;
     Ok(text)
+}
+
+impl fmt::Display for Method {
+    ghost output = { λ m. Some (text_of_method (method_view m)) };
+
+    /// The text of [`method_text`], which takes its memory where the arguments do. Where memory runs out nothing is
+    /// written, and the answer is an error.
+    fn fmt<W: fmt::Write>(&self, f: &mut fmt::Formatter<W>) -> fmt::Result {
+        let Ok(text) = method_text(self) else {
+            return Err(fmt::Error);
+        };
+        f.write_str(text.as_str())
+    }
 }
 
 fn put_fields(text: &mut String, fields: &[Field], args: &[Arg]) -> Result<(), OutOfMemory>

@@ -15,7 +15,7 @@ pub struct OutOfMemory;
 #[derive(Clone, Copy, Debug, PartialEq, Eq, Error)]
 pub enum ValueFaultKind {
     /// The octets end before the table that they begin.
-    #[error("the octets end inside the table")]
+    #[error("the octets end early")]
     Ends = 1,
     /// A tag octet is none of the nineteen.
     #[error("unknown tag")]

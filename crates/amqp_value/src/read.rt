@@ -1,14 +1,15 @@
 //! Reading a table from the prefix of octets.
 
 ghost use Rattle.std.specs.Prelude.{◌≡◌, ◌⊎◌, ◌++◌, ◌+◌, ◌≤◌, ◌<◌, ℕ, List, length, take, map, IfOk, IfErr, Ok, Err};
-ghost use Rattle.amqp_value.specs.Faults.{out_of_memory};
+ghost use Rattle.amqp_value.specs.Faults.{fault_at, out_of_memory};
 ghost use Rattle.amqp_value.specs.Encoding.{EncodesTable};
 ghost use Rattle.amqp_value.specs.Tables.{table_view, read_view};
-ghost use Rattle.amqp_value.specs.FirstFault.{FirstFault};
+ghost use Rattle.amqp_value.specs.FirstFault.{FirstFault, PassesCounted};
 ghost use Rattle.amqp_value.specs.Reading.{fault_here as place_fault, Gives, prefix_of, counted, name_at, width_of, scalar_of, elements, named, value_at, table_at};
 ghost use Rattle.amqp_value.specs.Values.{scalar, Pairs};
 ghost use Rattle.amqp_value.specs.View.{view, named_view, pairs_view};
 ghost use Rattle.amqp_value.specs.declared.fault.ValueFault.{ValueFault};
+ghost use Rattle.amqp_value.specs.declared.fault.ValueFaultKind.TheVariants.{Ends};
 
 use crate::fault::{ValueFault, ValueFaultKind};
 use crate::short_str::ShortStr;
@@ -246,6 +247,9 @@ pub fn read_table(alloc: Global, octets: &[u8]) -> Result<(Table, usize), ValueF
     ensures fault { IfErr result (λ e. (e ≡ out_of_memory) ⊎ FirstFault octets.now e) }
     ensures told { (e : ValueFault) → FirstFault octets.now e → Gives read_view result (Err e) }
 
+    // A count that passes the input is reported whatever memory there is: the table itself is not looked at.
+    ensures ends { PassesCounted octets.now → result ≡ Err (fault_at 0 Ends) }
+
     // What is read, as a function of the octets.
     ensures exact { Gives read_view result (table_at octets.now) }
 {
@@ -254,7 +258,8 @@ pub fn read_table(alloc: Global, octets: &[u8]) -> Result<(Table, usize), ValueF
 
 #[tactic(auto, unfolding(crate::specs::Reading::table_at))]
 fn table_prefix(alloc: Global, octets: &[u8]) -> Result<(Table, usize), ValueFault>
-    ensures { Gives read_view result (table_at octets.now) }
+    ensures exact { Gives read_view result (table_at octets.now) }
+    ensures ends { PassesCounted octets.now → result ≡ Err (fault_at 0 Ends) }
 {
     if octets.len() < 4 {
         return Err(ValueFault {

@@ -1,6 +1,6 @@
 //! Values and tables as text.
 
-ghost use Rattle.std.specs.Prelude.{◌≡◌, ◌<◌, ◌++◌, codes, OnOk, IfOk};
+ghost use Rattle.std.specs.Prelude.{◌≡◌, ◌<◌, ◌++◌, codes, OnOk, IfOk, Some};
 ghost use Rattle.std.specs.Fmt.{decimal, signed_decimal};
 ghost use Rattle.std.specs.String.{string_bytes};
 ghost use Rattle.hex.specs.Hex.{encode_lower};
@@ -13,6 +13,7 @@ use crate::short_str::ShortStr;
 use crate::tables::Table;
 use crate::values::Value;
 use std::alloc::Global;
+use std::fmt;
 
 /// A value: its tag, a colon and what it holds; an array in brackets, a table inside in braces.
 pub fn text_of(alloc: Global, value: &Value) -> Result<String, OutOfMemory>
@@ -31,6 +32,19 @@ pub fn table_text(table: &Table) -> Result<String, OutOfMemory>
     let mut text = String::new(table.allocator());
     put_braced(&mut text, "{", table.pairs())?;
     Ok(text)
+}
+
+impl fmt::Display for Table {
+    ghost output = { λ t. Some (text_of_table (table_view t)) };
+
+    /// The text of [`table_text`], which takes its memory where the table does. Where memory runs out nothing is written,
+    /// and the answer is an error.
+    fn fmt<W: fmt::Write>(&self, f: &mut fmt::Formatter<W>) -> fmt::Result {
+        let Ok(text) = table_text(self) else {
+            return Err(fmt::Error);
+        };
+        f.write_str(text.as_str())
+    }
 }
 
 /// A digit below 16, lower case.

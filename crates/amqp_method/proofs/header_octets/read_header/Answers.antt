@@ -5,16 +5,16 @@ use Rattle.amqp_method.proofs.HeaderLemmas.{header_found, header_only, header_re
 use Rattle.amqp_method.proofs.header_octets.read_header.Goals as goal
 
 pub returns-clause-found : goal.returns-clause-found
-returns-clause-found c = header_found header_view c.args.octets.now c.exact_header.result (λ i. omega (arith, c.type_inv.octets i)) c.exact_header.ensures
+returns-clause-found c = header_found header_view c.args.octets.now c.exact_header.result (λ i. omega (arith, c.type_inv.octets i)) c.exact_header.ensures.exact
 
 pub returns-clause-only : goal.returns-clause-only
-returns-clause-only c = header_only header_view c.args.octets.now c.exact_header.result c.exact_header.ensures
+returns-clause-only c = header_only header_view c.args.octets.now c.exact_header.result c.exact_header.ensures.exact
 
 pub returns-clause-refused : goal.returns-clause-refused
-returns-clause-refused c = header_refused header_view c.args.octets.now c.exact_header.result c.exact_header.ensures
+returns-clause-refused c = header_refused header_view c.args.octets.now c.exact_header.result c.exact_header.ensures.exact
 
 pub returns-clause-fault : goal.returns-clause-fault
-returns-clause-fault c = header_fault header_view c.args.octets.now c.exact_header.result (λ i. omega (arith, c.type_inv.octets i)) c.exact_header.ensures
+returns-clause-fault c = header_fault header_view c.args.octets.now c.exact_header.result (λ i. omega (arith, c.type_inv.octets i)) c.exact_header.ensures.exact
 
 pub returns-clause-told : goal.returns-clause-told
-returns-clause-told c = header_told header_view c.args.octets.now c.exact_header.result c.exact_header.ensures
+returns-clause-told c = header_told header_view c.args.octets.now c.exact_header.result c.exact_header.ensures.exact
