@@ -88,3 +88,4 @@ mod NoFault
 mod Matching
 mod OctetsInFlight
 mod EndsAgree
+mod PairExample

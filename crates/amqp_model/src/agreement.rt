@@ -16,6 +16,7 @@ ghost use Rattle.amqp_model.specs.Negotiation.{Config};
 ghost use Rattle.amqp_model.specs.Notes.{Client, Role, Server};
 ghost use Rattle.amqp_model.specs.NoFault.{NextIsMatched, TakesWhatComesNext};
 ghost use Rattle.amqp_model.specs.OctetsInFlight.{FeedStaysPair, FindsNoFaultWithOctets, ItemsSentAreActedOnOrWaiting, NothingWaitsForClosed, OctetsInFlightAreFrames};
+ghost use Rattle.amqp_model.specs.PairExample.{ExampleIsPair};
 ghost use Rattle.amqp_model.specs.WellPut.{NextIsWellPut, PutsWell};
 
 use crate::fitting::written_reads_back;
@@ -91,6 +92,14 @@ pub fn octets_in_flight_are_frames()
 pub fn ends_agree_on_lives()
     ensures lives { (role : Role) (client_config : Config Client) (server_config : Config Server) (mine theirs : History) (n : ℕ) → LivesAgree role client_config server_config mine theirs n }
     ensures pause { (role : Role) (client_config : Config Client) (server_config : Config Server) (mine theirs : History) (n : ℕ) → NoContentFromPaused role client_config server_config mine theirs n }
+{
+    written_reads_back();
+}
+
+/// There is such a pair: two ends that fit their fields, whose limits are the smaller ones at either, come to the histories of
+/// a whole connection, with a content each way, a pause, a request and its reply, and closes that cross.
+pub fn pairs_run()
+    ensures { ExampleIsPair }
 {
     written_reads_back();
 }
