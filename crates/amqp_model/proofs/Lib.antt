@@ -89,3 +89,4 @@ mod Matching
 mod OctetsInFlight
 mod EndsAgree
 mod PairExample
+mod EndsTogether

@@ -44,6 +44,7 @@ pub mod WellPut
 pub mod NoFault
 pub mod OctetsInFlight
 pub mod EndsAgree
+pub mod EndsTogether
 pub mod PairExample
 pub mod Sent
 pub mod SentLaws

@@ -58,12 +58,18 @@ select_ok = without_arguments kinds.TxSelectOk
 abbrev no_properties : List (Option Argument)
 no_properties = None ∷ None ∷ None ∷ None ∷ None ∷ None ∷ None ∷ None ∷ None ∷ None ∷ None ∷ None ∷ None ∷ None ∷ []
 
+abbrev publish : Method
+publish = record { kind = kinds.BasicPublish; args = short_string [] ∷ short_string (codes "q") ∷ bit false ∷ bit false ∷ [] }
+
+abbrev deliver : Method
+deliver = record { kind = kinds.BasicDeliver; args = short_string (codes "t") ∷ long_long 1 ∷ bit false ∷ short_string [] ∷ short_string (codes "q") ∷ [] }
+
 -- the content that the client sends, and the one that the server does
 abbrev pub published : Content
-published = record { method = record { kind = kinds.BasicPublish; args = short_string [] ∷ short_string (codes "q") ∷ bit false ∷ bit false ∷ [] }; properties = no_properties; body = codes "abc" }
+published = record { method = publish; properties = no_properties; body = codes "abc" }
 
 abbrev pub delivered : Content
-delivered = record { method = record { kind = kinds.BasicDeliver; args = short_string (codes "t") ∷ long_long 1 ∷ bit false ∷ short_string [] ∷ short_string (codes "q") ∷ [] }; properties = no_properties; body = codes "xy" }
+delivered = record { method = deliver; properties = no_properties; body = codes "xy" }
 
 -- the frames of a content after the first
 abbrev pub header_of : Content → Frame
