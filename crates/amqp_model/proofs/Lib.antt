@@ -71,6 +71,8 @@ mod Turning
 mod Turned
 mod TurnLaws
 mod Bounding
+mod Tracing
+mod TracedTelling
 mod ConnectionClosed
 mod SentTelling
 mod WholeMessages

@@ -52,3 +52,4 @@ pub mod MethodLaws
 pub mod Pieces
 pub mod InTurn
 pub mod Bounds
+pub mod Traces

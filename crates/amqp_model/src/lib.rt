@@ -16,4 +16,5 @@ pub mod octets;
 pub mod one_end;
 pub mod pieces;
 pub mod replies;
+pub mod traces;
 pub mod two_ends;
