@@ -73,6 +73,7 @@ mod TurnLaws
 mod Bounding
 mod Tracing
 mod TracedTelling
+mod RunsOut
 mod ConnectionClosed
 mod SentTelling
 mod WholeMessages

@@ -53,3 +53,4 @@ pub mod Pieces
 pub mod InTurn
 pub mod Bounds
 pub mod Traces
+pub mod RunningOut

@@ -4,11 +4,13 @@
 //! came, over all channels. These laws say by what each of the lists grows, so that a list that is grouped by channel, or
 //! that leaves out an item, is none of them.
 
-ghost use Rattle.std.specs.Prelude.{List};
+ghost use Rattle.std.specs.Prelude.{ℕ, List};
+ghost use Rattle.amqp_model.specs.Endpoint.{Endpoint};
 ghost use Rattle.amqp_model.specs.Frame.{Frame};
 ghost use Rattle.amqp_model.specs.Histories.{History};
 ghost use Rattle.amqp_model.specs.Negotiation.{Config};
 ghost use Rattle.amqp_model.specs.Notes.{Role};
+ghost use Rattle.amqp_model.specs.RunningOut.{RanOutStays, RanOutWrites, RunsOut};
 ghost use Rattle.amqp_model.specs.Traces.{PutsTellNothing, TellsEvent, TracePuts, TraceTakes};
 
 /// Each frame put or taken is noted once, after all earlier ones.
@@ -21,4 +23,12 @@ pub fn frames_are_noted()
 pub fn events_are_told()
     ensures event { (role : Role) (config : Config role) (history : History) (frame : Frame) → TellsEvent role config history frame }
     ensures put { (role : Role) (config : Config role) (frames : List Frame) (history : History) → PutsTellNothing role config frames history }
+{}
+
+/// An end that runs out of memory has failed. What it took, put and was fed stays as it was; it still writes its output, and
+/// takes no octet more.
+pub fn memory_runs_out()
+    ensures stands { (role : Role) (config : Config role) (endpoint : Endpoint) (history : History) (fed written : List ℕ) → RunsOut role config endpoint history fed written }
+    ensures wrote { (role : Role) (config : Config role) (endpoint : Endpoint) (history : History) (fed written : List ℕ) (n : ℕ) → RanOutWrites role config endpoint history fed written n }
+    ensures fed { (role : Role) (config : Config role) (endpoint : Endpoint) (history : History) (fed written piece : List ℕ) → RanOutStays role config endpoint history fed written piece }
 {}
