@@ -74,6 +74,7 @@ mod Bounding
 mod Tracing
 mod TracedTelling
 mod RunsOut
+mod AnswerWords
 mod ConnectionClosed
 mod SentTelling
 mod WholeMessages

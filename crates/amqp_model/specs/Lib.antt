@@ -54,3 +54,4 @@ pub mod InTurn
 pub mod Bounds
 pub mod Traces
 pub mod RunningOut
+pub mod AnswersInWords

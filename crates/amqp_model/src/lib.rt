@@ -6,6 +6,7 @@
 //! body. Who needs it calls the function and has its clauses.
 #![tactic(auto)]
 
+pub mod answers;
 pub mod arrangement;
 pub mod bounds;
 pub mod contents;
