@@ -37,7 +37,9 @@ mod Elsewhere
 mod Taking
 mod Asking
 mod VerdictRows
+mod VerdictEdgeRows
 mod AskRows
+mod AskEdgeRows
 mod Phases
 mod EndSteps
 mod Walking
