@@ -22,7 +22,7 @@ use Rattle.amqp_model.specs.Machine.{is_open, life_after, open_after_putting, ch
 use Rattle.amqp_model.specs.EndLaws.{AskFollows}
 use Rattle.amqp_model.proofs.Acting.{reads-back}
 use Rattle.amqp_model.proofs.Asking.{Accepted, accepted, accepted-none, not-when, has-life, free-found, is-free, IsPart, AllParts, first-false, part-kind, frame-channel, bodies-are-parts, sent-kind, message-class}
-use Rattle.amqp_model.proofs.Walking.{is_none, may_ask_here, quiet-asks, MayPut, IsKept, Stands, stands-kept}
+use Rattle.amqp_model.proofs.Walking.{is_none, may_ask_here, quiet-asks, MayPut, IsKeptByPuts, Stands, stands-kept}
 
 pub is-running : (phase : Phase) → not (is_running phase) ≡ false → phase ≡ Running
 is-running Running e = refl
@@ -31,11 +31,11 @@ is-running Phase.Closing e = absurd (true≢false e)
 is-running Closed e = absurd (true≢false e)
 is-running Failed e = absurd (true≢false e)
 
-module _ (P : (role : Role) → Config role → End → History → Type 0) (k : IsKept P) where
+module _ (P : (role : Role) → Config role → End → History → Type 0) (k : IsKeptByPuts P) where
   -- one method put where it fits
   one-follows : (role : Role) (config : Config role) (end : End) (history : History) (c : ℕ) (method : Method) → P role config end history → ReadsBack method → MayPut role end c (Calls method) → P role config (end_after_put role config (method_frame c method ∷ []) end) (then_put (method_frame c method ∷ []) history)
   one-follows role config end history c method stands back fits =
-      k.more role config end history (Put (method_frame c method)) stands (subst (MayPut role end c) (sym (reads-back c method back)) fits)
+      k.put role config end history (method_frame c method) stands (subst (MayPut role end c) (sym (reads-back c method back)) fits)
 
 -- flow and close, where the channel is Open
 may-flow : (role : Role) (life : Life) (active : Bool) → may_put_here role (channels.Open life) (Calls (flow_as kinds.ChannelFlow active)) ≡ true
@@ -62,14 +62,14 @@ part-in-turn Client requests r e = refl
 part-in-turn Server requests (Calls method) e = absurd (true≢false e)
 part-in-turn Server requests r e = refl
 
-module _ (P : (role : Role) → Config role → End → History → Type 0) (k : IsKept P) where
+module _ (P : (role : Role) → Config role → End → History → Type 0) (k : IsKeptByPuts P) where
   -- the end is Running and has the channel Open, and stands for its history
   abbrev IsOpenAt : (role : Role) → Config role → End → History → ℕ → Type 0
   IsOpenAt role config end history m = P role config end history × (end.phase ≡ Running) × ((life : Life) × (end.channels (suc m) ≡ channels.Open life))
 
   still-open : (role : Role) (config : Config role) (end : End) (history : History) (frame : Frame) (m : ℕ) (begins : Bool) (life : Life) → frame.channel ≡ suc m → P role config end history → end.phase ≡ Running → end.channels (suc m) ≡ channels.Open life → kind_of (reading frame) ≡ Other begins → answers_in_turn role life.requests (reading frame) ≡ true → may_ask_here role (channels.Open life) (reading frame) ≡ true → IsOpenAt role config (end_after role config frame.channel (PutHere (reading frame) frame) end) (Put frame ∷ history) m
   still-open role config end history frame m begins life here stands runs opened kind in_turn asks =
-      (k.more role config end history (Put frame) stands (inr (runs, may, subst (λ channel. may_ask_here role channel (reading frame) ≡ true) (sym (ap end.channels here ∙ opened)) asks)), subst (λ c. (end_after role config c (PutHere (reading frame) frame) end).phase ≡ Running) (sym here) runs, subst (λ c. (life : Life) × ((end_after role config c (PutHere (reading frame) frame) end).channels (suc m) ≡ channels.Open life)) (sym here) (new.0, goes-on))
+      (k.put role config end history frame stands (inr (runs, may, subst (λ channel. may_ask_here role channel (reading frame) ≡ true) (sym (ap end.channels here ∙ opened)) asks)), subst (λ c. (end_after role config c (PutHere (reading frame) frame) end).phase ≡ Running) (sym here) runs, subst (λ c. (life : Life) × ((end_after role config c (PutHere (reading frame) frame) end).channels (suc m) ≡ channels.Open life)) (sym here) (new.0, goes-on))
     where
       may : may_put_here role (end.channels frame.channel) (reading frame) ≡ true
       may = subst (λ channel. may_put_here role channel (reading frame) ≡ true) (sym (ap end.channels here ∙ opened)) (let closed : is_open (kind_of (reading frame)) ≡ false = ap is_open kind in simp (closed, in_turn))
@@ -95,7 +95,7 @@ part-quiet : (r : Reading) → calls_one r ≡ false → request_made r ≡ []
 part-quiet (Calls method) e = absurd (true≢false e)
 part-quiet r e = refl
 
-module _ (P : (role : Role) → Config role → End → History → Type 0) (k : IsKept P) where
+module _ (P : (role : Role) → Config role → End → History → Type 0) (k : IsKeptByPuts P) where
   parts-follow : (role : Role) (config : Config role) (m : ℕ) (payloads : List Payload) (end : End) (history : History) → AllParts payloads → IsOpenAt P k role config end history m → P role config (end_after_put role config (map (payload_frame (suc m)) payloads) end) (then_put (map (payload_frame (suc m)) payloads) history)
   parts-follow role config m [] end history parts at = at.0
   parts-follow role config m (payload ∷ later) end history parts at =
@@ -131,7 +131,7 @@ asks-then Client end c message life opened e =
     from true [] e = refl
     from true (request ∷ later) e = absurd (true≢false (sym (lt-ltb 0 (length (request ∷ later)) (omega arith)) ∙ e))
 
-module _ (P : (role : Role) → Config role → End → History → Type 0) (k : IsKept P) where
+module _ (P : (role : Role) → Config role → End → History → Type 0) (k : IsKeptByPuts P) where
   send-follows : (role : Role) (config : Config role) (m max c : ℕ) (message : Message) (end : End) (history : History) (life : Life) → ReadsBack (method_of message) → (class_of (method_of message).kind == 20) ≡ false → P role config end history → end.phase ≡ Running → end.channels (suc m) ≡ channels.Open life → answers_in_turn role life.requests (Calls (method_of message)) ≡ true → may_ask_here role (channels.Open life) (Calls (method_of message)) ≡ true → P role config (end_after_put role config (map (payload_frame (suc m)) (message_payloads max message)) end) (then_put (map (payload_frame (suc m)) (message_payloads max message)) history)
   send-follows role config m max c (Plain method) end history life back class stands runs opened in_turn asks = message-follows P k role config m method [] end history life tt back class stands runs opened in_turn asks
   send-follows role config m max c (Whole content) end history life back class stands runs opened in_turn asks =
@@ -170,4 +170,4 @@ module _ (P : (role : Role) → Config role → End → History → Type 0) (k :
       subst (λ frames. P role config (end_after_put role config frames end) (then_put frames history)) parts.1 (ask-follows role config end history ask stands back (accepted role end ask parts.0))
 
 pub asks-follow : (role : Role) (config : Config role) (end : End) (history : History) (ask : Ask) (frames : List Frame) → AskFollows role config end history ask frames
-asks-follow = ask-kept Stands stands-kept
+asks-follow = ask-kept Stands stands-kept.puts

@@ -68,9 +68,9 @@ channel-walk role config n (_ ∷ history) (entered end entry stands sound befor
 -- Lawful histories.
 
 goes-walk : (role : Role) (config : Config role) (before : History) (taken : Option Frame) (failed : Bool) (after : History) → failed ≡ false → WritesReadBack role config → Goes role config before taken failed after → Walked role config (end_of config before) before → (end : End) × Walked role config end after
-goes-walk role config before taken failed after e back greets w = (_, walked-kept.more role config (end_of config []) [] (Put _) w (inl refl))
+goes-walk role config before taken failed after e back greets w = (_, walked-kept.puts.put role config (end_of config []) [] _ w (inl refl))
 goes-walk role config before taken failed after e back (takes frame can g) w = (_, frame-kept Walked walked-kept role config (end_of config before) before frame back w g)
-goes-walk role config before taken failed after e back (asks ask frames made read v) w = (_, ask-kept Walked walked-kept role config (end_of config before) before ask frames w read.method made v)
+goes-walk role config before taken failed after e back (asks ask frames made read v) w = (_, ask-kept Walked walked-kept.puts role config (end_of config before) before ask frames w read.method made v)
 goes-walk role config before taken failed after e back (faults frame can g) w = absurd (true≢false e)
 goes-walk role config before taken failed after e back (meets_too_large p) w = absurd (true≢false e)
 goes-walk role config before taken failed after e back (fails p) w = absurd (true≢false e)

@@ -27,14 +27,14 @@ use Rattle.amqp_model.proofs.Acting.{reads-back, is_other, is_acted, acted-open}
 use Rattle.amqp_model.proofs.Elsewhere.{Each, verdict-zero}
 use Rattle.amqp_model.proofs.Taking.{puts-none}
 use Rattle.amqp_model.proofs.EndSteps.{not-zero}
-use Rattle.amqp_model.proofs.Walking.{MayPut, IsKept, quiet-asks, Stands, stands-kept}
+use Rattle.amqp_model.proofs.Walking.{MayPut, IsKeptByPuts, IsKept, quiet-asks, Stands, stands-kept}
 
-module _ (P : (role : Role) → Config role → End → History → Type 0) (k : IsKept P) where
+module _ (P : (role : Role) → Config role → End → History → Type 0) (k : IsKeptByPuts P) where
   -- one method owed
   owed-follows : (role : Role) (config : Config role) (end : End) (history : History) (owed : Owed) → P role config end history → ReadsBack owed.method → MayPut role end owed.channel (Calls owed.method) → P role config (end_after role config owed.channel (PutHere (Calls owed.method) (frame_of owed)) end) (Put (frame_of owed) ∷ history)
   owed-follows role config end history owed stands back fits =
       let said = reads-back owed.channel owed.method back in
-      subst (λ r. P role config (end_after role config owed.channel (PutHere r (frame_of owed)) end) (Put (frame_of owed) ∷ history)) said (k.more role config end history (Put (frame_of owed)) stands (subst (MayPut role end owed.channel) (sym said) fits))
+      subst (λ r. P role config (end_after role config owed.channel (PutHere r (frame_of owed)) end) (Put (frame_of owed) ∷ history)) said (k.put role config end history (frame_of owed) stands (subst (MayPut role end owed.channel) (sym said) fits))
 
   -- methods owed on channel 0
   zero-follow : (role : Role) (config : Config role) (owed : List Owed) (end : End) (history : History) → Each (λ owed. owed.channel ≡ 0) owed → AllReadBack owed → P role config end history → P role config (end_after_owed role config owed end) (then_put (map frame_of owed) history)
@@ -101,7 +101,7 @@ module _ (P : (role : Role) → Config role → End → History → Type 0) (k :
     channel-is = let here : (suc m == suc m) ≡ true = eq-eqb (suc m) (suc m) refl in simp (here, is_running)
 
     one : (method : Method) → ReadsBack method → request_made (Calls method) ≡ [] → may_put_here role (after_taken role (TookHere (reading frame) frame) (end.channels (suc m)) (kind_of (reading frame))) (Calls method) ≡ true → P role config (end_after_owed role config (record { channel = suc m; method = method } ∷ []) (end_after role config (suc m) (TookHere (reading frame) frame) end)) (then_put (map frame_of (record { channel = suc m; method = method } ∷ [])) (Took frame ∷ history))
-    one method back quiet may = owed-follows P k role config (end_after role config (suc m) (TookHere (reading frame) frame) end) (Took frame ∷ history) (record { channel = suc m; method = method }) stands back (inr (is_running, subst (λ channel. may_put_here role channel (Calls method) ≡ true) (sym channel-is) may, quiet-asks role _ (Calls method) quiet))
+    one method back quiet may = owed-follows P k.puts role config (end_after role config (suc m) (TookHere (reading frame) frame) end) (Took frame ∷ history) (record { channel = suc m; method = method }) stands back (inr (is_running, subst (λ channel. may_put_here role channel (Calls method) ≡ true) (sym channel-is) may, quiet-asks role _ (Calls method) quiet))
 
     by-owed : (event : lives.Event) (owed : Option Kind) → MayReply role (after_taken role (TookHere (reading frame) frame) (end.channels (suc m)) (kind_of (reading frame))) (lives.GoesOn event owed) → AllReadBack (map (on_channel (suc m)) (reply_to owed)) → P role config (end_after_owed role config (map (on_channel (suc m)) (reply_to owed)) (end_after role config (suc m) (TookHere (reading frame) frame) end)) (then_put (map frame_of (map (on_channel (suc m)) (reply_to owed))) (Took frame ∷ history))
     by-owed event None may back = stands
@@ -125,7 +125,7 @@ module _ (P : (role : Role) → Config role → End → History → Type 0) (k :
   above-follows role config end history frame m stands taken back g Running p =
       running-follows role config end history frame m p taken (verdict_on (facts_at config end (suc m)) (reading frame)) (frame-agrees config end.phase end.agreed (suc m) (end.channels (suc m)) (ap is_over p) (not-zero m) (reading frame) g) back
   above-follows role config end history frame m stands taken back g (Handshake step) p =
-      handshake-stops config step end.agreed (suc m) (end.channels (suc m)) (ap is_closing ((k.stands role config end history stands).free_before step p (suc m))) (not-zero m) (reading frame) (subst (λ p. goes_on (verdict_on (facts_in config p end.agreed (suc m) (end.channels (suc m))) (reading frame)) ≡ true) p g)
+      handshake-stops config step end.agreed (suc m) (end.channels (suc m)) (ap is_closing (k.free_before role config end history stands step p (suc m))) (not-zero m) (reading frame) (subst (λ p. goes_on (verdict_on (facts_in config p end.agreed (suc m) (end.channels (suc m))) (reading frame)) ≡ true) p g)
   above-follows role config end history frame m stands taken back g Phase.Closing p =
       let none : methods_put (facts_at config end (suc m)) (verdict_on (facts_at config end (suc m)) (reading frame)) ≡ [] = subst (λ p. methods_put (facts_in config p end.agreed (suc m) (end.channels (suc m))) (verdict_on (facts_in config p end.agreed (suc m) (end.channels (suc m))) (reading frame)) ≡ []) (sym p) (puts-none config end.agreed m (end.channels (suc m)) (reading frame)) in
       subst (λ l. P role config (end_after_owed role config l (end_after role config (suc m) (TookHere (reading frame) frame) end)) (then_put (map frame_of l) (Took frame ∷ history))) (sym none) taken
@@ -133,11 +133,11 @@ module _ (P : (role : Role) → Config role → End → History → Type 0) (k :
   above-follows role config end history frame m stands taken back g Failed p = absurd (false≢true (subst (λ p. goes_on (verdict_on (facts_in config p end.agreed (suc m) (end.channels (suc m))) (reading frame)) ≡ true) p g))
 
   pub frame-kept : (role : Role) (config : Config role) (end : End) (history : History) (frame : Frame) → WritesReadBack role config → P role config end history → goes_on (end_verdict config end frame) ≡ true → P role config (end_after_taken role config end (reading frame) frame) (then_taken config end frame history)
-  frame-kept role config end history frame back stands g = by-channel frame.channel refl (back.owed end frame.channel (reading frame)) g (k.more role config end history (Took frame) stands g)
+  frame-kept role config end history frame back stands g = by-channel frame.channel refl (back.owed end frame.channel (reading frame)) g (k.took role config end history frame stands g)
     where
       by-channel : (c : ℕ) → frame.channel ≡ c → AllReadBack (methods_put (facts_at config end c) (verdict_on (facts_at config end c) (reading frame))) → goes_on (verdict_on (facts_at config end c) (reading frame)) ≡ true → P role config (end_after role config c (TookHere (reading frame) frame) end) (Took frame ∷ history) → P role config (failed_by (verdict_on (facts_at config end c) (reading frame)) (end_after_owed role config (methods_put (facts_at config end c) (verdict_on (facts_at config end c) (reading frame))) (end_after role config c (TookHere (reading frame) frame) end))) (then_put (map frame_of (methods_put (facts_at config end c) (verdict_on (facts_at config end c) (reading frame)))) (Took frame ∷ history))
       by-channel zero e back g taken =
-          subst (λ after. P role config after (then_put (map frame_of (methods_put (facts_at config end 0) (verdict_on (facts_at config end 0) (reading frame)))) (Took frame ∷ history))) (sym (not-failed (verdict_on (facts_at config end 0) (reading frame)) _ g)) (zero-follow P k role config _ _ (Took frame ∷ history) (verdict-zero (facts_at config end 0) refl (reading frame) g) back taken)
+          subst (λ after. P role config after (then_put (map frame_of (methods_put (facts_at config end 0) (verdict_on (facts_at config end 0) (reading frame)))) (Took frame ∷ history))) (sym (not-failed (verdict_on (facts_at config end 0) (reading frame)) _ g)) (zero-follow P k.puts role config _ _ (Took frame ∷ history) (verdict-zero (facts_at config end 0) refl (reading frame) g) back taken)
       by-channel (suc m) e back g taken =
           subst (λ after. P role config after (then_put (map frame_of (methods_put (facts_at config end (suc m)) (verdict_on (facts_at config end (suc m)) (reading frame)))) (Took frame ∷ history))) (sym (not-failed (verdict_on (facts_at config end (suc m)) (reading frame)) _ g)) (above-follows role config end history frame m stands taken back g end.phase refl)
 

@@ -37,7 +37,9 @@ mod Elsewhere
 mod Taking
 mod Asking
 mod VerdictRows
+mod VerdictEdgeRows
 mod AskRows
+mod AskEdgeRows
 mod Phases
 mod EndSteps
 mod Walking
@@ -70,6 +72,11 @@ mod ChannelWalks
 mod Turning
 mod Turned
 mod TurnLaws
+mod Bounding
+mod Tracing
+mod TracedTelling
+mod RunsOut
+mod AnswerWords
 mod ConnectionClosed
 mod SentTelling
 mod WholeMessages

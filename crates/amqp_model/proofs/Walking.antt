@@ -1,15 +1,16 @@
 -- What each entry of a lawful history is to what its end keeps: one walk along a history, for all that such entries keep.
 use Rattle.std.proofs.Common.{◌≡◌, ◌⊎◌, inl, inr, Bool, true, false, ◌||◌, ℕ, List, [], ◌∷◌, refl}
+use Rattle.amqp_model.specs.Frame.{Frame}
 use Rattle.amqp_model.specs.Notes.{Role, Client, Server}
 use Rattle.amqp_model.specs.Methods.{MethodKind}
 use Rattle.amqp_model.specs.Readings.{Reading, reading}
 use Rattle.amqp_model.specs.Replies.{request_made}
-use Rattle.amqp_model.specs.Histories.{Entry, Put, Took, History, channel_of}
-use Rattle.amqp_model.specs.Channels.{Channel, Open, Running, End}
+use Rattle.amqp_model.specs.Histories.{Entry, Put, Took, History, PutHere, TookHere}
+use Rattle.amqp_model.specs.Channels.{Channel, Free, Open, HandshakeStep, Handshake, Running, End}
 use Rattle.amqp_model.specs.Negotiation.{Config}
 use Rattle.amqp_model.specs.EndVerdict.{end_verdict, goes_on}
 use Rattle.amqp_model.specs.Machine.{may_put_here, end_after, StandsFor}
-use Rattle.amqp_model.specs.EndLaws.{EntryFits, seen_by_channel}
+use Rattle.amqp_model.specs.EndLaws.{EntryFits}
 use Rattle.amqp_model.proofs.EndSteps.{end-follows}
 
 abbrev pub is_none : List MethodKind → Bool
@@ -41,17 +42,29 @@ sound-fits role config end (Took frame) s = s
 sound-fits role config end (Put frame) (inl e) = inl e
 sound-fits role config end (Put frame) (inr s) = inr (s.0, s.1)
 
--- what holds of an end that stands for its history, and of the next one with each entry
+-- what holds of an end and its history, and of the next one with each frame that it puts
+pub record IsKeptByPuts (P : (role : Role) → Config role → End → History → Type 0) : Type 0 where
+  pub put : (role : Role) (config : Config role) (end : End) (history : History) (frame : Frame) → P role config end history → MayPut role end frame.channel (reading frame) → P role config (end_after role config frame.channel (PutHere (reading frame) frame) end) (Put frame ∷ history)
+
+-- and with each frame that it takes; while the handshake goes on every channel is Free
 pub record IsKept (P : (role : Role) → Config role → End → History → Type 0) : Type 0 where
-  pub stands : (role : Role) (config : Config role) (end : End) (history : History) → P role config end history → StandsFor role config false end history
-  pub more : (role : Role) (config : Config role) (end : End) (history : History) (entry : Entry) → P role config end history → EntrySound role config end entry → P role config (end_after role config (channel_of entry) (seen_by_channel entry) end) (entry ∷ history)
+  pub puts : IsKeptByPuts P
+  pub took : (role : Role) (config : Config role) (end : End) (history : History) (frame : Frame) → P role config end history → goes_on (end_verdict config end frame) ≡ true → P role config (end_after role config frame.channel (TookHere (reading frame) frame) end) (Took frame ∷ history)
+  pub free_before : (role : Role) (config : Config role) (end : End) (history : History) → P role config end history → (step : HandshakeStep) → end.phase ≡ Handshake step → (n : ℕ) → end.channels n ≡ Free
 
 -- that it stands for its history is such
 abbrev pub Stands : (role : Role) → Config role → End → History → Type 0
 Stands role config end history = StandsFor role config false end history
 
+put-stands : (role : Role) (config : Config role) (end : End) (history : History) (frame : Frame) → Stands role config end history → MayPut role end frame.channel (reading frame) → Stands role config (end_after role config frame.channel (PutHere (reading frame) frame) end) (Put frame ∷ history)
+put-stands role config end history frame s may = end-follows role config end history (Put frame) s (sound-fits role config end (Put frame) may)
+
 pub stands-kept : IsKept Stands
-stands-kept = record { stands = λ role config end history s. s; more = λ role config end history entry s sound. end-follows role config end history entry s (sound-fits role config end entry sound) }
+stands-kept = record {
+  puts = record { put = put-stands };
+  took = λ role config end history frame s g. end-follows role config end history (Took frame) s g;
+  free_before = λ role config end history s. s.free_before;
+}
 
 -- each entry is sound where what is kept stands for what is before it
 pub data Walks (role : Role) (config : Config role) : History → Type 0 where
@@ -62,8 +75,15 @@ pub record Walked (role : Role) (config : Config role) (end : End) (history : Hi
   pub stands : StandsFor role config false end history
   pub walks : Walks role config history
 
+put-walked : (role : Role) (config : Config role) (end : End) (history : History) (frame : Frame) → Walked role config end history → MayPut role end frame.channel (reading frame) → Walked role config (end_after role config frame.channel (PutHere (reading frame) frame) end) (Put frame ∷ history)
+put-walked role config end history frame w may = record { stands = put-stands role config end history frame w.stands may; walks = entered end (Put frame) w.stands may w.walks }
+
+took-walked : (role : Role) (config : Config role) (end : End) (history : History) (frame : Frame) → Walked role config end history → goes_on (end_verdict config end frame) ≡ true → Walked role config (end_after role config frame.channel (TookHere (reading frame) frame) end) (Took frame ∷ history)
+took-walked role config end history frame w g = record { stands = end-follows role config end history (Took frame) w.stands g; walks = entered end (Took frame) w.stands g w.walks }
+
 pub walked-kept : IsKept Walked
 walked-kept = record {
-  stands = λ role config end history w. w.stands;
-  more = λ role config end history entry w sound. record { stands = end-follows role config end history entry w.stands (sound-fits role config end entry sound); walks = entered end entry w.stands sound w.walks };
+  puts = record { put = put-walked };
+  took = took-walked;
+  free_before = λ role config end history w. w.stands.free_before;
 }

@@ -16,11 +16,11 @@ state_in phase channel = state_of channel
 abbrev pub channel_state : End → (number : ℕ) → State
 channel_state end number = cond ((number == 0) || nat_lt (channel_max end.agreed) number) State.Free (state_in end.phase (end.channels number))
 
-abbrev kept_by : Channel → List ℕ
+abbrev pub kept_by : Channel → List ℕ
 kept_by (Open life) = kept life.content
 kept_by channel = []
 
-abbrev kept_in : Phase → Channel → List ℕ
+abbrev pub kept_in : Phase → Channel → List ℕ
 kept_in Running channel = kept_by channel
 kept_in phase channel = []
 
@@ -36,7 +36,7 @@ abbrev pub due_by : Channel → Option MethodKind
 due_by (Open life) = first_of life.requests
 due_by channel = None
 
-abbrev due_in : Phase → Channel → Option MethodKind
+abbrev pub due_in : Phase → Channel → Option MethodKind
 due_in Closed channel = None
 due_in Failed channel = None
 due_in phase channel = due_by channel

@@ -58,3 +58,7 @@ pub mod CarryingLaws
 pub mod MethodLaws
 pub mod Pieces
 pub mod InTurn
+pub mod Bounds
+pub mod Traces
+pub mod RunningOut
+pub mod AnswersInWords

@@ -7,7 +7,9 @@
 #![tactic(auto)]
 
 pub mod agreement;
+pub mod answers;
 pub mod arrangement;
+pub mod bounds;
 pub mod contents;
 pub mod fitting;
 pub mod lives;
@@ -15,4 +17,6 @@ pub mod methods;
 pub mod octets;
 pub mod one_end;
 pub mod pieces;
+pub mod replies;
+pub mod traces;
 pub mod two_ends;

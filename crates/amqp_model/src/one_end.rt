@@ -6,12 +6,11 @@
 
 ghost use Rattle.std.specs.Prelude.{Bool, ℕ, List, Option};
 ghost use Rattle.amqp_model.specs.Asks.{Ask, first_free};
-ghost use Rattle.amqp_model.specs.Channels.{Channel, End, Life};
+ghost use Rattle.amqp_model.specs.Channels.{Channel, End};
 ghost use Rattle.amqp_model.specs.EndLaws.{AnswersOfHistory, AnyFails, FailedIsRead, AskFollows, AskOfHistory, AsksActs, EndFollows, EndSteps, FindsLowest, FollowsPut, FollowsTaken, FrameFails, FrameFollows, LawfulStands, LeavesOthers, NewEndStands, ReadsChannel, ReadsState, StaysAtLeaving, StaysLeaving, StepFollows, TakesActs, TooLargeFails, VerdictAgrees, VerdictOfHistory};
 ghost use Rattle.amqp_model.specs.Frame.{Frame};
 ghost use Rattle.amqp_model.specs.FrameVerdict.{Facts};
 ghost use Rattle.amqp_model.specs.Histories.{ChannelEntry, Entry, History};
-ghost use Rattle.amqp_model.specs.InTurn.{AnswersInTurn, AsksOneAtATime, DueIsFirst, KeepsUnanswered};
 ghost use Rattle.amqp_model.specs.LeavingLaws.{ClosesArePutLast, OctetsArePutAs};
 ghost use Rattle.amqp_model.specs.Negotiation.{Config};
 ghost use Rattle.amqp_model.specs.Notes.{Client, Note, Role, Server};
@@ -106,17 +105,4 @@ pub fn closes_are_put_last()
 /// The number that an open takes is the lowest that is Free, and there is none where none is found.
 pub fn lowest_is_found()
     ensures { (channels : ℕ → Channel) (many from : ℕ) → FindsLowest channels many from (first_free channels many from) }
-{}
-
-/// In each life of a channel the n-th reply of a server answers the n-th request that it acted on, and the n-th reply that
-/// a client acted on answers the n-th request that it sent. A client has at most one request without its reply.
-pub fn replies_are_in_turn()
-    ensures in_turn { (role : Role) (config : Config role) (history : History) (n life : ℕ) → AnswersInTurn role config history n life }
-    ensures one_at_a_time { (config : Config Client) (history : History) (n life : ℕ) → AsksOneAtATime config history n life }
-{}
-
-/// An Open channel keeps the requests of its life that have no reply yet, and the reply that is due is to the first of them.
-pub fn unanswered_are_kept()
-    ensures kept { (role : Role) (config : Config role) (end : End) (history : History) (n : ℕ) (life : Life) → KeepsUnanswered role config end history n life }
-    ensures due { (role : Role) (config : Config role) (end : End) (history : History) (n : ℕ) (life : Life) → DueIsFirst role config end history n life }
 {}

@@ -11,7 +11,6 @@ ghost use Rattle.amqp_model.specs.CarryingLaws.{CompletedComesNext, FramesAreOfC
 ghost use Rattle.amqp_model.specs.Contents.{Payload};
 ghost use Rattle.amqp_model.specs.Frame.{Frame};
 ghost use Rattle.amqp_model.specs.Histories.{History};
-ghost use Rattle.amqp_model.specs.InTurn.{PairAnswersInTurn};
 ghost use Rattle.amqp_model.specs.Negotiation.{Config};
 ghost use Rattle.amqp_model.specs.Notes.{Client, Role, Server};
 ghost use Rattle.amqp_model.specs.Pairs.{NewEndsPair, PairAt, StepStaysPair};
@@ -80,10 +79,4 @@ pub fn octets_carry_channels()
     ensures opening { (role : Role) → OpeningsMeet role }
     ensures taken { (role : Role) (limit : ℕ) (mine theirs : History) (put fed unfinished rest : List ℕ) → TakesPrefixOnEach role limit mine theirs put fed unfinished rest }
     ensures next { (role : Role) (limit : ℕ) (mine theirs : History) (put fed unfinished rest : List ℕ) → CompletedComesNext role limit mine theirs put fed unfinished rest }
-{}
-
-/// In each life of a channel the replies that the server sent, and those of them that the client acted on, answer in turn
-/// the requests that the client sent, and those of them that the server acted on.
-pub fn replies_answer_requests()
-    ensures { (client_config : Config Client) (server_config : Config Server) (client server : History) (n life : ℕ) → PairAnswersInTurn client_config server_config client server n life }
 {}
