@@ -12,19 +12,19 @@ use Rattle.amqp_model.specs.Events.{Plain, Whole}
 use Rattle.amqp_model.specs.Asks.{Refusal, Ask, AskVerdict, Refused, Puts, ask_verdict}
 
 -- an end that is Running with ten channels at most, and these records of them
-abbrev ten_channels : (frame_max : ℕ) → (ℕ → Channel) → End
+abbrev pub ten_channels : (frame_max : ℕ) → (ℕ → Channel) → End
 ten_channels frame_max channels = record { phase = Running; agreed = Some (record { channel_max = 10; frame_max = frame_max }); channels = channels }
 
 -- such an end with channel 1 Open in this life, and no other channel
-abbrev open_on_1 : (frame_max : ℕ) → Life → End
+abbrev pub open_on_1 : (frame_max : ℕ) → Life → End
 open_on_1 frame_max life = ten_channels frame_max (λ number. cond (number == 1) (Open life) Free)
 
 -- this is what comes of the ask, whichever of the two sizes was agreed
-abbrev AtBothSizes : Role → (ℕ → End) → Ask → AskVerdict → Type 0
+abbrev pub AtBothSizes : Role → (ℕ → End) → Ask → AskVerdict → Type 0
 AtBothSizes role end ask verdict = (ask_verdict role (end 4096) ask ≡ verdict) × (ask_verdict role (end 131072) ask ≡ verdict)
 
 -- the same of an end with channel 1 Open in this life
-abbrev OnOpenChannel : Role → Life → Ask → AskVerdict → Type 0
+abbrev pub OnOpenChannel : Role → Life → Ask → AskVerdict → Type 0
 OnOpenChannel role life ask verdict = AtBothSizes role (λ frame_max. open_on_1 frame_max life) ask verdict
 
 -- a life with these requests, the oldest first, without a reply
@@ -32,19 +32,19 @@ abbrev asked_for : List MethodKind → Life
 asked_for requests = record new_life { requests = requests }
 
 -- a life in which the other end paused this one
-abbrev paused_life : Life
+abbrev pub paused_life : Life
 paused_life = record new_life { paused = true }
 
 -- a method is to be sent on channel 1
-abbrev sends : Method → Ask
+abbrev pub sends : Method → Ask
 sends method = Ask.Send 1 (Plain method)
 
 -- a content without properties is to be sent there
-abbrev sends_content : MethodKind → List Argument → List ℕ → Ask
+abbrev pub sends_content : MethodKind → List Argument → List ℕ → Ask
 sends_content kind args body = Ask.Send 1 (Whole (record { method = record { kind = kind; args = args }; properties = []; body = body }))
 
 -- a method frame, a header frame and a body frame of channel 1
-abbrev method_of : List ℕ → Frame
+abbrev pub method_of : List ℕ → Frame
 method_of payload = record { kind = FrameKind.Method; channel = 1; payload = payload }
 
 abbrev header_of : List ℕ → Frame

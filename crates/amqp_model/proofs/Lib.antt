@@ -37,7 +37,9 @@ mod Elsewhere
 mod Taking
 mod Asking
 mod VerdictRows
+mod VerdictEdgeRows
 mod AskRows
+mod AskEdgeRows
 mod Phases
 mod EndSteps
 mod Walking
@@ -71,6 +73,10 @@ mod Turning
 mod Turned
 mod TurnLaws
 mod Bounding
+mod Tracing
+mod TracedTelling
+mod RunsOut
+mod AnswerWords
 mod ConnectionClosed
 mod SentTelling
 mod WholeMessages
@@ -88,3 +94,5 @@ mod NoFault
 mod Matching
 mod OctetsInFlight
 mod EndsAgree
+mod PairExample
+mod EndsTogether

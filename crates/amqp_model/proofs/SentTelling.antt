@@ -32,7 +32,7 @@ method-quiet method kinds.ChannelClose active e = refl
 method-quiet method kinds.ChannelCloseOk active e = refl
 method-quiet method kind active e = absurd (true≢false e)
 
-no-item : (kept : Gathering) (r : Reading) → is_message (kind_of r) ≡ false → item_ended kept (payload_of r) ≡ None
+pub no-item : (kept : Gathering) (r : Reading) → is_message (kind_of r) ≡ false → item_ended kept (payload_of r) ≡ None
 no-item kept (Calls method) e = method-quiet method method.kind (bit_at 0 method) e
 no-item kept r e = absurd (true≢false e)
 
@@ -184,7 +184,7 @@ tells-all role n (Took frame ∷ before) life =
     ∙ (ap (λ l. l ++ items_of (suc n) life (told_at role frame.channel frame before)) (tells-all role n before life) ∙ told-more role n life frame before)
 
 -- what is put tells nothing
-told-put : (role : Role) (config : Config role) (frames : List Frame) (history : History) → told role config (then_put frames history) ≡ told role config history
+pub told-put : (role : Role) (config : Config role) (frames : List Frame) (history : History) → told role config (then_put frames history) ≡ told role config history
 told-put role config [] history = refl
 told-put role config (f ∷ later) history = told-put role config later (Put f ∷ history)
 

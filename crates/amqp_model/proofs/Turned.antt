@@ -79,7 +79,7 @@ fresh-keeps Client number history s a = record { requests = sym (ap (λ l. drop 
     none (suc n) = refl
 fresh-keeps Server number history s a = record { requests = sym (ap (λ l. drop (length (begun_in l)) (requests Server number history)) s ∙ ap (λ l. requests_in (items_in l)) a); content = ap (λ l. gathering (reverse (map payload_in l))) a }
 
-takes-keeps : (role : Role) (config : Config role) (agreed : Option Agreed) (number : ℕ) (channel : Channel) (frame : Frame) (entries : List ChannelEntry) → (number == 0) ≡ false → Counts role channel entries → goes_on (verdict_on (running config agreed number channel) (reading frame)) ≡ true → acts_next role (notes entries) ≡ carried.is_open (state_of channel) → InTurn (replies role (lives role (notes entries)) (notes entries)) (requests role (lives role (notes entries)) (notes entries)) → Keeps role channel (lives role (notes entries)) (notes entries) → Keeps role (after_taken role (TookHere (reading frame) frame) channel (kind_of (reading frame))) (lives role (Took (kind_of (reading frame)) frame ∷ notes entries)) (Took (kind_of (reading frame)) frame ∷ notes entries)
+pub takes-keeps : (role : Role) (config : Config role) (agreed : Option Agreed) (number : ℕ) (channel : Channel) (frame : Frame) (entries : List ChannelEntry) → (number == 0) ≡ false → Counts role channel entries → goes_on (verdict_on (running config agreed number channel) (reading frame)) ≡ true → acts_next role (notes entries) ≡ carried.is_open (state_of channel) → InTurn (replies role (lives role (notes entries)) (notes entries)) (requests role (lives role (notes entries)) (notes entries)) → Keeps role channel (lives role (notes entries)) (notes entries) → Keeps role (after_taken role (TookHere (reading frame) frame) channel (kind_of (reading frame))) (lives role (Took (kind_of (reading frame)) frame ∷ notes entries)) (Took (kind_of (reading frame)) frame ∷ notes entries)
 takes-keeps Client config agreed number Free frame entries above counts g acts turn k = absurd (let h = running-free config agreed number above (reading frame) g in let e : Client ≡ Server = h.2 in true≢false (ap is_client e))
 takes-keeps Server config agreed number Free frame entries above counts g acts turn k = subst (λ kind. Keeps Server (free_after_taking Server kind) (lives Server (Took kind frame ∷ notes entries)) (Took kind frame ∷ notes entries)) (sym opens) (fresh-keeps Server _ _ later.0 (acted-same Server _ Open frame (notes entries) acts ∙ later.1))
   where

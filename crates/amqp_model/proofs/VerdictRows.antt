@@ -19,44 +19,44 @@ use Rattle.amqp_model.specs.Asks.{Refusal, Ask, refusal, paused, flow_pending, r
 use Rattle.amqp_model.specs.Machine.{end_after, end_after_taken, taken_verdict, new_end}
 
 -- a frame that says this, on its channel
-data Came : Type 0 where
+pub data Came : Type 0 where
   On : ℕ → Reading → Came
 
 -- the octets of a frame do not matter here
-abbrev some_frame : ℕ → Frame
+abbrev pub some_frame : ℕ → Frame
 some_frame channel = record { kind = FrameKind.Method; channel = channel; payload = [] }
 
-abbrev verdicts : (role : Role) → Config role → End → List Came → List FrameVerdict
+abbrev pub verdicts : (role : Role) → Config role → End → List Came → List FrameVerdict
 verdicts role config end [] = []
 verdicts role config end (On number reading ∷ later) = taken_verdict config end number reading ∷ verdicts role config (end_after_taken role config end reading (some_frame number)) later
 
-abbrev after_all : (role : Role) → Config role → End → List Came → End
+abbrev pub after_all : (role : Role) → Config role → End → List Came → End
 after_all role config end [] = end
 after_all role config end (On number reading ∷ later) = after_all role config (end_after_taken role config end reading (some_frame number)) later
 
-abbrev quietly : List Owed → FrameVerdict
+abbrev pub quietly : List Owed → FrameVerdict
 quietly owed = Proceeds (Some Quiet) owed
 
-abbrev silently : FrameVerdict
+abbrev pub silently : FrameVerdict
 silently = Proceeds None []
 
-abbrev owes : ℕ → Method → Owed
+abbrev pub owes : ℕ → Method → Owed
 owes channel method = record { channel = channel; method = method }
 
-abbrev closed_with : CloseCode → FrameVerdict
+abbrev pub closed_with : CloseCode → FrameVerdict
 closed_with code = Faults (Peer code)
 
-abbrev server_config : (max_body : ℕ) → Config Server
+abbrev pub server_config : (max_body : ℕ) → Config Server
 server_config max_body = record { frame_max = 131072; channel_max = 2047; max_body = max_body; hello = OfServer no_pairs (codes "PLAIN") (codes "en_US") }
 
-abbrev client_config : Config Client
+abbrev pub client_config : Config Client
 client_config = record { frame_max = 8192; channel_max = 10; max_body = 16777216; hello = OfClient no_pairs (codes "PLAIN") (0 ∷ 1 ∷ 0 ∷ 1 ∷ []) (codes "en_US") (codes "/") }
 
-abbrev calls : ℕ → MethodKind → List Argument → Came
+abbrev pub calls : ℕ → MethodKind → List Argument → Came
 calls channel kind args = On channel (Calls (record { kind = kind; args = args }))
 
 -- a server that has put start
-abbrev greeted : (max_body : ℕ) → End
+abbrev pub greeted : (max_body : ℕ) → End
 greeted max_body = end_after Server (server_config max_body) 0 (PutHere (Calls (start (server_config max_body))) (some_frame 0)) (new_end Server)
 
 -- The server's handshake, and a channel opened.
@@ -68,7 +68,7 @@ handshake =
     ∷ calls 1 kinds.ChannelOpen []
     ∷ []
 
-abbrev default_limits : Agreed
+abbrev pub default_limits : Agreed
 default_limits = record { channel_max = 2047; frame_max = 131072 }
 
 server_handshake : verdicts Server (server_config 16777216) (greeted 16777216) handshake ≡
@@ -80,13 +80,13 @@ server_handshake : verdicts Server (server_config 16777216) (greeted 16777216) h
 server_handshake = refl
 
 -- the server after that handshake
-abbrev running : (max_body : ℕ) → End
+abbrev pub running : (max_body : ℕ) → End
 running max_body = after_all Server (server_config max_body) (greeted max_body) handshake
 
-abbrev publish : Method
+abbrev pub publish : Method
 publish = record { kind = kinds.BasicPublish; args = short_string [] ∷ short_string (codes "q") ∷ bit false ∷ bit false ∷ [] }
 
-abbrev no_properties : Properties
+abbrev pub no_properties : Properties
 no_properties = []
 
 -- A content of two octets, with a heartbeat and another channel's open between its frames.
@@ -128,7 +128,7 @@ client_handshake : verdicts Client client_config (new_end Client) client_handsha
     ∷ []
 client_handshake = refl
 
-abbrev client : End
+abbrev pub client : End
 client = after_all Client client_config (new_end Client) client_handshake_frames
 
 -- the first open takes channel 1
@@ -164,7 +164,7 @@ closed_and_reopened = refl
 abbrev opening_client : End
 opening_client = end_after Client client_config 1 (PutHere (Calls (without_arguments kinds.ChannelOpen)) (some_frame 1)) client
 
-abbrev bye : List Argument
+abbrev pub bye : List Argument
 bye = short 200 ∷ short_string (codes "bye") ∷ short 0 ∷ short 0 ∷ []
 
 opened_and_closed : verdicts Client client_config opening_client (calls 1 kinds.ChannelOpenOk [] ∷ calls 1 kinds.ChannelClose bye ∷ []) ≡
@@ -174,10 +174,10 @@ opened_and_closed : verdicts Client client_config opening_client (calls 1 kinds.
 opened_and_closed = refl
 
 -- Contents that come once the client has put its close are dropped.
-abbrev open_client : End
+abbrev pub open_client : End
 open_client = after_all Client client_config opening_client (calls 1 kinds.ChannelOpenOk [] ∷ [])
 
-abbrev closing_client : End
+abbrev pub closing_client : End
 closing_client = end_after Client client_config 1 (PutHere (Calls (close_as kinds.ChannelClose 200 (codes "bye"))) (some_frame 1)) open_client
 
 contents_dropped : verdicts Client client_config closing_client (calls 1 kinds.BasicDeliver [] ∷ On 1 (HeaderOf 0 no_properties) ∷ On 1 MalformedMethod ∷ calls 1 kinds.ChannelCloseOk [] ∷ []) ≡
@@ -185,7 +185,7 @@ contents_dropped : verdicts Client client_config closing_client (calls 1 kinds.B
 contents_dropped = refl
 
 -- What a server that is Running and has channel 1 Open says to malicious frames.
-abbrev server_says : List Came → List FrameVerdict
+abbrev pub server_says : List Came → List FrameVerdict
 server_says frames = verdicts Server (server_config 8) (running 8) frames
 
 header_alone : server_says (On 1 (HeaderOf 2 no_properties) ∷ []) ≡ closed_with UnexpectedFrame ∷ []
@@ -297,7 +297,7 @@ got_another : verdicts Client client_config getting_client (calls 1 kinds.QueueD
 got_another = refl
 
 -- A flow that is unanswered is answered once, whatever the bit, but not inside a content.
-abbrev asking_server : End
+abbrev pub asking_server : End
 asking_server = end_after Server (server_config 8) 1 (PutHere (Calls (flow_as kinds.ChannelFlow false)) (some_frame 1)) (running 8)
 
 flow_heard : verdicts Server (server_config 8) asking_server (calls 1 kinds.ChannelFlowOk (bit true ∷ []) ∷ calls 1 kinds.ChannelFlowOk (bit false ∷ []) ∷ []) ≡ Proceeds (Some (FlowOk 1 true)) [] ∷ closed_with CommandInvalid ∷ []
@@ -333,7 +333,7 @@ failed_says : verdicts Server (server_config 8) (running 8) (On 0 MalformedMetho
 failed_says = refl
 
 -- What was agreed stays: a tune-ok that comes once the server has put its close is dropped.
-abbrev leaving_server : End
+abbrev pub leaving_server : End
 leaving_server = end_after Server (server_config 8) 0 (PutHere (Calls (close_as kinds.ConnectionClose 200 (codes "bye"))) (some_frame 0)) (running 8)
 
 abbrev late_tune_ok : List Came

@@ -36,7 +36,7 @@ abbrev pub due_by : Channel → Option MethodKind
 due_by (Open life) = first_of life.requests
 due_by channel = None
 
-abbrev due_in : Phase → Channel → Option MethodKind
+abbrev pub due_in : Phase → Channel → Option MethodKind
 due_in Closed channel = None
 due_in Failed channel = None
 due_in phase channel = due_by channel

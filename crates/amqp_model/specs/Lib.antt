@@ -44,6 +44,8 @@ pub mod WellPut
 pub mod NoFault
 pub mod OctetsInFlight
 pub mod EndsAgree
+pub mod EndsTogether
+pub mod PairExample
 pub mod Sent
 pub mod SentLaws
 pub mod WholeMessages
@@ -56,3 +58,6 @@ pub mod CarryingLaws
 pub mod Pieces
 pub mod InTurn
 pub mod Bounds
+pub mod Traces
+pub mod RunningOut
+pub mod AnswersInWords

@@ -16,7 +16,7 @@ use Rattle.amqp_model.specs.EndLaws.{notes_on}
 use Rattle.amqp_model.specs.Octets.{frames_taken, frames_put, opening_read, has_opened}
 use Rattle.amqp_model.specs.Pairs.{PairOf, config_of}
 use Rattle.amqp_model.specs.Sent.{items_in, items_sent, life_on}
-use Rattle.amqp_model.specs.Endpoint.{Endpoint, Found, after_feed}
+use Rattle.amqp_model.specs.Endpoint.{Endpoint, Feeding, Found, after_feed}
 use Rattle.amqp_model.specs.OctetLaws.{IsOctet, EndpointStandsFor}
 use Rattle.amqp_model.specs.CarryingLaws.{as_carried, Carries}
 use Rattle.amqp_model.specs.Agreement.{PairWrites, end_in}
@@ -37,14 +37,15 @@ FindsNoFaultWithOctets role client_config server_config mine theirs endpoint fed
     → (fault : Fault) → (after_feed role (config_of role client_config server_config) endpoint piece).outcome ≢ Found fault
 
 -- What it keeps then stands for a history that is a pair with the other's again, with the octets that it took.
-pub record FeedsOn (role : Role) (client_config : Config Client) (server_config : Config Server) (theirs : History) (endpoint : Endpoint) (fed written piece : List ℕ) : Type 0 where
+pub record FeedsOn (role : Role) (client_config : Config Client) (server_config : Config Server) (theirs : History) (fed written piece : List ℕ) (new : Feeding) : Type 0 where
   pub after : History
   pub pair : PairOf role client_config server_config after theirs
-  pub stands : EndpointStandsFor role (config_of role client_config server_config) (after_feed role (config_of role client_config server_config) endpoint piece).endpoint after (fed ++ take (after_feed role (config_of role client_config server_config) endpoint piece).taken piece) written
+  pub stands : EndpointStandsFor role (config_of role client_config server_config) new.endpoint after (fed ++ take new.taken piece) written
 
 abbrev pub FeedStaysPair : Role → Config Client → Config Server → (mine theirs : History) → Endpoint → (fed written piece later : List ℕ) → Type 0
 FeedStaysPair role client_config server_config mine theirs endpoint fed written piece later =
-    IsFedNext role client_config server_config mine theirs endpoint fed written piece later → FeedsOn role client_config server_config theirs endpoint fed written piece
+    IsFedNext role client_config server_config mine theirs endpoint fed written piece later
+    → FeedsOn role client_config server_config theirs fed written piece (after_feed role (config_of role client_config server_config) endpoint piece)
 
 -- no octet waits for an end that is closed: it has none unfinished, and was fed all that the other put
 abbrev pub NothingWaitsForClosed : Role → Config Client → Config Server → (mine theirs : History) → (limit : ℕ) → (put fed unfinished rest : List ℕ) → Type 0

@@ -10,12 +10,15 @@ ghost use Rattle.amqp_model.specs.Agreement.{AgreesOnSmaller, AgreesPastHandshak
 ghost use Rattle.amqp_model.specs.Channels.{Agreed};
 ghost use Rattle.amqp_model.specs.Endpoint.{Endpoint};
 ghost use Rattle.amqp_model.specs.EndsAgree.{LivesAgree, NoContentFromPaused};
+ghost use Rattle.amqp_model.specs.EndsTogether.{AskStandsTogether, CarryStandsTogether, NewStandTogether, StandTogetherTurned};
+ghost use Rattle.amqp_model.specs.Asks.{Ask};
 ghost use Rattle.amqp_model.specs.Frame.{Frame};
 ghost use Rattle.amqp_model.specs.Histories.{History};
 ghost use Rattle.amqp_model.specs.Negotiation.{Config};
 ghost use Rattle.amqp_model.specs.Notes.{Client, Role, Server};
 ghost use Rattle.amqp_model.specs.NoFault.{NextIsMatched, TakesWhatComesNext};
 ghost use Rattle.amqp_model.specs.OctetsInFlight.{FeedStaysPair, FindsNoFaultWithOctets, ItemsSentAreActedOnOrWaiting, NothingWaitsForClosed, OctetsInFlightAreFrames};
+ghost use Rattle.amqp_model.specs.PairExample.{ExampleIsPair};
 ghost use Rattle.amqp_model.specs.WellPut.{NextIsWellPut, PutsWell};
 
 use crate::fitting::written_reads_back;
@@ -91,6 +94,25 @@ pub fn octets_in_flight_are_frames()
 pub fn ends_agree_on_lives()
     ensures lives { (role : Role) (client_config : Config Client) (server_config : Config Server) (mine theirs : History) (n : ℕ) → LivesAgree role client_config server_config mine theirs n }
     ensures pause { (role : Role) (client_config : Config Client) (server_config : Config Server) (mine theirs : History) (n : ℕ) → NoContentFromPaused role client_config server_config mine theirs n }
+{
+    written_reads_back();
+}
+
+/// Two new ends stand together: their histories are those of a pair, and each was fed what the other wrote. So they go on with
+/// each ask that is accepted, and with each piece of the one's output that is fed to the other, in which no fault is found.
+pub fn ends_stand_together()
+    ensures new { (role : Role) (client_config : Config Client) (server_config : Config Server) → NewStandTogether role client_config server_config }
+    ensures turned { (role : Role) (client_config : Config Client) (server_config : Config Server) (mine theirs : Endpoint) → StandTogetherTurned role client_config server_config mine theirs }
+    ensures carried { (role : Role) (client_config : Config Client) (server_config : Config Server) (mine theirs : Endpoint) (piece rest : List ℕ) → CarryStandsTogether role client_config server_config mine theirs piece rest }
+    ensures asked { (role : Role) (client_config : Config Client) (server_config : Config Server) (mine theirs : Endpoint) (ask : Ask) (frames : List Frame) → AskStandsTogether role client_config server_config mine theirs ask frames }
+{
+    written_reads_back();
+}
+
+/// There is such a pair: two ends that fit their fields, whose limits are the smaller ones at either, come to the histories of
+/// a whole connection, with a content each way, a pause, a request and its reply, and closes that cross.
+pub fn pairs_run()
+    ensures { ExampleIsPair }
 {
     written_reads_back();
 }

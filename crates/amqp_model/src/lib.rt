@@ -7,6 +7,7 @@
 #![tactic(auto)]
 
 pub mod agreement;
+pub mod answers;
 pub mod arrangement;
 pub mod bounds;
 pub mod contents;
@@ -16,4 +17,5 @@ pub mod octets;
 pub mod one_end;
 pub mod pieces;
 pub mod replies;
+pub mod traces;
 pub mod two_ends;

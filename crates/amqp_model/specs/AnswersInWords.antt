@@ -1,0 +1,47 @@
+-- What an end answers of its channels, in the words of its history: the state of a channel, the octets of a body under way
+-- and the reply that is due.
+use Rattle.std.specs.Prelude.{◌≡◌, ◌≢◌, ◌≤◌, false, true, ℕ, suc, List, length, None}
+use Rattle.amqp_model.specs.Notes.{Role}
+use Rattle.amqp_model.specs.States.{State}
+use Rattle.amqp_model.specs.Lives.{state}
+use Rattle.amqp_model.specs.Contents.{Payload, UnderWay, body_octets}
+use Rattle.amqp_model.specs.Gathering.{Nothing, Gathers}
+use Rattle.amqp_model.specs.Histories.{History, entries_on, payloads_taken}
+use Rattle.amqp_model.specs.Channels.{Life, Open, Phase, Running, Closed, End}
+use Rattle.amqp_model.specs.Negotiation.{Config}
+use Rattle.amqp_model.specs.Asks.{channel_max}
+use Rattle.amqp_model.specs.Answers.{channel_state, gathered, reply_due}
+use Rattle.amqp_model.specs.EndVerdict.{takes_octets}
+use Rattle.amqp_model.specs.Machine.{StandsFor}
+use Rattle.amqp_model.specs.EndLaws.{notes_on}
+
+-- while the connection is not closed, the state of a channel up to the agreed maximum is that of its notes
+abbrev pub StateIsOfNotes : (role : Role) → Config role → End → History → (n : ℕ) → Type 0
+StateIsOfNotes role config end history n =
+    StandsFor role config false end history → takes_octets end.phase ≡ true → suc n ≤ channel_max end.agreed → channel_state end (suc n) ≡ state role (notes_on (suc n) history)
+
+-- once it is closed every channel is Free
+abbrev pub ClosedIsFree : End → (n : ℕ) → Type 0
+ClosedIsFree end n = end.phase ≡ Closed → channel_state end n ≡ State.Free
+
+-- the payloads that the end took on a channel, the newest first
+abbrev pub taken_on : (channel : ℕ) → History → List Payload
+taken_on channel history = payloads_taken (entries_on channel history)
+
+-- while the connection is Running, of the content under way on an Open channel the octets of its body parts are counted
+abbrev pub GatheredIsUnderWay : (role : Role) → Config role → End → History → (n : ℕ) → Life → (since : List Payload) → Type 0
+GatheredIsUnderWay role config end history n life since =
+    StandsFor role config false end history → end.phase ≡ Running → end.channels (suc n) ≡ Open life → UnderWay (taken_on (suc n) history) since → gathered end (suc n) ≡ length (body_octets since)
+
+-- where none is under way there are none
+abbrev pub NoneIsGathered : (role : Role) → Config role → End → History → (n : ℕ) → Life → Type 0
+NoneIsGathered role config end history n life =
+    StandsFor role config false end history → end.phase ≡ Running → end.channels (suc n) ≡ Open life → Gathers (taken_on (suc n) history) Nothing → gathered end (suc n) ≡ 0
+
+-- and none on a channel that is not Open, or where the connection is not Running
+abbrev pub OnlyOpenGathers : End → (n : ℕ) → Type 0
+OnlyOpenGathers end n = gathered end n ≢ 0 → (life : Life) × (end.phase ≡ Running) × (end.channels n ≡ Open life)
+
+-- a reply is due on an Open channel alone, while the connection is not closed
+abbrev pub OnlyOpenIsDue : End → (n : ℕ) → Type 0
+OnlyOpenIsDue end n = reply_due end n ≢ None → (life : Life) × (takes_octets end.phase ≡ true) × (end.channels n ≡ Open life)

@@ -1,0 +1,86 @@
+-- What an end writes down of itself: one note a frame, the items that it told and those that it said, in the order in which
+-- these came over all channels. Each frame taken and each frame put makes them longer, and by these words it is said by what.
+use Rattle.std.specs.Prelude.{◌≡◌, ◌≢◌, true, false, cond, ℕ, ◌==◌, List, [], ◌∷◌, ◌++◌, map, Option, Some, None}
+use Rattle.std.specs.Option.{option_to_list}
+use Rattle.amqp_model.specs.Frame.{Frame}
+use Rattle.amqp_model.specs.Notes.{Role, Kind}
+use Rattle.amqp_model.specs.Items.{Item, PlainMethod, WholeContent, FlowItem, FlowOkItem}
+use Rattle.amqp_model.specs.Readings.{reading, kind_of}
+use Rattle.amqp_model.specs.Histories.{Put, Took, History}
+use Rattle.amqp_model.specs.Negotiation.{Config}
+use Rattle.amqp_model.specs.Events as events
+use Rattle.amqp_model.specs.Events.{Event, Plain, Whole}
+use Rattle.amqp_model.specs.FrameVerdict.{event_told}
+use Rattle.amqp_model.specs.EndVerdict.{facts_at, end_verdict, end_puts, goes_on}
+use Rattle.amqp_model.specs.ReadingBack.{WritesReadBack}
+use Rattle.amqp_model.specs.LawfulHistories.{end_of, then_put, then_taken, Lawful}
+use Rattle.amqp_model.specs.Machine.{StandsFor}
+use Rattle.amqp_model.specs.Sent.{Telling, life_on, told}
+
+-- what a frame is to its channel, apart from the bit of a flow; on channel 0 every frame is an Other
+pub data Word : Type 0 where
+  Open OpenOk Close CloseOk Flow FlowOk Other : Word
+
+pub data Direction : Type 0 where
+  IsPut IsTaken : Direction
+
+pub record Noted : Type 0 where
+  pub channel : ℕ
+  pub direction : Direction
+  pub word : Word
+
+abbrev pub word_of : Kind → Word
+word_of Kind.Open = Open
+word_of Kind.OpenOk = OpenOk
+word_of Kind.Close = Close
+word_of Kind.CloseOk = CloseOk
+word_of (Kind.Flow active) = Flow
+word_of (Kind.FlowOk active) = FlowOk
+word_of (Kind.Other begins_content) = Other
+
+-- the note of a frame
+abbrev pub noted : Direction → Frame → Noted
+noted direction frame = record { channel = frame.channel; direction = direction; word = cond (frame.channel == 0) Other (word_of (kind_of (reading frame))) }
+
+-- the notes of a history, the oldest first
+abbrev pub trace : History → List Noted
+trace [] = []
+trace (Put frame ∷ before) = trace before ++ noted IsPut frame ∷ []
+trace (Took frame ∷ before) = trace before ++ noted IsTaken frame ∷ []
+
+-- frames that are put are noted last, each once
+abbrev pub TracePuts : List Frame → History → Type 0
+TracePuts frames history = trace (then_put frames history) ≡ trace history ++ map (noted IsPut) frames
+
+-- a frame that is taken is noted, and then those that it makes the end put
+abbrev pub TraceTakes : (role : Role) → Config role → History → Frame → Type 0
+TraceTakes role config history frame =
+    trace (then_taken config (end_of config history) frame history) ≡ trace history ++ noted IsTaken frame ∷ map (noted IsPut) (end_puts config (end_of config history) frame)
+
+-- the item that an event tells: a message, a flow or a flow-ok
+abbrev pub item_told : Event → Option Item
+item_told (events.Told channel (Plain method)) = Some (PlainMethod method)
+item_told (events.Told channel (Whole content)) = Some (WholeContent content)
+item_told (events.Flow channel active) = Some (FlowItem active)
+item_told (events.FlowOk channel active) = Some (FlowOkItem active)
+item_told event = None
+
+abbrev pub item_in_event : Option Event → Option Item
+item_in_event None = None
+item_in_event (Some event) = item_told event
+
+-- that item, with the channel and its life
+abbrev pub telling_at : (channel life : ℕ) → Option Item → List Telling
+telling_at channel life item = map (λ item. record { channel = channel; life = life; item = item }) (option_to_list item)
+
+-- A frame that an end takes and goes on after makes `told` longer by just the item of its event, last of all.
+abbrev pub TellsEvent : (role : Role) → Config role → History → Frame → Type 0
+TellsEvent role config history frame =
+    WritesReadBack role config → Lawful role config false history
+    → goes_on (end_verdict config (end_of config history) frame) ≡ true
+    → told role config (then_taken config (end_of config history) frame history)
+    ≡ told role config history ++ telling_at frame.channel (life_on role frame.channel history) (item_in_event (event_told (facts_at config (end_of config history) frame.channel) (end_verdict config (end_of config history) frame)))
+
+-- and frames that are put leave it
+abbrev pub PutsTellNothing : (role : Role) → Config role → List Frame → History → Type 0
+PutsTellNothing role config frames history = told role config (then_put frames history) ≡ told role config history

@@ -1,0 +1,30 @@
+//! What an end answers of its channels, read off its history.
+//!
+//! The record of a channel is what the history counts to; these laws say so of each answer, in words that know no record.
+
+ghost use Rattle.std.specs.Prelude.{ℕ, List};
+ghost use Rattle.amqp_model.specs.AnswersInWords.{ClosedIsFree, GatheredIsUnderWay, NoneIsGathered, OnlyOpenGathers, OnlyOpenIsDue, StateIsOfNotes};
+ghost use Rattle.amqp_model.specs.Channels.{End, Life};
+ghost use Rattle.amqp_model.specs.Contents.{Payload};
+ghost use Rattle.amqp_model.specs.Histories.{History};
+ghost use Rattle.amqp_model.specs.Negotiation.{Config};
+ghost use Rattle.amqp_model.specs.Notes.{Role};
+
+/// The state of a channel up to the agreed maximum is that of its notes, until the connection is closed and all are Free.
+pub fn states_are_of_notes()
+    ensures open { (role : Role) (config : Config role) (end : End) (history : History) (n : ℕ) → StateIsOfNotes role config end history n }
+    ensures closed { (end : End) (n : ℕ) → ClosedIsFree end n }
+{}
+
+/// The octets gathered on an Open channel of a Running connection are those of the body parts of the content under way, and
+/// none where none is. Nowhere else are there any.
+pub fn octets_are_of_body()
+    ensures under_way { (role : Role) (config : Config role) (end : End) (history : History) (n : ℕ) (life : Life) (since : List Payload) → GatheredIsUnderWay role config end history n life since }
+    ensures none { (role : Role) (config : Config role) (end : End) (history : History) (n : ℕ) (life : Life) → NoneIsGathered role config end history n life }
+    ensures elsewhere { (end : End) (n : ℕ) → OnlyOpenGathers end n }
+{}
+
+/// A reply is due on an Open channel alone. Which one it is says `unanswered_are_kept`.
+pub fn replies_are_due_where_open()
+    ensures { (end : End) (n : ℕ) → OnlyOpenIsDue end n }
+{}

@@ -1,0 +1,34 @@
+//! What an end writes down of itself.
+//!
+//! An end kept with its history has one note for each frame, and the items that it told and said in the order in which they
+//! came, over all channels. These laws say by what each of the lists grows, so that a list that is grouped by channel, or
+//! that leaves out an item, is none of them.
+
+ghost use Rattle.std.specs.Prelude.{ℕ, List};
+ghost use Rattle.amqp_model.specs.Endpoint.{Endpoint};
+ghost use Rattle.amqp_model.specs.Frame.{Frame};
+ghost use Rattle.amqp_model.specs.Histories.{History};
+ghost use Rattle.amqp_model.specs.Negotiation.{Config};
+ghost use Rattle.amqp_model.specs.Notes.{Role};
+ghost use Rattle.amqp_model.specs.RunningOut.{RanOutStays, RanOutWrites, RunsOut};
+ghost use Rattle.amqp_model.specs.Traces.{PutsTellNothing, TellsEvent, TracePuts, TraceTakes};
+
+/// Each frame put or taken is noted once, after all earlier ones.
+pub fn frames_are_noted()
+    ensures put { (frames : List Frame) (history : History) → TracePuts frames history }
+    ensures taken { (role : Role) (config : Config role) (history : History) (frame : Frame) → TraceTakes role config history frame }
+{}
+
+/// What an end told grows by the item of the event that a frame comes to, in the life of its channel, and by nothing else.
+pub fn events_are_told()
+    ensures event { (role : Role) (config : Config role) (history : History) (frame : Frame) → TellsEvent role config history frame }
+    ensures put { (role : Role) (config : Config role) (frames : List Frame) (history : History) → PutsTellNothing role config frames history }
+{}
+
+/// An end that runs out of memory has failed. What it took, put and was fed stays as it was; it still writes its output, and
+/// takes no octet more.
+pub fn memory_runs_out()
+    ensures stands { (role : Role) (config : Config role) (endpoint : Endpoint) (history : History) (fed written : List ℕ) → RunsOut role config endpoint history fed written }
+    ensures wrote { (role : Role) (config : Config role) (endpoint : Endpoint) (history : History) (fed written : List ℕ) (n : ℕ) → RanOutWrites role config endpoint history fed written n }
+    ensures fed { (role : Role) (config : Config role) (endpoint : Endpoint) (history : History) (fed written piece : List ℕ) → RanOutStays role config endpoint history fed written piece }
+{}
