@@ -44,7 +44,7 @@ under_way (HeaderDue method) = cond (is_reply method.kind) (method.kind ∷ []) 
 under_way (BodyDue method size properties body) = cond (is_reply method.kind) (method.kind ∷ []) []
 
 -- the items that payloads end, after what is kept
-abbrev ended_after : Gathering → List Payload → List Item
+abbrev pub ended_after : Gathering → List Payload → List Item
 ended_after kept [] = []
 ended_after kept (payload ∷ later) = option_to_list (item_ended kept payload) ++ ended_after (remains (step kept payload) payload) later
 
@@ -54,7 +54,7 @@ items-after (payload ∷ later) taken =
     ap items_taken (ap (λ l. l ++ taken) (reverse-append (payload ∷ []) later) ∙ append_assoc (reverse later) (payload ∷ []) taken)
     ∙ (items-after later (payload ∷ taken) ∙ append_assoc (items_taken taken) (option_to_list (item_ended (gathering taken) payload)) _)
 
-items-are : (payloads : List Payload) → items payloads ≡ ended_after Nothing payloads
+pub items-are : (payloads : List Payload) → items payloads ≡ ended_after Nothing payloads
 items-are payloads = ap items_taken (sym (append-nil (reverse payloads))) ∙ items-after payloads []
 
 -- a reading that begins no reply has a payload that ends none
