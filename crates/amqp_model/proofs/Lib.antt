@@ -75,6 +75,7 @@ mod TurnLaws
 mod Bounding
 mod Tracing
 mod TracedTelling
+mod TracedSaying
 mod RunsOut
 mod AnswerWords
 mod ConnectionClosed

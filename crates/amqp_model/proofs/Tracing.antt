@@ -125,7 +125,7 @@ open-part config agreed number life (Beat empty) false (HeaderDue method) e g = 
 -- A method on an Open channel.
 
 -- what a method of no class of its own is by itself
-other-item : (method : Method) (kind : MethodKind) (active begins : Bool) → kind_of_method kind active ≡ Other begins → item_of method (sort_by kind active) ≡ cond (begins_content (sort_by kind active)) None (Some (PlainMethod method))
+pub other-item : (method : Method) (kind : MethodKind) (active begins : Bool) → kind_of_method kind active ≡ Other begins → item_of method (sort_by kind active) ≡ cond (begins_content (sort_by kind active)) None (Some (PlainMethod method))
 other-item method kinds.ChannelOpen active begins e = absurd cc
 other-item method kinds.ChannelOpenOk active begins e = absurd cc
 other-item method kinds.ChannelClose active begins e = absurd cc

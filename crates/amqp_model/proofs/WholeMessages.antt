@@ -39,7 +39,7 @@ whole-append kept [] ys a b = subst (λ k. FitAfter k ys) (sym a) b
 whole-append kept (x ∷ xs) ys a b = (a.0, whole-append (remains (step kept x) x) xs ys a.1 b)
 
 -- what is kept after payloads in their order
-abbrev kept_after : Gathering → List Payload → Gathering
+abbrev pub kept_after : Gathering → List Payload → Gathering
 kept_after kept [] = kept
 kept_after kept (payload ∷ later) = kept_after (remains (step kept payload) payload) later
 
@@ -97,11 +97,11 @@ whole-content content parts carries full joined = (tt, subst (λ k. FitAfter k (
         let keeps : gathered content.method (length content.body) content.properties [] ≡ Keeps (BodyDue content.method (length content.body) content.properties []) = cond-false (0 == length content.body) _ _ (ne_eqb 0 (length content.body) (λ same. absurd (omega (arith, same, some)))) ∙ cond-true (nat_lt 0 (length content.body)) _ _ (lt-ltb 0 (length content.body) some) in
         subst (λ s. FitsNext s × FitAfter (remains s (Payload.Header (length content.body) content.properties)) (map Payload.Body (part ∷ parts))) (sym keeps) (tt, parts-fit content.method (length content.body) content.properties [] part parts full (let j = ap length joined in omega (arith, j)))
 
-whole-is : (content : Content) (payloads : List Payload) → IsContent content payloads → AreWholeMessages payloads
+pub whole-is : (content : Content) (payloads : List Payload) → IsContent content payloads → AreWholeMessages payloads
 whole-is content payloads is = subst AreWholeMessages (sym is.payloads_are) (whole-content content is.parts is.carries is.ends_full is.joined)
 
 -- what fits after what is kept fits after what was taken
-gathering-after : (prefix taken : List Payload) → kept_after (gathering taken) prefix ≡ gathering (reverse prefix ++ taken)
+pub gathering-after : (prefix taken : List Payload) → kept_after (gathering taken) prefix ≡ gathering (reverse prefix ++ taken)
 gathering-after [] taken = refl
 gathering-after (p ∷ prefix) taken = gathering-after prefix (p ∷ taken) ∙ ap gathering (sym (append_assoc (reverse prefix) (p ∷ []) taken) ∙ ap (λ l. l ++ taken) (sym (reverse-append (p ∷ []) prefix)))
 
@@ -113,7 +113,7 @@ pub each-fits-next : (prefix : List Payload) (payload : Payload) (later : List P
 each-fits-next prefix payload later whole = subst (λ k. FitsNext (step k payload)) (gathering-after prefix [] ∙ ap gathering (append-nil (reverse prefix))) (fits-at Nothing prefix payload later whole)
 
 -- a method has octets
-some-octets : (method : Method) → 4 ≤ length (plain_method method)
+pub some-octets : (method : Method) → 4 ≤ length (plain_method method)
 unfolding plain_method
 some-octets method = omega arith
 
@@ -180,10 +180,10 @@ parts-away-whole role n c [] history apart whole = whole
 parts-away-whole role n c (payload ∷ later) history apart whole = parts-away-whole role n c later (Put (payload_frame c payload) ∷ history) apart (away-whole role n (payload_frame c payload) history (ap (λ c. c == suc n) (frame-channel c payload) ∙ apart) whole)
 
 -- each says its payload, and is a message that opens nothing
-abbrev SaysPart : (n : ℕ) → Payload → Type 0
+abbrev pub SaysPart : (n : ℕ) → Payload → Type 0
 SaysPart n payload = (payload_in (payload_frame (suc n) payload) ≡ payload) × ((begins : Bool) × (kind_of (reading (payload_frame (suc n) payload)) ≡ Other begins))
 
-abbrev AllSay : (n : ℕ) → List Payload → Type 0
+abbrev pub AllSay : (n : ℕ) → List Payload → Type 0
 AllSay n [] = Unit {0}
 AllSay n (payload ∷ later) = SaysPart n payload × AllSay n later
 
@@ -264,7 +264,7 @@ bodies-say : (n : ℕ) (parts : List (List ℕ)) → AllSay n (map Payload.Body 
 bodies-say n [] = tt
 bodies-say n (part ∷ parts) = ((refl, (false, refl)), bodies-say n parts)
 
-content-says : (n max : ℕ) (content : Content) → ReadsBack content.method → header_at (plain_header (header_of content)) ≡ Some (header_of content) → (class_of content.method.kind == 20) ≡ false → AllSay n (cut max content)
+pub content-says : (n max : ℕ) (content : Content) → ReadsBack content.method → header_at (plain_header (header_of content)) ≡ Some (header_of content) → (class_of content.method.kind == 20) ≡ false → AllSay n (cut max content)
 content-says n max content back header class =
     let said = reads-back (suc n) content.method back in
     let read : reading (payload_frame (suc n) (Payload.Header (length content.body) content.properties)) ≡ HeaderOf (length content.body) content.properties = ap header_reading header in

@@ -1,21 +1,24 @@
 -- What an end writes down of itself: one note a frame, the items that it told and those that it said, in the order in which
 -- these came over all channels. Each frame taken and each frame put makes them longer, and by these words it is said by what.
-use Rattle.std.specs.Prelude.{◌≡◌, ◌≢◌, true, false, cond, ℕ, ◌==◌, List, [], ◌∷◌, ◌++◌, map, Option, Some, None}
+use Rattle.std.specs.Prelude.{◌≡◌, ◌≢◌, true, false, cond, ℕ, zero, suc, ◌==◌, List, [], ◌∷◌, ◌++◌, map, Option, Some, None}
 use Rattle.std.specs.Option.{option_to_list}
 use Rattle.amqp_model.specs.Frame.{Frame}
 use Rattle.amqp_model.specs.Notes.{Role, Kind}
-use Rattle.amqp_model.specs.Items.{Item, PlainMethod, WholeContent, FlowItem, FlowOkItem}
+use Rattle.amqp_model.specs.Items.{Item, PlainMethod, WholeContent, FlowItem, FlowOkItem, item_of}
+use Rattle.amqp_model.specs.Methods.{Method, ReadsBack, sort_of}
+use Rattle.amqp_model.specs.Closes.{method_frame}
+use Rattle.amqp_model.specs.Asks.{Send, is_made, Puts, ask_verdict}
 use Rattle.amqp_model.specs.Readings.{reading, kind_of}
 use Rattle.amqp_model.specs.Histories.{Put, Took, History}
 use Rattle.amqp_model.specs.Negotiation.{Config}
 use Rattle.amqp_model.specs.Events as events
-use Rattle.amqp_model.specs.Events.{Event, Plain, Whole}
+use Rattle.amqp_model.specs.Events.{Event, Message, Plain, Whole}
 use Rattle.amqp_model.specs.FrameVerdict.{event_told}
 use Rattle.amqp_model.specs.EndVerdict.{facts_at, end_verdict, end_puts, goes_on}
-use Rattle.amqp_model.specs.ReadingBack.{WritesReadBack}
+use Rattle.amqp_model.specs.ReadingBack.{AskReadsBack, WritesReadBack}
 use Rattle.amqp_model.specs.LawfulHistories.{end_of, then_put, then_taken, Lawful}
 use Rattle.amqp_model.specs.Machine.{StandsFor}
-use Rattle.amqp_model.specs.Sent.{Telling, life_on, told}
+use Rattle.amqp_model.specs.Sent.{Telling, life_on, told, said}
 
 -- what a frame is to its channel, apart from the bit of a flow; on channel 0 every frame is an Other
 pub data Word : Type 0 where
@@ -84,3 +87,32 @@ TellsEvent role config history frame =
 -- and frames that are put leave it
 abbrev pub PutsTellNothing : (role : Role) → Config role → List Frame → History → Type 0
 PutsTellNothing role config frames history = told role config (then_put frames history) ≡ told role config history
+
+-- The same of what an end says.
+
+-- an item on a channel above 0
+abbrev pub telling_above : (channel life : ℕ) → Option Item → List Telling
+telling_above zero life item = []
+telling_above (suc n) life item = telling_at (suc n) life item
+
+-- A method that is put makes `said` longer by the item that it is by itself: a flow-ok that is owed, and each ask that puts
+-- one method.
+abbrev pub SaysMethod : Role → (channel : ℕ) → Method → History → Type 0
+SaysMethod role channel method history =
+    ReadsBack method → said role (Put (method_frame channel method) ∷ history) ≡ said role history ++ telling_above channel (life_on role channel history) (item_of method (sort_of method))
+
+-- the item of a message
+abbrev pub item_of_message : Message → Item
+item_of_message (Plain method) = PlainMethod method
+item_of_message (Whole content) = WholeContent content
+
+-- A message that an end sends makes `said` longer by just that message, last of all, whatever frames it is put in.
+abbrev pub SaysMessage : (role : Role) → Config role → History → (channel : ℕ) → Message → List Frame → Type 0
+SaysMessage role config history channel message frames =
+    WritesReadBack role config → Lawful role config false history
+    → is_made (Send channel message) ≡ true → AskReadsBack (Send channel message) → ask_verdict role (end_of config history) (Send channel message) ≡ Puts frames
+    → said role (then_put frames history) ≡ said role history ++ telling_at channel (life_on role channel history) (Some (item_of_message message))
+
+-- and frames that are taken leave it
+abbrev pub TakenSaysNothing : Role → Frame → History → Type 0
+TakenSaysNothing role frame history = said role (Took frame ∷ history) ≡ said role history

@@ -6,12 +6,14 @@
 
 ghost use Rattle.std.specs.Prelude.{ℕ, List};
 ghost use Rattle.amqp_model.specs.Endpoint.{Endpoint};
+ghost use Rattle.amqp_model.specs.Events.{Message};
 ghost use Rattle.amqp_model.specs.Frame.{Frame};
 ghost use Rattle.amqp_model.specs.Histories.{History};
+ghost use Rattle.amqp_model.specs.Methods.{Method};
 ghost use Rattle.amqp_model.specs.Negotiation.{Config};
 ghost use Rattle.amqp_model.specs.Notes.{Role};
 ghost use Rattle.amqp_model.specs.RunningOut.{RanOutStays, RanOutWrites, RunsOut};
-ghost use Rattle.amqp_model.specs.Traces.{PutsTellNothing, TellsEvent, TracePuts, TraceTakes};
+ghost use Rattle.amqp_model.specs.Traces.{PutsTellNothing, SaysMessage, SaysMethod, TakenSaysNothing, TellsEvent, TracePuts, TraceTakes};
 
 /// Each frame put or taken is noted once, after all earlier ones.
 pub fn frames_are_noted()
@@ -23,6 +25,14 @@ pub fn frames_are_noted()
 pub fn events_are_told()
     ensures event { (role : Role) (config : Config role) (history : History) (frame : Frame) → TellsEvent role config history frame }
     ensures put { (role : Role) (config : Config role) (frames : List Frame) (history : History) → PutsTellNothing role config frames history }
+{}
+
+/// What an end said grows by each message that it sends, whole and once, and by each method that is a message by itself. What
+/// it takes adds nothing.
+pub fn messages_are_said()
+    ensures method { (role : Role) (channel : ℕ) (method : Method) (history : History) → SaysMethod role channel method history }
+    ensures message { (role : Role) (config : Config role) (history : History) (channel : ℕ) (message : Message) (frames : List Frame) → SaysMessage role config history channel message frames }
+    ensures taken { (role : Role) (frame : Frame) (history : History) → TakenSaysNothing role frame history }
 {}
 
 /// An end that runs out of memory has failed. What it took, put and was fed stays as it was; it still writes its output, and
