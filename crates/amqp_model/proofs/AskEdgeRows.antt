@@ -63,7 +63,7 @@ send_on_11 : OnChannels Client (Ask.Send 11 (Plain (without_arguments kinds.TxSe
 send_on_11 = (refl, refl)
 
 send_on_10 : OnChannels Client (Ask.Send 10 (Plain (without_arguments kinds.TxSelect))) (Puts (method_on 10 (0 ∷ 90 ∷ 0 ∷ 10 ∷ []) ∷ []))
-unfolding plain_method row
+unfolding plain_method
 send_on_10 = (refl, refl)
 
 flow_on_0 : OnChannels Server (Ask.Flow 0 true) (Refused Refusal.BadChannel)
@@ -73,7 +73,7 @@ flow_on_11 : OnChannels Server (Ask.Flow 11 true) (Refused Refusal.BadChannel)
 flow_on_11 = (refl, refl)
 
 flow_on_10 : OnChannels Server (Ask.Flow 10 false) (Puts (method_on 10 (0 ∷ 20 ∷ 0 ∷ 20 ∷ 0 ∷ []) ∷ []))
-unfolding plain_method row
+unfolding plain_method
 flow_on_10 = (refl, refl)
 
 close_on_0 : OnChannels Client (Ask.CloseChannel 0 200 []) (Refused Refusal.BadChannel)
@@ -122,11 +122,11 @@ unblocked_by_client : OnOpenChannel Client new_life Ask.Unblocked (Refused Refus
 unblocked_by_client = (refl, refl)
 
 blocked_by_server : OnOpenChannel Server new_life (Ask.Blocked (codes "low")) (Puts (method_on 0 (0 ∷ 10 ∷ 0 ∷ 60 ∷ 3 ∷ 108 ∷ 111 ∷ 119 ∷ []) ∷ []))
-unfolding plain_method row
+unfolding plain_method
 blocked_by_server = (refl, refl)
 
 unblocked_by_server : OnOpenChannel Server new_life Ask.Unblocked (Puts (method_on 0 (0 ∷ 10 ∷ 0 ∷ 61 ∷ []) ∷ []))
-unfolding plain_method row
+unfolding plain_method
 unblocked_by_server = (refl, refl)
 
 -- A close has its code and its text, at either end, also where the end is paused.
@@ -136,19 +136,19 @@ abbrev bye_octets : List ℕ
 bye_octets = 0 ∷ 200 ∷ 3 ∷ 98 ∷ 121 ∷ 101 ∷ 0 ∷ 0 ∷ 0 ∷ 0 ∷ []
 
 close_channel_of_client : OnOpenChannel Client paused_life (Ask.CloseChannel 1 200 (codes "bye")) (Puts (method_on 1 (0 ∷ 20 ∷ 0 ∷ 40 ∷ bye_octets) ∷ []))
-unfolding plain_method row
+unfolding plain_method
 close_channel_of_client = (refl, refl)
 
 close_channel_of_server : OnChannels Server (Ask.CloseChannel 10 404 []) (Puts (method_on 10 (0 ∷ 20 ∷ 0 ∷ 40 ∷ 1 ∷ 148 ∷ 0 ∷ 0 ∷ 0 ∷ 0 ∷ 0 ∷ []) ∷ []))
-unfolding plain_method row
+unfolding plain_method
 close_channel_of_server = (refl, refl)
 
 close_of_client : OnOpenChannel Client new_life (Ask.Close 200 (codes "bye")) (Puts (method_on 0 (0 ∷ 10 ∷ 0 ∷ 50 ∷ bye_octets) ∷ []))
-unfolding plain_method row
+unfolding plain_method
 close_of_client = (refl, refl)
 
 close_of_server : OnOpenChannel Server new_life (Ask.Close 320 (codes "x")) (Puts (method_on 0 (0 ∷ 10 ∷ 0 ∷ 50 ∷ 1 ∷ 64 ∷ 1 ∷ 120 ∷ 0 ∷ 0 ∷ 0 ∷ 0 ∷ []) ∷ []))
-unfolding plain_method row
+unfolding plain_method
 close_of_server = (refl, refl)
 
 -- A payload of 4088 octets just fills a frame of 4096, and one of 4089 does not fit.
@@ -158,7 +158,7 @@ abbrev declares : (octets : ℕ) → Method
 declares octets = record { kind = kinds.QueueDeclare; args = short_string [] ∷ bit false ∷ bit false ∷ bit false ∷ bit false ∷ bit false ∷ table (pair (codes "a") (Datum.long_string (replicate octets 120)) no_pairs) ∷ [] }
 
 declare_length : length (plain_method (declares 3)) ≡ 22
-unfolding plain_method row
+unfolding plain_method
 declare_length = refl
 
 -- the lengths of the payloads of the frames put
@@ -170,9 +170,9 @@ abbrev declared : (octets : ℕ) → AskVerdict
 declared octets = ask_verdict Client (open_on_1 4096 new_life) (sends (declares octets))
 
 declare_fits : lengths_put (declared 4069) ≡ 4088 ∷ []
-unfolding plain_method row
+unfolding plain_method
 declare_fits = refl
 
 declare_too_large : declared 4070 ≡ Refused Refusal.TooLarge
-unfolding plain_method row
+unfolding plain_method
 declare_too_large = refl

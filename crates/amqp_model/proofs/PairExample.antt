@@ -180,147 +180,147 @@ module _ (reads : (method : Method) → MethodReadsBack method) (client_writes :
   p1 = server_goes {taken = None} both_begin tt greets
 
   p2 : Pair example_client example_server c1 s1
-  unfolding method_at header_at plain_method plain_header row reading.method_at reading.args_at reading.field_at with_id header_reading.header_at header_reading.properties_at header_reading.optional_at table_at elements many named after_tag tagged value_at
+  unfolding method_at header_at plain_method plain_header reading.method_at reading.args_at reading.field_at with_id header_reading.header_at header_reading.properties_at header_reading.optional_at table_at elements many named after_tag tagged value_at
   p2 = client-takes p1 (zero (start example_server)) ([]) refl (λ e. absurd (false≢true e)) refl
 
   p3 : Pair example_client example_server c1 s2
-  unfolding method_at header_at plain_method plain_header row reading.method_at reading.args_at reading.field_at with_id header_reading.header_at header_reading.properties_at header_reading.optional_at table_at elements many named after_tag tagged value_at
+  unfolding method_at header_at plain_method plain_header reading.method_at reading.args_at reading.field_at with_id header_reading.header_at header_reading.properties_at header_reading.optional_at table_at elements many named after_tag tagged value_at
   p3 = server-takes p2 (zero (start_ok example_client)) ([]) refl (λ e. absurd (false≢true e)) refl
 
   p4 : Pair example_client example_server c2 s2
-  unfolding method_at header_at plain_method plain_header row reading.method_at reading.args_at reading.field_at with_id header_reading.header_at header_reading.properties_at header_reading.optional_at table_at elements many named after_tag tagged value_at
+  unfolding method_at header_at plain_method plain_header reading.method_at reading.args_at reading.field_at with_id header_reading.header_at header_reading.properties_at header_reading.optional_at table_at elements many named after_tag tagged value_at
   p4 = client-takes p3 (zero (tune example_server)) ([]) refl (λ e. absurd (false≢true e)) refl
 
   p5 : Pair example_client example_server c2 s3
-  unfolding method_at header_at plain_method plain_header row reading.method_at reading.args_at reading.field_at with_id header_reading.header_at header_reading.properties_at header_reading.optional_at table_at elements many named after_tag tagged value_at
+  unfolding method_at header_at plain_method plain_header reading.method_at reading.args_at reading.field_at with_id header_reading.header_at header_reading.properties_at header_reading.optional_at table_at elements many named after_tag tagged value_at
   p5 = server-takes p4 (zero (tune_ok settled_example)) ((zero (connection_open example_client)) ∷ []) refl (λ e. absurd (false≢true e)) refl
 
   p6 : Pair example_client example_server c2 s4
-  unfolding method_at header_at plain_method plain_header row reading.method_at reading.args_at reading.field_at with_id header_reading.header_at header_reading.properties_at header_reading.optional_at table_at elements many named after_tag tagged value_at
+  unfolding method_at header_at plain_method plain_header reading.method_at reading.args_at reading.field_at with_id header_reading.header_at header_reading.properties_at header_reading.optional_at table_at elements many named after_tag tagged value_at
   p6 = server-takes p5 (zero (connection_open example_client)) ([]) refl (λ e. absurd (false≢true e)) refl
 
   p7 : Pair example_client example_server c3 s4
-  unfolding method_at header_at plain_method plain_header row reading.method_at reading.args_at reading.field_at with_id header_reading.header_at header_reading.properties_at header_reading.optional_at table_at elements many named after_tag tagged value_at
+  unfolding method_at header_at plain_method plain_header reading.method_at reading.args_at reading.field_at with_id header_reading.header_at header_reading.properties_at header_reading.optional_at table_at elements many named after_tag tagged value_at
   p7 = client-takes p6 (zero connection_open_ok) ([]) refl (λ e. absurd (false≢true e)) refl
 
   p8 : Pair example_client example_server c4 s4
-  unfolding method_at header_at plain_method plain_header row reading.method_at reading.args_at reading.field_at with_id header_reading.header_at header_reading.properties_at header_reading.optional_at table_at elements many named after_tag tagged value_at
+  unfolding method_at header_at plain_method plain_header reading.method_at reading.args_at reading.field_at with_id header_reading.header_at header_reading.properties_at header_reading.optional_at table_at elements many named after_tag tagged value_at
   p8 = client-asks p7 (Ask.Open) ((one channel_open) ∷ []) refl (record { method = refl; header = tt; text = tt }) refl refl
 
   p9 : Pair example_client example_server c4 s5
-  unfolding method_at header_at plain_method plain_header row reading.method_at reading.args_at reading.field_at with_id header_reading.header_at header_reading.properties_at header_reading.optional_at table_at elements many named after_tag tagged value_at
+  unfolding method_at header_at plain_method plain_header reading.method_at reading.args_at reading.field_at with_id header_reading.header_at header_reading.properties_at header_reading.optional_at table_at elements many named after_tag tagged value_at
   p9 = server-takes p8 (one channel_open) ([]) refl (λ e. absurd (false≢true e)) refl
 
   p10 : Pair example_client example_server c5 s5
-  unfolding method_at header_at plain_method plain_header row reading.method_at reading.args_at reading.field_at with_id header_reading.header_at header_reading.properties_at header_reading.optional_at table_at elements many named after_tag tagged value_at
+  unfolding method_at header_at plain_method plain_header reading.method_at reading.args_at reading.field_at with_id header_reading.header_at header_reading.properties_at header_reading.optional_at table_at elements many named after_tag tagged value_at
   p10 = client-takes p9 (one channel_open_ok) ([]) refl (λ e. absurd (false≢true e)) refl
 
   p11 : Pair example_client example_server c6 s5
-  unfolding method_at header_at plain_method plain_header row reading.method_at reading.args_at reading.field_at with_id header_reading.header_at header_reading.properties_at header_reading.optional_at table_at elements many named after_tag tagged value_at
+  unfolding method_at header_at plain_method plain_header reading.method_at reading.args_at reading.field_at with_id header_reading.header_at header_reading.properties_at header_reading.optional_at table_at elements many named after_tag tagged value_at
   p11 = client-asks p10 (Ask.Send 1 (Whole published)) ((one published.method) ∷ (header_of published) ∷ (body_of published) ∷ []) refl (record { method = refl; header = refl; text = tt }) refl refl
 
   p12 : Pair example_client example_server c6 s6
-  unfolding method_at header_at plain_method plain_header row reading.method_at reading.args_at reading.field_at with_id header_reading.header_at header_reading.properties_at header_reading.optional_at table_at elements many named after_tag tagged value_at
+  unfolding method_at header_at plain_method plain_header reading.method_at reading.args_at reading.field_at with_id header_reading.header_at header_reading.properties_at header_reading.optional_at table_at elements many named after_tag tagged value_at
   p12 = server-takes p11 (one published.method) ((header_of published) ∷ (body_of published) ∷ []) refl (λ e. absurd (false≢true e)) refl
 
   p13 : Pair example_client example_server c6 s7
-  unfolding method_at header_at plain_method plain_header row reading.method_at reading.args_at reading.field_at with_id header_reading.header_at header_reading.properties_at header_reading.optional_at table_at elements many named after_tag tagged value_at
+  unfolding method_at header_at plain_method plain_header reading.method_at reading.args_at reading.field_at with_id header_reading.header_at header_reading.properties_at header_reading.optional_at table_at elements many named after_tag tagged value_at
   p13 = server-takes p12 (header_of published) ((body_of published) ∷ []) refl (λ e. absurd (false≢true e)) refl
 
   p14 : Pair example_client example_server c6 s8
-  unfolding method_at header_at plain_method plain_header row reading.method_at reading.args_at reading.field_at with_id header_reading.header_at header_reading.properties_at header_reading.optional_at table_at elements many named after_tag tagged value_at
+  unfolding method_at header_at plain_method plain_header reading.method_at reading.args_at reading.field_at with_id header_reading.header_at header_reading.properties_at header_reading.optional_at table_at elements many named after_tag tagged value_at
   p14 = server-takes p13 (body_of published) ([]) refl (λ e. absurd (false≢true e)) refl
 
   p15 : Pair example_client example_server c6 s9
-  unfolding method_at header_at plain_method plain_header row reading.method_at reading.args_at reading.field_at with_id header_reading.header_at header_reading.properties_at header_reading.optional_at table_at elements many named after_tag tagged value_at
+  unfolding method_at header_at plain_method plain_header reading.method_at reading.args_at reading.field_at with_id header_reading.header_at header_reading.properties_at header_reading.optional_at table_at elements many named after_tag tagged value_at
   p15 = server-asks p14 (Ask.Send 1 (Whole delivered)) ((one delivered.method) ∷ (header_of delivered) ∷ (body_of delivered) ∷ []) refl (record { method = refl; header = refl; text = tt }) refl refl
 
   p16 : Pair example_client example_server c7 s9
-  unfolding method_at header_at plain_method plain_header row reading.method_at reading.args_at reading.field_at with_id header_reading.header_at header_reading.properties_at header_reading.optional_at table_at elements many named after_tag tagged value_at
+  unfolding method_at header_at plain_method plain_header reading.method_at reading.args_at reading.field_at with_id header_reading.header_at header_reading.properties_at header_reading.optional_at table_at elements many named after_tag tagged value_at
   p16 = client-takes p15 (one delivered.method) ((header_of delivered) ∷ (body_of delivered) ∷ []) refl (λ e. absurd (false≢true e)) refl
 
   p17 : Pair example_client example_server c8 s9
-  unfolding method_at header_at plain_method plain_header row reading.method_at reading.args_at reading.field_at with_id header_reading.header_at header_reading.properties_at header_reading.optional_at table_at elements many named after_tag tagged value_at
+  unfolding method_at header_at plain_method plain_header reading.method_at reading.args_at reading.field_at with_id header_reading.header_at header_reading.properties_at header_reading.optional_at table_at elements many named after_tag tagged value_at
   p17 = client-takes p16 (header_of delivered) ((body_of delivered) ∷ []) refl (λ e. absurd (false≢true e)) refl
 
   p18 : Pair example_client example_server c9 s9
-  unfolding method_at header_at plain_method plain_header row reading.method_at reading.args_at reading.field_at with_id header_reading.header_at header_reading.properties_at header_reading.optional_at table_at elements many named after_tag tagged value_at
+  unfolding method_at header_at plain_method plain_header reading.method_at reading.args_at reading.field_at with_id header_reading.header_at header_reading.properties_at header_reading.optional_at table_at elements many named after_tag tagged value_at
   p18 = client-takes p17 (body_of delivered) ([]) refl (λ e. absurd (false≢true e)) refl
 
   p19 : Pair example_client example_server c9 s10
-  unfolding method_at header_at plain_method plain_header row reading.method_at reading.args_at reading.field_at with_id header_reading.header_at header_reading.properties_at header_reading.optional_at table_at elements many named after_tag tagged value_at
+  unfolding method_at header_at plain_method plain_header reading.method_at reading.args_at reading.field_at with_id header_reading.header_at header_reading.properties_at header_reading.optional_at table_at elements many named after_tag tagged value_at
   p19 = server-asks p18 (Ask.Flow 1 false) ((one (flow_as kinds.ChannelFlow false)) ∷ []) refl (record { method = refl; header = tt; text = tt }) refl refl
 
   p20 : Pair example_client example_server c10 s10
-  unfolding method_at header_at plain_method plain_header row reading.method_at reading.args_at reading.field_at with_id header_reading.header_at header_reading.properties_at header_reading.optional_at table_at elements many named after_tag tagged value_at
+  unfolding method_at header_at plain_method plain_header reading.method_at reading.args_at reading.field_at with_id header_reading.header_at header_reading.properties_at header_reading.optional_at table_at elements many named after_tag tagged value_at
   p20 = client-takes p19 (one (flow_as kinds.ChannelFlow false)) ([]) refl (λ e. absurd (false≢true e)) refl
 
   p21 : Pair example_client example_server c10 s11
-  unfolding method_at header_at plain_method plain_header row reading.method_at reading.args_at reading.field_at with_id header_reading.header_at header_reading.properties_at header_reading.optional_at table_at elements many named after_tag tagged value_at
+  unfolding method_at header_at plain_method plain_header reading.method_at reading.args_at reading.field_at with_id header_reading.header_at header_reading.properties_at header_reading.optional_at table_at elements many named after_tag tagged value_at
   p21 = server-takes p20 (one (flow_as kinds.ChannelFlowOk false)) ([]) refl (λ e. absurd (false≢true e)) refl
 
   p22 : Pair example_client example_server c11 s11
-  unfolding method_at header_at plain_method plain_header row reading.method_at reading.args_at reading.field_at with_id header_reading.header_at header_reading.properties_at header_reading.optional_at table_at elements many named after_tag tagged value_at
+  unfolding method_at header_at plain_method plain_header reading.method_at reading.args_at reading.field_at with_id header_reading.header_at header_reading.properties_at header_reading.optional_at table_at elements many named after_tag tagged value_at
   p22 = client-asks p21 (Ask.Send 1 (Plain select)) ((one select) ∷ []) refl (record { method = refl; header = tt; text = tt }) refl refl
 
   p23 : Pair example_client example_server c11 s12
-  unfolding method_at header_at plain_method plain_header row reading.method_at reading.args_at reading.field_at with_id header_reading.header_at header_reading.properties_at header_reading.optional_at table_at elements many named after_tag tagged value_at
+  unfolding method_at header_at plain_method plain_header reading.method_at reading.args_at reading.field_at with_id header_reading.header_at header_reading.properties_at header_reading.optional_at table_at elements many named after_tag tagged value_at
   p23 = server-takes p22 (one select) ([]) refl (λ e. absurd (false≢true e)) refl
 
   p24 : Pair example_client example_server c11 s13
-  unfolding method_at header_at plain_method plain_header row reading.method_at reading.args_at reading.field_at with_id header_reading.header_at header_reading.properties_at header_reading.optional_at table_at elements many named after_tag tagged value_at
+  unfolding method_at header_at plain_method plain_header reading.method_at reading.args_at reading.field_at with_id header_reading.header_at header_reading.properties_at header_reading.optional_at table_at elements many named after_tag tagged value_at
   p24 = server-asks p23 (Ask.Send 1 (Plain select_ok)) ((one select_ok) ∷ []) refl (record { method = refl; header = tt; text = tt }) refl refl
 
   p25 : Pair example_client example_server c12 s13
-  unfolding method_at header_at plain_method plain_header row reading.method_at reading.args_at reading.field_at with_id header_reading.header_at header_reading.properties_at header_reading.optional_at table_at elements many named after_tag tagged value_at
+  unfolding method_at header_at plain_method plain_header reading.method_at reading.args_at reading.field_at with_id header_reading.header_at header_reading.properties_at header_reading.optional_at table_at elements many named after_tag tagged value_at
   p25 = client-takes p24 (one select_ok) ([]) refl (λ e. absurd (false≢true e)) refl
 
   p26 : Pair example_client example_server c13 s13
-  unfolding method_at header_at plain_method plain_header row reading.method_at reading.args_at reading.field_at with_id header_reading.header_at header_reading.properties_at header_reading.optional_at table_at elements many named after_tag tagged value_at
+  unfolding method_at header_at plain_method plain_header reading.method_at reading.args_at reading.field_at with_id header_reading.header_at header_reading.properties_at header_reading.optional_at table_at elements many named after_tag tagged value_at
   p26 = client-asks p25 (Ask.CloseChannel 1 200 []) ((one (close_as kinds.ChannelClose 200 [])) ∷ []) refl (record { method = refl; header = tt; text = (omega arith, tt) }) refl refl
 
   p27 : Pair example_client example_server c13 s14
-  unfolding method_at header_at plain_method plain_header row reading.method_at reading.args_at reading.field_at with_id header_reading.header_at header_reading.properties_at header_reading.optional_at table_at elements many named after_tag tagged value_at
+  unfolding method_at header_at plain_method plain_header reading.method_at reading.args_at reading.field_at with_id header_reading.header_at header_reading.properties_at header_reading.optional_at table_at elements many named after_tag tagged value_at
   p27 = server-asks p26 (Ask.CloseChannel 1 404 []) ((one (close_as kinds.ChannelClose 404 [])) ∷ []) refl (record { method = refl; header = tt; text = (omega arith, tt) }) refl refl
 
   p28 : Pair example_client example_server c13 s15
-  unfolding method_at header_at plain_method plain_header row reading.method_at reading.args_at reading.field_at with_id header_reading.header_at header_reading.properties_at header_reading.optional_at table_at elements many named after_tag tagged value_at
+  unfolding method_at header_at plain_method plain_header reading.method_at reading.args_at reading.field_at with_id header_reading.header_at header_reading.properties_at header_reading.optional_at table_at elements many named after_tag tagged value_at
   p28 = server-takes p27 (one (close_as kinds.ChannelClose 200 [])) ([]) refl (λ e. absurd (false≢true e)) refl
 
   p29 : Pair example_client example_server c14 s15
-  unfolding method_at header_at plain_method plain_header row reading.method_at reading.args_at reading.field_at with_id header_reading.header_at header_reading.properties_at header_reading.optional_at table_at elements many named after_tag tagged value_at
+  unfolding method_at header_at plain_method plain_header reading.method_at reading.args_at reading.field_at with_id header_reading.header_at header_reading.properties_at header_reading.optional_at table_at elements many named after_tag tagged value_at
   p29 = client-takes p28 (one (close_as kinds.ChannelClose 404 [])) ((one channel_close_ok) ∷ []) refl (λ e. absurd (false≢true e)) refl
 
   p30 : Pair example_client example_server c14 s16
-  unfolding method_at header_at plain_method plain_header row reading.method_at reading.args_at reading.field_at with_id header_reading.header_at header_reading.properties_at header_reading.optional_at table_at elements many named after_tag tagged value_at
+  unfolding method_at header_at plain_method plain_header reading.method_at reading.args_at reading.field_at with_id header_reading.header_at header_reading.properties_at header_reading.optional_at table_at elements many named after_tag tagged value_at
   p30 = server-takes p29 (one channel_close_ok) ([]) refl (λ e. absurd (false≢true e)) refl
 
   p31 : Pair example_client example_server c15 s16
-  unfolding method_at header_at plain_method plain_header row reading.method_at reading.args_at reading.field_at with_id header_reading.header_at header_reading.properties_at header_reading.optional_at table_at elements many named after_tag tagged value_at
+  unfolding method_at header_at plain_method plain_header reading.method_at reading.args_at reading.field_at with_id header_reading.header_at header_reading.properties_at header_reading.optional_at table_at elements many named after_tag tagged value_at
   p31 = client-takes p30 (one channel_close_ok) ([]) refl (λ e. absurd (false≢true e)) refl
 
   p32 : Pair example_client example_server c16 s16
-  unfolding method_at header_at plain_method plain_header row reading.method_at reading.args_at reading.field_at with_id header_reading.header_at header_reading.properties_at header_reading.optional_at table_at elements many named after_tag tagged value_at
+  unfolding method_at header_at plain_method plain_header reading.method_at reading.args_at reading.field_at with_id header_reading.header_at header_reading.properties_at header_reading.optional_at table_at elements many named after_tag tagged value_at
   p32 = client-asks p31 (Ask.Close 200 []) ((zero (close_as kinds.ConnectionClose 200 [])) ∷ []) refl (record { method = refl; header = tt; text = (omega arith, tt) }) refl refl
 
   p33 : Pair example_client example_server c16 s17
-  unfolding method_at header_at plain_method plain_header row reading.method_at reading.args_at reading.field_at with_id header_reading.header_at header_reading.properties_at header_reading.optional_at table_at elements many named after_tag tagged value_at
+  unfolding method_at header_at plain_method plain_header reading.method_at reading.args_at reading.field_at with_id header_reading.header_at header_reading.properties_at header_reading.optional_at table_at elements many named after_tag tagged value_at
   p33 = server-asks p32 (Ask.Close 320 []) ((zero (close_as kinds.ConnectionClose 320 [])) ∷ []) refl (record { method = refl; header = tt; text = (omega arith, tt) }) refl refl
 
   p34 : Pair example_client example_server c16 s18
-  unfolding method_at header_at plain_method plain_header row reading.method_at reading.args_at reading.field_at with_id header_reading.header_at header_reading.properties_at header_reading.optional_at table_at elements many named after_tag tagged value_at
+  unfolding method_at header_at plain_method plain_header reading.method_at reading.args_at reading.field_at with_id header_reading.header_at header_reading.properties_at header_reading.optional_at table_at elements many named after_tag tagged value_at
   p34 = server-takes p33 (zero (close_as kinds.ConnectionClose 200 [])) ([]) refl (λ e n. same-above n (frames_put c16) (frames_taken s17) refl refl refl) refl
 
   p35 : Pair example_client example_server c17 s18
-  unfolding method_at header_at plain_method plain_header row reading.method_at reading.args_at reading.field_at with_id header_reading.header_at header_reading.properties_at header_reading.optional_at table_at elements many named after_tag tagged value_at
+  unfolding method_at header_at plain_method plain_header reading.method_at reading.args_at reading.field_at with_id header_reading.header_at header_reading.properties_at header_reading.optional_at table_at elements many named after_tag tagged value_at
   p35 = client-takes p34 (zero (close_as kinds.ConnectionClose 320 [])) ((zero close_ok) ∷ []) refl (λ e n. same-above n (frames_put s18) (frames_taken c16) refl refl refl) refl
 
   p36 : Pair example_client example_server c17 s19
-  unfolding method_at header_at plain_method plain_header row reading.method_at reading.args_at reading.field_at with_id header_reading.header_at header_reading.properties_at header_reading.optional_at table_at elements many named after_tag tagged value_at
+  unfolding method_at header_at plain_method plain_header reading.method_at reading.args_at reading.field_at with_id header_reading.header_at header_reading.properties_at header_reading.optional_at table_at elements many named after_tag tagged value_at
   p36 = server-takes p35 (zero close_ok) ([]) refl (λ e n. same-above n (frames_put c17) (frames_taken s18) refl refl refl) refl
 
   p37 : Pair example_client example_server c18 s19
-  unfolding method_at header_at plain_method plain_header row reading.method_at reading.args_at reading.field_at with_id header_reading.header_at header_reading.properties_at header_reading.optional_at table_at elements many named after_tag tagged value_at
+  unfolding method_at header_at plain_method plain_header reading.method_at reading.args_at reading.field_at with_id header_reading.header_at header_reading.properties_at header_reading.optional_at table_at elements many named after_tag tagged value_at
   p37 = client-takes p36 (zero close_ok) ([]) refl (λ e n. same-above n (frames_put s19) (frames_taken c17) refl refl refl) refl
 
 abbrev all_small : List ℕ → Bool
@@ -336,7 +336,7 @@ are-octets (octet ∷ octets) e = here (nat_lt octet 256) refl e (are-octets oct
     here false small e more = absurd (false≢true e)
 
 client-fits : ConfigFits example_client
-unfolding plain_method row
+unfolding plain_method
 client-fits = record {
   channel_least = omega arith;
   channel_most = omega arith;
@@ -348,7 +348,7 @@ client-fits = record {
 }
 
 server-fits : ConfigFits example_server
-unfolding plain_method row
+unfolding plain_method
 server-fits = record {
   channel_least = omega arith;
   channel_most = omega arith;
@@ -360,7 +360,7 @@ server-fits = record {
 }
 
 pub example-is-pair : ((method : Method) → MethodReadsBack method) → ExampleIsPair
-unfolding method_at header_at plain_method plain_header row reading.method_at reading.args_at reading.field_at with_id header_reading.header_at header_reading.properties_at header_reading.optional_at table_at elements many named after_tag tagged value_at
+unfolding method_at header_at plain_method plain_header reading.method_at reading.args_at reading.field_at with_id header_reading.header_at header_reading.properties_at header_reading.optional_at table_at elements many named after_tag tagged value_at
 example-is-pair reads = record {
   client_fits = client-fits;
   server_fits = server-fits;
