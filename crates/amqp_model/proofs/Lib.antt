@@ -78,6 +78,7 @@ mod TracedTelling
 mod TracedSaying
 mod RunsOut
 mod AnswerWords
+mod VerdictEvents
 mod ConnectionClosed
 mod SentTelling
 mod WholeMessages

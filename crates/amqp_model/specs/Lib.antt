@@ -55,3 +55,4 @@ pub mod Bounds
 pub mod Traces
 pub mod RunningOut
 pub mod AnswersInWords
+pub mod VerdictInWords
