@@ -79,6 +79,7 @@ mod TracedSaying
 mod RunsOut
 mod AnswerWords
 mod VerdictEvents
+mod Numbering
 mod ConnectionClosed
 mod SentTelling
 mod WholeMessages

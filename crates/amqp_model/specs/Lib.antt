@@ -56,3 +56,4 @@ pub mod Traces
 pub mod RunningOut
 pub mod AnswersInWords
 pub mod VerdictInWords
+pub mod Numbers
