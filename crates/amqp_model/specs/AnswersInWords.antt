@@ -7,7 +7,7 @@ use Rattle.amqp_model.specs.Lives.{state}
 use Rattle.amqp_model.specs.Contents.{Payload, UnderWay, body_octets}
 use Rattle.amqp_model.specs.Gathering.{Nothing, Gathers}
 use Rattle.amqp_model.specs.Histories.{History, entries_on, payloads_taken}
-use Rattle.amqp_model.specs.Channels.{Life, Open, Phase, Running, Closed, End}
+use Rattle.amqp_model.specs.Channels.{Life, Open, Running, Closed, End}
 use Rattle.amqp_model.specs.Negotiation.{Config}
 use Rattle.amqp_model.specs.Asks.{channel_max}
 use Rattle.amqp_model.specs.Answers.{channel_state, gathered, reply_due}

@@ -1,6 +1,6 @@
 -- What an end writes down of itself: one note a frame, the items that it told and those that it said, in the order in which
 -- these came over all channels. Each frame taken and each frame put makes them longer, and by these words it is said by what.
-use Rattle.std.specs.Prelude.{◌≡◌, ◌≢◌, true, false, cond, ℕ, zero, suc, ◌==◌, List, [], ◌∷◌, ◌++◌, map, Option, Some, None}
+use Rattle.std.specs.Prelude.{◌≡◌, true, false, cond, ℕ, zero, suc, ◌==◌, List, [], ◌∷◌, ◌++◌, map, Option, Some, None}
 use Rattle.std.specs.Option.{option_to_list}
 use Rattle.amqp_model.specs.Frame.{Frame}
 use Rattle.amqp_model.specs.Notes.{Role, Kind}
@@ -17,7 +17,6 @@ use Rattle.amqp_model.specs.FrameVerdict.{event_told}
 use Rattle.amqp_model.specs.EndVerdict.{facts_at, end_verdict, end_puts, goes_on}
 use Rattle.amqp_model.specs.ReadingBack.{AskReadsBack, WritesReadBack}
 use Rattle.amqp_model.specs.LawfulHistories.{end_of, then_put, then_taken, Lawful}
-use Rattle.amqp_model.specs.Machine.{StandsFor}
 use Rattle.amqp_model.specs.Sent.{Telling, life_on, told, said}
 
 -- what a frame is to its channel, apart from the bit of a flow; on channel 0 every frame is an Other
