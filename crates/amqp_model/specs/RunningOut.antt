@@ -1,6 +1,6 @@
 -- An end that ran out of memory. It fails, and what it was doing is not done: its history, the octets fed that are no whole
 -- frame and its output are as they were. So of an end kept with its history there are three cases: it stands for its history,
--- it failed by octets that tell why, or it ran out of memory.
+-- it failed by octets that show why, or it ran out of memory.
 use Rattle.std.specs.Prelude.{◌≡◌, ◌≤◌, true, ℕ, List, ◌++◌, length, take}
 use Rattle.amqp_model.specs.Notes.{Role}
 use Rattle.amqp_model.specs.Histories.{History}
