@@ -81,7 +81,8 @@ TellsEvent role config history frame =
     WritesReadBack role config → Lawful role config false history
     → goes_on (end_verdict config (end_of config history) frame) ≡ true
     → told role config (then_taken config (end_of config history) frame history)
-    ≡ told role config history ++ telling_at frame.channel (life_on role frame.channel history) (item_in_event (event_told (facts_at config (end_of config history) frame.channel) (end_verdict config (end_of config history) frame)))
+    ≡ told role config history ++ telling_at frame.channel (life_on role frame.channel history)
+    (item_in_event (event_told (facts_at config (end_of config history) frame.channel) (end_verdict config (end_of config history) frame)))
 
 -- and frames that are put leave it
 abbrev pub PutsTellNothing : (role : Role) → Config role → List Frame → History → Type 0
