@@ -25,7 +25,10 @@ pub fn show<R: Read, W: Write>(alloc: Global, input: &mut R, output: &mut W) -> 
 /// The same, without the last octets reaching the output for sure.
 fn print_frames<R: Read, W: Write>(alloc: Global, input: &mut R, output: &mut W) -> io::Result<u8> {
     let mut text = Vec::new(alloc);
-    if input.read_to_end(&mut text).is_err() {
+    if let Err(fault) = input.read_to_end(&mut text) {
+        if fault.kind() == io::ErrorKind::OutOfMemory {
+            return print_out_of_memory(output);
+        }
         writeln!(output, "fault read")?;
         return Ok(FAULT);
     }

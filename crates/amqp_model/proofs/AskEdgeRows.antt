@@ -4,7 +4,6 @@ use Rattle.amqp_frame.specs.declared.frames.FrameKind.{FrameKind}
 use Rattle.amqp_method.specs.declared.kinds.Kind.TheVariants as kinds
 use Rattle.amqp_value.specs.Values.{Datum, pair, no_pairs}
 use Rattle.amqp_method.specs.Arguments.{bit, short_string, table}
-use Rattle.amqp_method.specs.Methods.{row}
 use Rattle.amqp_model.specs.Frame.{Frame}
 use Rattle.amqp_model.specs.Notes.{Role, Client, Server}
 use Rattle.amqp_model.specs.Methods.{Method, plain_method}

@@ -5,7 +5,6 @@ use Rattle.std.proofs.lemmas.Bool.{false≢true, cond-false, ne_eqb, ltb-true}
 use Rattle.amqp_value.specs.Reading.{table_at, elements, many, named, after_tag, tagged, value_at}
 use Rattle.amqp_method.specs.declared.kinds.Kind.TheVariants as kinds
 use Rattle.amqp_method.specs.Kinds.{with_id}
-use Rattle.amqp_method.specs.Methods.{row}
 use Rattle.amqp_method.specs.Reading as reading
 use Rattle.amqp_method.specs.HeaderReading as header_reading
 use Rattle.amqp_model.specs.Frame.{Frame}
