@@ -1,8 +1,8 @@
 -- Parts of a list that is made of parts.
 use Rattle.std.proofs.Common.{◌≡◌, ℕ, ◌+◌, ◌-◌, ◌≤◌, List, ◌++◌, length, take, drop, refl, sym, ap, ap₂, ◌∙◌, arith, append_assoc, length-append, take-append-drop, length-drop}
-use Rattle.std.proofs.lemmas.List.{take_at, drop_at, length-take-le, take-take}
+use Rattle.std.proofs.lemmas.List.{take_at, drop_at, length-take-le, take-take, take-append-le, take_all}
 use Rattle.std.proofs.Math.Seq.{take-append-add, drop-append-add}
-use Rattle.amqp_core.specs.OutboxSlots.{moved_up}
+use Rattle.amqp_core.specs.OutboxSlots.{moved_up, moved_down}
 
 -- the second of three parts
 pub second : {X : Type 0} (a b c : List X) (n m : ℕ) → n ≡ length a → m ≡ n + length b → drop n (take m (a ++ (b ++ c))) ≡ b
@@ -91,3 +91,98 @@ take_past p q n m e = rw (sym e) (take-append-add p q m)
 
 pub drop_past : {X : Type 0} (p q : List X) (n m : ℕ) → length p ≡ n → drop (n + m) (p ++ q) ≡ drop m q
 drop_past p q n m e = rw (sym e) (drop-append-add p q m)
+
+-- items that are copied over as many others
+pub pasted : {X : Type 0} (p q rest s src : List X) (dest n : ℕ) → dest ≡ length p → n ≡ length q → take n src ≡ s → take dest (p ++ (q ++ rest)) ++ take n src ++ drop (dest + n) (p ++ (q ++ rest)) ≡ p ++ (s ++ rest)
+pasted p q rest s src dest n e f g =
+    let pq = length-append p q in
+    let a : take dest (p ++ (q ++ rest)) ≡ p = take_at p (q ++ rest) dest (sym e) in
+    let b : drop (dest + n) (p ++ (q ++ rest)) ≡ rest = ap (drop (dest + n)) (sym (append_assoc p q rest)) ∙ drop_at (p ++ q) rest (dest + n) (omega arith) in
+    cc (a, g, b, append_assoc p s rest)
+
+-- the fourth of five parts, moved before the third; the second is moved into the first, of which so much is lost
+pub moved_down-is : {X : Type 0} (a b c d e : List X) (from place at count : ℕ) → from ≡ length a → place ≡ from + length b → at ≡ place + length c → count ≡ length d → count ≤ from
+    → moved_down from place at count (a ++ (b ++ (c ++ (d ++ e)))) ≡ take (from - count) a ++ (b ++ (d ++ (c ++ e)))
+moved_down-is a b c d e from place at count f g h i j =
+    let ab = length-append a b in
+    let abc = length-append (a ++ b) c in
+    let one : take (from - count) (a ++ (b ++ (c ++ (d ++ e)))) ≡ take (from - count) a = take-append-le (from - count) a (b ++ (c ++ (d ++ e))) (omega arith) in
+    let two : drop from (take place (a ++ (b ++ (c ++ (d ++ e))))) ≡ b = second a b (c ++ (d ++ e)) from place f g in
+    let grouped : a ++ (b ++ (c ++ (d ++ e))) ≡ (a ++ b) ++ (c ++ (d ++ e)) = sym (append_assoc a b (c ++ (d ++ e))) in
+    let three_is : drop place (take at (a ++ (b ++ (c ++ (d ++ e))))) ≡ c = ap (λ xs. drop place (take at xs)) grouped ∙ second (a ++ b) c (d ++ e) place at (omega arith) h in
+    let grouped2 : a ++ (b ++ (c ++ (d ++ e))) ≡ ((a ++ b) ++ c) ++ (d ++ e) = grouped ∙ sym (append_assoc (a ++ b) c (d ++ e)) in
+    let four_is : drop at (take (at + count) (a ++ (b ++ (c ++ (d ++ e))))) ≡ d = ap (λ xs. drop at (take (at + count) xs)) grouped2 ∙ second ((a ++ b) ++ c) d e at (at + count) (omega arith) (omega arith) in
+    let grouped3 : a ++ (b ++ (c ++ (d ++ e))) ≡ (((a ++ b) ++ c) ++ d) ++ e = grouped2 ∙ sym (append_assoc ((a ++ b) ++ c) d e) in
+    let abcd = length-append ((a ++ b) ++ c) d in
+    let five : drop (at + count) (a ++ (b ++ (c ++ (d ++ e)))) ≡ e = ap (drop (at + count)) grouped3 ∙ drop_at (((a ++ b) ++ c) ++ d) e (at + count) (omega arith) in
+    cc (one, two, three_is, four_is, five)
+
+-- what stands from a place on is the part up to another place, and what stands from there on
+drop_part : {X : Type 0} (xs : List X) (n m : ℕ) → n ≤ m → m ≤ length xs → drop n (take m xs) ++ drop m xs ≡ drop n xs
+drop_part xs n m h k =
+    let a = length-take-le n xs (omega arith) in
+    sym (ap (drop n) (three xs n m h k) ∙ drop_at (take n xs) (drop n (take m xs) ++ drop m xs) n a)
+
+-- the same by three copies: what is before the place, then the part, and then what stands after it
+pub copied_down : {X : Type 0} (xs one two three_ four_ : List X) (from place at count len : ℕ) → len ≡ length xs → count ≤ from → from ≤ place → place ≤ at → at + count ≤ len
+    → one ≡ take (from - count) xs ++ take (place - from) (drop from xs) ++ drop ((from - count) + (place - from)) xs
+    → two ≡ take (place - count) one ++ take ((at + count) - at) (drop at one) ++ drop ((place - count) + ((at + count) - at)) one
+    → three_ ≡ take at two ++ take (len - (at + count)) (drop (at + count) two) ++ drop (at + (len - (at + count))) two
+    → four_ ≡ take (len - count) three_
+    → four_ ≡ moved_down from place at count xs
+copied_down xs one two three_ four_ from place at count len l h0 h1 h2 h3 e1 e2 e3 e4 =
+    let g0 = take (from - count) xs in
+    let g1 = drop (from - count) (take from xs) in
+    let b = drop from (take place xs) in
+    let c = drop place (take at xs) in
+    let d = drop at (take (at + count) xs) in
+    let e = drop (at + count) xs in
+    let rest = c ++ (d ++ e) in
+    let size_g0 : length g0 ≡ from - count = length-take-le (from - count) xs (omega arith) in
+    let size_g1 : length g1 ≡ count = let k = length-second xs (from - count) from (omega arith) (omega arith) in omega arith in
+    let size_b : length b ≡ place - from = let k = length-second xs from place h1 (omega arith) in omega arith in
+    let size_c : length c ≡ at - place = let k = length-second xs place at h2 (omega arith) in omega arith in
+    let size_d : length d ≡ count = let k = length-second xs at (at + count) (omega arith) (omega arith) in omega arith in
+    let size_e : length e ≡ len - (at + count) = length-drop (at + count) xs ∙ ap (λ n. n - (at + count)) (sym l) in
+    let after_place : drop place xs ≡ rest = sym (drop_part xs place at h2 (omega arith)) ∙ ap (λ ys. c ++ ys) (sym (drop_part xs at (at + count) (omega arith) (omega arith))) in
+    let after_from : drop from xs ≡ b ++ rest = sym (drop_part xs from place h1 (omega arith)) ∙ ap (λ ys. b ++ ys) after_place in
+    let whole : xs ≡ g0 ++ (g1 ++ (b ++ rest)) = sym (take-append-drop (from - count) xs) ∙ ap (λ ys. g0 ++ ys) (sym (drop_part xs (from - count) from (omega arith) (omega arith)) ∙ ap (λ ys. g1 ++ ys) after_from) in
+    let q = take (place - from) (g1 ++ b) in
+    let hole = drop (place - from) (g1 ++ b) in
+    let gb = length-append g1 b in
+    let size_q : length q ≡ place - from = length-take-le (place - from) (g1 ++ b) (omega arith) in
+    let size_hole : length hole ≡ count = length-drop (place - from) (g1 ++ b) ∙ omega arith in
+    let split : g1 ++ (b ++ rest) ≡ q ++ (hole ++ rest) = sym (append_assoc g1 b rest) ∙ (ap (λ ys. ys ++ rest) (sym (take-append-drop (place - from) (g1 ++ b))) ∙ append_assoc q hole rest) in
+    let whole2 : xs ≡ g0 ++ (q ++ (hole ++ rest)) = whole ∙ ap (λ ys. g0 ++ ys) split in
+    let b_is : take (place - from) (drop from xs) ≡ b = ap (take (place - from)) after_from ∙ take_at b rest (place - from) size_b in
+    let one_is : one ≡ (g0 ++ b) ++ (hole ++ rest) =
+    e1
+    ∙ (ap (λ ys. take (from - count) ys ++ take (place - from) (drop from xs) ++ drop ((from - count) + (place - from)) ys) whole2
+    ∙ (pasted g0 q (hole ++ rest) b (drop from xs) (from - count) (place - from) (sym size_g0) (sym size_q) b_is ∙ sym (append_assoc g0 b (hole ++ rest)))) in
+    let size_g0b = length-append g0 b in
+    let before_d : one ≡ (((g0 ++ b) ++ hole) ++ c) ++ (d ++ e) = one_is ∙ (sym (append_assoc (g0 ++ b) hole rest) ∙ sym (append_assoc ((g0 ++ b) ++ hole) c (d ++ e))) in
+    let size_h = length-append (g0 ++ b) hole in
+    let size_hc = length-append ((g0 ++ b) ++ hole) c in
+    let d_is : take ((at + count) - at) (drop at one) ≡ d = ap (take ((at + count) - at)) (ap (drop at) before_d ∙ drop_at (((g0 ++ b) ++ hole) ++ c) (d ++ e) at (omega arith)) ∙ take_at d e ((at + count) - at) (omega arith) in
+    let two_is : two ≡ ((g0 ++ b) ++ d) ++ rest =
+    e2
+    ∙ (ap (λ ys. take (place - count) ys ++ take ((at + count) - at) (drop at one) ++ drop ((place - count) + ((at + count) - at)) ys) one_is
+    ∙ (pasted (g0 ++ b) hole rest d (drop at one) (place - count) ((at + count) - at) (omega arith) (omega arith) d_is ∙ sym (append_assoc (g0 ++ b) d rest))) in
+    let size_gbd = length-append (g0 ++ b) d in
+    let p = ((g0 ++ b) ++ d) ++ c in
+    let size_p = length-append ((g0 ++ b) ++ d) c in
+    let de = length-append d e in
+    let q2 = take (len - (at + count)) (d ++ e) in
+    let left = drop (len - (at + count)) (d ++ e) in
+    let size_q2 : length q2 ≡ len - (at + count) = length-take-le (len - (at + count)) (d ++ e) (omega arith) in
+    let two_split : two ≡ p ++ (q2 ++ left) = two_is ∙ (sym (append_assoc ((g0 ++ b) ++ d) c (d ++ e)) ∙ ap (λ ys. p ++ ys) (sym (take-append-drop (len - (at + count)) (d ++ e)))) in
+    let before_e : two ≡ (p ++ d) ++ e = two_is ∙ (sym (append_assoc ((g0 ++ b) ++ d) c (d ++ e)) ∙ sym (append_assoc p d e)) in
+    let size_pd = length-append p d in
+    let e_is : take (len - (at + count)) (drop (at + count) two) ≡ e = ap (take (len - (at + count))) (ap (drop (at + count)) before_e ∙ drop_at (p ++ d) e (at + count) (omega arith)) ∙ take_all (len - (at + count)) e (omega arith) in
+    let three_is : three_ ≡ p ++ (e ++ left) =
+    e3
+    ∙ (ap (λ ys. take at ys ++ take (len - (at + count)) (drop (at + count) two) ++ drop (at + (len - (at + count))) ys) two_split
+    ∙ pasted p q2 left e (drop (at + count) two) at (len - (at + count)) (omega arith) (sym size_q2) e_is) in
+    let size_pe = length-append p e in
+    let four_is : four_ ≡ p ++ e = e4 ∙ (ap (take (len - count)) (three_is ∙ sym (append_assoc p e left)) ∙ take_at (p ++ e) left (len - count) (omega arith)) in
+    four_is ∙ (append_assoc ((g0 ++ b) ++ d) c e ∙ (append_assoc (g0 ++ b) d (c ++ e) ∙ append_assoc g0 b (d ++ (c ++ e))))

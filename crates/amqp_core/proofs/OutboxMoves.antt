@@ -1,18 +1,18 @@
 -- What the calls of an outbox make of its fields.
 use Rattle.std.proofs.Common.{◌≡◌, ℕ, ◌+◌, ◌-◌, ◌<◌, ◌≤◌, List, [], ◌∷◌, ◌++◌, length, map, take, drop, All, refl, sym, ap, ap₂, ◌∙◌, subst, arith, append_assoc, append-nil, length-append, length-drop, take-append-drop, get_or}
-use Rattle.std.proofs.lemmas.List.{drop_at, take_at, length-map, length-take-le, map-append, get_or_at, drop-take, drop-map, take_rest}
+use Rattle.std.proofs.lemmas.List.{drop_at, take_at, length-map, length-take-le, map-append, get_or_at, drop-take, drop-map}
 use Rattle.std.proofs.lemmas.List.Elements.{All-push, All-append, All-take, All-drop, All-cons, All-head, All-tail}
 use Rattle.amqp_frame.specs.Frame.{Frame, octets}
 use Rattle.amqp_frame.specs.Splitting.{stream}
 use Rattle.amqp_model.specs.Arrangement.{HasChannel, IsChannel, IsArranged, placed}
 use Rattle.amqp_model.specs.ArrangementLaws.{PutArranges}
 use Rattle.amqp_model.specs.Outputs.{output_octets, after_put, after_puts}
-use Rattle.amqp_core.specs.OutboxSlots.{slot_of, slot_length, slots_length, moved_up}
+use Rattle.amqp_core.specs.OutboxSlots.{slot_of, slot_length, slots_length, moved_up, moved_down}
 use Rattle.amqp_core.specs.OutboxView.{Outgoing, only, with_staged, all_put, IsPutOfFirst}
 use Rattle.amqp_core.specs.OutboxFields.{row_of, staged_of, outgoing_of, IsSound}
 use Rattle.amqp_core.specs.declared.slots.Slot.{Slot}
 use Rattle.amqp_core.specs.declared.outbox.Outbox.TheInside.{Inside}
-use Rattle.amqp_core.proofs.OutboxLists.{moved_up-is, last_of_three, last_of_four}
+use Rattle.amqp_core.proofs.OutboxLists.{moved_up-is, moved_down-is, last_of_three, last_of_four}
 use Rattle.amqp_core.proofs.OutboxRows.{stream-append, length-octets, slots_length-row}
 use Rattle.amqp_core.proofs.OutboxStates.{IsLaidOut, IsKept, laid_out, view, outgoing}
 
@@ -121,6 +121,32 @@ length-appended f old new at e g =
     let b = length-octets f in
     omega arith
 
+-- The slot of the first frame that is staged is put after so many slots of the row.
+slots-put : (x y : Inside) (f : Frame) (later : List Frame) (p : ℕ) → IsSound x → staged_of x ≡ f ∷ later → p ≤ length (row_of x) → y.slots.items ≡ moved_up (x.slots_begun + p) (x.slots_arranged + 1) 1 x.slots.items
+    → y.slots.items ≡ take x.slots_begun x.slots.items ++ (map slot_of (take p (row_of x) ++ f ∷ drop p (row_of x)) ++ map slot_of later)
+slots-put x y f later p s staged few slots_are =
+    let l = laid_out x s in
+    let row = row_of x in
+    let past = take x.slots_begun x.slots.items in
+    let c = l.slots_arranged in
+    let slots1 : map slot_of row ≡ map slot_of (take p row) ++ map slot_of (drop p row) = ap (map slot_of) (sym (take-append-drop p row)) ∙ map-append slot_of (take p row) (drop p row) in
+    let slots2 : x.slots.items ≡ (past ++ map slot_of (take p row)) ++ (map slot_of (drop p row) ++ ((slot_of f ∷ []) ++ map slot_of later)) =
+    l.slots
+    ∙ (ap₂ (λ r t. past ++ (r ++ map slot_of t)) slots1 staged
+    ∙ (ap (λ ss. past ++ ss) (append_assoc (map slot_of (take p row)) (map slot_of (drop p row)) (slot_of f ∷ map slot_of later)) ∙ sym (append_assoc past (map slot_of (take p row)) (map slot_of (drop p row) ++ (slot_of f ∷ map slot_of later))))) in
+    let count1 = length-map (take p row) slot_of in
+    let count2 = length-take-le p row few in
+    let count3 = length-append past (map slot_of (take p row)) in
+    let count4 = l.slots_begun in
+    let count5 = length-map (drop p row) slot_of in
+    let count6 = length-drop p row in
+    let slots_then : y.slots.items ≡ (past ++ map slot_of (take p row)) ++ ((slot_of f ∷ []) ++ (map slot_of (drop p row) ++ map slot_of later)) =
+    slots_are ∙ (ap (moved_up (x.slots_begun + p) (x.slots_arranged + 1) 1) slots2 ∙ moved_up-is (past ++ map slot_of (take p row)) (map slot_of (drop p row)) (slot_of f ∷ []) (map slot_of later) (x.slots_begun + p) (x.slots_arranged + 1) 1 (omega arith) (omega arith) refl) in
+    let row_slots_then : map slot_of (take p row ++ f ∷ drop p row) ≡ map slot_of (take p row) ++ slot_of f ∷ map slot_of (drop p row) = map-append slot_of (take p row) (f ∷ drop p row) in
+    let regrouped_slots : (past ++ map slot_of (take p row)) ++ (slot_of f ∷ (map slot_of (drop p row) ++ map slot_of later)) ≡ past ++ ((map slot_of (take p row) ++ slot_of f ∷ map slot_of (drop p row)) ++ map slot_of later) =
+    append_assoc past (map slot_of (take p row)) (slot_of f ∷ (map slot_of (drop p row) ++ map slot_of later)) ∙ ap (λ ss. past ++ ss) (sym (append_assoc (map slot_of (take p row)) (slot_of f ∷ map slot_of (drop p row)) (map slot_of later))) in
+    slots_then ∙ (regrouped_slots ∙ ap (λ ss. past ++ (ss ++ map slot_of later)) (sym row_slots_then))
+
 -- The first frame that is staged is put after so many frames of the row.
 pub frame-put : (x y : Inside) (f : Frame) (later : List Frame) (p moved count end : ℕ) → IsSound x → staged_of x ≡ f ∷ later → p ≤ length (row_of x) → moved ≡ length (stream (drop p (row_of x))) → count ≡ length f.payload + 8 → end ≡ x.arranged + count
     → y.octets.items ≡ moved_up (x.arranged - moved) end count x.octets.items → y.slots.items ≡ moved_up (x.slots_begun + p) (x.slots_arranged + 1) 1 x.slots.items
@@ -131,7 +157,6 @@ frame-put x y f later p moved count end s staged few moved_is count_is end_is oc
     let row = row_of x in
     let gone = take x.written x.octets.items in
     let ahead = drop x.written (take x.begun x.octets.items) in
-    let past = take x.slots_begun x.slots.items in
     let first = stream (take p row) in
     let rest = stream (drop p row) in
     let a = l.begun in
@@ -155,29 +180,64 @@ frame-put x y f later p moved count end s staged few moved_is count_is end_is oc
     append_assoc (gone ++ ahead) first (octets f ++ (rest ++ stream later))
     ∙ (append_assoc gone ahead (first ++ (octets f ++ (rest ++ stream later)))
     ∙ ap (λ os. gone ++ (ahead ++ os)) (ap (λ os. first ++ os) (sym (append_assoc (octets f) rest (stream later))) ∙ sym (append_assoc first (octets f ++ rest) (stream later)))) in
-    let slots1 : map slot_of row ≡ map slot_of (take p row) ++ map slot_of (drop p row) = ap (map slot_of) (sym (take-append-drop p row)) ∙ map-append slot_of (take p row) (drop p row) in
-    let slots2 : x.slots.items ≡ (past ++ map slot_of (take p row)) ++ (map slot_of (drop p row) ++ ((slot_of f ∷ []) ++ map slot_of later)) =
-    l.slots
-    ∙ (ap₂ (λ r t. past ++ (r ++ map slot_of t)) slots1 staged
-    ∙ (ap (λ ss. past ++ ss) (append_assoc (map slot_of (take p row)) (map slot_of (drop p row)) (slot_of f ∷ map slot_of later)) ∙ sym (append_assoc past (map slot_of (take p row)) (map slot_of (drop p row) ++ (slot_of f ∷ map slot_of later))))) in
-    let count1 = length-map (take p row) slot_of in
-    let count2 = length-take-le p row few in
-    let count3 = length-append past (map slot_of (take p row)) in
     let count4 = l.slots_begun in
-    let count5 = length-map (drop p row) slot_of in
+    let count1 = length-take-le p row few in
     let count6 = length-drop p row in
-    let slots_then : y.slots.items ≡ (past ++ map slot_of (take p row)) ++ ((slot_of f ∷ []) ++ (map slot_of (drop p row) ++ map slot_of later)) =
-    slots_are ∙ (ap (moved_up (x.slots_begun + p) (x.slots_arranged + 1) 1) slots2 ∙ moved_up-is (past ++ map slot_of (take p row)) (map slot_of (drop p row)) (slot_of f ∷ []) (map slot_of later) (x.slots_begun + p) (x.slots_arranged + 1) 1 (omega arith) (omega arith) refl) in
-    let row_slots_then : map slot_of (take p row ++ f ∷ drop p row) ≡ map slot_of (take p row) ++ slot_of f ∷ map slot_of (drop p row) = map-append slot_of (take p row) (f ∷ drop p row) in
-    let regrouped_slots : (past ++ map slot_of (take p row)) ++ (slot_of f ∷ (map slot_of (drop p row) ++ map slot_of later)) ≡ past ++ ((map slot_of (take p row) ++ slot_of f ∷ map slot_of (drop p row)) ++ map slot_of later) =
-    append_assoc past (map slot_of (take p row)) (slot_of f ∷ (map slot_of (drop p row) ++ map slot_of later)) ∙ ap (λ ss. past ++ ss) (sym (append_assoc (map slot_of (take p row)) (slot_of f ∷ map slot_of (drop p row)) (map slot_of later))) in
     let size3 = ap length row_then ∙ length-append first (octets f ++ rest) in
     let size4 = length-append (octets f) rest in
     let count7 = length-append (take p row) (f ∷ drop p row) in
     record {
       octets = octets_then ∙ (regrouped ∙ ap (λ os. gone ++ (ahead ++ (os ++ stream later))) (sym row_then));
-      slots = slots_then ∙ (regrouped_slots ∙ ap (λ ss. past ++ (ss ++ map slot_of later)) (sym row_slots_then));
+      slots = slots-put x y f later p s staged few slots_are;
       written = written ∙ l.written;
+      begun = omega arith;
+      arranged = omega arith;
+      slots_begun = slots_begun ∙ l.slots_begun;
+      slots_arranged = omega arith;
+    }
+
+-- The same, where what stands before the place makes room.
+pub frame-put-down : (x y : Inside) (f : Frame) (later : List Frame) (p moved count : ℕ) → IsSound x → staged_of x ≡ f ∷ later → p ≤ length (row_of x) → moved ≡ length (stream (drop p (row_of x))) → count ≡ length f.payload + 8 → count ≤ x.written
+    → y.octets.items ≡ moved_down x.written (x.arranged - moved) x.arranged count x.octets.items → y.slots.items ≡ moved_up (x.slots_begun + p) (x.slots_arranged + 1) 1 x.slots.items
+    → y.written ≡ x.written - count → y.begun ≡ x.begun - count → y.arranged ≡ x.arranged → y.slots_begun ≡ x.slots_begun → y.slots_arranged ≡ x.slots_arranged + 1
+    → IsLaidOut y (take (x.written - count) (take x.written x.octets.items)) (drop x.written (take x.begun x.octets.items)) (take x.slots_begun x.slots.items) (take p (row_of x) ++ f ∷ drop p (row_of x)) later
+frame-put-down x y f later p moved count s staged few moved_is count_is room octets_are slots_are written begun arranged slots_begun slots_arranged =
+    let l = laid_out x s in
+    let row = row_of x in
+    let gone = take x.written x.octets.items in
+    let ahead = drop x.written (take x.begun x.octets.items) in
+    let first = stream (take p row) in
+    let rest = stream (drop p row) in
+    let a = l.begun in
+    let b = l.arranged in
+    let d = l.written in
+    let split : stream row ≡ first ++ rest = ap stream (sym (take-append-drop p row)) ∙ stream-append (take p row) (drop p row) in
+    let size = ap length split ∙ length-append first rest in
+    let frame = length-octets f in
+    let whole : x.octets.items ≡ gone ++ ((ahead ++ first) ++ (rest ++ (octets f ++ stream later))) =
+    l.octets
+    ∙ (ap₂ (λ r t. gone ++ (ahead ++ (r ++ stream t))) split staged
+    ∙ (ap (λ os. gone ++ (ahead ++ os)) (append_assoc first rest (octets f ++ stream later)) ∙ ap (λ os. gone ++ os) (sym (append_assoc ahead first (rest ++ (octets f ++ stream later)))))) in
+    let size1 = length-append ahead first in
+    let lost = take (x.written - count) gone in
+    let size2 = length-take-le (x.written - count) gone (omega arith) in
+    let octets_then : y.octets.items ≡ lost ++ ((ahead ++ first) ++ (octets f ++ (rest ++ stream later))) =
+    octets_are ∙ (ap (moved_down x.written (x.arranged - moved) x.arranged count) whole ∙ moved_down-is gone (ahead ++ first) rest (octets f) (stream later) x.written (x.arranged - moved) x.arranged count d (omega arith) (omega arith) (omega arith) room) in
+    let row_then : stream (take p row ++ f ∷ drop p row) ≡ first ++ (octets f ++ rest) = stream-append (take p row) (f ∷ drop p row) in
+    let regrouped : (ahead ++ first) ++ (octets f ++ (rest ++ stream later)) ≡ ahead ++ ((first ++ (octets f ++ rest)) ++ stream later) =
+    append_assoc ahead first (octets f ++ (rest ++ stream later)) ∙ ap (λ os. ahead ++ os) (ap (λ os. first ++ os) (sym (append_assoc (octets f) rest (stream later))) ∙ sym (append_assoc first (octets f ++ rest) (stream later))) in
+    let size3 = ap length row_then ∙ length-append first (octets f ++ rest) in
+    let size4 = length-append (octets f) rest in
+    let g = slots-put x y f later p s staged few slots_are in
+    let c = l.slots_arranged in
+    let count4 = l.slots_begun in
+    let count1 = length-take-le p row few in
+    let count6 = length-drop p row in
+    let count7 = length-append (take p row) (f ∷ drop p row) in
+    record {
+      octets = octets_then ∙ ap (λ os. lost ++ os) (regrouped ∙ ap (λ os. ahead ++ (os ++ stream later)) (sym row_then));
+      slots = g;
+      written = omega arith;
       begun = omega arith;
       arranged = omega arith;
       slots_begun = slots_begun ∙ l.slots_begun;
@@ -231,16 +291,17 @@ row-lent x items s e =
     ∙ (ap (λ n. drop x.slots_begun (take n x.slots.items)) (omega arith) ∙ sym s.row_described))
 
 -- the length of the slots of the row from a place on
-pub row-length : (x : Inside) (slots : List Slot) (p : ℕ) → slots ≡ map slot_of (row_of x) → slots_length (take (length slots - p) (drop p slots)) ≡ length (stream (drop p (row_of x)))
-row-length x slots p e =
-    ap slots_length (take_rest slots p ∙ (ap (drop p) e ∙ drop-map slot_of p (row_of x))) ∙ slots_length-row (drop p (row_of x))
+pub row-length : (x : Inside) (slots : List Slot) (p : ℕ) → slots ≡ map slot_of (row_of x) → slots_length (drop p slots) ≡ length (stream (drop p (row_of x)))
+row-length x slots p e = ap slots_length (ap (drop p) e ∙ drop-map slot_of p (row_of x)) ∙ slots_length-row (drop p (row_of x))
 
--- the octets of the row lie before those that are staged
-pub row-within : (x : Inside) (p : ℕ) → IsSound x → length (stream (drop p (row_of x))) ≤ x.arranged
+-- the octets of the row stand after those ahead and before those that are staged
+pub row-size : (x : Inside) → IsSound x → x.begun + length (stream (row_of x)) ≡ x.arranged
+row-size x s = sym (laid_out x s).arranged
+
+pub row-within : (x : Inside) (p : ℕ) → IsSound x → x.begun + length (stream (drop p (row_of x))) ≤ x.arranged
 row-within x p s =
-    let l = laid_out x s in
+    let a = row-size x s in
     let row = row_of x in
-    let a = l.arranged in
     let b = ap length (ap stream (sym (take-append-drop p row)) ∙ stream-append (take p row) (drop p row)) ∙ length-append (stream (take p row)) (stream (drop p row)) in
     omega arith
 

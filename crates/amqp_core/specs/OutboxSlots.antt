@@ -61,3 +61,9 @@ IsPlace last slot slots place =
 -- so many items that stand last before an end are moved up to an earlier place
 abbrev pub moved_up : {X : Type 0} → (place end count : ℕ) → List X → List X
 moved_up place end count items = take place items ++ (drop (end - count) (take end items) ++ (drop place (take (end - count) items) ++ drop end items))
+
+-- So many items that stand at a place are moved before those from an earlier place on. Those from a still earlier place up
+-- to there are moved down to make room, over as many items before them, which are lost.
+abbrev pub moved_down : {X : Type 0} → (from place at count : ℕ) → List X → List X
+moved_down from place at count items =
+    take (from - count) items ++ (drop from (take place items) ++ (drop at (take (at + count) items) ++ (drop place (take at items) ++ drop (at + count) items)))

@@ -1,4 +1,15 @@
 //! The output of an end: the octets that it has put and not written, in the fair order of their frames.
+//!
+//! Frames are put in two steps. Staging encodes a frame after all others and is what may want memory; [`Outbox::put`]
+//! then moves each staged frame to its place and can't fail. An end stages all that a call puts, changes its own state,
+//! and puts; where staging fails it discards what it staged, and the output is as before.
+//!
+//! `output` lends one slice, so a frame that goes before others has to move octets. Where one channel is active each
+//! frame goes last and nothing moves, nor is any slot looked at but the last. Otherwise a put reads the slots after the
+//! last frame of its channel, of the whole row where the channel has none, and moves the octets on the smaller side of
+//! its place; those before it only where as many octets were written as the frame has. So the worst is a row of many
+//! octets of which none is written, and frames that go near its beginning: each moves nearly all of the row. A write
+//! reads the slots of the frames that it begins, and moves nothing.
 ghost use Rattle.std.specs.Prelude.{◌≡◌, ◌+◌, ◌^◌, ◌<◌, ◌≤◌, ◌==◌, [], ◌∷◌, ◌++◌, length, drop, IfErr, OnOk, OnErr, Err};
 ghost use Rattle.amqp_method.specs.HeaderView.{header_view};
 ghost use Rattle.amqp_method.specs.MethodView.{method_view};
@@ -7,10 +18,13 @@ ghost use Rattle.amqp_model.specs.Closes.{method_frame};
 ghost use Rattle.amqp_model.specs.Outputs.{output_octets, after_writing};
 ghost use Rattle.amqp_core.specs.OutboxFaults.{out_of_memory, too_long};
 ghost use Rattle.amqp_core.specs.OutboxFrames.{header_frame, body_frame};
-ghost use Rattle.amqp_core.specs.OutboxSlots.{moved_up};
+ghost use Rattle.amqp_core.specs.OutboxSlots.{moved_up, moved_down};
 ghost use Rattle.amqp_core.specs.OutboxView.{only, begins_with, with_staged, with_output, all_put, IsPutOfFirst};
 
-use crate::slots::{Slot, begun_of, length_of, place_of};
+#[cfg(test)]
+mod tests;
+
+use crate::slots::{Slot, begun_of, length_from, place_of};
 use crate::staging::{StageFault, append_body, append_header, append_method, enlist};
 use amqp_frame::FrameKind;
 use amqp_method::{Header, Method};
@@ -137,6 +151,16 @@ impl Outbox {
         }
     }
 
+    /// Makes room for so many frames of so many octets together, so that staging them grows nothing step by step.
+    pub(crate) fn reserve(&mut self, frames: usize, octets: usize) -> Result<(), StageFault>
+        ensures same { self.new ≡ self.old }
+        ensures err { IfErr result (λ e. e ≡ out_of_memory) }
+    {
+        self.octets.reserve(octets)?;
+        self.slots.reserve(frames)?;
+        Ok(())
+    }
+
     /// Stages a frame with this method.
     pub(crate) fn stage_method(&mut self, channel: u16, method: &Method) -> Result<(), StageFault>
         ensures ok { OnOk result (self.new ≡ with_staged self.old (method_frame channel (method_view method.now) ∷ [])) }
@@ -198,6 +222,9 @@ impl Outbox {
     }
 
     /// Puts the first of the frames that are staged.
+    ///
+    /// Where its place is the last one, no octets move. Otherwise those after its place make room; or those before it,
+    /// where they are fewer and enough octets were written before them.
     fn put_first(&mut self)
         requires { 0 < length self.old.staged }
         ensures { IsPutOfFirst self.old self.new }
@@ -206,18 +233,20 @@ impl Outbox {
         let slot = self.slots[self.slots_arranged];
         let row = &self.slots[self.slots_begun..self.slots_arranged];
         let place = place_of(row, slot, self.last);
-        let moved = length_of(&row[place..]);
+        let moved = length_from(row, place, self.arranged - self.begun);
         let count = slot.length();
-        let end = self.arranged + count;
-        move_up(&mut self.octets, self.arranged - moved, end, count);
-        move_up(
-            &mut self.slots,
-            self.slots_begun + place,
-            self.slots_arranged + 1,
-            1,
-        );
-        self.arranged = end;
+        let at = self.arranged - moved;
+        let first = self.slots_begun + place;
+        move_up(&mut self.slots, first, self.slots_arranged + 1, 1);
         self.slots_arranged += 1;
+        if count <= self.written && at - self.written < moved {
+            move_down(&mut self.octets, self.written, at, self.arranged, count);
+            self.written -= count;
+            self.begun -= count;
+        } else {
+            move_up(&mut self.octets, at, self.arranged + count, count);
+            self.arranged += count;
+        }
     }
 
     /// Puts all that is staged, each frame in its place.
@@ -248,4 +277,20 @@ fn move_up<T>(items: &mut Vec<T>, place: usize, end: usize, count: usize)
 {
     let part = &mut items.as_mut_slice()[place..end];
     part.rotate_right(count);
+}
+
+/// Moves so many octets, which stand at a place, down before those from an earlier place on. Those from a still earlier
+/// place up to there make room: they move down over octets that are written, and as many are dropped.
+fn move_down(octets: &mut Vec<u8>, from: usize, place: usize, at: usize, count: usize)
+    requires room { count ≤ from }
+    requires order { from ≤ place }
+    requires place { place ≤ at }
+    requires end { at + count ≤ length octets.old.items }
+    ensures { octets.new.items ≡ moved_down from place at count octets.old.items }
+{
+    let length = octets.len();
+    octets.copy_within(from..place, from - count);
+    octets.copy_within(at..at + count, place - count);
+    octets.copy_within(at + count..length, at);
+    octets.truncate(length - count);
 }

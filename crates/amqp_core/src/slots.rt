@@ -72,7 +72,7 @@ impl Slot {
 }
 
 /// How many octets the frames have together.
-pub(crate) fn length_of(slots: &[Slot]) -> usize
+fn length_of(slots: &[Slot]) -> usize
     requires { slots_length slots.now < 2 ^ 64 }
     ensures { result ≡ slots_length slots.now }
 {
@@ -81,6 +81,19 @@ pub(crate) fn length_of(slots: &[Slot]) -> usize
         total += slot.length();
     }
     total
+}
+
+/// How many octets the frames have from one on, where all have so many: the fewer slots are counted.
+pub(crate) fn length_from(slots: &[Slot], place: usize, total: usize) -> usize
+    requires within { place ≤ length slots.now }
+    requires total { total ≡ slots_length slots.now }
+    ensures { result ≡ slots_length (drop place slots.now) }
+{
+    if place < slots.len() - place {
+        total - length_of(&slots[..place])
+    } else {
+        length_of(&slots[place..])
+    }
 }
 
 /// The frames of a row that are begun, once so many of its octets are written.
