@@ -3,6 +3,8 @@ pub mod VerdictLemmas
 pub mod PartLemmas
 pub mod EntryLemmas
 pub mod UsedLemmas
+pub mod CoreLemmas
+pub mod LeavingLemmas
 pub mod PutLemmas
 pub mod EndLemmas
 pub mod PutSteps

@@ -18,5 +18,7 @@ pub mod VerdictView
 pub mod Unreads
 pub mod Reads
 pub mod OwedView
+pub mod CoreView
+pub mod Handshakes
 pub mod Puts
 pub mod Laws

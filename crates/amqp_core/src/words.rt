@@ -96,7 +96,7 @@ pub(crate) fn is_reply(kind: Kind) -> bool
 }
 
 /// Whether two kinds are the same.
-fn same(kind: Kind, other: Kind) -> bool
+pub(crate) fn same(kind: Kind, other: Kind) -> bool
     ensures { result ≡ same_kind kind other }
 {
     amqp_model::methods::say_as_table();
