@@ -5,6 +5,7 @@ pub mod EntryLemmas
 pub mod UsedLemmas
 pub mod CoreLemmas
 pub mod LeavingLemmas
+pub mod HandshakeLemmas
 pub mod PutLemmas
 pub mod EndLemmas
 pub mod PutSteps

@@ -4,7 +4,7 @@ ghost use Rattle.amqp_method.specs.Kinds.{has_content};
 ghost use Rattle.amqp_method.specs.MethodView.{method_view};
 ghost use Rattle.amqp_method.specs.Views.{arg_view};
 ghost use Rattle.amqp_model.specs.FrameVerdict.{answers_first as first_is_answered};
-ghost use Rattle.amqp_model.specs.Methods.{bit_at as bit_held, bit_in, is_request as asks_reply, answered as request_answered, is_reply as answers_some, same_kind, carries_content as content_follows, class_of};
+ghost use Rattle.amqp_model.specs.Methods.{bit_at as bit_held, bit_in, number_at as number_held, number_in, is_request as asks_reply, answered as request_answered, is_reply as answers_some, same_kind, carries_content as content_follows, class_of};
 
 use amqp_method::{Arg, Kind, Method};
 use std::collections::VecDeque;
@@ -35,6 +35,35 @@ pub(crate) fn bit_at(place: usize, method: &Method) -> bool
         held_bit(&args[place])
     } else {
         false
+    }
+}
+
+/// The number that an argument is; 0 where it is none.
+fn held_number(arg: &Arg) -> u64
+    ensures { result ≡ number_in (Some (arg_view arg.now)) }
+{
+    match arg {
+        Arg::Octet(number) => *number as u64,
+        Arg::Short(number) => *number as u64,
+        Arg::Long(number) => *number as u64,
+        Arg::LongLong(number) => *number,
+        Arg::Bit(_) => 0,
+        Arg::ShortStr(_) => 0,
+        Arg::LongStr(_) => 0,
+        Arg::Table(_) => 0,
+    }
+}
+
+/// The number at a place among the arguments; 0 where there is none.
+#[tactic(auto, using(crate::proofs::ArgumentLemmas::arguments))]
+pub(crate) fn number_at(place: usize, method: &Method) -> u64
+    ensures { result ≡ number_held place (method_view method.now) }
+{
+    let args = method.args();
+    if place < args.len() {
+        held_number(&args[place])
+    } else {
+        0
     }
 }
 
