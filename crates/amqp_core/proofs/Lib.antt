@@ -1,3 +1,14 @@
+pub mod ArgumentLemmas
+pub mod VerdictLemmas
+pub mod PartLemmas
+pub mod EntryLemmas
+pub mod UsedLemmas
+pub mod CoreLemmas
+pub mod LeavingLemmas
+pub mod HandshakeLemmas
+pub mod PutLemmas
+pub mod EndLemmas
+pub mod PutSteps
 pub mod OutboxFrames
 pub mod OutboxLists
 pub mod OutboxMoves
