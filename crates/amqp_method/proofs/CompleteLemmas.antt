@@ -85,7 +85,7 @@ method_written c old first second new class id fields args class_is id_is fields
     let grouped = append_assoc (old ++ big_bytes 2 class) (big_bytes 2 id) rest ∙ append_assoc old (big_bytes 2 class) (big_bytes 2 id ++ rest) in
     whole ∙ grouped ∙ ap (λ (n : ℕ). old ++ (big_bytes 2 n ++ (big_bytes 2 id ++ rest))) class_is ∙ ap (λ (n : ℕ). old ++ (big_bytes 2 (row c.kind).class ++ (big_bytes 2 n ++ rest))) id_is
 
--- the plain encoding of a method is a encoding of it
+-- the plain encoding of a method is an encoding of it
 pub method_encoded : (c : Call) (class id : ℕ) (fields : List FieldRow) (args : List Argument)
     → class ≡ (row c.kind).class → id ≡ (row c.kind).id → fields ≡ fields_of c.kind → args ≡ c.args
     → Fits c → Fitting (short class) → Fitting (short id) → AllFitting (complete fields args) → EncodesMethod c (plain_method c)

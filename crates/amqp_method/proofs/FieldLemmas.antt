@@ -23,7 +23,7 @@ done x = Ok x
 pub same_ok : {A : Type 0} (x y : A) → ◌≡◌ {A = Result A MethodFault} (Ok x) (Ok y) → x ≡ y
 same_ok x y e = cc
 
--- octets that are a encoding and what stands after it
+-- octets that are an encoding and what stands after it
 pub record Takes (Encodes : List ℕ → Type 0) (octets after : List ℕ) : Type 0 where
   pub prefix : List ℕ
   pub parts : octets ≡ prefix ++ after

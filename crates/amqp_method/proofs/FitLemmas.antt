@@ -7,7 +7,7 @@ use Rattle.amqp_method.specs.Rows.{field_view}
 use Rattle.amqp_method.specs.declared.fields.Field.{Field}
 use Rattle.amqp_method.specs.declared.fields.FieldKind.{FieldKind}
 
--- the rest fits just where the whole does
+-- the rest fits exactly when the whole does
 pub record SameFit (fields : List FieldRow) (rest : List Argument) (all : List FieldRow) (args : List Argument) : Type 0 where
   pub whole : Fit fields rest → Fit all args
   pub part : Fit all args → Fit fields rest

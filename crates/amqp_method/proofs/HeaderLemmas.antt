@@ -258,7 +258,7 @@ header_refused view octets (Ok x) e = tt
 header_refused view octets (Err e) (inl memory) = inl memory
 header_refused view octets (Err e) (inr is) = inr (λ h s. header_not_err h e (sym (header_at-again octets h s) ∙ is))
 
--- ---- what is written is the plain encoding, and that is a encoding
+-- ---- what is written is the plain encoding, and that is an encoding
 
 pub header_written : (old prefix new : List ℕ) (body_size flags : ℕ) (properties all : List (Option Argument)) → flags ≡ flags_of properties → properties ≡ all
     → prefix ≡ old ++ plaat_start body_size flags → new ≡ prefix ++ plain_present properties → new ≡ old ++ plain_header (header body_size all)

@@ -50,7 +50,7 @@ parts_of (short_string text ∷ values) = one (short_string text) ∷ parts_of v
 parts_of (long_string text ∷ values) = one (long_string text) ∷ parts_of values
 parts_of (table pairs ∷ values) = one (table pairs) ∷ parts_of values
 
--- the join of a encoding of each part, in order
+-- the join of an encoding of each part, in order
 abbrev pub EncodesParts : List Part → List ℕ → Type 0
 EncodesParts [] octets = octets ≡ []
 EncodesParts (one value ∷ parts) octets =

@@ -17,7 +17,7 @@ out_of_memory = fault_at 0 OutOfMemory
 abbrev pub too_long : MethodFault
 too_long = fault_at 0 (Value value.TooLong)
 
--- The fault of a table that begins at a place. Want of memory has no place.
+-- The fault of a table that begins at a place. Out of memory has no place.
 abbrev pub table_fault : ℕ → ℕ → ValueFaultKind → MethodFault
 table_fault place at value.OutOfMemory = out_of_memory
 table_fault place at value.Ends = fault_at (place + at) (Value value.Ends)

@@ -91,7 +91,7 @@ pub data FirstFaultOfMethod (octets : List ℕ) (fault : MethodFault) : Type 0 w
 
 -- ---- headers
 
--- The properties are the first of these kinds, each there just where its flag is set. The last kind has bit 2, and each
+-- The properties are the first of these kinds, each there exactly when its flag is set. The last kind has bit 2, and each
 -- other one the bit above the next one's.
 abbrev pub BeginFlagged : List (Option Argument) → List FieldKind → ℕ → Type 0
 BeginFlagged [] kinds flags = Unit {0}

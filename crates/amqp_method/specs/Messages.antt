@@ -27,6 +27,6 @@ abbrev pub is_content : Form → Bool
 is_content (form.Plain method) = false
 is_content (form.Content method properties body) = true
 
--- a content follows just where the kind has one
+-- a content follows exactly when the kind has one
 abbrev pub KindFits : Form → Type 0
 KindFits f = has_content (letter f).call.kind ≡ is_content f

@@ -61,7 +61,7 @@ flags_of [] = 0
 flags_of (None ∷ properties) = flags_of properties
 flags_of (Some value ∷ properties) = 2 ^ (length properties + 2) + flags_of properties
 
--- the join of a encoding of each property that is there, in order
+-- the join of an encoding of each property that is there, in order
 abbrev pub EncodesPresent : List (Option Argument) → List ℕ → Type 0
 EncodesPresent [] octets = octets ≡ []
 EncodesPresent (None ∷ properties) octets = EncodesPresent properties octets

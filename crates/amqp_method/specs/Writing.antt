@@ -46,7 +46,7 @@ unfoldable pub written_values : List Argument → Gathered → List ℕ
 written_values [] g = gathered_octets g
 written_values (value ∷ values) g = written_for value g ++ written_values values (gathered_after value g)
 
--- the plain encoding of a value is a encoding of it: its counts fit their fields
+-- the plain encoding of a value is an encoding of it: its counts fit their fields
 abbrev pub Fitting : Argument → Type 0
 Fitting (bit holds) = Unit {0}
 Fitting (octet n) = EncodesArgument (octet n) (plain_argument (octet n))

@@ -25,7 +25,7 @@ impl<T: Drop> From<AllocFailed<T>> for OutOfMemory {
 }
 
 impl From<fmt::Error> for OutOfMemory {
-    /// Writing into a string fails for want of memory alone.
+    /// Writing into a string fails only when memory runs out.
     fn from(_: fmt::Error) -> OutOfMemory {
         OutOfMemory
     }
@@ -40,28 +40,28 @@ impl From<amqp_value::OutOfMemory> for OutOfMemory {
 /// The kinds of fault, each with its number.
 #[derive(Clone, Copy, PartialEq, Eq, Debug, Error)]
 pub enum MethodFaultKind {
-    /// 1: no method has this class id and this method id, or a header's class isn't 60. Told at 0.
+    /// 1: no method has this class id and this method id, or a header's class isn't 60. Reported at 0.
     #[error("unknown method")]
     UnknownMethod,
-    /// 2: a field doesn't fit, told at its first octet, or a field table can't be read, told at the octet that tells it.
+    /// 2: a field doesn't fit, reported at its first octet, or a field table can't be read, reported at the octet that shows it.
     #[error("field value that can't be read or written: {0}")]
     Value(ValueFaultKind),
-    /// 3: octets stand after the last field. Told at the first of them.
+    /// 3: octets stand after the last field. Reported at the first of them.
     #[error("octets after the last field")]
     Trailing,
-    /// 4: a header's weight isn't 0. Told at 2.
+    /// 4: a header's weight isn't 0. Reported at 2.
     #[error("weight other than 0")]
     BadWeight,
-    /// 5: bit 1 or bit 0 of a header's flags is set. Told at 12.
+    /// 5: bit 1 or bit 0 of a header's flags is set. Reported at 12.
     #[error("flag 1 or 0 set")]
     BadFlags,
-    /// 6: memory was refused. Told at 0.
+    /// 6: memory was refused. Reported at 0.
     #[error("out of memory")]
     OutOfMemory,
 }
 
 impl MethodFaultKind {
-    /// The number under which the fault is told. After number 2 stands that of the field value's own fault.
+    /// The number under which the fault is reported. After number 2 stands that of the field value's own fault.
     pub fn number(self) -> u8
         ensures { result ≡ number_of self }
     {

@@ -1,17 +1,16 @@
 -- What an end answers of its channels is what its history says of them.
-use Rattle.std.proofs.Common.{◌≡◌, ◌≢◌, ◌≤◌, Bool, true, false, cond, ◌||◌, ℕ, suc, ◌==◌, nat_lt, arith, List, length, None, refl, sym, ap, ◌∙◌, subst}
-use Rattle.std.proofs.lemmas.Bool.{true≢false, cond-true, cond-false, le-ltb, ne_eqb}
+use Rattle.std.proofs.Common.{◌≡◌, ◌≢◌, Bool, true, false, cond, ◌||◌, ℕ, suc, ◌==◌, nat_lt, List, length, None, refl, sym, ap, ◌∙◌, subst}
+use Rattle.std.proofs.lemmas.Bool.{true≢false, cond-false, le-ltb}
 use Rattle.amqp_model.specs.Notes.{Role}
 use Rattle.amqp_model.specs.States.{State}
-use Rattle.amqp_model.specs.Lives.{state}
-use Rattle.amqp_model.specs.Contents.{Payload, UnderWay, body_octets}
-use Rattle.amqp_model.specs.Gathering.{Gathering, Nothing, Gathers, gathering, kept}
-use Rattle.amqp_model.specs.Histories.{History, entries_on, entries_before_leaving, payloads_taken, under_way}
+use Rattle.amqp_model.specs.Contents.{Payload}
+use Rattle.amqp_model.specs.Gathering.{Nothing, gathering, kept}
+use Rattle.amqp_model.specs.Histories.{History, entries_on, entries_before_leaving, under_way}
 use Rattle.amqp_model.specs.Channels.{Life, Channel, Free, Opening, Closing, Open, Phase, Handshake, Running, Closed, Failed, End, state_of}
 use Rattle.amqp_model.specs.Channels as channels
 use Rattle.amqp_model.specs.Negotiation.{Config}
 use Rattle.amqp_model.specs.Asks.{channel_max}
-use Rattle.amqp_model.specs.Answers.{state_in, channel_state, kept_by, kept_in, due_by, due_in, gathered, reply_due}
+use Rattle.amqp_model.specs.Answers.{state_in, kept_by, kept_in, due_by, due_in, gathered}
 use Rattle.amqp_model.specs.EndVerdict.{takes_octets}
 use Rattle.amqp_model.specs.Machine.{ChannelStandsFor, CountsOpen, StandsFor}
 use Rattle.amqp_model.specs.AnswersInWords.{taken_on, StateIsOfNotes, ClosedIsFree, GatheredIsUnderWay, NoneIsGathered, OnlyOpenGathers, OnlyOpenIsDue}

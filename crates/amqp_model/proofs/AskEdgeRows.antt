@@ -1,14 +1,14 @@
 -- What comes of asks at the edges of each refusal, computed: both sides of each.
-use Rattle.std.proofs.Common.{◌≡◌, true, false, cond, ◌==◌, ℕ, List, [], ◌∷◌, length, codes, replicate, Some, refl}
+use Rattle.std.proofs.Common.{◌≡◌, true, false, cond, ◌==◌, ℕ, List, [], ◌∷◌, length, codes, replicate, refl}
 use Rattle.amqp_frame.specs.declared.frames.FrameKind.{FrameKind}
 use Rattle.amqp_method.specs.declared.kinds.Kind.TheVariants as kinds
 use Rattle.amqp_value.specs.Values.{Datum, pair, no_pairs}
-use Rattle.amqp_method.specs.Arguments.{bit, short, short_string, table}
+use Rattle.amqp_method.specs.Arguments.{bit, short_string, table}
 use Rattle.amqp_method.specs.Methods.{row}
 use Rattle.amqp_model.specs.Frame.{Frame}
 use Rattle.amqp_model.specs.Notes.{Role, Client, Server}
 use Rattle.amqp_model.specs.Methods.{Method, plain_method}
-use Rattle.amqp_model.specs.Channels.{Channel, Free, Opening, Closing, Open, new_life, HandshakeStep, AwaitsOpenOk, Phase, Handshake, Closed, Failed, End}
+use Rattle.amqp_model.specs.Channels.{Free, Opening, Closing, Open, new_life, AwaitsOpenOk, Phase, Handshake, Closed, Failed, End}
 use Rattle.amqp_model.specs.Closes.{close_as, flow_as, without_arguments}
 use Rattle.amqp_model.specs.Events.{Plain}
 use Rattle.amqp_model.specs.Asks.{Refusal, Ask, AskVerdict, Refused, Puts, ask_verdict}

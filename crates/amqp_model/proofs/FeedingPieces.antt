@@ -43,7 +43,7 @@ frame-rest limit frame xs octet fits within e = record { no_frame = no-frame; no
         none : [] ≡ tail ++ octet ∷ [] → ⊥
         none e = let l = ap length e in let m = length-append tail (octet ∷ []) in absurd (omega arith)
 
--- octets before the first that tells a fault are a rest
+-- octets before the first that shows a fault are a rest
 fault-rest : (limit : ℕ) (xs : List ℕ) (octet : ℕ) (kind : FrameFaultKind) → TellsFirst limit (xs ++ octet ∷ []) kind (length xs) → IsRest limit xs
 fault-rest limit xs octet kind told = record { no_frame = no-frame; no_fault = λ other tells. told.first (length xs) other (omega arith) (subst (λ l. Tells limit l other) (sym (take_at xs (octet ∷ []) (length xs) refl)) tells) }
   where

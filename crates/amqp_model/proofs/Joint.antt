@@ -1,4 +1,4 @@
--- The two ends of a channel and what is on its way between them: the cases that can be, and that acts keep to them.
+-- The two ends of a channel and what is in flight between them: the cases that can be, and that acts keep to them.
 --
 -- M* are any messages. All is of one life, but for the open of `opening` and `reopening`, which begins the next: the
 -- server is then still in the life before.
@@ -19,7 +19,7 @@
 --   client_heard   Closing  Closing  M* Close CloseOk     nothing
 --   both_heard     Closing  Closing  CloseOk              CloseOk
 --
--- An end that awaits a flow-ok has at most one flow or its flow-ok on its way, and else none.
+-- An end that awaits a flow-ok has at most one flow or its flow-ok in flight, and else none.
 use Rattle.std.proofs.Common.{Bool, true, false, ℕ, suc, ◌+◌, ◌≤◌, List, [], ◌∷◌, ◌++◌, Some, None, arith}
 use Rattle.amqp_model.specs.Frame.{Frame}
 use Rattle.amqp_model.specs.Notes.{Role, Client, Server, Kind, Open, OpenOk, Close, CloseOk, Flow, FlowOk, Other}
@@ -58,12 +58,12 @@ row_other begins_content frame (with_flow row) = with_flow (row_other begins_con
 row_other begins_content frame (with_flow_ok row) = with_flow_ok (row_other begins_content frame row)
 row_other begins_content frame (with_other row) = with_other (row_other begins_content frame row)
 
--- how many flows and flow-oks an end that awaits a flow-ok, or none, can have on their way
+-- how many flows and flow-oks an end that awaits a flow-ok, or none, can have in flight
 abbrev pub most : Bool → ℕ
 most false = 0
 most true = 1
 
--- the client, the server, what is on its way to the server, and what to the client; of the counts i and k are
+-- the client, the server, what is in flight to the server, and what to the client; of the counts i and k are
 -- flows and j and l flow-oks, i and j to the server
 pub data Joint : Standing → Standing → List NoteInLife → List NoteInLife → Type 0 where
   free : {n : ℕ} {a b : Bool} → Joint (Is Free n a) (Is Free n b) [] []
@@ -81,7 +81,7 @@ pub data Joint : Standing → Standing → List NoteInLife → List NoteInLife �
   client_heard : {n i j : ℕ} {a b : Bool} {q : List NoteInLife} {close_frame ok_frame : Frame} → Row n (At Close n close_frame ∷ At CloseOk n ok_frame ∷ []) i j q → Joint (Is Closing n a) (Is Closing n b) q []
   both_heard : {n : ℕ} {a b : Bool} {ok_frame other_frame : Frame} → Joint (Is Closing n a) (Is Closing n b) (At CloseOk n ok_frame ∷ []) (At CloseOk n other_frame ∷ [])
 
--- the same, as one end sees it: itself, the other, what is on its way to the other, and what comes
+-- the same, as one end sees it: itself, the other, what is in flight to the other, and what comes
 pub data JointAt : Role → Standing → Standing → List NoteInLife → List NoteInLife → Type 0 where
   at_client : {client server : Standing} {q r : List NoteInLife} → Joint client server q r → JointAt Client client server q r
   at_server : {client server : Standing} {q r : List NoteInLife} → Joint client server q r → JointAt Server server client r q

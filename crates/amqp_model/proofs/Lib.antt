@@ -78,6 +78,8 @@ mod TracedTelling
 mod TracedSaying
 mod RunsOut
 mod AnswerWords
+mod VerdictEvents
+mod Numbering
 mod ConnectionClosed
 mod SentTelling
 mod WholeMessages

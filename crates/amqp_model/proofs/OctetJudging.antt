@@ -142,7 +142,7 @@ judged-well limit [] octet all rest = by-type limit [] octet octet [] refl all (
 judged-well limit (first ∷ prefix) octet all rest =
     by-type limit (first ∷ prefix) octet first (prefix ++ octet ∷ []) refl all (begun-rest limit (first ∷ prefix) (prefix-octets (first ∷ prefix) (octet ∷ []) all) rest) (kind_of_type first) (type-read first)
 
--- Octets are but one of the things that they can be judged.
+-- Octets are exactly one of the things that they can be judged.
 
 pub told-whole : (limit : ℕ) (xs : List ℕ) (kind : FrameFaultKind) → TellsLast limit xs kind → Tells limit xs kind
 told-whole limit xs kind last = let l = last.last in subst (λ xs. Tells limit xs kind) (take_all (last.place + 1) xs (omega arith)) last.told.told

@@ -115,7 +115,7 @@ server_content_refused : server_lines 1 (handshake ++ content_pieces) ≡
 unfolding method_at header_at plain_method plain_header frames.octets reading.method_at reading.args_at reading.field_at with_id header_reading.header_at header_reading.properties_at header_reading.optional_at table_at elements many named after_tag tagged value_at
 server_content_refused = refl
 
--- A frame above 4096 octets before tune-ok is told at the last octet of its size; one of 4096 is waited for.
+-- A frame above 4096 octets before tune-ok is reported at the last octet of its size; one of 4096 is waited for.
 too_large_told : server_lines 1 (protocol_header ∷ hex (codes "01000000000ff9") ∷ []) ≡
     line (Finished (Some Quiet)) start_octets
     ∷ line (Found (Peer FrameError)) (hex (codes "01000000000016000a003201f50b6672616d652d6572726f7200000000ce"))

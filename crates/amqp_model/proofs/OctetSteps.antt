@@ -293,7 +293,7 @@ module _ (role : Role) (config : Config role) (old : Endpoint) (history : Histor
       by-verdict (Faults fault) e =
           come _ refl (λ later. faults frame fault taking w e refl (record { lawful = goes s.lawful ((end-steps role config old.end history s.stands).faults frame (can-take frame w) (ap goes_on e)); stands = frame-fails role config old.end history frame fits.back s.stands (ap goes_on e); read = FailedAt.at_frame (frames_taken history) frame (taken-is frame) (taken-opens role (end_puts config old.end frame) frame history) (fed-whole frame w.is_frame) (taken-fit frame w.fits); out = taken-out frame w }))
 
-  -- the octets tell a fault
+  -- the octets show a fault
   fault-goes : (kind : FrameFaultKind) → Goes role config history None true (then_put (map frame_of (owed_at_fault config old.end kind)) history)
   fault-goes frame_faults.TooLarge = (end-steps role config old.end history s.stands).too_large taking
   fault-goes frame_faults.UnknownType = (end-steps role config old.end history s.stands).fails (frames-octets old.end.phase taking)

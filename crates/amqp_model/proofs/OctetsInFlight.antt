@@ -158,7 +158,7 @@ module _ (reads : (method : Method) → MethodReadsBack method) (role : Role) (c
       let same = end-stands role (config_of role client_config server_config) endpoint.end mine next.stands.stands in
       true≢false (sym well.goes ∙ (ap (λ x. goes_on (end_verdict (config_of role client_config server_config) x frame)) same ∙ ap goes_on e))
 
-  -- what waits begins with a frame that can be taken, so no octets of it tell a fault
+  -- what waits begins with a frame that can be taken, so no octets of it show a fault
   by-waiting : (n : ℕ) (kind : FrameFaultKind) → TellsLast (frame_limit endpoint.end.agreed) (endpoint.unfinished ++ take n piece) kind → IsRest (frame_limit endpoint.end.agreed) endpoint.unfinished → (waiting : List Frame) → AllFit waiting → endpoint.unfinished ++ (piece ++ later) ≡ stream waiting → ⊥
   by-waiting n kind told rest [] fit e = next.some (none-left endpoint.unfinished e)
     where

@@ -1,4 +1,4 @@
--- While an end holds the other paused, no content is on its way to it: kept by every act, beside the cases of `Joint`.
+-- While an end holds the other paused, no content is in flight to it: kept by every act, beside the cases of `Joint`.
 use Rattle.std.proofs.Common.{◌≡◌, Bool, true, false, cond, not, ℕ, ◌≤◌, List, [], ◌∷◌, ◌++◌, Option, Some, None, refl, sym, ◌∙◌, subst, arith}
 use Rattle.std.proofs.lemmas.Bool.{true≢false, false≢true}
 use Rattle.amqp_model.specs.Frame.{Frame}
@@ -89,12 +89,12 @@ pub data IsHushed (n : ℕ) : State → ℕ → Bool → Type 0 where
   is_free : {m : ℕ} {paused : Bool} → IsHushed n Free m paused
   elsewhere : {word : State} {m : ℕ} {paused : Bool} → (m ≡ n → ⊥) → IsHushed n word m paused
 
--- the other puts no content in life n, and no flow with active 1 is on its way to it
+-- the other puts no content in life n, and no flow with active 1 is in flight to it
 pub record Silenced (n : ℕ) (word : State) (m : ℕ) (paused : Bool) (q : List NoteInLife) : Type 0 where
   hushed : IsHushed n word m paused
   no_restart : NoRestart q
 
--- Of an end in life n that holds the other paused or not, the other, what is on its way to it, and what comes:
+-- Of an end in life n that holds the other paused or not, the other, what is in flight to it, and what comes:
 -- after a flow-ok with active 0 no content comes, and once it is put the other is silenced.
 pub data Hush (n : ℕ) (held : Bool) (word : State) (m : ℕ) (paused : Bool) (q r : List NoteInLife) : Type 0 where
   hush : {out : Bool} → Scan held r out → (out ≡ true → Silenced n word m paused q) → Hush n held word m paused q r

@@ -1,4 +1,4 @@
--- Arranged rows: a frame more, and one frame begun; and that there is but one for what waits.
+-- Arranged rows: a frame more, and one frame begun; and that there is exactly one for what waits.
 use Rattle.std.proofs.Common.{◌≡◌, ℕ, ◌<◌, ◌≤◌, Bool, true, false, nat_lt, List, [], ◌∷◌, ◌++◌, All, filter, get_or, refl, sym, ap, ap₂, ◌∙◌, subst, arith, append_assoc, append-nil, le-ltb}
 use Rattle.std.proofs.lemmas.Bool.{ltb-true, ltb-false, cond-true, cond-false}
 use Rattle.std.proofs.lemmas.List.Elements.{All-nil, All-cons, All-head, All-tail, All-filter, All-push, All-contains, Contains-append_right, filter-append}
@@ -141,7 +141,7 @@ same-queues-all P row waiting same all = from-queued P row (λ queue. subst (All
 first-of : (P : Frame → Type 0) (row : List Frame) (g : Frame) (rest : List Frame) → ((queue : Queue) → queued queue row ≡ queued queue (g ∷ rest)) → All P row → P g
 first-of P row g rest same all = All-head P g rest (same-queues-all P (g ∷ rest) row (λ queue. sym (same queue)) all)
 
--- There is but one arranged row with such queues.
+-- There is exactly one arranged row with such queues.
 pub one-row : (last : ℕ) (row other : List Frame) → last < 65536 → All HasChannel row → ((queue : Queue) → queued queue row ≡ queued queue other) → IsArranged last row → IsArranged last other → row ≡ other
 one-row last [] [] l c same mine theirs = refl
 one-row last [] (g ∷ rest) l c same mine theirs = absurd (first-of (λ x. ⊥) [] g rest same (All-nil (λ x. ⊥)))

@@ -29,12 +29,12 @@ takes-carried role (Took kind frame ∷ before) = map-append carried (takes role
 takes-carried role (Put kind frame ∷ before) = takes-carried role before
 takes-carried role (Leaving ∷ before) = takes-carried role before
 
--- what is on its way, with the lives and without
+-- what is in flight, with the lives and without
 pub carried_rest : (role : Role) (mine theirs : List Note) (r : List NoteInLife) → puts (other_end role) theirs ≡ takes role mine ++ r → put_by theirs ≡ taken_by mine ++ map carried r
 carried_rest role mine theirs r e =
     sym (puts-carried (other_end role) theirs) ∙ (ap (map carried) e ∙ (map-append carried (takes role mine) r ∙ ap (λ l. l ++ map carried r) (takes-carried role mine)))
 
--- Two ends, what is on its way between them, and what an end that left owes and never puts: it replies no more,
+-- Two ends, what is in flight between them, and what an end that left owes and never puts: it replies no more,
 -- and nobody can tell, so that the cases go on as if it did.
 pub data Linked (role : Role) (mine theirs : List Note) : Type 0 where
   linked : {word word' : State} {n n' : ℕ} {a a' : Bool} (q r owed owed' : List NoteInLife) → Lawful role mine (Is word n a) → Lawful (other_end role) theirs (Is word' n' a') → puts role mine ≡ takes (other_end role) theirs ++ q → puts (other_end role) theirs ≡ takes role mine ++ r → (has_left mine ≡ false → owed ≡ []) → (has_left theirs ≡ false → owed' ≡ []) → Pact role mine theirs (Is word n a) (Is word' n' a') (q ++ owed) (r ++ owed') → Linked role mine theirs
@@ -43,7 +43,7 @@ pub turned : (role : Role) {mine theirs : List Note} → Linked role mine theirs
 turned Client (linked q r owed owed' s s' e e' w w' (pact (at_client joint) i they)) = linked r q owed' owed s' s e' e w' w (pact (at_server joint) they i)
 turned Server (linked q r owed owed' s s' e e' w w' (pact (at_server joint) i they)) = linked r q owed' owed s' s e' e w' w (pact (at_client joint) they i)
 
--- the next note of what is on its way, with its life
+-- the next note of what is in flight, with its life
 pub data NextOf (kind : Kind) (frame : Frame) (r : List NoteInLife) : Type 0 where
   next_of : (n : ℕ) (rest : List NoteInLife) → r ≡ At kind n frame ∷ rest → NextOf kind frame r
 

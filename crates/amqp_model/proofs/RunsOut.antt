@@ -1,5 +1,5 @@
 -- What is left of an end that runs out of memory.
-use Rattle.std.proofs.Common.{◌≡◌, ℕ, List, refl}
+use Rattle.std.proofs.Common.{ℕ, List, refl}
 use Rattle.amqp_model.specs.Notes.{Role}
 use Rattle.amqp_model.specs.Histories.{History}
 use Rattle.amqp_model.specs.Negotiation.{Config}

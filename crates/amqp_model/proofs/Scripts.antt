@@ -16,7 +16,7 @@ acts_at : (role : Role) {mine theirs after : List Note} → RunAt role mine thei
 acts_at Client run act = client_acts run act
 acts_at Server run act = server_acts run act
 
--- what is on its way to an end
+-- what is in flight to an end
 flying : (role : Role) (mine theirs : List Note) → RunAt role mine theirs → IsPrefixOf (taken_by mine) (put_by theirs)
 flying role mine theirs run = let prefix = takes_prefix role mine theirs run in (map carried prefix.0, carried_rest role mine theirs prefix.0 prefix.1)
 

@@ -1,5 +1,5 @@
 -- What an end says grows by the item of each message that it puts, and by nothing else.
-use Rattle.std.proofs.Common.{◌≡◌, ◌≤◌, ◌⊎◌, inl, inr, Bool, true, false, cond, not, ◌&&◌, ◌||◌, ℕ, zero, suc, ◌+◌, ◌==◌, nat_lt, arith, List, [], ◌∷◌, ◌++◌, map, reverse, length, Option, Some, None, refl, sym, ap, ◌∙◌, subst, append_assoc, append-nil}
+use Rattle.std.proofs.Common.{◌≡◌, ◌≤◌, ◌⊎◌, inl, inr, Bool, true, false, cond, ℕ, zero, suc, ◌+◌, ◌==◌, nat_lt, arith, List, [], ◌∷◌, ◌++◌, map, reverse, length, Some, None, refl, sym, ap, ◌∙◌, append_assoc, append-nil}
 use Rattle.std.specs.Option.{option_to_list}
 use Rattle.std.proofs.lemmas.Bool.{true≢false, eq-eqb, ltb-false, not-true}
 use Rattle.std.proofs.lemmas.List.{map-append, reverse-append}
@@ -8,23 +8,23 @@ use Rattle.amqp_model.specs.Notes.{Role, Kind, Other, Note, is_message}
 use Rattle.amqp_model.specs.Notes as notes_of
 use Rattle.amqp_model.specs.Lives.{lives}
 use Rattle.amqp_model.specs.Carried.{puts, sent}
-use Rattle.amqp_model.specs.Methods.{Method, ReadsBack, carries_content, begins_content, sort_by, sort_of, bit_at, class_of, plain_method}
-use Rattle.amqp_model.specs.Contents.{Payload, Content, IsContent, cut}
+use Rattle.amqp_model.specs.Methods.{Method, carries_content, sort_of, bit_at, class_of, plain_method}
+use Rattle.amqp_model.specs.Contents.{Payload, cut}
 use Rattle.amqp_model.specs.Gathering.{Gathering, Nothing, step, remains, gathering}
-use Rattle.amqp_model.specs.Items.{Item, PlainMethod, WholeContent, item_of, item_ended, items}
+use Rattle.amqp_model.specs.Items.{Item, PlainMethod, item_of, item_ended, items}
 use Rattle.amqp_model.specs.Readings.{Calls, reading, kind_of, payload_of}
-use Rattle.amqp_model.specs.Histories.{Put, Took, History, entries_on, notes}
+use Rattle.amqp_model.specs.Histories.{Put, History, notes}
 use Rattle.amqp_model.specs.Channels.{End}
 use Rattle.amqp_model.specs.Negotiation.{Config}
 use Rattle.amqp_model.specs.Closes.{method_frame}
 use Rattle.amqp_model.specs.Events.{Message, Plain, Whole, method_of}
 use Rattle.amqp_model.specs.Asks.{Ask, Send, is_made, Refusal, frame_max, payload_frame, message_payloads, refusal, frames_asked}
-use Rattle.amqp_model.specs.ReadingBack.{AskReadsBack, WritesReadBack}
-use Rattle.amqp_model.specs.LawfulHistories.{end_of, then_put, Lawful}
+use Rattle.amqp_model.specs.ReadingBack.{AskReadsBack}
+use Rattle.amqp_model.specs.LawfulHistories.{end_of, then_put}
 use Rattle.amqp_model.specs.EndLaws.{notes_on}
 use Rattle.amqp_model.specs.Sent.{payload_in, life_on, Telling, ended_by, said_at, said}
 use Rattle.amqp_model.specs.WholeMessages.{FitAfter, AreWholeMessages}
-use Rattle.amqp_model.specs.Traces.{telling_at, telling_above, SaysMethod, item_of_message, SaysMessage, TakenSaysNothing}
+use Rattle.amqp_model.specs.Traces.{telling_at, SaysMethod, item_of_message, SaysMessage, TakenSaysNothing}
 use Rattle.amqp_model.proofs.Acting.{seen-put, reads-back}
 use Rattle.amqp_model.proofs.Asking.{Accepted, accepted, accepted-none, not-when, first-false, frame-channel, sent-kind, message-class}
 use Rattle.amqp_model.proofs.CutLemmas.{cut-content}

@@ -1,5 +1,5 @@
 -- What an end tells grows by the item of each event, and by nothing else.
-use Rattle.std.proofs.Common.{◌≡◌, Bool, true, false, cond, not, ◌&&◌, ◌||◌, ℕ, zero, suc, ◌==◌, List, [], ◌∷◌, ◌++◌, map, reverse, Option, Some, None, refl, sym, ap, ◌∙◌, subst}
+use Rattle.std.proofs.Common.{◌≡◌, Bool, true, false, cond, not, ◌&&◌, ℕ, zero, suc, ◌==◌, List, [], ◌∷◌, ◌++◌, map, reverse, Option, Some, None, refl, sym, ap, ◌∙◌, subst}
 use Rattle.std.proofs.lemmas.Bool.{false≢true, true≢false}
 use Rattle.amqp_method.specs.declared.kinds.Kind.TheVariants as kinds
 use Rattle.amqp_model.specs.Frame.{Frame}
@@ -10,19 +10,19 @@ use Rattle.amqp_model.specs.Carried.{acts_next, acted}
 use Rattle.amqp_model.specs.Carried as carried
 use Rattle.amqp_model.specs.Methods.{Method, same_kind, sends, class_of}
 use Rattle.amqp_model.specs.Gathering.{gathering}
-use Rattle.amqp_model.specs.Items.{Item, item_ended}
-use Rattle.amqp_model.specs.Readings.{Reading, Calls, UnknownMethod, MalformedMethod, HeaderOf, MalformedHeader, BodyOf, Beat, is_call, reading, kind_of, payload_of}
-use Rattle.amqp_model.specs.Histories.{Put, Took, History, ChannelEntry, entries_on, notes, entries_before_leaving}
+use Rattle.amqp_model.specs.Items.{item_ended}
+use Rattle.amqp_model.specs.Readings.{Reading, Calls, Beat, is_call, reading, kind_of}
+use Rattle.amqp_model.specs.Histories.{Took, History, entries_on, notes}
 use Rattle.amqp_model.specs.Channels.{Life, Channel, Free, Opening, Closing, HandshakeStep, AwaitsProtocolHeader, AwaitsStart, AwaitsStartOk, AwaitsTune, AwaitsTuneOk, AwaitsOpen, AwaitsOpenOk, Phase, Handshake, Running, Closed, Failed, Agreed, End, state_of}
 use Rattle.amqp_model.specs.Channels as channels
 use Rattle.amqp_model.specs.Negotiation.{Config, tunes_too_small, in_range, agreed_in}
 use Rattle.amqp_model.specs.Closes.{CommandInvalid, ChannelError, connection_close_ok}
-use Rattle.amqp_model.specs.Events.{Quiet, ConnectionClosed, Discarded, Peer, FrameVerdict, Proceeds, RefusesContent, Faults}
+use Rattle.amqp_model.specs.Events.{Quiet, ConnectionClosed, Discarded, Peer, FrameVerdict, Proceeds, Faults}
 use Rattle.amqp_model.specs.FrameVerdict.{Facts, first_of, by_state, on_connection, on_awaited, in_step, is_awaited, verdict_on, event_told}
-use Rattle.amqp_model.specs.EndVerdict.{facts_at, end_verdict, end_puts, goes_on}
+use Rattle.amqp_model.specs.EndVerdict.{facts_at, end_puts, goes_on}
 use Rattle.amqp_model.specs.ReadingBack.{WritesReadBack}
-use Rattle.amqp_model.specs.LawfulHistories.{end_of, Lawful, then_put}
-use Rattle.amqp_model.specs.Machine.{ChannelStandsFor, StandsFor}
+use Rattle.amqp_model.specs.LawfulHistories.{end_of, Lawful}
+use Rattle.amqp_model.specs.Machine.{ChannelStandsFor}
 use Rattle.amqp_model.specs.EndLaws.{notes_on}
 use Rattle.amqp_model.specs.Sent.{payload_in, life_on, Telling, ended_by, told_at, told}
 use Rattle.amqp_model.specs.Traces.{item_in_event, telling_at, TellsEvent, PutsTellNothing}
@@ -34,9 +34,9 @@ use Rattle.amqp_model.proofs.EndSteps.{not-zero, stays-here, left-here}
 use Rattle.amqp_model.proofs.ChannelWalks.{channel-walk, lawful-walks}
 use Rattle.amqp_model.proofs.Walking.{Walked}
 use Rattle.amqp_model.proofs.SentTelling.{told-put, no-item}
-use Rattle.amqp_model.proofs.Turning.{KeepsOpen, Keeps, Matched, message-lives}
+use Rattle.amqp_model.proofs.Turning.{KeepsOpen, message-lives}
 use Rattle.amqp_model.proofs.Turned.{matched}
-use Rattle.amqp_model.proofs.Tracing.{item_due, running-tells}
+use Rattle.amqp_model.proofs.Tracing.{running-tells}
 
 -- Channel 0 tells no item.
 module _ {role : Role} (config : Config role) (phase : Phase) (agreed : Option Agreed) where

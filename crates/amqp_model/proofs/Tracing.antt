@@ -1,30 +1,27 @@
 -- What a frame adds to what an end writes down.
-use Rattle.std.proofs.Common.{◌≡◌, inl, inr, Bool, true, false, cond, not, ◌&&◌, ◌||◌, ℕ, zero, suc, ◌==◌, nat_lt, nat_le, arith, List, [], ◌∷◌, ◌++◌, map, reverse, length, Option, Some, None, refl, sym, ap, ◌∙◌, subst, append_assoc, append-nil}
-use Rattle.std.specs.Option.{option_to_list}
+use Rattle.std.proofs.Common.{◌≡◌, Bool, true, false, cond, not, ◌&&◌, ℕ, ◌==◌, nat_lt, nat_le, arith, List, [], ◌∷◌, map, length, Option, Some, None, refl, sym, ap, ◌∙◌, subst, append_assoc, append-nil}
 use Rattle.std.proofs.lemmas.Bool.{false≢true, true≢false, ltb-true, eqb-true}
 use Rattle.amqp_method.specs.declared.kinds.Kind.TheVariants as kinds
 use Rattle.amqp_model.specs.Frame.{Frame}
-use Rattle.amqp_model.specs.Notes.{Role, Client, Server, is_client, Kind, Open, OpenOk, Close, CloseOk, Flow, FlowOk, Other, is_message}
-use Rattle.amqp_model.specs.States.{State}
+use Rattle.amqp_model.specs.Notes.{Role, Client, Server, Kind, Open, OpenOk, Close, CloseOk, Flow, FlowOk, Other, is_message}
 use Rattle.amqp_model.specs.Verdict as lives
 use Rattle.amqp_model.specs.Verdict.{when_free, when_opening, when_closing, when_open}
-use Rattle.amqp_model.specs.Methods.{MethodKind, Method, Properties, same_kind, carries_content, begins_content, sort_by, bit_at, class_of, is_request, is_reply}
-use Rattle.amqp_model.specs.Methods as methods
+use Rattle.amqp_model.specs.Methods.{MethodKind, Method, Properties, carries_content, begins_content, sort_by, bit_at, is_request, is_reply}
 use Rattle.amqp_model.specs.Contents.{Payload}
-use Rattle.amqp_model.specs.Gathering.{Gathering, Nothing, HeaderDue, BodyDue, Step, Keeps, Completes, Breaks, Misfit, step, gathering}
-use Rattle.amqp_model.specs.Items.{Item, PlainMethod, WholeContent, FlowItem, FlowOkItem, item_of, completed, item_ended}
-use Rattle.amqp_model.specs.Readings.{Reading, Calls, UnknownMethod, MalformedMethod, HeaderOf, MalformedHeader, BodyOf, Beat, is_call, kind_of, kind_of_method, payload_of}
+use Rattle.amqp_model.specs.Gathering.{Gathering, Nothing, HeaderDue, BodyDue, Step, Keeps, Completes, Breaks, Misfit, step}
+use Rattle.amqp_model.specs.Items.{Item, PlainMethod, FlowItem, FlowOkItem, item_of, completed, item_ended}
+use Rattle.amqp_model.specs.Readings.{Reading, Calls, UnknownMethod, MalformedMethod, HeaderOf, MalformedHeader, BodyOf, Beat, kind_of, kind_of_method, payload_of}
 use Rattle.amqp_model.specs.Histories.{Put, Took, History}
 use Rattle.amqp_model.specs.Channels.{Life, Channel, Free, Opening, Closing, HandshakeStep, AwaitsProtocolHeader, AwaitsStart, AwaitsStartOk, AwaitsTune, AwaitsTuneOk, AwaitsOpen, AwaitsOpenOk, Phase, Handshake, Running, Closed, Failed, Agreed}
 use Rattle.amqp_model.specs.Channels as channels
-use Rattle.amqp_model.specs.Negotiation.{Config, tunes_too_small, in_range, agreed_in}
-use Rattle.amqp_model.specs.Closes.{CommandInvalid, ChannelError, ResourceError, UnexpectedFrame, FrameError, NotImplemented}
+use Rattle.amqp_model.specs.Negotiation.{Config}
+use Rattle.amqp_model.specs.Closes.{CommandInvalid, ChannelError, ResourceError, UnexpectedFrame, FrameError}
 use Rattle.amqp_model.specs.Events as Events
 use Rattle.amqp_model.specs.Events.{Event, FrameVerdict, Proceeds, RefusesContent, Faults, Fault, Peer}
-use Rattle.amqp_model.specs.FrameVerdict.{Facts, first_of, as_lives, leaving_on, after_part, on_part, on_connection, on_method, by_state, on_open, on_idle, on_matched, on_message, on_awaited, in_step, in_handshake, is_gathering, is_no_channel, MOST_REQUESTS, answers_first, verdict_on, event_told}
+use Rattle.amqp_model.specs.FrameVerdict.{Facts, first_of, as_lives, after_part, on_part, by_state, on_open, on_idle, on_matched, on_message, is_gathering, is_no_channel, MOST_REQUESTS, answers_first, verdict_on, event_told}
 use Rattle.amqp_model.specs.EndVerdict.{goes_on, end_puts}
-use Rattle.amqp_model.specs.LawfulHistories.{end_of, then_put}
-use Rattle.amqp_model.specs.Traces.{noted, IsPut, IsTaken, trace, TracePuts, TraceTakes, item_told, item_in_event}
+use Rattle.amqp_model.specs.LawfulHistories.{end_of}
+use Rattle.amqp_model.specs.Traces.{noted, IsPut, IsTaken, trace, TracePuts, TraceTakes, item_in_event}
 use Rattle.amqp_model.proofs.Agreeing.{is_closing}
 use Rattle.amqp_model.proofs.Going.{running}
 use Rattle.amqp_model.proofs.SentTelling.{no-item}
@@ -143,7 +140,7 @@ flow-ok-item method kinds.ChannelFlowOk active bit e = cc
 flow-ok-item method kind active bit e = absurd cc
 
 -- a method that no rule before the last has stopped
-last-is : (is_connection at_zero may_send no_channel : Bool) (on_zero last : FrameVerdict) → at_zero ≡ false → goes_on (first_of (cond is_connection (Some (cond at_zero on_zero (Faults (Peer CommandInvalid)))) None ∷ cond may_send None (Some (Faults (Peer CommandInvalid))) ∷ cond no_channel (Some (Faults (Peer ChannelError))) None ∷ []) last) ≡ true → first_of (cond is_connection (Some (cond at_zero on_zero (Faults (Peer CommandInvalid)))) None ∷ cond may_send None (Some (Faults (Peer CommandInvalid))) ∷ cond no_channel (Some (Faults (Peer ChannelError))) None ∷ []) last ≡ last
+pub last-is : (is_connection at_zero may_send no_channel : Bool) (on_zero last : FrameVerdict) → at_zero ≡ false → goes_on (first_of (cond is_connection (Some (cond at_zero on_zero (Faults (Peer CommandInvalid)))) None ∷ cond may_send None (Some (Faults (Peer CommandInvalid))) ∷ cond no_channel (Some (Faults (Peer ChannelError))) None ∷ []) last) ≡ true → first_of (cond is_connection (Some (cond at_zero on_zero (Faults (Peer CommandInvalid)))) None ∷ cond may_send None (Some (Faults (Peer CommandInvalid))) ∷ cond no_channel (Some (Faults (Peer ChannelError))) None ∷ []) last ≡ last
 last-is true true c d on_zero last e g = absurd (true≢false e)
 last-is true false c d on_zero last e g = absurd (false≢true g)
 last-is false n false d on_zero last e g = absurd (false≢true g)
@@ -222,11 +219,11 @@ state-tells config agreed number Closing method c g = absurd (true≢false c)
 state-tells config agreed number (channels.Open life) method c g = open-tells config agreed number life method (kind_of (Calls method)) refl g
 
 -- a channel above 0, of a Running end
-no-part : {A : Type 0} (b : Bool) → goes_on (cond b (Faults (Peer ChannelError)) (Faults (Peer ChannelError))) ≡ true → A
+pub no-part : {A : Type 0} (b : Bool) → goes_on (cond b (Faults (Peer ChannelError)) (Faults (Peer ChannelError))) ≡ true → A
 no-part true g = absurd (false≢true g)
 no-part false g = absurd (false≢true g)
 
-no-beat : {A : Type 0} (at_zero empty : Bool) (quiet : FrameVerdict) → at_zero ≡ false → goes_on (cond (at_zero && empty) quiet (Faults (Peer FrameError))) ≡ true → A
+pub no-beat : {A : Type 0} (at_zero empty : Bool) (quiet : FrameVerdict) → at_zero ≡ false → goes_on (cond (at_zero && empty) quiet (Faults (Peer FrameError))) ≡ true → A
 no-beat true empty quiet e g = absurd (true≢false e)
 no-beat false empty quiet e g = absurd (false≢true g)
 

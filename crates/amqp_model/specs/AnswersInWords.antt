@@ -7,7 +7,7 @@ use Rattle.amqp_model.specs.Lives.{state}
 use Rattle.amqp_model.specs.Contents.{Payload, UnderWay, body_octets}
 use Rattle.amqp_model.specs.Gathering.{Nothing, Gathers}
 use Rattle.amqp_model.specs.Histories.{History, entries_on, payloads_taken}
-use Rattle.amqp_model.specs.Channels.{Life, Open, Phase, Running, Closed, End}
+use Rattle.amqp_model.specs.Channels.{Life, Open, Running, Closed, End}
 use Rattle.amqp_model.specs.Negotiation.{Config}
 use Rattle.amqp_model.specs.Asks.{channel_max}
 use Rattle.amqp_model.specs.Answers.{channel_state, gathered, reply_due}
@@ -31,7 +31,8 @@ taken_on channel history = payloads_taken (entries_on channel history)
 -- while the connection is Running, of the content under way on an Open channel the octets of its body parts are counted
 abbrev pub GatheredIsUnderWay : (role : Role) → Config role → End → History → (n : ℕ) → Life → (since : List Payload) → Type 0
 GatheredIsUnderWay role config end history n life since =
-    StandsFor role config false end history → end.phase ≡ Running → end.channels (suc n) ≡ Open life → UnderWay (taken_on (suc n) history) since → gathered end (suc n) ≡ length (body_octets since)
+    StandsFor role config false end history → end.phase ≡ Running → end.channels (suc n) ≡ Open life → UnderWay (taken_on (suc n) history) since
+    → gathered end (suc n) ≡ length (body_octets since)
 
 -- where none is under way there are none
 abbrev pub NoneIsGathered : (role : Role) → Config role → End → History → (n : ℕ) → Life → Type 0

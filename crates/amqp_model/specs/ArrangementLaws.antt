@@ -19,11 +19,11 @@ NoFewerStepsLead = (n from to : ℕ) → IsChannel from → 0 < to → IsChannel
 abbrev pub LowestAboveComesFirst : Type 0
 LowestAboveComesFirst = (last a b : ℕ) → IsChannel last → 0 < a → IsChannel a → 0 < b → IsChannel b → (steps last a ≤ steps last b) ↔ ComesNoLater last a b
 
--- a row is arranged just where it follows the rules
+-- a row is arranged exactly when it follows the rules
 abbrev pub ArrangedByRules : Type 0
 ArrangedByRules = (last : ℕ) (row : List Frame) → IsChannel last → All HasChannel row → IsArranged last row ↔ FollowsRules last row
 
--- for the frames that wait there is but one row
+-- for the frames that wait there is exactly one row
 abbrev pub OneRow : Type 0
 OneRow = (last : ℕ) (waiting row other : List Frame) → IsChannel last → All HasChannel waiting → Arranges last waiting row → Arranges last waiting other → row ≡ other
 
@@ -65,7 +65,7 @@ PutLeavesBegun = (f : Frame) (o : Output) → ((after_put f o).ahead ≡ o.ahead
 abbrev pub WriteLeaves : Type 0
 WriteLeaves = (n : ℕ) (o : Output) → n ≤ length (output_octets o) → Writes n o (after_writing n o)
 
--- and there is but one output that is left
+-- and there is exactly one output that is left
 abbrev pub OneIsLeft : Type 0
 OneIsLeft = (n : ℕ) (old new other : Output) → Writes n old new → Writes n old other → new ≡ other
 

@@ -24,7 +24,7 @@ pub data Ask : Type 0 where
   Blocked : (reason : List ℕ) → Ask
   Unblocked : Ask
 
--- Want of memory stands after these, and is no matter of the asks.
+-- Out of memory stands after these, and is no matter of the asks.
 pub data Refusal : Type 0 where
   NotRunning BadChannel NotOpen Paused NotSendable TooLarge FlowPending NoFreeChannel ReplyPending NoSuchRequest : Refusal
 

@@ -46,11 +46,14 @@ NewIsWithin role config = EndIsWithin role config (new_end role)
 
 -- and they stay so by each frame that it takes and goes on after, and by each ask that it accepts
 abbrev pub FrameStaysWithin : (role : Role) → Config role → End → Frame → Type 0
-FrameStaysWithin role config end frame = EndIsWithin role config end → goes_on (end_verdict config end frame) ≡ true → EndIsWithin role config (end_after_taken role config end (reading frame) frame)
+FrameStaysWithin role config end frame =
+    EndIsWithin role config end → goes_on (end_verdict config end frame) ≡ true
+    → EndIsWithin role config (end_after_taken role config end (reading frame) frame)
 
 abbrev pub AskStaysWithin : (role : Role) → Config role → End → Ask → List Frame → Type 0
 AskStaysWithin role config end ask frames =
-    EndIsWithin role config end → ReadsBack (method_asked ask) → is_made ask ≡ true → ask_verdict role end ask ≡ Puts frames → EndIsWithin role config (end_after_put role config frames end)
+    EndIsWithin role config end → ReadsBack (method_asked ask) → is_made ask ≡ true → ask_verdict role end ask ≡ Puts frames
+    → EndIsWithin role config (end_after_put role config frames end)
 
 -- so are those of every end that stands for a lawful history
 abbrev pub StandsWithin : (role : Role) → Config role → End → History → Type 0

@@ -5,7 +5,7 @@ use Rattle.amqp_model.specs.Notes.{Role, Kind, Note, Put, Took, is_message}
 use Rattle.amqp_model.specs.States.{State}
 use Rattle.amqp_model.specs.Lives.{lives, state, has_left}
 
--- a frame on its way, with what it is to the channel
+-- a frame in flight, with what it is to the channel
 pub data Carried : Type 0 where
   Carry : Kind → Frame → Carried
 

@@ -113,7 +113,7 @@ abbrev pub fault_told : FrameFaultKind → Fault
 fault_told TooLarge = Peer FrameError
 fault_told kind = Fatal
 
--- the methods that an end puts where octets tell a fault
+-- the methods that an end puts where octets show a fault
 abbrev pub owed_at_fault : {role : Role} → Config role → End → FrameFaultKind → List Owed
 owed_at_fault config end kind = methods_put (facts_at config end 0) (Faults (fault_told kind))
 

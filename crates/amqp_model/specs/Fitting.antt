@@ -122,7 +122,7 @@ PartsFit (Close code text) = (code < 2 ^ 16) × FitsShort text
 PartsFit (Blocked reason) = FitsShort reason
 PartsFit Unblocked = Unit {0}
 
--- an ask fits its fields, and a message has a content just where its method carries one
+-- an ask fits its fields, and a message has a content exactly when its method carries one
 pub record AskFits (ask : Ask) : Type 0 where
   pub made : is_made ask ≡ true
   pub parts : PartsFit ask

@@ -158,7 +158,7 @@ abbrev pub when_handshake : {role : Role} → Facts role → Phase → Reading �
 when_handshake facts (Handshake step) reading = Some (in_handshake facts step reading)
 when_handshake facts phase reading = None
 
-abbrev channel_limit : Option Agreed → ℕ
+abbrev pub channel_limit : Option Agreed → ℕ
 channel_limit (Some agreed) = agreed.channel_max
 channel_limit None = 0
 

@@ -31,7 +31,7 @@ pub record IsLive (role : Role) (history : List Note) : Type 0 where
   pub stays : has_left history ≡ false
   pub state_is : (state role history ≡ Opening) ⊎ (state role history ≡ State.Open)
 
--- what the other put is what the end took, and then what is on its way
+-- what the other put is what the end took, and then what is in flight
 abbrev pub IsOnItsWay : Role → (mine theirs : List Note) → List NoteInLife → Type 0
 IsOnItsWay role mine theirs rest = puts (other_end role) theirs ≡ takes role mine ++ rest
 
@@ -44,11 +44,11 @@ pub record EndedByPeer (role : Role) (life : ℕ) (history : List Note) : Type 0
   pub live : IsLive role before
   pub life_is : lives role before ≡ life
 
--- all that is on its way to a live end is of its own life
+-- all that is in flight to a live end is of its own life
 abbrev pub OnItsWayIsOfItsLife : Role → (mine theirs : List Note) → Type 0
 OnItsWayIsOfItsLife role mine theirs = (rest : List NoteInLife) → IsLive role mine → IsOnItsWay role mine theirs rest → All (λ entry. life_of entry ≡ lives role mine) rest
 
--- what the other sent in the life of a live end is what the end acted on in it, and then the messages on their way
+-- what the other sent in the life of a live end is what the end acted on in it, and then the messages in flight
 abbrev pub SentIsActedOnOrOnItsWay : Role → (mine theirs : List Note) → Type 0
 SentIsActedOnOrOnItsWay role mine theirs = (rest : List Carried) → IsLive role mine → put_by theirs ≡ taken_by mine ++ rest → sent (other_end role) (lives role mine) theirs ≡ acted role (lives role mine) mine ++ message_frames rest
 

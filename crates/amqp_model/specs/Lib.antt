@@ -61,3 +61,5 @@ pub mod Bounds
 pub mod Traces
 pub mod RunningOut
 pub mod AnswersInWords
+pub mod VerdictInWords
+pub mod Numbers

@@ -34,13 +34,13 @@ pub record IsWhole (limit : ℕ) (xs : List ℕ) (frame : Frame) : Type 0 where
   pub fits : Fits frame
   pub within : frame_length frame ≤ limit
 
--- the last of the octets is the first that tells the fault
+-- the last of the octets is the first that shows the fault
 pub record TellsLast (limit : ℕ) (xs : List ℕ) (kind : FrameFaultKind) : Type 0 where
   pub place : ℕ
   pub last : length xs ≡ place + 1
   pub told : TellsFirst limit xs kind place
 
--- octets are what they are judged to be: a frame begun that tells no fault, a whole frame, or octets whose last tells a fault
+-- octets are what they are judged to be: a frame begun that shows no fault, a whole frame, or octets whose last shows a fault
 abbrev pub IsJudgedWell : (limit : ℕ) → List ℕ → Judgement → Type 0
 IsJudgedWell limit xs Begun = IsRest limit xs
 IsJudgedWell limit xs (Whole frame) = IsWhole limit xs frame
@@ -52,7 +52,7 @@ JudgedIsSaid =
     (limit : ℕ) (prefix : List ℕ) (octet : ℕ)
     → All IsOctet (prefix ++ octet ∷ []) → IsRest limit prefix → IsJudgedWell limit (prefix ++ octet ∷ []) (judged limit (prefix ++ octet ∷ []))
 
--- there is but one thing that octets can be judged to be
+-- there is exactly one thing that octets can be judged to be
 abbrev pub OneIsSaid : Type 0
 OneIsSaid = (limit : ℕ) (xs : List ℕ) (one other : Judgement) → IsJudgedWell limit xs one → IsJudgedWell limit xs other → one ≡ other
 
@@ -131,7 +131,7 @@ pub data Follows (role : Role) (config : Config role) (old : Endpoint) (history 
   takes : (frame : Frame) → takes_frames old.end.phase ≡ true → IsWhole (frame_limit old.end.agreed) (old.unfinished ++ take new.taken piece) frame → goes_on (end_verdict config old.end frame) ≡ true → new.outcome ≡ Finished (event_told (facts_at config old.end frame.channel) (end_verdict config old.end frame)) → EndpointStandsFor role config new.endpoint (then_taken config old.end frame history) (fed ++ take new.taken piece) written → Follows role config old history fed written piece new
   -- a frame is whole and taken, and the end finds fault with it
   faults : (frame : Frame) (fault : Fault) → takes_frames old.end.phase ≡ true → IsWhole (frame_limit old.end.agreed) (old.unfinished ++ take new.taken piece) frame → end_verdict config old.end frame ≡ Faults fault → new.outcome ≡ Found fault → HasFailed role config (frame_limit old.end.agreed) (opening_written role) (then_taken config old.end frame history) (fed ++ take new.taken piece) written new.endpoint → Follows role config old history fed written piece new
-  -- the octets that are no whole frame tell a fault
+  -- the octets that are no whole frame show a fault
   tells : (kind : FrameFaultKind) → takes_frames old.end.phase ≡ true → TellsLast (frame_limit old.end.agreed) (old.unfinished ++ take new.taken piece) kind → new.outcome ≡ Found (fault_told kind) → HasFailed role config (frame_limit old.end.agreed) (opening_written role) (then_put (map frame_of (owed_at_fault config old.end kind)) history) (fed ++ take new.taken piece) written new.endpoint → Follows role config old history fed written piece new
   -- an octet is not the protocol header's, and nothing was put yet
   differs : awaits_opening role old.end.phase ≡ true → new.outcome ≡ Found WrongProtocolHeader → HasFailed role config (frame_limit old.end.agreed) PROTOCOL_HEADER history (fed ++ take new.taken piece) written new.endpoint → Follows role config old history fed written piece new

@@ -43,7 +43,7 @@ pub data FedAs (role : Role) (limit : ℕ) (history : History) (fed unfinished :
   in_frames : has_opened role history ≡ true → fed ≡ opening_read role ++ (stream (frames_taken history) ++ unfinished) → AllFit (frames_taken history) → IsRest limit unfinished → FedAs role limit history fed unfinished
 
 -- What was fed to an end up to the octet that told a fault: an octet that is not the opening's, the last octet of the frame
--- that it took last, or an octet by which the rest tells a fault.
+-- that it took last, or an octet by which the rest shows a fault.
 pub data FailedAt (role : Role) (limit : ℕ) (history : History) (fed : List ℕ) : Type 0 where
   off_opening : (prefix later : List ℕ) (octet wanted : ℕ) → opening_read role ≡ prefix ++ wanted ∷ later → fed ≡ prefix ++ octet ∷ [] → octet ≢ wanted → history ≡ [] → FailedAt role limit history fed
   at_frame : (earlier : List Frame) (last : Frame) → frames_taken history ≡ earlier ++ last ∷ [] → has_opened role history ≡ true → fed ≡ opening_read role ++ stream (frames_taken history) → AllFit (frames_taken history) → FailedAt role limit history fed

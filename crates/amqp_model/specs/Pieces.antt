@@ -29,7 +29,7 @@ IsProperPrefixOf prefix whole = (missing : List ℕ) × (missing ≢ []) × (who
 abbrev pub reads_frames : Role → Phase → Bool
 reads_frames role phase = takes_octets phase && not (awaits_opening role phase)
 
--- octets of which no prefix is a frame, and which tell no fault
+-- octets of which no prefix is a frame, and which show no fault
 pub record AreBegun (limit : ℕ) (xs : List ℕ) : Type 0 where
   pub are_octets : All IsOctet xs
   pub rest : IsRest limit xs
@@ -81,12 +81,12 @@ FeedGivesFrame role config endpoint stream piece taken frame =
     IsFedBy role endpoint stream piece → taken ≤ length piece → Completes stream (take taken piece) frame
     → after_feed role config endpoint piece ≡ with_taken taken (after_judged role config endpoint (endpoint.unfinished ++ take taken piece) (Whole frame))
 
--- the unfinished octets and the piece are still no frame, and tell no fault: all of the piece is taken, and nothing comes
+-- the unfinished octets and the piece are still no frame, and show no fault: all of the piece is taken, and nothing comes
 abbrev pub FeedWaits : (role : Role) → Config role → Endpoint → Stream → (piece : List ℕ) → (taken : ℕ) → Type 0
 FeedWaits role config endpoint stream piece taken =
     IsFedBy role endpoint stream piece → Waits stream piece taken → after_feed role config endpoint piece ≡ with_taken taken (goes_on_with endpoint (endpoint.unfinished ++ piece))
 
--- An octet of the piece tells a fault, so many octets after the piece's first: it is the last that is taken. The place at
+-- An octet of the piece shows a fault, so many octets after the piece's first: it is the last that is taken. The place at
 -- which the splitter reports the fault is that of this octet.
 pub record FaultFed (role : Role) (config : Config role) (endpoint : Endpoint) (stream : Stream) (piece : List ℕ) (kind : FrameFaultKind) (at : ℕ) : Type 0 where
   pub before : ℕ

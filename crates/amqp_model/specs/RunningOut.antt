@@ -1,7 +1,7 @@
 -- An end that ran out of memory. It fails, and what it was doing is not done: its history, the octets fed that are no whole
 -- frame and its output are as they were. So of an end kept with its history there are three cases: it stands for its history,
--- it failed by octets that tell why, or it ran out of memory.
-use Rattle.std.specs.Prelude.{◌≡◌, ◌≤◌, true, false, ℕ, List, ◌++◌, length, take}
+-- it failed by octets that show why, or it ran out of memory.
+use Rattle.std.specs.Prelude.{◌≡◌, ◌≤◌, true, ℕ, List, ◌++◌, length, take}
 use Rattle.amqp_model.specs.Notes.{Role}
 use Rattle.amqp_model.specs.Histories.{History}
 use Rattle.amqp_model.specs.Channels.{Failed}
@@ -12,7 +12,7 @@ use Rattle.amqp_model.specs.Departures.{IsOutputOf}
 use Rattle.amqp_model.specs.LawfulHistories.{Lawful}
 use Rattle.amqp_model.specs.Machine.{as_failed, StandsFor}
 use Rattle.amqp_model.specs.Octets.{frames_put, opening_written, FedAs}
-use Rattle.amqp_model.specs.Endpoint.{Endpoint, after_feed, after_wrote, Found, Feeding}
+use Rattle.amqp_model.specs.Endpoint.{Endpoint, after_feed, after_wrote, Found}
 use Rattle.amqp_model.specs.Events.{AlreadyFailed}
 use Rattle.amqp_model.specs.OctetLaws.{EndpointStandsFor}
 

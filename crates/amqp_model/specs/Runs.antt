@@ -21,7 +21,7 @@ may_ask role _ awaits paused kind = false
 abbrev pub may_put : Role → List Note → Kind → Bool
 may_put role history kind = not (has_left history) && may_ask role (state role history) (awaits_flow_ok role history) (is_paused role history) kind
 
--- the next note on its way to an end: what the other put is what this end took, then this note, then the rest
+-- the next note in flight to an end: what the other put is what this end took, then this note, then the rest
 abbrev pub IsNext : (theirs mine : List Note) → Carried → Type 0
 IsNext theirs mine next = (later : List Carried) × (put_by theirs ≡ taken_by mine ++ next ∷ later)
 

@@ -10,7 +10,7 @@ use Rattle.amqp_model.specs.Verdict.{Opened, Acted, ClosedByUs, ClosedByPeer, Di
 use Rattle.amqp_model.specs.Carried.{Carried, Carry, put_by, taken_by, sent, acted}
 use Rattle.amqp_model.specs.Runs.{may_put}
 
--- an end's application asks for a frame; an end takes so many of the notes on their way to it, or all if they are
+-- an end's application asks for a frame; an end takes so many of the notes in flight to it, or all if they are
 -- fewer; an end puts connection.close
 pub data Step : Type 0 where
   Ask : Role → Kind → Frame → Step
@@ -236,7 +236,7 @@ pub record MessageThenClose (f : ℕ → Frame) : Type 0 where
   pub sent_to_client : sent Server 1 (message_then_close f).server ≡ f 4 ∷ []
   pub acted_by_client : acted Client 1 (message_then_close f).client ≡ f 4 ∷ []
 
--- The client is dropped while its content is on its way: it takes and asks no more. What it wrote still comes.
+-- The client is dropped while its content is in flight: it takes and asks no more. What it wrote still comes.
 abbrev pub dropped_client : (ℕ → Frame) → (taken : ℕ) → World
 dropped_client f taken =
     replay (on_open_channel (f 1)
@@ -247,7 +247,7 @@ pub record DroppedClient (f : ℕ → Frame) : Type 0 where
   pub first_alone : acted Server 1 (dropped_client f 1).server ≡ f 4 ∷ []
   pub all_come : acted Server 1 (dropped_client f ALL).server ≡ f 4 ∷ f 5 ∷ f 6 ∷ []
 
--- The server puts connection.close while a message is on its way to it: it drops that, and answers no close.
+-- The server puts connection.close while a message is in flight to it: it drops that, and answers no close.
 abbrev pub server_leaves : (ℕ → Frame) → World
 server_leaves f = replay (on_open_channel (f 1) (Ask Client (Other false) (f 4) ∷ Leave Server ∷ Ask Client Close (f 6) ∷ Take Server ALL ∷ Ask Server Close (f 8) ∷ []))
 

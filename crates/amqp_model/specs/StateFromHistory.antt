@@ -1,6 +1,6 @@
 -- The state of an end, read off its history by counting: its phase, what was agreed, and each channel's record.
 --
--- That an end has failed is no function of a history, since a wrong end octet or want of memory leaves it as it was:
+-- That an end has failed is no function of a history, since a wrong end octet or out of memory leaves it as it was:
 -- a mark stands beside the history and is looked at first.
 use Rattle.std.specs.Prelude.{Bool, true, false, cond, not, ◌&&◌, ◌||◌, ℕ, zero, suc, List, [], ◌∷◌, Option, Some, None}
 use Rattle.amqp_method.specs.declared.kinds.Kind.TheVariants as kinds

@@ -1,6 +1,6 @@
 -- What an end writes down of itself: one note a frame, the items that it told and those that it said, in the order in which
 -- these came over all channels. Each frame taken and each frame put makes them longer, and by these words it is said by what.
-use Rattle.std.specs.Prelude.{◌≡◌, ◌≢◌, true, false, cond, ℕ, zero, suc, ◌==◌, List, [], ◌∷◌, ◌++◌, map, Option, Some, None}
+use Rattle.std.specs.Prelude.{◌≡◌, true, false, cond, ℕ, zero, suc, ◌==◌, List, [], ◌∷◌, ◌++◌, map, Option, Some, None}
 use Rattle.std.specs.Option.{option_to_list}
 use Rattle.amqp_model.specs.Frame.{Frame}
 use Rattle.amqp_model.specs.Notes.{Role, Kind}
@@ -17,7 +17,6 @@ use Rattle.amqp_model.specs.FrameVerdict.{event_told}
 use Rattle.amqp_model.specs.EndVerdict.{facts_at, end_verdict, end_puts, goes_on}
 use Rattle.amqp_model.specs.ReadingBack.{AskReadsBack, WritesReadBack}
 use Rattle.amqp_model.specs.LawfulHistories.{end_of, then_put, then_taken, Lawful}
-use Rattle.amqp_model.specs.Machine.{StandsFor}
 use Rattle.amqp_model.specs.Sent.{Telling, life_on, told, said}
 
 -- what a frame is to its channel, apart from the bit of a flow; on channel 0 every frame is an Other
@@ -82,7 +81,8 @@ TellsEvent role config history frame =
     WritesReadBack role config → Lawful role config false history
     → goes_on (end_verdict config (end_of config history) frame) ≡ true
     → told role config (then_taken config (end_of config history) frame history)
-    ≡ told role config history ++ telling_at frame.channel (life_on role frame.channel history) (item_in_event (event_told (facts_at config (end_of config history) frame.channel) (end_verdict config (end_of config history) frame)))
+    ≡ told role config history ++ telling_at frame.channel (life_on role frame.channel history)
+    (item_in_event (event_told (facts_at config (end_of config history) frame.channel) (end_verdict config (end_of config history) frame)))
 
 -- and frames that are put leave it
 abbrev pub PutsTellNothing : (role : Role) → Config role → List Frame → History → Type 0

@@ -19,7 +19,7 @@ pub fn steps_are_counted()
     ensures lowest { LowestAboveComesFirst }
 {}
 
-/// A row is arranged just where, read as a whole, it follows the rules: it stands in three parts, and where one
+/// A row is arranged exactly when, read as a whole, it follows the rules: it stands in three parts, and where one
 /// channel follows another, no channel stands after that would be met before.
 pub fn rows_follow_rules()
     ensures { ArrangedByRules }

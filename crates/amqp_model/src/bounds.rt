@@ -12,6 +12,7 @@ ghost use Rattle.amqp_model.specs.Frame.{Frame};
 ghost use Rattle.amqp_model.specs.Histories.{History};
 ghost use Rattle.amqp_model.specs.Negotiation.{Config};
 ghost use Rattle.amqp_model.specs.Notes.{Role};
+ghost use Rattle.amqp_model.specs.Numbers.{StandsNumbered};
 
 /// Each Open channel of an end is within its bounds: of a new end, after each frame and each ask, and so of every end that
 /// stands for a lawful history.
@@ -27,4 +28,9 @@ pub fn ends_are_bounded()
 pub fn answers_are_bounded()
     ensures octets { (role : Role) (config : Config role) (end : End) (n : ℕ) → GatheredIsWithin role config end n }
     ensures states { (end : End) (n : ℕ) → OthersAreFree end n }
+{}
+
+/// No channel above the agreed maximum is kept: at most so many channels are other than Free.
+pub fn channels_are_numbered()
+    ensures { (role : Role) (config : Config role) (end : End) (history : History) → StandsNumbered role config end history }
 {}

@@ -58,7 +58,7 @@ pub fn gathering_begins_afresh()
     ensures later { (later before : List Payload) → GathersAfresh later before }
 {}
 
-/// The machine's answer to a payload: a content just where its payloads are all there, a misfit just where the payload
+/// The machine's answer to a payload: a content exactly when its payloads are all there, a misfit exactly when the payload
 /// can't come next, and else what is then under way.
 pub fn step_tells()
     ensures whole { (before : List Payload) (payload : Payload) (content : Content) → TellsWhole before payload content }

@@ -26,7 +26,7 @@ pub fn written_reads_back()
     amqp_method::encoded_is_read();
 }
 
-/// A configuration fits its fields just where it has no fault, if its numbers and its hello do. What an end says of itself
+/// A configuration fits its fields exactly when it has no fault, if its numbers and its hello do. What an end says of itself
 /// can be written then.
 pub fn fitting_config_writes()
     ensures faultless { (role : Role) (config : Config role) → FaultlessConfigFits role config }

@@ -19,3 +19,4 @@ pub mod pieces;
 pub mod replies;
 pub mod traces;
 pub mod two_ends;
+pub mod verdicts;

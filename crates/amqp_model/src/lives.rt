@@ -38,7 +38,7 @@ pub fn acted_is_prefix_of_sent()
     ensures { (role : Role) (mine theirs : List Note) → RunAt role mine theirs → ActsOnPrefix role mine theirs }
 {}
 
-/// Where the channel is Opening or Open at an end that has not put connection.close, all that is on its way to it is
+/// Where the channel is Opening or Open at an end that has not put connection.close, all that is in flight to it is
 /// of its own life, and with what it acted on it is all that the other sent in that life.
 pub fn in_flight()
     ensures life { (role : Role) (mine theirs : List Note) → RunAt role mine theirs → OnItsWayIsOfItsLife role mine theirs }

@@ -17,8 +17,8 @@ ghost use Rattle.amqp_model.specs.OctetLaws.{AcceptedFollows, CutGoesOn, CutStop
 
 use crate::fitting::written_reads_back;
 
-/// Of octets of which no shorter prefix is a frame or tells a fault, what they are judged to be is what they are: a
-/// frame begun, a whole frame within the limit, or octets of which the last tells a fault. They are but one of these.
+/// Of octets of which no shorter prefix is a frame or shows a fault, what they are judged to be is what they are: a
+/// frame begun, a whole frame within the limit, or octets of which the last shows a fault. They are exactly one of these.
 pub fn judged_is_said()
     ensures said { JudgedIsSaid }
     ensures one { OneIsSaid }

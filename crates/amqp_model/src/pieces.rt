@@ -27,7 +27,7 @@ pub fn unfinished_is_held()
 {}
 
 /// Where a splitter answers with a frame, the end does what it does with that frame. Where it answers with none, all of the
-/// piece is taken and nothing comes. Where it reports a fault of the octets, the end fails at the octet that tells it.
+/// piece is taken and nothing comes. Where it reports a fault of the octets, the end fails at the octet that shows it.
 pub fn pieces_are_split()
     ensures frame { (role : Role) (config : Config role) (endpoint : Endpoint) (stream : Stream) (piece : List ℕ) (taken : ℕ) (frame : Frame) → FeedGivesFrame role config endpoint stream piece taken frame }
     ensures rest { (role : Role) (config : Config role) (endpoint : Endpoint) (stream : Stream) (piece : List ℕ) (taken : ℕ) → FeedWaits role config endpoint stream piece taken }

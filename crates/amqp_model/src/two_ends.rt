@@ -47,7 +47,7 @@ pub fn all_items_acted_on_at_close()
 {}
 
 /// Where the channel is Opening or Open at an end that has not put connection.close, the items that the other sent in
-/// that life are those that the frames acted on and then the messages on their way encode, read one after the other.
+/// that life are those that the frames acted on and then the messages in flight encode, read one after the other.
 pub fn items_in_flight()
     ensures { (role : Role) (client_config : Config Client) (server_config : Config Server) (mine theirs : History) (n : ℕ) → PairAt role client_config server_config mine theirs → ItemsSentAreActedOnOrInFlight role (suc n) mine theirs }
 {}

@@ -52,12 +52,7 @@ fn faults_of_frames(rt: HostRuntime) -> Result<(), Fail> {
 #[test]
 fn faults_of_values(rt: HostRuntime) -> Result<(), Fail> {
     for (kind, number, text, name) in [
-        (
-            ValueFaultKind::Ends,
-            1,
-            "the octets end inside the table",
-            "Ends",
-        ),
+        (ValueFaultKind::Ends, 1, "the octets end early", "Ends"),
         (ValueFaultKind::UnknownTag, 2, "unknown tag", "UnknownTag"),
         (
             ValueFaultKind::PassesItsEnd,

@@ -10,7 +10,7 @@ fault_at at kind = record { at = at; kind = kind }
 abbrev pub out_of_memory : ValueFault
 out_of_memory = fault_at 0 OutOfMemory
 
--- the number under which a fault is told
+-- the number under which a fault is reported
 abbrev pub fault_number : ValueFaultKind → ℕ
 fault_number Ends = 1
 fault_number UnknownTag = 2

@@ -35,7 +35,7 @@ pub enum ValueFaultKind {
 }
 
 impl ValueFaultKind {
-    /// The number under which the fault is told, from 1.
+    /// The number under which the fault is reported, from 1.
     pub fn number(self) -> u8
         ensures { result ≡ fault_number self }
     {
@@ -43,7 +43,7 @@ impl ValueFaultKind {
     }
 }
 
-/// A fault, and the place of the octet that tells it, counted from 0.
+/// A fault, and the place of the octet that shows it, counted from 0.
 #[derive(Clone, Copy, Debug, PartialEq, Eq, Error)]
 #[error("{kind} at octet {at}")]
 pub struct ValueFault {

@@ -226,10 +226,10 @@ fn read_pairs(
 /// and that many octets of pairs.
 ///
 /// A fault tells the first element that can't be read, in order: the outer count, a name with its length
-/// octet, a tag octet, the value after a tag with its count where it has one. Ends is told at 0 only,
+/// octet, a tag octet, the value after a tag with its count where it has one. Ends is reported at 0 only,
 /// where the octets have fewer than four, or fewer than the outer count says; inside, what doesn't fit
-/// the table or the array round it passes its end. UnknownTag and TooDeep are told at the tag. Want of
-/// memory is told at 0. Memory is asked only for octets that are there, whatever a count says.
+/// the table or the array round it passes its end. UnknownTag and TooDeep are reported at the tag. Out of
+/// memory is reported at 0. Memory is asked only for octets that are there, whatever a count says.
 pub fn read_table(alloc: Global, octets: &[u8]) -> Result<(Table, usize), ValueFault>
     // What is read is encoded so.
     ensures found { IfOk result (λ x. EncodesTable (table_view x.0) (take x.1 octets.now)) }
