@@ -132,6 +132,8 @@ unread_stays role config end (suc n) reading h unread = λ kind payload. sym (en
 pub above_stays : (role : Role) (config : Config role) (end : End) (number : ℕ) (reading : Reading) → leaves end.phase ≡ true → 0 < number → EndLeft config number reading (Proceeds (Some (Discarded number)) []) end end
 above_stays role config end number reading h above = λ kind payload. sym (entry_leaving role config number (TookHere reading (frame_at number kind payload)) end above h)
 
+pub ruleset drops = (drops_unread, drops_above, unread_stays, above_stays)
+
 -- Heartbeats.
 
 beat_by : (role : Role) (config : Config role) (phase : Phase) (agreed : Option Agreed) (number : ℕ) (channel : Channel) (empty : Bool) → takes_frames phase ≡ true → leaves phase ≡ false → verdict_on (record { config = config; phase = phase; agreed = agreed; number = number; channel = channel }) (Beat empty) ≡ cond ((number == 0) && empty) (Proceeds (Some Quiet) []) (fault FrameError)

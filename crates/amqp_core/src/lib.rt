@@ -18,6 +18,7 @@ mod read;
 mod roles;
 mod settings;
 mod stage;
+mod taking;
 #[cfg(test)]
 mod tests;
 mod verdict;
