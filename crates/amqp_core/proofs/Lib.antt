@@ -8,6 +8,7 @@ pub mod LeavingLemmas
 pub mod HandshakeLemmas
 pub mod ConnectionLemmas
 pub mod OutcomeLemmas
+pub mod NewLemmas
 pub mod PutLemmas
 pub mod EndLemmas
 pub mod PutSteps

@@ -1,15 +1,14 @@
 -- From a verdict to what the definitions say of the end that takes the frame.
-use Rattle.std.proofs.Common.{◌≡◌, ◌≢◌, ◌==◌, Bool, true, false, cond, ℕ, zero, suc, List, [], ◌∷◌, Option, Some, refl, ap, sym, ◌∙◌, subst, arith}
+use Rattle.std.proofs.Common.{◌≡◌, ◌==◌, Bool, true, false, ℕ, zero, suc, List, Option, refl, ap, sym, ◌∙◌, subst, arith}
 use Rattle.std.proofs.lemmas.Bool.Decides.{nat_tests}
 use Rattle.amqp_frame.specs.declared.frames.FrameKind.{FrameKind}
 use Rattle.amqp_model.specs.Channels.{Channel, End, Phase, Handshake, Running, Closing, Closed, Failed, Agreed}
-use Rattle.amqp_model.specs.Closes.{CloseCode, Owed, ContentTooLarge, channel_close, connection_close}
 use Rattle.amqp_model.specs.EndVerdict.{facts_at}
 use Rattle.amqp_model.specs.Endpoint.{outcome_of}
 use Rattle.amqp_model.specs.Events.{Fault, Peer, Fatal, WrongProtocolHeader, AlreadyClosed, AlreadyFailed, FrameVerdict, Proceeds, RefusesContent, Faults}
-use Rattle.amqp_model.specs.FrameVerdict.{Facts, methods_put}
+use Rattle.amqp_model.specs.FrameVerdict.{methods_put}
 use Rattle.amqp_model.specs.Histories.{ChannelEntry, TookHere}
-use Rattle.amqp_model.specs.Machine.{end_after, end_after_owed, end_after_taken, taken_verdict, as_failed, failed_by}
+use Rattle.amqp_model.specs.Machine.{end_after, end_after_owed, end_after_taken, taken_verdict, failed_by}
 use Rattle.amqp_model.specs.Negotiation.{Config}
 use Rattle.amqp_model.specs.Notes.{Role, Client, Server}
 use Rattle.amqp_model.specs.Readings.{Reading}

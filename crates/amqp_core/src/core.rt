@@ -5,6 +5,7 @@ ghost use Rattle.std.specs.Prelude.{◌≡◌, ◌<◌, ℕ, true, false, Some, 
 ghost use Rattle.amqp_method.specs.MethodView.{method_view};
 ghost use Rattle.amqp_model.specs.Channels.{End};
 ghost use Rattle.amqp_model.specs.EndVerdict.{takes_frames};
+ghost use Rattle.amqp_model.specs.Machine.{as_failed, new_end};
 ghost use Rattle.amqp_model.specs.Methods.{method_at, header_at};
 ghost use Rattle.amqp_model.specs.Readings.{Calls, Beat, BodyOf, method_reading, header_reading};
 ghost use Rattle.amqp_core.specs.Closes.{code_view};
@@ -94,6 +95,29 @@ impl Core {
     ghost use Rattle.amqp_core.specs.Used.{is_closing_at};
     ghost use Rattle.amqp_core.specs.VerdictView.{verdict_view};
     ghost use Rattle.amqp_core.specs.declared.settings.Settings.{Settings};
+
+    /// An end as it begins.
+    pub(crate) fn new(alloc: Global, settings: Settings) -> Core
+        ensures end { core_end result ≡ new_end (role_for settings) }
+        ensures settings { result.settings ≡ settings }
+    {
+        let stage = Stage::first(settings.hello.side());
+        let channels = Channels::new(alloc);
+        Core {
+            alloc,
+            settings,
+            stage,
+            channels,
+        }
+    }
+
+    /// Out of memory, or after a fault of the octets: the end takes nothing more. What was agreed is known still.
+    pub(crate) fn fail(&mut self)
+        ensures end { core_end self.new ≡ as_failed (core_end self.old) }
+        ensures settings { self.new.settings ≡ self.old.settings }
+    {
+        self.stage = Stage::Failed(self.stage.agreed());
+    }
 
     fn site(&self, number: u16, channel_max: u16) -> Site
         ensures { result ≡ site_at self.now.settings number channel_max }

@@ -1,6 +1,6 @@
 use Rattle.std.proofs.Common.{◌≡◌, Some, None, ap, sym, subst}
 use Rattle.amqp_method.specs.MethodView.{method_view}
-use Rattle.amqp_model.specs.Notes.{Client, Server}
+use Rattle.amqp_model.specs.Notes.{Client}
 use Rattle.amqp_model.specs.Readings.{Calls}
 use Rattle.amqp_core.specs.ChannelsView.{channels_view}
 use Rattle.amqp_core.specs.CoreView.{IsVerdict, LeavesEnd}

@@ -1,8 +1,8 @@
-use Rattle.std.proofs.Common.{rules, arith, ◌≡◌, true, false, Some, None, ap, sym, subst, ◌∙◌}
+use Rattle.std.proofs.Common.{rules, arith, ◌≡◌, true, false, Some, None, ap, sym, subst}
 use Rattle.amqp_method.specs.MethodView.{method_view}
 use Rattle.amqp_model.specs.Events.{Fatal}
-use Rattle.amqp_model.specs.Negotiation.{smaller, agreed_in, tunes_too_small}
-use Rattle.amqp_model.specs.Notes.{Client, Server}
+use Rattle.amqp_model.specs.Negotiation.{agreed_in}
+use Rattle.amqp_model.specs.Notes.{Server}
 use Rattle.amqp_model.specs.Readings.{Calls}
 use Rattle.amqp_core.specs.ChannelsView.{channels_view}
 use Rattle.amqp_core.specs.CoreView.{IsVerdict, LeavesEnd}
