@@ -1,15 +1,14 @@
 -- From what is decided on a channel, or on no channel, to the verdict of an end and what it is left as.
-use Rattle.std.proofs.Common.{◌≡◌, ◌≢◌, ◌<◌, ◌==◌, ◌&&◌, Bool, true, false, cond, ℕ, zero, suc, List, [], ◌∷◌, map, Option, Some, None, refl, ap, sym, ◌∙◌, subst, arith}
+use Rattle.std.proofs.Common.{◌≡◌, ◌<◌, ◌==◌, ◌&&◌, Bool, true, false, cond, ℕ, zero, suc, [], ◌∷◌, Option, Some, refl, ap, sym, ◌∙◌, subst, arith}
 use Rattle.std.proofs.lemmas.Bool.{eqb-true, eqb-false}
 use Rattle.std.proofs.lemmas.Bool.Decides.{nat_tests}
-use Rattle.amqp_frame.specs.declared.frames.FrameKind.{FrameKind}
 use Rattle.amqp_method.specs.declared.kinds.Kind.TheVariants as kinds
 use Rattle.amqp_model.specs.Channels as channels
 use Rattle.amqp_model.specs.Channels.{Channel, End, Phase, Handshake, Running, Closing, Closed, Failed, HandshakeStep, AwaitsProtocolHeader, AwaitsStart, AwaitsStartOk, AwaitsTune, AwaitsTuneOk, AwaitsOpen, AwaitsOpenOk, Agreed}
 use Rattle.amqp_model.specs.Closes.{ContentTooLarge, FrameError, close_as, number_of, text_of, reply_to}
-use Rattle.amqp_model.specs.EndVerdict.{takes_frames, facts_at}
-use Rattle.amqp_model.specs.Events.{Fault, FrameVerdict, Proceeds, RefusesContent, Faults, Discarded, Quiet}
-use Rattle.amqp_model.specs.FrameVerdict.{Facts, fault, leaving_on, as_lives, verdict_on, on_method, in_handshake, on_content}
+use Rattle.amqp_model.specs.EndVerdict.{takes_frames}
+use Rattle.amqp_model.specs.Events.{Fault, FrameVerdict, Proceeds, Faults, Discarded, Quiet}
+use Rattle.amqp_model.specs.FrameVerdict.{fault, leaving_on, as_lives, verdict_on}
 use Rattle.amqp_model.specs.Histories.{TookHere}
 use Rattle.amqp_model.specs.Machine.{set_channel, taken_verdict, end_after}
 use Rattle.amqp_model.specs.Methods.{Method}
@@ -33,7 +32,7 @@ use Rattle.amqp_core.specs.declared.stage.Stage.TheVariants as stages
 use Rattle.amqp_core.specs.declared.verdict.Site.{Site}
 use Rattle.amqp_core.specs.declared.verdict.Verdict.{Verdict}
 use Rattle.amqp_core.specs.declared.verdict.Verdict.TheVariants as code
-use Rattle.amqp_core.proofs.EntryLemmas.{with_channel, entry_above, entry_leaving, taken_above, agreed_above, nothing_stays, no_call, IsNoCall}
+use Rattle.amqp_core.proofs.EntryLemmas.{with_channel, entry_leaving, taken_above, agreed_above, nothing_stays, no_call, IsNoCall}
 
 -- A channel's step is the end's.
 
@@ -131,6 +130,8 @@ unread_stays role config end (suc n) reading h unread = λ kind payload. sym (en
 
 pub above_stays : (role : Role) (config : Config role) (end : End) (number : ℕ) (reading : Reading) → leaves end.phase ≡ true → 0 < number → EndLeft config number reading (Proceeds (Some (Discarded number)) []) end end
 above_stays role config end number reading h above = λ kind payload. sym (entry_leaving role config number (TookHere reading (frame_at number kind payload)) end above h)
+
+pub ruleset drops = (drops_unread, drops_above, unread_stays, above_stays)
 
 -- Heartbeats.
 

@@ -1,9 +1,9 @@
 -- What an entry of a frame leaves of an end.
-use Rattle.std.proofs.Common.{◌≡◌, ◌≢◌, ◌<◌, ◌==◌, ◌&&◌, ◌||◌, not, Bool, true, false, cond, ℕ, zero, suc, List, [], ◌∷◌, map, Option, Some, None, refl, ap, sym, ◌∙◌, arith}
+use Rattle.std.proofs.Common.{◌≡◌, ◌<◌, ◌==◌, Bool, true, false, cond, ℕ, zero, suc, List, [], ◌∷◌, map, Option, refl, ap, sym, ◌∙◌, arith}
 use Rattle.std.proofs.lemmas.Bool.{eq-eqb, eqb-true}
 use Rattle.amqp_method.specs.declared.kinds.Kind.TheVariants as kinds
-use Rattle.amqp_model.specs.Channels.{Channel, End, Phase, HandshakeStep, Handshake, Running, Closing, Closed, Failed, Agreed}
-use Rattle.amqp_model.specs.Closes.{CloseCode, Owed, close_as, number_of, text_of, frame_of, connection_close}
+use Rattle.amqp_model.specs.Channels.{Channel, End, Phase, Handshake, Running, Closing, Closed, Failed, Agreed}
+use Rattle.amqp_model.specs.Closes.{frame_of}
 use Rattle.amqp_model.specs.FrameVerdict.{on_channel}
 use Rattle.amqp_model.specs.Histories.{ChannelEntry, PutHere, TookHere}
 use Rattle.amqp_model.specs.Machine.{set_channel, channel_after, unless_leaving, end_after, end_after_owed, phase_taken, agreed_after}

@@ -1,12 +1,11 @@
 -- The steps of the handshake, one by one.
-use Rattle.std.proofs.Common.{◌≡◌, ◌≢◌, ◌<◌, ◌==◌, ◌&&◌, Bool, true, false, cond, ℕ, List, [], ◌∷◌, Option, Some, None, refl, ap, sym, ◌∙◌, arith}
-use Rattle.amqp_value.specs.Values.{Pairs}
+use Rattle.std.proofs.Common.{◌≡◌, ◌<◌, ◌==◌, ◌&&◌, Bool, true, false, ℕ, [], ◌∷◌, Option, Some, None, refl, sym, arith}
 use Rattle.amqp_method.specs.declared.kinds.Kind.TheVariants as kinds
 use Rattle.amqp_model.specs.Channels as channels
 use Rattle.amqp_model.specs.Channels.{Channel, End, Phase, Handshake, Running, Closing, Closed, Failed, HandshakeStep, AwaitsProtocolHeader, AwaitsStart, AwaitsStartOk, AwaitsTune, AwaitsTuneOk, AwaitsOpen, AwaitsOpenOk, Agreed}
-use Rattle.amqp_model.specs.Closes.{FrameError, CommandInvalid, NotImplemented, Owed, connection_close_ok}
+use Rattle.amqp_model.specs.Closes.{FrameError, CommandInvalid, NotImplemented, connection_close_ok}
 use Rattle.amqp_model.specs.EndVerdict.{takes_frames}
-use Rattle.amqp_model.specs.Events.{Event, Fault, FrameVerdict, Proceeds, Faults, Fatal, Quiet, Negotiated, ConnectionClosed, reason_in}
+use Rattle.amqp_model.specs.Events.{Event, Fault, FrameVerdict, Proceeds, Faults, Fatal, Quiet, Negotiated}
 use Rattle.amqp_model.specs.FrameVerdict.{on_zero, fault, closed_by, is_awaited, verdict_on}
 use Rattle.amqp_model.specs.Methods.{Method, MethodKind, same_kind, number_at}
 use Rattle.amqp_model.specs.Negotiation.{Hello, OfClient, Config, smaller, agreed_in, tunes_too_small, connection_open_ok}

@@ -1,12 +1,10 @@
 -- What an end that has put connection.close does with a method on channel 0.
-use Rattle.std.proofs.Common.{◌≡◌, ◌&&◌, Bool, true, false, cond, ℕ, List, [], ◌∷◌, Option, Some, None, refl, ap, sym, ◌∙◌}
+use Rattle.std.proofs.Common.{◌≡◌, ◌&&◌, Bool, true, false, ℕ, [], ◌∷◌, Option, Some, None, refl, ◌∙◌}
 use Rattle.amqp_method.specs.declared.kinds.Kind.TheVariants as kinds
 use Rattle.amqp_model.specs.Channels.{Channel, End, Phase, Handshake, Running, Closing, Closed, Failed, Agreed}
 use Rattle.amqp_model.specs.Closes.{connection_close_ok}
 use Rattle.amqp_model.specs.Events.{Proceeds, Quiet, ConnectionClosed, Discarded}
-use Rattle.amqp_model.specs.Frame.{Frame}
-use Rattle.amqp_model.specs.Histories.{TookHere}
-use Rattle.amqp_model.specs.Machine.{end_after, end_after_owed, taken_verdict}
+use Rattle.amqp_model.specs.Machine.{taken_verdict}
 use Rattle.amqp_model.specs.Methods.{Method, MethodKind, same_kind}
 use Rattle.amqp_model.specs.Negotiation.{Config}
 use Rattle.amqp_model.specs.Notes.{Role, Client, Server}

@@ -6,6 +6,9 @@ pub mod UsedLemmas
 pub mod CoreLemmas
 pub mod LeavingLemmas
 pub mod HandshakeLemmas
+pub mod ConnectionLemmas
+pub mod OutcomeLemmas
+pub mod NewLemmas
 pub mod PutLemmas
 pub mod EndLemmas
 pub mod PutSteps

@@ -8,7 +8,7 @@ use Rattle.amqp_model.specs.Contents.{pieces, room_in}
 use Rattle.amqp_model.specs.Frame.{Frame}
 use Rattle.amqp_model.specs.Histories.{PutHere}
 use Rattle.amqp_model.specs.Machine.{channel_after}
-use Rattle.amqp_model.specs.Methods.{Method, MethodKind, Properties}
+use Rattle.amqp_model.specs.Methods.{Method, Properties}
 use Rattle.amqp_model.specs.Notes.{Role, Client, Server}
 use Rattle.amqp_model.specs.Readings.{Reading, Calls, HeaderOf, BodyOf}
 use Rattle.amqp_core.proofs.PartLemmas.{IsPart}

@@ -1,7 +1,6 @@
 -- What the code keeps of a connection, in the words of the model, and what it decides.
 use Rattle.std.specs.Prelude.{◌≡◌, ℕ, List, [], ◌∷◌, Option, Result, Ok, Err}
 use Rattle.amqp_frame.specs.declared.frames.FrameKind.{FrameKind}
-use Rattle.amqp_model.specs.Channels as channels
 use Rattle.amqp_model.specs.Channels.{End}
 use Rattle.amqp_model.specs.Closes.{ContentTooLarge, channel_close}
 use Rattle.amqp_model.specs.Endpoint as endpoint
@@ -17,13 +16,13 @@ use Rattle.amqp_core.specs.ChannelsView.{channels_view}
 use Rattle.amqp_core.specs.Closes.{code_view}
 use Rattle.amqp_core.specs.EventView.{event_there}
 use Rattle.amqp_core.specs.OwedView.{owed_view}
-use Rattle.amqp_core.specs.Settings.{config_view, role_for, side_in}
+use Rattle.amqp_core.specs.Settings.{config_view, side_in}
 use Rattle.amqp_core.specs.Stages.{phase_at, agreed_at}
-use Rattle.amqp_core.specs.declared.core.Core.{Core}
-use Rattle.amqp_core.specs.declared.core.Decision.{Decision}
-use Rattle.amqp_core.specs.declared.core.Decision.TheVariants as code
-use Rattle.amqp_core.specs.declared.core.Fault.{Fault}
-use Rattle.amqp_core.specs.declared.core.Fault.TheVariants.{Peer, Fatal}
+use Rattle.amqp_core.specs.declared.one_end.Core.{Core}
+use Rattle.amqp_core.specs.declared.one_end.Decision.{Decision}
+use Rattle.amqp_core.specs.declared.one_end.Decision.TheVariants as code
+use Rattle.amqp_core.specs.declared.one_end.Fault.{Fault}
+use Rattle.amqp_core.specs.declared.one_end.Fault.TheVariants.{Peer, Fatal}
 use Rattle.amqp_core.specs.declared.events.Event.{Event}
 use Rattle.amqp_core.specs.declared.settings.Settings.{Settings}
 use Rattle.amqp_core.specs.declared.verdict.Site.{Site}

@@ -20,6 +20,7 @@ pub mod Reads
 pub mod OwedView
 pub mod CoreView
 pub mod Handshakes
+pub mod Outcomes
 pub mod Puts
 pub mod Laws
 pub mod OutboxSlots

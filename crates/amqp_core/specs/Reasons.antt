@@ -23,3 +23,8 @@ pub record AreOfClose (args : List Arg) : Type 0 where
   pub many : 1 < length args
   pub code : (other : Arg) → kind_of (arg_view (slice_index_or args 0 other)) ≡ Short
   pub text : (other : Arg) → kind_of (arg_view (slice_index_or args 1 other)) ≡ ShortStr
+
+-- the arguments begin with a short string
+pub record BeginsWithText (args : List Arg) : Type 0 where
+  pub many : 0 < length args
+  pub text : (other : Arg) → kind_of (arg_view (slice_index_or args 0 other)) ≡ ShortStr

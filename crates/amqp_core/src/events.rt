@@ -2,13 +2,13 @@
 ghost use Rattle.std.specs.Prelude.{◌≡◌, Some, IfOk};
 ghost use Rattle.amqp_method.specs.Arguments.{kind_of};
 ghost use Rattle.amqp_method.specs.Views.{arg_view, args_view};
-ghost use Rattle.amqp_model.specs.Methods.{number_in, octets_in};
+ghost use Rattle.amqp_model.specs.Methods.{number_in, octets_in, octets_at};
 ghost use Rattle.amqp_method.specs.MethodView.{method_view};
 ghost use Rattle.amqp_model.specs.Events.{reason_in};
-ghost use Rattle.amqp_core.specs.Reasons.{reason_view, IsClose, AreOfClose};
+ghost use Rattle.amqp_core.specs.Reasons.{reason_view, IsClose, AreOfClose, BeginsWithText};
 
 use crate::faults::OutOfMemory;
-use amqp_method::{Arg, FieldKind, Message, Method};
+use amqp_method::{Arg, FieldKind, Kind, Message, Method};
 use amqp_value::ShortStr;
 
 /// What tune-ok settles.
@@ -95,4 +95,24 @@ pub(crate) fn reason_of(method: &Method) -> Result<Reason, OutOfMemory>
     let code = held_short(&args[0]);
     let text = held_text(&args[1]).copy()?;
     Ok(Reason { code, text })
+}
+
+/// The arguments of connection.blocked: the reason comes first.
+fn blocked_args(method: &Method) -> &[Arg]
+    requires { (method_view method.now).kind ≡ Kind.ConnectionBlocked }
+    ensures args { args_view result.now ≡ (method_view method.now).args }
+    ensures text { BeginsWithText result.now }
+{
+    method.args()
+}
+
+/// The reason in connection.blocked.
+#[tactic(auto, using(crate::proofs::ArgumentLemmas::arguments))]
+pub(crate) fn blocked_reason(method: &Method) -> Result<ShortStr, OutOfMemory>
+    requires { (method_view method.now).kind ≡ Kind.ConnectionBlocked }
+    ensures { IfOk result (λ text. text ≡ octets_at 0 (method_view method.now)) }
+{
+    let args = blocked_args(method);
+    let text = held_text(&args[0]).copy()?;
+    Ok(text)
 }

@@ -12,14 +12,14 @@ ghost use Rattle.amqp_core.specs.Roles.{role_of};
 ghost use Rattle.amqp_core.specs.Stages.{phase_at, leaves};
 
 use crate::codes::CloseCode;
-use crate::core::{Core, Decision, Fault, closes_with};
-use crate::events::{Agreed, Event, reason_of};
+use crate::one_end::{Core, Decision, Fault, closes_with};
+use crate::events::{Agreed, Event, blocked_reason, reason_of};
 use crate::faults::OutOfMemory;
 use crate::owed::Owed;
 use crate::roles::Side;
 use crate::settings::Settings;
 use crate::stage::Stage;
-use crate::words::{number_at, same};
+use crate::words::{is_of_connection, number_at, same};
 use amqp_method::{Kind, Method};
 
 /// No smaller frame may be agreed.
@@ -30,7 +30,11 @@ fn smaller(own: u64, others: u64) -> u64
     ensures value { result ≡ smaller_limit own others }
     ensures within { result ≤ own }
 {
-    if others == 0 || own < others { own } else { others }
+    if others == 0 || own < others {
+        own
+    } else {
+        others
+    }
 }
 
 /// Whether a server tunes to a frame that is too small; its 0 means no limit.
@@ -95,7 +99,7 @@ impl Core {
     ghost use Rattle.amqp_core.specs.Settings.{role_for, side_in};
 
     /// The other end closes the connection.
-    fn on_closed(&mut self, method: &Method) -> Result<Decision, OutOfMemory>
+    fn on_close(&mut self, method: &Method) -> Result<Decision, OutOfMemory>
         requires running { leaves (phase_at self.old.stage) ≡ false }
         requires going { takes_frames (phase_at self.old.stage) ≡ true }
         requires close { (method_view method.now).kind ≡ Kind.ConnectionClose }
@@ -240,7 +244,7 @@ impl Core {
     {
         let kind = method.kind();
         if same(kind, Kind::ConnectionClose) {
-            return self.on_closed(method);
+            return self.on_close(method);
         }
         let side = self.settings.hello.side();
         if side.is_client() && same(kind, Kind::ConnectionSecure) {
@@ -253,5 +257,42 @@ impl Core {
             return Ok(closes_with(CloseCode::CommandInvalid));
         }
         Ok(self.on_awaited(method))
+    }
+
+    /// A method on channel 0 of a connection that is Running: the other end's close, and the server's blocked and unblocked.
+    #[tactic(auto, using(crate::proofs::HandshakeLemmas::awaited_kinds, crate::proofs::ConnectionLemmas::connection_kinds))]
+    pub(crate) fn on_connection(
+        &mut self,
+        agreed: Agreed,
+        method: &Method,
+    ) -> Result<Decision, OutOfMemory>
+        requires running { self.old.stage ≡ Stage.Running agreed }
+        ensures verdict { IfOk result (λ d. IsVerdict self.old.settings (core_end self.old) 0 (Calls (method_view method.now)) d) }
+        ensures after { IfOk result (λ d. LeavesEnd self.old.settings 0 (Calls (method_view method.now)) d (core_end self.old) (core_end self.new)) }
+        ensures settings { self.new.settings ≡ self.old.settings }
+        ensures err { OnErr result (self.new.stage ≡ self.old.stage) }
+    {
+        let kind = method.kind();
+        if same(kind, Kind::ConnectionClose) {
+            return self.on_close(method);
+        }
+        let side = self.settings.hello.side();
+        if side.is_client() && same(kind, Kind::ConnectionSecure) {
+            return Ok(closes_with(CloseCode::NotImplemented));
+        }
+        if side.is_client() && same(kind, Kind::ConnectionBlocked) {
+            let reason = blocked_reason(method)?;
+            return Ok(Decision::Proceeds(Some(Event::Blocked(reason)), Owed::Nothing));
+        }
+        if side.is_client() && same(kind, Kind::ConnectionUnblocked) {
+            return Ok(Decision::Proceeds(Some(Event::Unblocked), Owed::Nothing));
+        }
+        if is_of_connection(kind) {
+            return Ok(closes_with(CloseCode::CommandInvalid));
+        }
+        if !side.may_take(kind) {
+            return Ok(closes_with(CloseCode::CommandInvalid));
+        }
+        Ok(closes_with(CloseCode::ChannelError))
     }
 }

@@ -23,7 +23,7 @@ use crate::faults::OutOfMemory;
 use crate::gathering::{Gathering, Misfit, Part};
 use crate::roles::Side;
 use crate::verdict::{Reply, Site, Verdict};
-use crate::words::{answers_first, bit_at, carries_content, is_reply, is_request};
+use crate::words::{answers_first, bit_at, carries_content};
 use amqp_method::{Header, Kind, Message, Method};
 use std::alloc::Global;
 use std::collections::VecDeque;
@@ -103,7 +103,7 @@ impl Life {
         match part {
             Part::Kept => Verdict::Proceeds(None, None),
             Part::Completed(content) => {
-                if site.side.is_client() && is_reply(content.kind()) {
+                if site.side.is_client() && content.kind().is_reply() {
                     let _ = self.requests.pop_front();
                 }
                 Verdict::Proceeds(Some(Event::Told(site.number, content.into_message())), None)
@@ -124,12 +124,12 @@ impl Life {
     {
         match site.side {
             Side::Client => {
-                if is_request(method) {
+                if method.is_request() {
                     self.requests.push_back(method.kind())?;
                 }
             }
             Side::Server => {
-                if is_reply(method.kind()) {
+                if method.kind().is_reply() {
                     let _ = self.requests.pop_front();
                 }
             }
@@ -185,7 +185,7 @@ impl Life {
         ensures verdict { verdict_view site.number result ≡ on_matched Client site.number (life_view self.old).requests (method_view method) }
         ensures after { (frame : Frame) → LeavesAfter Client site.number frame (Calls (method_view method)) (verdict_view site.number result) (Open (life_view self.old)) (Open (life_view self.new)) }
     {
-        let replies = is_reply(method.kind());
+        let replies = method.kind().is_reply();
         if replies && !answers_first(method.kind(), &self.requests) {
             return Verdict::Faults(CloseCode::CommandInvalid);
         }
@@ -207,7 +207,7 @@ impl Life {
         ensures after { IfOk result (λ v. (frame : Frame) → LeavesAfter Server site.number frame (Calls (method_view method)) (verdict_view site.number v) (Open (life_view self.old)) (Open (life_view self.new))) }
         ensures err { OnErr result (life_view self.new ≡ life_view self.old) }
     {
-        let asks = is_request(&method);
+        let asks = method.is_request();
         if asks && self.requests.len() >= MOST_REQUESTS {
             return Ok(Verdict::Faults(CloseCode::ResourceError));
         }

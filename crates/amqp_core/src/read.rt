@@ -1,8 +1,9 @@
 //! The payloads of method and header frames, read.
-ghost use Rattle.std.specs.Prelude.{◌≡◌, IfOk};
+ghost use Rattle.std.specs.Prelude.{◌≡◌, IfOk, IfErr};
 ghost use Rattle.amqp_model.specs.Methods.{method_at, header_at};
 ghost use Rattle.amqp_model.specs.Readings.{method_reading, header_reading};
 ghost use Rattle.amqp_core.specs.Reads.{call_reading, header_seen};
+ghost use Rattle.amqp_core.specs.Unreads.{IsOfMethod};
 
 use crate::faults::OutOfMemory;
 use crate::verdict::Unread;
@@ -15,7 +16,8 @@ pub(crate) fn read_call(
     alloc: Global,
     payload: &[u8],
 ) -> Result<Result<Method, Unread>, OutOfMemory>
-    ensures { IfOk result (λ read. call_reading read ≡ method_reading (method_at payload.now)) }
+    ensures reading { IfOk result (λ read. call_reading read ≡ method_reading (method_at payload.now)) }
+    ensures method { IfOk result (λ read. IfErr read IsOfMethod) }
 {
     match read_method(alloc, payload) {
         Ok(method) => Ok(Ok(method)),

@@ -26,7 +26,6 @@ impl Side {
     pub fn may_send(self, kind: Kind) -> bool
         ensures { result ≡ sent_by (role_of self) kind }
     {
-        amqp_model::methods::say_as_table();
         match self {
             Side::Client => sends(true, kind),
             Side::Server => sends(false, kind),
@@ -37,7 +36,6 @@ impl Side {
     pub fn may_take(self, kind: Kind) -> bool
         ensures { result ≡ taken_by (role_of self) kind }
     {
-        amqp_model::methods::say_as_table();
         match self {
             Side::Client => sends(false, kind),
             Side::Server => sends(true, kind),

@@ -1,9 +1,12 @@
 //! Where a connection stands: what an end awaits next, and what was agreed by then.
-ghost use Rattle.std.specs.Prelude.{◌≡◌};
+ghost use Rattle.std.specs.Prelude.{◌≡◌, None};
+ghost use Rattle.amqp_model.specs.Machine.{new_end};
+ghost use Rattle.amqp_core.specs.Roles.{role_of};
 ghost use Rattle.amqp_core.specs.EventView.{agreed_there};
 ghost use Rattle.amqp_core.specs.Stages.{agreed_at, phase_at, phase_name, leaves};
 
 use crate::events::Agreed;
+use crate::roles::Side;
 
 /// The phase of a connection.
 #[derive(Clone, Copy, PartialEq, Eq, Debug)]
@@ -34,6 +37,17 @@ pub(crate) enum Stage {
 }
 
 impl Stage {
+    /// What an end of a side awaits first.
+    pub(crate) fn first(side: Side) -> Stage
+        ensures phase { phase_at result ≡ (new_end (role_of side)).phase }
+        ensures agreed { agreed_at result ≡ None }
+    {
+        match side {
+            Side::Client => Stage::AwaitsStart,
+            Side::Server => Stage::AwaitsProtocolHeader,
+        }
+    }
+
     pub(crate) fn phase(self) -> Phase
         ensures { result ≡ phase_name (phase_at self) }
     {

@@ -4,7 +4,7 @@ use Rattle.amqp_model.specs.Readings.{Calls}
 use Rattle.amqp_core.specs.ChannelsView.{channels_view}
 use Rattle.amqp_core.specs.CoreView.{core_end}
 use Rattle.amqp_core.proofs.CoreLemmas.{end_at, channel_leaves}
-use Rattle.amqp_core.proofs.core.Core.on_closing.Goals as goal
+use Rattle.amqp_core.proofs.one_end.Core.on_closing.Goals as goal
 
 pub returns-clause-after : goal.returns-clause-after
 returns-clause-after c =

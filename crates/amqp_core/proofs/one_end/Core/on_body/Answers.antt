@@ -3,7 +3,7 @@ use Rattle.amqp_model.specs.Readings.{BodyOf}
 use Rattle.amqp_core.specs.ChannelsView.{channels_view}
 use Rattle.amqp_core.specs.CoreView.{core_end}
 use Rattle.amqp_core.proofs.CoreLemmas.{end_at, running_decides, running_stays, channel_leaves}
-use Rattle.amqp_core.proofs.core.Core.on_body.Goals as goal
+use Rattle.amqp_core.proofs.one_end.Core.on_body.Goals as goal
 
 pub returns-clause-verdict : goal.returns-clause-verdict
 returns-clause-verdict c =

@@ -6,7 +6,7 @@ use Rattle.amqp_core.specs.ChannelsView.{channels_view}
 use Rattle.amqp_core.specs.CoreView.{core_end, IsVerdict, LeavesEnd}
 use Rattle.amqp_core.specs.Reads.{header_seen}
 use Rattle.amqp_core.proofs.CoreLemmas.{end_at, running_decides, running_stays, channel_leaves}
-use Rattle.amqp_core.proofs.core.Core.on_header.Goals as goal
+use Rattle.amqp_core.proofs.one_end.Core.on_header.Goals as goal
 
 pub returns-in-Some-clause-verdict : goal.returns-in-Some-clause-verdict
 returns-in-Some-clause-verdict c =

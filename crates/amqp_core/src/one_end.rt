@@ -5,9 +5,12 @@ ghost use Rattle.std.specs.Prelude.{◌≡◌, ◌<◌, ℕ, true, false, Some, 
 ghost use Rattle.amqp_method.specs.MethodView.{method_view};
 ghost use Rattle.amqp_model.specs.Channels.{End};
 ghost use Rattle.amqp_model.specs.EndVerdict.{takes_frames};
+ghost use Rattle.amqp_model.specs.Machine.{as_failed, new_end};
 ghost use Rattle.amqp_model.specs.Methods.{method_at, header_at};
 ghost use Rattle.amqp_model.specs.Readings.{Calls, Beat, BodyOf, method_reading, header_reading};
+ghost use Rattle.amqp_core.specs.Closes.{code_view};
 ghost use Rattle.amqp_core.specs.Stages.{phase_at, leaves};
+ghost use Rattle.amqp_core.specs.Unreads.{unread_code};
 ghost use Rattle.amqp_core.specs.declared.events.Event.TheVariants.{Discarded};
 ghost use Rattle.amqp_core.specs.declared.stage.Stage.TheVariants.{Running};
 
@@ -74,7 +77,9 @@ pub(crate) fn closes_with(code: CloseCode) -> Decision
 
 impl Unread {
     /// The code of a method that can't be read.
-    fn code(self) -> CloseCode {
+    pub(crate) fn code(self) -> CloseCode
+        ensures { code_view result ≡ unread_code self }
+    {
         match self {
             Unread::UnknownMethod => CloseCode::NotImplemented,
             Unread::MalformedMethod => CloseCode::SyntaxError,
@@ -90,6 +95,29 @@ impl Core {
     ghost use Rattle.amqp_core.specs.Used.{is_closing_at};
     ghost use Rattle.amqp_core.specs.VerdictView.{verdict_view};
     ghost use Rattle.amqp_core.specs.declared.settings.Settings.{Settings};
+
+    /// An end as it begins.
+    pub(crate) fn new(alloc: Global, settings: Settings) -> Core
+        ensures end { core_end result ≡ new_end (role_for settings) }
+        ensures settings { result.settings ≡ settings }
+    {
+        let stage = Stage::first(settings.hello.side());
+        let channels = Channels::new(alloc);
+        Core {
+            alloc,
+            settings,
+            stage,
+            channels,
+        }
+    }
+
+    /// Out of memory, or after a fault of the octets: the end takes nothing more. What was agreed is known still.
+    pub(crate) fn fail(&mut self)
+        ensures end { core_end self.new ≡ as_failed (core_end self.old) }
+        ensures settings { self.new.settings ≡ self.old.settings }
+    {
+        self.stage = Stage::Failed(self.stage.agreed());
+    }
 
     fn site(&self, number: u16, channel_max: u16) -> Site
         ensures { result ≡ site_at self.now.settings number channel_max }
@@ -117,7 +145,7 @@ impl Core {
     }
 
     /// A heartbeat, which is to be empty and to stand on channel 0.
-    fn on_heartbeat(&self, number: u16, empty: bool) -> Decision
+    pub(crate) fn on_heartbeat(&self, number: u16, empty: bool) -> Decision
         requires { takes_frames (phase_at self.now.stage) ≡ true }
         ensures verdict { IsVerdict self.now.settings (core_end self.now) number (Beat empty) result }
         ensures after { LeavesEnd self.now.settings number (Beat empty) result (core_end self.now) (core_end self.now) }
@@ -132,7 +160,7 @@ impl Core {
     }
 
     /// A method on a channel of a connection that is Running.
-    fn on_channel(
+    pub(crate) fn on_channel(
         &mut self,
         agreed: Agreed,
         number: u16,
@@ -151,7 +179,7 @@ impl Core {
     }
 
     /// A part of a body on a channel of a connection that is Running.
-    fn on_body(
+    pub(crate) fn on_body(
         &mut self,
         agreed: Agreed,
         number: u16,
@@ -170,7 +198,7 @@ impl Core {
     }
 
     /// A content header on a channel of a connection that is Running.
-    fn on_header(
+    pub(crate) fn on_header(
         &mut self,
         agreed: Agreed,
         number: u16,
@@ -198,7 +226,7 @@ impl Core {
     }
 
     /// A method on a channel that this end has closed, and whose close-ok is due.
-    fn on_closing(&mut self, number: u16, method: &Method) -> Decision
+    pub(crate) fn on_closing(&mut self, number: u16, method: &Method) -> Decision
         requires above { 0 < number }
         requires stays { leaves (phase_at self.old.stage) ≡ false }
         requires taking { takes_frames (phase_at self.old.stage) ≡ true }
@@ -215,7 +243,7 @@ impl Core {
 
     /// A method on channel 0, where this end has put connection.close: it answers a close that crosses its own, and close-ok
     /// ends the connection.
-    fn on_leaving(&mut self, method: &Method) -> Decision
+    pub(crate) fn on_leaving(&mut self, method: &Method) -> Decision
         requires { leaves (phase_at self.old.stage) ≡ true }
         ensures verdict { IsVerdict self.old.settings (core_end self.old) 0 (Calls (method_view method.now)) result }
         ensures after { LeavesEnd self.old.settings 0 (Calls (method_view method.now)) result (core_end self.old) (core_end self.new) }

@@ -5,9 +5,9 @@ use Rattle.amqp_model.specs.Methods.{same_kind}
 use Rattle.amqp_model.specs.Readings.{Calls}
 use Rattle.amqp_core.specs.CoreView.{core_end, LeavesEnd}
 use Rattle.amqp_core.specs.Settings.{config_view, role_for}
-use Rattle.amqp_core.specs.declared.core.Decision.{Decision}
+use Rattle.amqp_core.specs.declared.one_end.Decision.{Decision}
 use Rattle.amqp_core.proofs.LeavingLemmas.{dropped_call}
-use Rattle.amqp_core.proofs.core.Core.on_leaving.Goals as goal
+use Rattle.amqp_core.proofs.one_end.Core.on_leaving.Goals as goal
 
 pub returns-clause-after : goal.returns-clause-after
 returns-clause-after c =

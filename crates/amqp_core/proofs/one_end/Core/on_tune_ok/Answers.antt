@@ -1,23 +1,23 @@
-use Rattle.std.proofs.Common.{rules, arith, ◌≡◌, true, false, Some, None, ap, sym, subst, ◌∙◌}
+use Rattle.std.proofs.Common.{rules, arith, ◌≡◌, true, false, Some, None, ap, sym, subst}
 use Rattle.amqp_method.specs.MethodView.{method_view}
 use Rattle.amqp_model.specs.Events.{Fatal}
-use Rattle.amqp_model.specs.Negotiation.{smaller, agreed_in, tunes_too_small}
-use Rattle.amqp_model.specs.Notes.{Client, Server}
+use Rattle.amqp_model.specs.Negotiation.{agreed_in}
+use Rattle.amqp_model.specs.Notes.{Server}
 use Rattle.amqp_model.specs.Readings.{Calls}
 use Rattle.amqp_core.specs.ChannelsView.{channels_view}
 use Rattle.amqp_core.specs.CoreView.{IsVerdict, LeavesEnd}
 use Rattle.amqp_core.specs.Handshakes.{within}
 use Rattle.amqp_core.specs.Roles.{role_of}
 use Rattle.amqp_core.specs.Settings.{config_view, role_for}
-use Rattle.amqp_core.specs.declared.core.Decision.TheVariants as decisions
-use Rattle.amqp_core.specs.declared.core.Fault.TheVariants as faults
+use Rattle.amqp_core.specs.declared.one_end.Decision.TheVariants as decisions
+use Rattle.amqp_core.specs.declared.one_end.Fault.TheVariants as faults
 use Rattle.amqp_core.specs.declared.events.Event.TheVariants as events
 use Rattle.amqp_core.specs.declared.owed.Owed.TheVariants as owed
 use Rattle.amqp_core.specs.declared.stage.Stage.{Stage}
 use Rattle.amqp_core.specs.declared.stage.Stage.TheVariants as stages
 use Rattle.amqp_core.proofs.CoreLemmas.{end_at}
 use Rattle.amqp_core.proofs.HandshakeLemmas.{tune_ok_verdict, tune_ok_left, tune_ok_fault, tune_ok_failed}
-use Rattle.amqp_core.proofs.core.Core.on_tune_ok.Goals as goal
+use Rattle.amqp_core.proofs.one_end.Core.on_tune_ok.Goals as goal
 
 pub returns-then-not-is_within-clause-verdict : goal.returns-then-not-is_within-clause-verdict
 returns-then-not-is_within-clause-verdict c =
