@@ -1,7 +1,6 @@
 -- Arguments by their place.
 use Rattle.std.proofs.Common.{◌≡◌, ℕ, zero, suc, ◌<◌, ◌≤◌, List, [], ◌∷◌, length, map, get_or, Some, None, refl, arith}
 use Rattle.amqp_method.specs.Arguments.{kind_of, Call, call, Fits}
-use Rattle.amqp_method.specs.Methods.{row}
 use Rattle.amqp_method.specs.declared.fields.Arg.{Arg}
 use Rattle.amqp_method.specs.declared.fields.FieldKind.TheVariants.{Short, ShortStr}
 use Rattle.amqp_method.specs.declared.kinds.Kind.TheVariants as kinds

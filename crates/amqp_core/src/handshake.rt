@@ -12,9 +12,9 @@ ghost use Rattle.amqp_core.specs.Roles.{role_of};
 ghost use Rattle.amqp_core.specs.Stages.{phase_at, leaves};
 
 use crate::codes::CloseCode;
-use crate::one_end::{Core, Decision, Fault, closes_with};
 use crate::events::{Agreed, Event, blocked_reason, reason_of};
 use crate::faults::OutOfMemory;
+use crate::one_end::{Core, Decision, Fault, closes_with};
 use crate::owed::Owed;
 use crate::roles::Side;
 use crate::settings::Settings;

@@ -20,9 +20,9 @@ ghost use Rattle.amqp_core.specs.Unreads.{unread_view, IsOfMethod};
 ghost use Rattle.amqp_core.specs.Used.{is_closing_at};
 
 use crate::codes::CloseCode;
-use crate::one_end::{Core, Decision, Fault, Outcome, closes_with, discards};
 use crate::events::Event;
 use crate::faults::OutOfMemory;
+use crate::one_end::{Core, Decision, Fault, Outcome, closes_with, discards};
 use crate::owed::Owed;
 use crate::read::read_call;
 use crate::stage::Stage;
