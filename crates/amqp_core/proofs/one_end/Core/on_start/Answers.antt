@@ -1,0 +1,28 @@
+use Rattle.std.proofs.Common.{◌≡◌, Some, None, ap, sym, subst}
+use Rattle.amqp_method.specs.MethodView.{method_view}
+use Rattle.amqp_model.specs.Notes.{Client}
+use Rattle.amqp_model.specs.Readings.{Calls}
+use Rattle.amqp_core.specs.ChannelsView.{channels_view}
+use Rattle.amqp_core.specs.CoreView.{IsVerdict, LeavesEnd}
+use Rattle.amqp_core.specs.Roles.{role_of}
+use Rattle.amqp_core.specs.Settings.{config_view, role_for}
+use Rattle.amqp_core.specs.declared.one_end.Decision.TheVariants as decisions
+use Rattle.amqp_core.specs.declared.events.Event.TheVariants as events
+use Rattle.amqp_core.specs.declared.owed.Owed.TheVariants as owed
+use Rattle.amqp_core.specs.declared.stage.Stage.{Stage}
+use Rattle.amqp_core.specs.declared.stage.Stage.TheVariants as stages
+use Rattle.amqp_core.proofs.CoreLemmas.{end_at}
+use Rattle.amqp_core.proofs.HandshakeLemmas.{start_verdict, start_left}
+use Rattle.amqp_core.proofs.one_end.Core.on_start.Goals as goal
+
+pub returns-clause-verdict : goal.returns-clause-verdict
+returns-clause-verdict c =
+    let side : role_for c.args.self.now.settings ≡ Client = ap role_of c.requires.side in
+    subst (λ (s : Stage). IsVerdict c.args.self.now.settings (end_at s (channels_view c.args.self.now.channels)) 0 (Calls (method_view c.args.method.now)) (decisions.Proceeds (Some events.Quiet) owed.StartOk)) (sym c.requires.stage)
+    (sym (start_verdict (role_for c.args.self.now.settings) (config_view c.args.self.now.settings) None (method_view c.args.method.now) side c.requires.kind))
+
+pub returns-clause-after : goal.returns-clause-after
+returns-clause-after c =
+    let side : role_for c.args.self.now.settings ≡ Client = ap role_of c.requires.side in
+    subst (λ (s : Stage). LeavesEnd c.args.self.now.settings 0 (Calls (method_view c.args.method.now)) (decisions.Proceeds (Some events.Quiet) owed.StartOk) (end_at s (channels_view c.args.self.now.channels)) (end_at stages.AwaitsTune (channels_view c.args.self.now.channels))) (sym c.requires.stage)
+    (start_left (role_for c.args.self.now.settings) (config_view c.args.self.now.settings) None (channels_view c.args.self.now.channels) (method_view c.args.method.now) side c.requires.kind)

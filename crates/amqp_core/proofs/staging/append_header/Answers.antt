@@ -1,0 +1,15 @@
+use Rattle.std.proofs.Common.{◌++◌, ap, ◌∙◌, arith}
+use Rattle.std.proofs.lemmas.Result.{on_ok_weaker}
+use Rattle.amqp_method.specs.HeaderView.{header_view}
+use Rattle.amqp_model.specs.Methods.{plain_header}
+use Rattle.amqp_core.specs.OutboxFrames.{header_frame}
+use Rattle.amqp_core.proofs.OutboxFrames.{ended-is}
+use Rattle.amqp_core.proofs.staging.append_header.Goals as goal
+
+pub returns-in-Ok-clause-ok : goal.returns-in-Ok-clause-ok
+unfolding plain_header
+returns-in-Ok-clause-ok c =
+    let payload = plain_header (header_view c.args.header.now) in
+    on_ok_weaker c.end_frame.result
+    (λ e. e ∙ ended-is (header_frame c.args.channel (header_view c.args.header.now)) c.args.octets.now.items _ c.len-at.result (omega arith) (c.in-Ok.ensures.ok ∙ ap (λ xs. xs ++ payload) c.in_ok-begin_frame.ensures.ok))
+    c.end_frame.ensures.ok

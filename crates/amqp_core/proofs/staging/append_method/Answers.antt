@@ -1,0 +1,15 @@
+use Rattle.std.proofs.Common.{◌++◌, ap, ◌∙◌, arith}
+use Rattle.std.proofs.lemmas.Result.{on_ok_weaker}
+use Rattle.amqp_method.specs.MethodView.{method_view}
+use Rattle.amqp_model.specs.Methods.{plain_method}
+use Rattle.amqp_model.specs.Closes.{method_frame}
+use Rattle.amqp_core.proofs.OutboxFrames.{ended-is}
+use Rattle.amqp_core.proofs.staging.append_method.Goals as goal
+
+pub returns-in-Ok-clause-ok : goal.returns-in-Ok-clause-ok
+unfolding plain_method
+returns-in-Ok-clause-ok c =
+    let payload = plain_method (method_view c.args.method.now) in
+    on_ok_weaker c.end_frame.result
+    (λ e. e ∙ ended-is (method_frame c.args.channel (method_view c.args.method.now)) c.args.octets.now.items _ c.len-at.result (omega arith) (c.in-Ok.ensures.ok ∙ ap (λ xs. xs ++ payload) c.in_ok-begin_frame.ensures.ok))
+    c.end_frame.ensures.ok

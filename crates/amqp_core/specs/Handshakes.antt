@@ -1,0 +1,38 @@
+-- What a stage of the handshake awaits, in the words of the model.
+use Rattle.std.specs.Prelude.{Bool, true, false, ◌&&◌, nat_lt, nat_le, ℕ}
+use Rattle.amqp_model.specs.Channels.{Phase, Handshake, HandshakeStep, AwaitsStart, AwaitsStartOk, AwaitsTune, AwaitsTuneOk, AwaitsOpen, AwaitsOpenOk, Agreed}
+use Rattle.amqp_model.specs.Notes.{Role, Client, Server}
+use Rattle.amqp_model.specs.FrameVerdict.{is_awaited}
+use Rattle.amqp_model.specs.Methods.{MethodKind}
+use Rattle.amqp_model.specs.Negotiation.{FRAME_MIN}
+use Rattle.amqp_core.specs.Stages.{phase_at}
+use Rattle.amqp_core.specs.declared.stage.Stage.{Stage}
+
+abbrev pub awaited_in : Phase → MethodKind → Bool
+awaited_in (Handshake step) kind = is_awaited step kind
+awaited_in phase kind = false
+
+abbrev pub awaits_at : Stage → MethodKind → Bool
+awaits_at stage kind = awaited_in (phase_at stage) kind
+
+abbrev pub is_in_handshake : Phase → Bool
+is_in_handshake (Handshake step) = true
+is_in_handshake phase = false
+
+-- what a server takes of a tune-ok: some channel and no more than its own, and a frame of 4096 octets up to its own
+abbrev pub within : (channel_most frame_most : ℕ) → Agreed → Bool
+within channel_most frame_most agreed = nat_lt 0 agreed.channel_max && nat_le agreed.channel_max channel_most && nat_le FRAME_MIN agreed.frame_max && nat_le agreed.frame_max frame_most
+
+-- the role takes the method that the step awaits
+abbrev pub answers_at : Role → HandshakeStep → Bool
+answers_at Client AwaitsStart = true
+answers_at Client AwaitsTune = true
+answers_at Client AwaitsOpenOk = true
+answers_at Server AwaitsStartOk = true
+answers_at Server AwaitsTuneOk = true
+answers_at Server AwaitsOpen = true
+answers_at role step = false
+
+abbrev pub answered_in : Role → Phase → Bool
+answered_in role (Handshake step) = answers_at role step
+answered_in role phase = false

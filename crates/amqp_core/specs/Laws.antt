@@ -1,0 +1,56 @@
+-- What is decided and left on one channel is what the whole end decides and keeps: the statement.
+use Rattle.std.specs.Prelude.{◌≡◌, ◌<◌, true, ℕ, List, [], ◌∷◌, map, Some}
+use Rattle.amqp_frame.specs.declared.frames.FrameKind.{FrameKind}
+use Rattle.amqp_model.specs.Asks.{payload_frame}
+use Rattle.amqp_model.specs.Channels.{Channel, Running, End}
+use Rattle.amqp_model.specs.Contents.{Payload, Unread}
+use Rattle.amqp_model.specs.Frame.{Frame}
+use Rattle.amqp_model.specs.EndVerdict.{goes_on}
+use Rattle.amqp_model.specs.Machine.{set_channel, taken_verdict, end_after_taken, end_after_put}
+use Rattle.amqp_model.specs.Negotiation.{Config}
+use Rattle.amqp_model.specs.Readings.{Reading, payload_of, reading}
+use Rattle.amqp_core.specs.Puts.{after_payloads}
+use Rattle.amqp_core.specs.Roles.{role_of}
+use Rattle.amqp_core.specs.VerdictView.{verdict_view, Decides, LeavesAfter}
+use Rattle.amqp_core.specs.declared.verdict.Site.{Site}
+use Rattle.amqp_core.specs.declared.verdict.Verdict.{Verdict}
+
+-- an end whose connection is Running
+abbrev pub running_end : Site → (frame_max : ℕ) → (ℕ → Channel) → End
+running_end site frame_max channels = record { phase = Running; agreed = Some (record { channel_max = site.channel_max; frame_max = frame_max }); channels = channels }
+
+abbrev pub frame_here : Site → FrameKind → List ℕ → Frame
+frame_here site kind payload = record { kind = kind; channel = site.number; payload = payload }
+
+-- the verdict is the end's, and the end keeps the channel that is left, and all else as it was
+pub record IsStepOfEnd (site : Site) (config : Config (role_of site.side)) (frame_max : ℕ) (channels : ℕ → Channel) (frame : Frame) (reading : Reading) (verdict : Verdict) (after : Channel) : Type 0 where
+  pub verdict_is : taken_verdict config (running_end site frame_max channels) site.number reading ≡ verdict_view site.number verdict
+  pub end_is : end_after_taken (role_of site.side) config (running_end site frame_max channels) reading frame ≡ running_end site frame_max (set_channel site.number after channels)
+
+abbrev pub StepsAsEnd : (site : Site) → Config (role_of site.side) → (frame_max : ℕ) → (ℕ → Channel) → FrameKind → List ℕ → Reading → Verdict → Channel → Type 0
+StepsAsEnd site config frame_max channels kind payload reading verdict after =
+    0 < site.number → config.max_body ≡ site.max_body → Decides site (channels site.number) reading (verdict_view site.number verdict)
+    → LeavesAfter (role_of site.side) site.number (frame_here site kind payload) reading (verdict_view site.number verdict) (channels site.number) after
+    → goes_on (verdict_view site.number verdict) ≡ true
+    → IsStepOfEnd site config frame_max channels (frame_here site kind payload) reading verdict after
+
+-- an end writes such a payload
+abbrev pub IsWritten : Payload → Type 0
+IsWritten Unread = ⊥
+IsWritten payload = Unit {0}
+
+abbrev pub AreWritten : List Payload → Type 0
+AreWritten [] = Unit {0}
+AreWritten (payload ∷ later) = IsWritten payload × AreWritten later
+
+-- each frame says the payload that it was made of
+abbrev pub SayPayloads : (number : ℕ) → List Payload → Type 0
+SayPayloads number [] = Unit {0}
+SayPayloads number (payload ∷ later) = (payload_of (reading (payload_frame number payload)) ≡ payload) × SayPayloads number later
+
+-- What payloads that are put leave of a channel is what the end keeps of it then.
+abbrev pub PutsAsEnd : (site : Site) → Config (role_of site.side) → (frame_max : ℕ) → (ℕ → Channel) → Payload → List Payload → Type 0
+PutsAsEnd site config frame_max channels payload later =
+    0 < site.number → AreWritten (payload ∷ later) → SayPayloads site.number (payload ∷ later)
+    → end_after_put (role_of site.side) config (map (payload_frame site.number) (payload ∷ later)) (running_end site frame_max channels)
+    ≡ running_end site frame_max (set_channel site.number (after_payloads (role_of site.side) site.number (payload ∷ later) (channels site.number)) channels)

@@ -1,0 +1,22 @@
+-- What the payloads that an end puts leave of a channel.
+use Rattle.std.specs.Prelude.{ℕ, true, List, [], ◌∷◌}
+use Rattle.amqp_model.specs.Asks.{payload_frame}
+use Rattle.amqp_model.specs.Channels.{Channel}
+use Rattle.amqp_model.specs.Contents as contents
+use Rattle.amqp_model.specs.Contents.{Payload, Unread}
+use Rattle.amqp_model.specs.Histories.{PutHere}
+use Rattle.amqp_model.specs.Machine.{channel_after}
+use Rattle.amqp_model.specs.Notes.{Role}
+use Rattle.amqp_model.specs.Readings.{Reading, Calls, HeaderOf, BodyOf, Beat}
+
+-- what the frame of a payload says
+abbrev pub reading_as : Payload → Reading
+reading_as (contents.Calls method) = Calls method
+reading_as (contents.Header size properties) = HeaderOf size properties
+reading_as (contents.Body octets) = BodyOf octets
+reading_as Unread = Beat true
+
+-- the channel after these are put, the oldest first
+abbrev pub after_payloads : Role → (number : ℕ) → List Payload → Channel → Channel
+after_payloads role number [] channel = channel
+after_payloads role number (payload ∷ later) channel = after_payloads role number later (channel_after role (PutHere (reading_as payload) (payload_frame number payload)) channel)

@@ -1,0 +1,17 @@
+-- What is read of a payload, in the words of the model.
+use Rattle.std.specs.Prelude.{Option, Some, None, Result, Ok, Err}
+use Rattle.amqp_method.specs.HeaderView.{properties_view}
+use Rattle.amqp_method.specs.MethodView.{method_view}
+use Rattle.amqp_method.specs.declared.headers.Header.{Header}
+use Rattle.amqp_method.specs.declared.methods.Method.{Method}
+use Rattle.amqp_model.specs.Readings.{Reading, Calls, HeaderOf, MalformedHeader}
+use Rattle.amqp_core.specs.Unreads.{unread_view}
+use Rattle.amqp_core.specs.declared.verdict.Unread.{Unread}
+
+abbrev pub call_reading : Result Method Unread → Reading
+call_reading (Ok method) = Calls (method_view method)
+call_reading (Err unread) = unread_view unread
+
+abbrev pub header_seen : Option Header → Reading
+header_seen (Some header) = HeaderOf header.body_size (properties_view header.properties)
+header_seen None = MalformedHeader

@@ -1,0 +1,37 @@
+-- What an end is set up with, in the words of the model.
+use Rattle.amqp_value.specs.Tables.{table_view}
+use Rattle.amqp_model.specs.Negotiation as model
+use Rattle.amqp_model.specs.Notes.{Role}
+use Rattle.amqp_core.specs.Roles.{role_of}
+use Rattle.amqp_core.specs.declared.roles.Side.{Side}
+use Rattle.amqp_core.specs.declared.roles.Side.TheVariants as side
+use Rattle.amqp_core.specs.declared.settings.ClientHello.{ClientHello}
+use Rattle.amqp_core.specs.declared.settings.ServerHello.{ServerHello}
+use Rattle.amqp_core.specs.declared.settings.Hello.{Hello}
+use Rattle.amqp_core.specs.declared.settings.Hello.TheVariants as code
+use Rattle.amqp_core.specs.declared.settings.Settings.{Settings}
+
+abbrev pub client_hello_view : ClientHello → model.Hello Role.Client
+client_hello_view hello = model.OfClient (table_view hello.properties) hello.mechanism hello.response.items hello.locale hello.virtual_host
+
+abbrev pub server_hello_view : ServerHello → model.Hello Role.Server
+server_hello_view hello = model.OfServer (table_view hello.properties) hello.mechanisms.items hello.locales.items
+
+-- whose hello it is
+abbrev pub side_in : Hello → Side
+side_in (code.Client hello) = side.Client
+side_in (code.Server hello) = side.Server
+
+abbrev pub role_in : Hello → Role
+role_in hello = role_of (side_in hello)
+
+abbrev pub hello_view : (hello : Hello) → model.Hello (role_in hello)
+hello_view (code.Client hello) = client_hello_view hello
+hello_view (code.Server hello) = server_hello_view hello
+
+-- the role that an end of these settings plays
+abbrev pub role_for : Settings → Role
+role_for settings = role_in settings.hello
+
+abbrev pub config_view : (settings : Settings) → model.Config (role_for settings)
+config_view settings = record { frame_max = settings.frame_max; channel_max = settings.channel_max; max_body = settings.max_body; hello = hello_view settings.hello }

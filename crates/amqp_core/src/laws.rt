@@ -1,0 +1,29 @@
+//! Laws of the two roles, over definitions alone. Who needs one calls the function and has its clauses.
+ghost use Rattle.std.specs.Prelude.{ℕ, List};
+ghost use Rattle.amqp_frame.specs.declared.frames.FrameKind.{FrameKind};
+ghost use Rattle.amqp_model.specs.Channels.{Channel};
+ghost use Rattle.amqp_model.specs.Contents.{Payload};
+ghost use Rattle.amqp_model.specs.Negotiation.{Config};
+ghost use Rattle.amqp_model.specs.Readings.{Reading};
+ghost use Rattle.amqp_core.specs.Laws.{PutsAsEnd, StepsAsEnd};
+ghost use Rattle.amqp_core.specs.declared.verdict.Site.{Site};
+ghost use Rattle.amqp_core.specs.declared.verdict.Verdict.{Verdict};
+ghost use Rattle.amqp_model.specs.Methods.{MethodKind};
+ghost use Rattle.amqp_model.specs.Notes.{Role};
+ghost use Rattle.amqp_core.specs.Roles.{SentIsTaken, role_of};
+
+/// What one role may put is what the other may take.
+pub fn sent_is_taken()
+    ensures { (role : Role) (kind : MethodKind) → SentIsTaken role kind }
+{}
+
+/// What is decided on one channel of a connection that is Running is the end's verdict, and where it goes on, what the end
+/// keeps then is the channel that is left, and all else as it was.
+pub(crate) fn channel_steps_as_end()
+    ensures { (site : Site) (config : Config (role_of site.side)) (frame_max : ℕ) (channels : ℕ → Channel) (kind : FrameKind) (payload : List ℕ) (reading : Reading) (verdict : Verdict) (after : Channel) → StepsAsEnd site config frame_max channels kind payload reading verdict after }
+{}
+
+/// What payloads that are put leave of a channel is what the end keeps of it then, where each frame says its payload.
+pub(crate) fn channel_puts_as_end()
+    ensures { (site : Site) (config : Config (role_of site.side)) (frame_max : ℕ) (channels : ℕ → Channel) (payload : Payload) (later : List Payload) → PutsAsEnd site config frame_max channels payload later }
+{}

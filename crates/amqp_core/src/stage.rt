@@ -1,0 +1,103 @@
+//! Where a connection stands: what an end awaits next, and what was agreed by then.
+ghost use Rattle.std.specs.Prelude.{◌≡◌, None};
+ghost use Rattle.amqp_model.specs.Machine.{new_end};
+ghost use Rattle.amqp_core.specs.Roles.{role_of};
+ghost use Rattle.amqp_core.specs.EventView.{agreed_there};
+ghost use Rattle.amqp_core.specs.Stages.{agreed_at, phase_at, phase_name, leaves};
+
+use crate::events::Agreed;
+use crate::roles::Side;
+
+/// The phase of a connection.
+#[derive(Clone, Copy, PartialEq, Eq, Debug)]
+pub enum Phase {
+    Handshake,
+    Running,
+    /// This end has put connection.close, and awaits close-ok.
+    Closing,
+    Closed,
+    /// After a fault, or out of memory.
+    Failed,
+}
+
+/// What an end awaits in the handshake, and how far it is afterwards. What was agreed is known from tune-ok on.
+#[derive(Clone, Copy, PartialEq, Eq, Debug)]
+pub(crate) enum Stage {
+    AwaitsProtocolHeader,
+    AwaitsStart,
+    AwaitsStartOk,
+    AwaitsTune,
+    AwaitsTuneOk,
+    AwaitsOpen(Agreed),
+    AwaitsOpenOk(Agreed),
+    Running(Agreed),
+    Closing(Option<Agreed>),
+    Closed(Option<Agreed>),
+    Failed(Option<Agreed>),
+}
+
+impl Stage {
+    /// What an end of a side awaits first.
+    pub(crate) fn first(side: Side) -> Stage
+        ensures phase { phase_at result ≡ (new_end (role_of side)).phase }
+        ensures agreed { agreed_at result ≡ None }
+    {
+        match side {
+            Side::Client => Stage::AwaitsStart,
+            Side::Server => Stage::AwaitsProtocolHeader,
+        }
+    }
+
+    pub(crate) fn phase(self) -> Phase
+        ensures { result ≡ phase_name (phase_at self) }
+    {
+        match self {
+            Stage::AwaitsProtocolHeader
+            | Stage::AwaitsStart
+            | Stage::AwaitsStartOk
+            | Stage::AwaitsTune
+            | Stage::AwaitsTuneOk
+            | Stage::AwaitsOpen(_)
+            | Stage::AwaitsOpenOk(_) => Phase::Handshake,
+            Stage::Running(_) => Phase::Running,
+            Stage::Closing(_) => Phase::Closing,
+            Stage::Closed(_) => Phase::Closed,
+            Stage::Failed(_) => Phase::Failed,
+        }
+    }
+
+    pub(crate) fn agreed(self) -> Option<Agreed>
+        ensures { agreed_there result ≡ agreed_at self }
+    {
+        match self {
+            Stage::AwaitsProtocolHeader
+            | Stage::AwaitsStart
+            | Stage::AwaitsStartOk
+            | Stage::AwaitsTune
+            | Stage::AwaitsTuneOk => None,
+            Stage::AwaitsOpen(agreed) | Stage::AwaitsOpenOk(agreed) | Stage::Running(agreed) => {
+                Some(agreed)
+            }
+            Stage::Closing(agreed) | Stage::Closed(agreed) | Stage::Failed(agreed) => agreed,
+        }
+    }
+
+    /// Whether this end has put connection.close, and goes on.
+    pub(crate) fn is_closing(self) -> bool
+        ensures { result ≡ leaves (phase_at self) }
+    {
+        match self {
+            Stage::Closing(_) => true,
+            Stage::AwaitsProtocolHeader
+            | Stage::AwaitsStart
+            | Stage::AwaitsStartOk
+            | Stage::AwaitsTune
+            | Stage::AwaitsTuneOk
+            | Stage::AwaitsOpen(_)
+            | Stage::AwaitsOpenOk(_)
+            | Stage::Running(_)
+            | Stage::Closed(_)
+            | Stage::Failed(_) => false,
+        }
+    }
+}

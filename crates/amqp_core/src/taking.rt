@@ -1,0 +1,265 @@
+//! A frame that an end takes: which rule applies, in their order.
+//!
+//! An end that has put connection.close drops all but the other end's close and close-ok. A heartbeat stands on channel 0. A
+//! channel that this end has closed drops all but close and close-ok. A method has to be one that there is. Until the handshake
+//! is over nothing but its next method is taken. What is left is for the channel, or for the connection.
+ghost use Rattle.std.specs.Prelude.{◌≡◌, ◌<◌, ℕ, true, false, IfOk, OnErr};
+ghost use Rattle.amqp_method.specs.MethodView.{method_view};
+ghost use Rattle.amqp_model.specs.EndVerdict.{end_verdict, facts_at, takes_frames};
+ghost use Rattle.amqp_model.specs.Endpoint.{outcome_of};
+ghost use Rattle.amqp_model.specs.FrameVerdict.{methods_put};
+ghost use Rattle.amqp_model.specs.Machine.{end_after_taken};
+ghost use Rattle.amqp_model.specs.Methods.{method_at, header_at};
+ghost use Rattle.amqp_model.specs.Readings.{Calls, Beat, BodyOf, method_reading, header_reading, reading};
+ghost use Rattle.amqp_core.specs.CoreView.{fault_of, frame_at};
+ghost use Rattle.amqp_core.specs.Outcomes.{owed_for};
+ghost use Rattle.amqp_core.specs.OwedView.{owed_view};
+ghost use Rattle.amqp_core.specs.declared.settings.Settings.{Settings};
+ghost use Rattle.amqp_core.specs.Stages.{phase_at, leaves};
+ghost use Rattle.amqp_core.specs.Unreads.{unread_view, IsOfMethod};
+ghost use Rattle.amqp_core.specs.Used.{is_closing_at};
+
+use crate::codes::CloseCode;
+use crate::events::Event;
+use crate::faults::OutOfMemory;
+use crate::one_end::{Core, Decision, Fault, Outcome, closes_with, discards};
+use crate::owed::Owed;
+use crate::read::read_call;
+use crate::stage::Stage;
+use crate::verdict::Unread;
+use amqp_frame::FrameKind;
+use amqp_method::Method;
+
+/// What an end puts that finds fault.
+fn owed_at(closing: bool, fault: Fault) -> Owed
+    ensures { (settings : Settings) → owed_view settings result ≡ owed_for closing (fault_of fault) }
+{
+    match fault {
+        Fault::Peer(code) => {
+            if closing {
+                Owed::Nothing
+            } else {
+                Owed::Close(code)
+            }
+        }
+        Fault::Fatal => Owed::Nothing,
+    }
+}
+
+/// Whether a heartbeat is empty, as it is to be.
+fn is_empty_beat(payload: &[u8]) -> bool
+    ensures { (number : ℕ) → Beat result ≡ reading (frame_at number FrameKind.Heartbeat payload.now) }
+{
+    payload.is_empty()
+}
+
+impl Core {
+    ghost use Rattle.amqp_core.specs.ChannelsView.{channels_view};
+    ghost use Rattle.amqp_core.specs.CoreView.{core_end, decision_view, told_view, IsVerdict, LeavesEnd};
+    ghost use Rattle.amqp_core.specs.Outcomes.{owed_by, told_by, ended_by, SameEnd};
+    ghost use Rattle.amqp_core.specs.Settings.{config_view, role_for};
+
+    /// A method frame where this end has put connection.close. On another channel than 0 it is not read.
+    #[tactic(auto, using(crate::proofs::CoreLemmas::drops))]
+    fn on_call_leaving(&mut self, number: u16, payload: &[u8]) -> Result<Decision, OutOfMemory>
+        requires { leaves (phase_at self.old.stage) ≡ true }
+        ensures verdict { IfOk result (λ d. IsVerdict self.old.settings (core_end self.old) number (method_reading (method_at payload.now)) d) }
+        ensures after { IfOk result (λ d. LeavesEnd self.old.settings number (method_reading (method_at payload.now)) d (core_end self.old) (core_end self.new)) }
+        ensures settings { self.new.settings ≡ self.old.settings }
+        ensures err { OnErr result (self.new.stage ≡ self.old.stage) }
+    {
+        if number != 0 {
+            return Ok(discards(number));
+        }
+        let read = read_call(self.alloc, payload)?;
+        match read {
+            Ok(method) => Ok(self.on_leaving(&method)),
+            Err(_) => Ok(discards(number)),
+        }
+    }
+
+    /// A method frame on a channel that this end has closed.
+    fn on_call_closing(&mut self, number: u16, payload: &[u8]) -> Result<Decision, OutOfMemory>
+        requires above { 0 < number }
+        requires stays { leaves (phase_at self.old.stage) ≡ false }
+        requires taking { takes_frames (phase_at self.old.stage) ≡ true }
+        requires closing { is_closing_at (channels_view self.old.channels number) ≡ true }
+        ensures verdict { IfOk result (λ d. IsVerdict self.old.settings (core_end self.old) number (method_reading (method_at payload.now)) d) }
+        ensures after { IfOk result (λ d. LeavesEnd self.old.settings number (method_reading (method_at payload.now)) d (core_end self.old) (core_end self.new)) }
+        ensures settings { self.new.settings ≡ self.old.settings }
+        ensures err { OnErr result (self.new.stage ≡ self.old.stage) }
+    {
+        let read = read_call(self.alloc, payload)?;
+        match read {
+            Ok(method) => Ok(self.on_closing(number, &method)),
+            Err(_) => Ok(discards(number)),
+        }
+    }
+
+    /// A method of the handshake, or on a connection that is Running.
+    fn on_method(&mut self, number: u16, method: Method) -> Result<Decision, OutOfMemory>
+        requires stays { leaves (phase_at self.old.stage) ≡ false }
+        requires taking { takes_frames (phase_at self.old.stage) ≡ true }
+        requires open { is_closing_at (channels_view self.old.channels number) ≡ false }
+        ensures verdict { IfOk result (λ d. IsVerdict self.old.settings (core_end self.old) number (Calls (method_view method)) d) }
+        ensures after { IfOk result (λ d. LeavesEnd self.old.settings number (Calls (method_view method)) d (core_end self.old) (core_end self.new)) }
+        ensures settings { self.new.settings ≡ self.old.settings }
+        ensures err { OnErr result (self.new.stage ≡ self.old.stage) }
+    {
+        if let Stage::Running(agreed) = self.stage {
+            if number == 0 {
+                return self.on_connection(agreed, &method);
+            }
+            return self.on_channel(agreed, number, method);
+        }
+        if number != 0 {
+            return Ok(closes_with(CloseCode::CommandInvalid));
+        }
+        self.on_handshake(&method)
+    }
+
+    /// A method that can't be read, where it isn't dropped.
+    fn on_unread(&self, number: u16, unread: Unread) -> Decision
+        requires stays { leaves (phase_at self.now.stage) ≡ false }
+        requires taking { takes_frames (phase_at self.now.stage) ≡ true }
+        requires open { is_closing_at (channels_view self.now.channels number) ≡ false }
+        requires method { IsOfMethod unread }
+        ensures verdict { IsVerdict self.now.settings (core_end self.now) number (unread_view unread) result }
+        ensures after { LeavesEnd self.now.settings number (unread_view unread) result (core_end self.now) (core_end self.now) }
+    {
+        closes_with(unread.code())
+    }
+
+    /// A method frame.
+    fn on_call(&mut self, number: u16, payload: &[u8]) -> Result<Decision, OutOfMemory>
+        requires taking { takes_frames (phase_at self.old.stage) ≡ true }
+        ensures verdict { IfOk result (λ d. IsVerdict self.old.settings (core_end self.old) number (method_reading (method_at payload.now)) d) }
+        ensures after { IfOk result (λ d. LeavesEnd self.old.settings number (method_reading (method_at payload.now)) d (core_end self.old) (core_end self.new)) }
+        ensures settings { self.new.settings ≡ self.old.settings }
+        ensures err { OnErr result (self.new.stage ≡ self.old.stage) }
+    {
+        if self.stage.is_closing() {
+            return self.on_call_leaving(number, payload);
+        }
+        if number != 0 && self.channels.is_closing(number) {
+            return self.on_call_closing(number, payload);
+        }
+        let read = read_call(self.alloc, payload)?;
+        match read {
+            Ok(method) => self.on_method(number, method),
+            Err(unread) => Ok(self.on_unread(number, unread)),
+        }
+    }
+
+    /// A header frame. It is read only where a channel may take it.
+    fn on_header_frame(&mut self, number: u16, payload: &[u8]) -> Result<Decision, OutOfMemory>
+        requires taking { takes_frames (phase_at self.old.stage) ≡ true }
+        ensures verdict { IfOk result (λ d. IsVerdict self.old.settings (core_end self.old) number (header_reading (header_at payload.now)) d) }
+        ensures after { IfOk result (λ d. LeavesEnd self.old.settings number (header_reading (header_at payload.now)) d (core_end self.old) (core_end self.new)) }
+        ensures settings { self.new.settings ≡ self.old.settings }
+        ensures err { OnErr result (self.new.stage ≡ self.old.stage) }
+    {
+        if self.stage.is_closing() {
+            return Ok(discards(number));
+        }
+        if number != 0 && self.channels.is_closing(number) {
+            return Ok(discards(number));
+        }
+        if let Stage::Running(agreed) = self.stage {
+            if number == 0 {
+                return Ok(closes_with(CloseCode::ChannelError));
+            }
+            return self.on_header(agreed, number, payload);
+        }
+        Ok(closes_with(CloseCode::CommandInvalid))
+    }
+
+    /// A body frame.
+    fn on_body_frame(&mut self, number: u16, payload: &[u8]) -> Result<Decision, OutOfMemory>
+        requires taking { takes_frames (phase_at self.old.stage) ≡ true }
+        ensures verdict { IfOk result (λ d. IsVerdict self.old.settings (core_end self.old) number (BodyOf payload.now) d) }
+        ensures after { IfOk result (λ d. LeavesEnd self.old.settings number (BodyOf payload.now) d (core_end self.old) (core_end self.new)) }
+        ensures settings { self.new.settings ≡ self.old.settings }
+        ensures err { OnErr result (self.new.stage ≡ self.old.stage) }
+    {
+        if self.stage.is_closing() {
+            return Ok(discards(number));
+        }
+        if number != 0 && self.channels.is_closing(number) {
+            return Ok(discards(number));
+        }
+        if let Stage::Running(agreed) = self.stage {
+            if number == 0 {
+                return Ok(closes_with(CloseCode::ChannelError));
+            }
+            return self.on_body(agreed, number, payload);
+        }
+        Ok(closes_with(CloseCode::CommandInvalid))
+    }
+
+    /// The rule that applies to a frame.
+    fn decide_frame(
+        &mut self,
+        kind: FrameKind,
+        number: u16,
+        payload: &[u8],
+    ) -> Result<Decision, OutOfMemory>
+        requires taking { takes_frames (phase_at self.old.stage) ≡ true }
+        ensures verdict { IfOk result (λ d. IsVerdict self.old.settings (core_end self.old) number (reading (frame_at number kind payload.now)) d) }
+        ensures after { IfOk result (λ d. LeavesEnd self.old.settings number (reading (frame_at number kind payload.now)) d (core_end self.old) (core_end self.new)) }
+        ensures settings { self.new.settings ≡ self.old.settings }
+        ensures err { OnErr result (self.new.stage ≡ self.old.stage) }
+    {
+        match kind {
+            FrameKind::Heartbeat => Ok(self.on_heartbeat(number, is_empty_beat(payload))),
+            FrameKind::Method => self.on_call(number, payload),
+            FrameKind::Header => self.on_header_frame(number, payload),
+            FrameKind::Body => self.on_body_frame(number, payload),
+        }
+    }
+
+    /// What an application is told, and what the end owes. Connection.close is put once.
+    fn conclude(&mut self, closing: bool, number: u16, decision: Decision) -> Outcome
+        ensures owed { owed_view self.old.settings result.owed ≡ owed_by closing number (decision_view self.old.settings decision) }
+        ensures told { told_view result.told ≡ told_by number (decision_view self.old.settings decision) }
+        ensures after { core_end self.new ≡ ended_by (decision_view self.old.settings decision) (core_end self.old) }
+        ensures settings { self.new.settings ≡ self.old.settings }
+    {
+        match decision {
+            Decision::Proceeds(event, owed) => Outcome {
+                told: Ok(event),
+                owed,
+            },
+            Decision::RefusesContent => Outcome {
+                told: Ok(Some(Event::Discarded(number))),
+                owed: Owed::ChannelClose(number, CloseCode::ContentTooLarge),
+            },
+            Decision::Faults(fault) => {
+                self.stage = Stage::Failed(self.stage.agreed());
+                Outcome {
+                    told: Err(fault),
+                    owed: owed_at(closing, fault),
+                }
+            }
+        }
+    }
+
+    /// Takes a frame: what an application is told of it, and what the end owes.
+    pub(crate) fn take(
+        &mut self,
+        kind: FrameKind,
+        number: u16,
+        payload: &[u8],
+    ) -> Result<Outcome, OutOfMemory>
+        requires taking { takes_frames (phase_at self.old.stage) ≡ true }
+        ensures told { IfOk result (λ o. told_view o.told ≡ outcome_of (facts_at (config_view self.old.settings) (core_end self.old) number) (end_verdict (config_view self.old.settings) (core_end self.old) (frame_at number kind payload.now))) }
+        ensures owed { IfOk result (λ o. owed_view self.old.settings o.owed ≡ methods_put (facts_at (config_view self.old.settings) (core_end self.old) number) (end_verdict (config_view self.old.settings) (core_end self.old) (frame_at number kind payload.now))) }
+        ensures after { IfOk result (λ o. SameEnd (end_after_taken (role_for self.old.settings) (config_view self.old.settings) (core_end self.old) (reading (frame_at number kind payload.now)) (frame_at number kind payload.now)) (core_end self.new)) }
+        ensures settings { self.new.settings ≡ self.old.settings }
+        ensures err { OnErr result (self.new.stage ≡ self.old.stage) }
+    {
+        let closing = self.stage.is_closing();
+        let decision = self.decide_frame(kind, number, payload)?;
+        Ok(self.conclude(closing, number, decision))
+    }
+}
