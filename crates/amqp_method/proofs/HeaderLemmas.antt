@@ -12,7 +12,7 @@ use Rattle.amqp_method.specs.Arguments.{Argument, bit, octet, short, long, long_
 use Rattle.amqp_method.specs.Faults.{out_of_memory}
 use Rattle.amqp_method.specs.HeaderReading.{has_flag, optional_at, properties_at, header_at}
 use Rattle.amqp_method.specs.Properties.{ContentHeader, header, HaveKinds, flags_of, EncodesPresent, EncodesHeader, property_kinds}
-use Rattle.amqp_method.specs.Plain.{plain_argument, plaat_start, plain_present, plain_header}
+use Rattle.amqp_method.specs.Plain.{plain_argument, plain_start, plain_present, plain_header}
 use Rattle.amqp_method.specs.Writing.{Fitting, PresentFitting}
 use Rattle.byteorder.specs.Endian.{big_bytes}
 use Rattle.amqp_method.specs.Reading.{Gives, no_bits, number_at, field_at}
@@ -261,11 +261,11 @@ header_refused view octets (Err e) (inr is) = inr (λ h s. header_not_err h e (s
 -- ---- what is written is the plain encoding, and that is an encoding
 
 pub header_written : (old prefix new : List ℕ) (body_size flags : ℕ) (properties all : List (Option Argument)) → flags ≡ flags_of properties → properties ≡ all
-    → prefix ≡ old ++ plaat_start body_size flags → new ≡ prefix ++ plain_present properties → new ≡ old ++ plain_header (header body_size all)
+    → prefix ≡ old ++ plain_start body_size flags → new ≡ prefix ++ plain_present properties → new ≡ old ++ plain_header (header body_size all)
 header_written old prefix new body_size flags properties all flags_is same a b =
-    let one : new ≡ (old ++ plaat_start body_size flags) ++ plain_present properties = b ∙ ap (λ (o : List ℕ). o ++ plain_present properties) a in
-    one ∙ append_assoc old (plaat_start body_size flags) (plain_present properties)
-    ∙ ap (λ (n : ℕ). old ++ (plaat_start body_size n ++ plain_present properties)) flags_is
+    let one : new ≡ (old ++ plain_start body_size flags) ++ plain_present properties = b ∙ ap (λ (o : List ℕ). o ++ plain_present properties) a in
+    one ∙ append_assoc old (plain_start body_size flags) (plain_present properties)
+    ∙ ap (λ (n : ℕ). old ++ (plain_start body_size n ++ plain_present properties)) flags_is
     ∙ ap (λ (p : List (Option Argument)). old ++ plain_header (header body_size p)) same
 
 fitting-encoded : (value : Argument) (kind : FieldKind) → HasOctets kind → kind_of value ≡ kind → Fitting value → EncodesArgument value (plain_argument value)

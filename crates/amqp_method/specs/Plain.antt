@@ -102,9 +102,9 @@ CountsPresentFit [] = Unit {0}
 CountsPresentFit (p ∷ properties) = CountOfPropertyFits p × CountsPresentFit properties
 
 -- the class, the weight, the body's size and the flags of a content header
-abbrev pub plaat_start : ℕ → ℕ → List ℕ
-plaat_start body_size flags = big_bytes 2 60 ++ (big_bytes 2 0 ++ (big_bytes 8 body_size ++ big_bytes 2 flags))
+abbrev pub plain_start : ℕ → ℕ → List ℕ
+plain_start body_size flags = big_bytes 2 60 ++ (big_bytes 2 0 ++ (big_bytes 8 body_size ++ big_bytes 2 flags))
 
 -- a content header
 abbrev pub plain_header : ContentHeader → List ℕ
-plain_header h = plaat_start h.body_size (flags_of h.properties) ++ plain_present h.properties
+plain_header h = plain_start h.body_size (flags_of h.properties) ++ plain_present h.properties

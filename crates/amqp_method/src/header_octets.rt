@@ -6,7 +6,7 @@ ghost use Rattle.amqp_method.specs.Faults.{out_of_memory, too_long};
 ghost use Rattle.amqp_method.specs.FirstFault.{FirstFaultOfHeader};
 ghost use Rattle.amqp_method.specs.HeaderReading.{has_flag as is_set, optional_at, properties_at, header_at};
 ghost use Rattle.amqp_method.specs.HeaderView.{present, table_argument, later_view, properties_view, header_view};
-ghost use Rattle.amqp_method.specs.Plain.{plaat_start, plain_header, CountsPresentFit};
+ghost use Rattle.amqp_method.specs.Plain.{plain_start, plain_header, CountsPresentFit};
 ghost use Rattle.amqp_method.specs.Properties.{ContentHeader, EncodesHeader, property_kinds, later_kinds};
 ghost use Rattle.amqp_method.specs.Reading.{Gives};
 ghost use Rattle.amqp_method.specs.Writing.{PresentFitting};
@@ -291,7 +291,7 @@ fn append_header(header: &Header, out: &mut Vec<u8>) -> Result<(), MethodFault>
 
 /// The octets of a header before its properties.
 fn prefix_octets(body_size: u64, flags: u16) -> [u8; FRONT_LENGTH]
-    ensures { result ≡ plaat_start body_size flags }
+    ensures { result ≡ plain_start body_size flags }
 {
     let mut prefix = [0; FRONT_LENGTH];
     BigEndian::write_u16(&mut prefix, BASIC);
@@ -302,7 +302,7 @@ fn prefix_octets(body_size: u64, flags: u16) -> [u8; FRONT_LENGTH]
 
 /// Appends them.
 fn append_prefix(body_size: u64, flags: u16, out: &mut Vec<u8>) -> Result<(), MethodFault>
-    ensures ok { OnOk result (out.new.items ≡ out.old.items ++ plaat_start body_size flags) }
+    ensures ok { OnOk result (out.new.items ≡ out.old.items ++ plain_start body_size flags) }
     ensures size { OnOk result (body_size < 2 ^ 64) }
     ensures err { IfErr result (λ e. e ≡ out_of_memory) }
     ensures kept { OnErr result (take (length out.old.items) out.new.items ≡ out.old.items) }
