@@ -1,4 +1,4 @@
--- What comes of a verdict: what is told, what is put, and what the end is then.
+-- What comes of a verdict: the event, what is put, and what the end is then.
 use Rattle.std.specs.Prelude.{◌≡◌, ◌≢◌, Bool, cond, ℕ, List, [], ◌∷◌, Some}
 use Rattle.amqp_model.specs.Channels.{End, Failed}
 use Rattle.amqp_model.specs.Closes.{Owed, ContentTooLarge, channel_close, connection_close}

@@ -54,7 +54,7 @@ pub(crate) enum Decision {
     Faults(Fault),
 }
 
-/// What an application is told of a frame, and what the end owes.
+/// The event of a frame for the application, and what the end owes.
 #[derive(Debug, Drop)]
 pub(crate) struct Outcome {
     pub(crate) told: Result<Option<Event>, Fault>,

@@ -218,7 +218,7 @@ impl Core {
         }
     }
 
-    /// What an application is told, and what the end owes. Connection.close is put once.
+    /// The event for the application, and what the end owes. Connection.close is put once.
     fn conclude(&mut self, closing: bool, number: u16, decision: Decision) -> Outcome
         ensures owed { owed_view self.old.settings result.owed ≡ owed_by closing number (decision_view self.old.settings decision) }
         ensures told { told_view result.told ≡ told_by number (decision_view self.old.settings decision) }
@@ -244,7 +244,7 @@ impl Core {
         }
     }
 
-    /// Takes a frame: what an application is told of it, and what the end owes.
+    /// Takes a frame: the event for the application, and what the end owes.
     pub(crate) fn take(
         &mut self,
         kind: FrameKind,

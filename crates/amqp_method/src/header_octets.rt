@@ -207,7 +207,7 @@ pub fn read_header(alloc: Global, octets: &[u8]) -> Result<Header, MethodFault>
     // Every other fault comes where the octets encode no header.
     ensures refused { IfErr result (λ e. (e ≡ out_of_memory) ⊎ ((h : ContentHeader) → EncodesHeader h octets.now → ⊥)) }
 
-    // It is the fault of the first field that can't be read, and that one is told, unless memory runs out.
+    // It is the fault of the first field that can't be read, and that one is reported, unless memory runs out.
     ensures fault { IfErr result (λ e. (e ≡ out_of_memory) ⊎ FirstFaultOfHeader octets.now e) }
     ensures told { (e : MethodFault) → FirstFaultOfHeader octets.now e → Gives header_view result (Err e) }
 

@@ -31,7 +31,7 @@ pub fn read_method(alloc: Global, octets: &[u8]) -> Result<Method, MethodFault>
     // Every other fault comes where the octets encode no method.
     ensures refused { IfErr result (λ e. (e ≡ out_of_memory) ⊎ ((c : Call) → EncodesMethod c octets.now → ⊥)) }
 
-    // It is the fault of the first field that can't be read, and that one is told, unless memory runs out.
+    // It is the fault of the first field that can't be read, and that one is reported, unless memory runs out.
     ensures fault { IfErr result (λ e. (e ≡ out_of_memory) ⊎ FirstFaultOfMethod octets.now e) }
     ensures told { (e : MethodFault) → FirstFaultOfMethod octets.now e → Gives method_view result (Err e) }
 

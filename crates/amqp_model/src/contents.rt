@@ -66,7 +66,7 @@ pub fn step_tells()
     ensures goes_on { (before : List Payload) (payload : Payload) (state : Gathering) → GoesOnWith before payload state }
 {}
 
-/// A content without a body is told at its header, another at the part that fills its size, whatever empty parts came
+/// A content without a body is reported at its header, another at the part that fills its size, whatever empty parts came
 /// before, and a part that passes its size is refused.
 pub fn told_at_last()
     ensures at_header { IsToldAtHeader }

@@ -83,7 +83,7 @@ pub fn failed_follows()
 {}
 
 /// Each lawful history is one that an end stands for: what is read off it, and what an end keeps that goes on with each of
-/// its steps. Which steps these are is told by what the end keeps.
+/// its steps. What the end keeps says which steps these are.
 pub fn lawful_stands()
     ensures read { (role : Role) (config : Config role) (failed : Bool) (history : History) → LawfulStands role config failed history }
     ensures step { (role : Role) (config : Config role) (end : End) (before : History) (taken : Option Frame) (failed : Bool) (after : History) → StepFollows role config end before taken failed after }

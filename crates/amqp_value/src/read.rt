@@ -243,7 +243,7 @@ pub fn read_table(alloc: Global, octets: &[u8]) -> Result<(Table, usize), ValueF
     ensures refused { IfErr result (λ e. (e ≡ out_of_memory)
         ⊎ ((pairs : Pairs) (prefix after : List ℕ) → EncodesTable pairs prefix → octets.now ≡ prefix ++ after → ⊥)) }
 
-    // It is the fault of the first element that can't be read, and that one is told, unless memory runs out.
+    // It is the fault of the first element that can't be read, and that one is reported, unless memory runs out.
     ensures fault { IfErr result (λ e. (e ≡ out_of_memory) ⊎ FirstFault octets.now e) }
     ensures told { (e : ValueFault) → FirstFault octets.now e → Gives read_view result (Err e) }
 
