@@ -25,6 +25,12 @@ def shows(what, given, printed, status):
     compare(what, ("".join(f"{line}\n" for line in printed), "", status), (ran.stdout.decode(), ran.stderr.decode(), ran.returncode))
 
 
+def checks(what, words, given, printed, status):
+    """`check` with these words prints these lines for the input, nothing on standard error, and ends with the status."""
+    ran = run(["check", *words], given.encode())
+    compare(what, ("".join(f"{line}\n" for line in printed), "", status), (ran.stdout.decode(), ran.stderr.decode(), ran.returncode))
+
+
 def frame(kind, channel, payload):
     """The octets of a frame, in hexadecimal; the payload in hexadecimal too."""
     return f"{kind:02x}{channel:04x}{len(payload) // 2:08x}{payload}ce"
@@ -133,15 +139,67 @@ def hexadecimal():
     shows("an octet of zero", b"08\x00", ["line 1: not hex"], 1)
 
 
+HEADER = "414d515000000901"
+START = frame(1, 0, "000a000a00090000000000000005504c41494e00000005656e5f5553")
+START_OK = frame(1, 0, "000a000b0000000005504c41494e0000000c00677565737400677565737405656e5f5553")
+TUNE = frame(1, 0, "000a001e07ff000200000000")
+TUNE_OK = frame(1, 0, "000a001f07ff000200000000")
+OPEN_HOST = frame(1, 0, "000a0028012f0000")
+OPEN_OK = frame(1, 0, "000a002900")
+HANDSHAKE = HEADER + START_OK + TUNE_OK + OPEN_HOST + OPEN
+SHAKEN = ["quiet", f"> {START}", "quiet", f"> {TUNE}", "quiet", "negotiated 2047 131072", f"> {OPEN_OK}", "opened 1", "> 010001000000080014000b00000000ce"]
+PUBLISH = frame(1, 1, "003c0028000000017100")
+CONTENT = [PUBLISH, HEARTBEAT, frame(2, 1, "003c000000000000000000020000"), frame(1, 2, "0014000a00"), frame(3, 1, "6869")]
+OPENED_SECOND = ["opened 2", "> 010002000000080014000b00000000ce"]
+TOLD = ['told 1 basic.publish exchange="" routing-key="q" mandatory=0 immediate=0', "  header size=2", "  body 6869"]
+TOO_LARGE = ["discarded 1", "> 0100010000001c00140028013711636f6e74656e742d746f6f2d6c6172676500000000ce"]
+
+
+def servers():
+    checks("nothing at a server", ["server"], "", [], 0)
+    checks("a prefix of the protocol header", ["server"], "414d", ["rest 2"], 1)
+    checks("another protocol header", ["server"], "414d515000000800", ["fault fatal", f"> {HEADER}"], 1)
+    checks("a frame too long by one", ["server"], HEADER + "01000000000ff9", ["quiet", f"> {START}", "fault peer 501", "> 01000000000016000a003201f50b6672616d652d6572726f7200000000ce"], 1)
+    checks("the longest frame of a handshake, begun", ["server"], HEADER + "01000000000ff8", ["quiet", f"> {START}", "rest 7"], 1)
+    checks("a whole handshake", ["server"], HANDSHAKE, SHAKEN, 0)
+    checks("a content", ["server"], HANDSHAKE + "".join(CONTENT), [*SHAKEN, "quiet", *OPENED_SECOND, *TOLD], 0)
+    checks("a content refused", ["server", "--max-body", "1"], HANDSHAKE + "".join(CONTENT), [*SHAKEN, "quiet", *TOO_LARGE, *OPENED_SECOND, "discarded 1"], 0)
+    checks("no channel agreed", ["server"], HEADER + START_OK + frame(1, 0, "000a001f0000000200000000"), ["quiet", f"> {START}", "quiet", f"> {TUNE}", "fault fatal"], 1)
+    checks("no digit", ["server"], HANDSHAKE + "\n0g", ["line 2: not hex"], 1)
+    close = frame(1, 0, "000a003200c80362796500000000")
+    closed = ['connection-closed 200 "bye"', "> 01000000000004000a0033ce"]
+    checks("a close", ["server"], HANDSHAKE + close, [*SHAKEN, *closed], 0)
+    checks("an octet after a close", ["server"], HANDSHAKE + close + "08", [*SHAKEN, *closed, "fault closed"], 1)
+    # the same for input in many lines, and for a body of many frames
+    size = 300_000
+    header = frame(2, 1, f"003c0000{size:016x}0000")
+    bodies = [frame(3, 1, "5a" * min(131_064, size - at)) for at in range(0, size, 131_064)]
+    given = "\n".join([HANDSHAKE, PUBLISH, header, *bodies, ""])
+    checks("a large body", ["server"], given, [*SHAKEN, TOLD[0], f"  header size={size}", f"  body {'5a' * size}"], 0)
+    checks("ten thousand frames", ["server"], HANDSHAKE + HEARTBEAT * 10_000, [*SHAKEN, *["quiet"] * 10_000], 0)
+
+
+def clients():
+    limits = ["--channel-max", "10", "--frame-max", "8192"]
+    negotiated = [f"> {HEADER}", "quiet", f"> {START_OK}", "quiet", "> 0100000000000c000a001f000a000020000000ce01000000000008000a0028012f0000ce", "negotiated 10 8192"]
+    checks("nothing at a client", ["client"], "", [f"> {HEADER}"], 0)
+    checks("no digit at a client", ["client"], "0", ["line 1: not hex"], 1)
+    checks("a client's handshake", ["client", *limits], START + TUNE + OPEN_OK, negotiated, 0)
+    checks("a server that blocks", ["client", *limits], START + TUNE + OPEN_OK + frame(1, 0, "000a003c036c6f77"), [*negotiated, 'blocked "low"'], 0)
+
+
 def command_lines():
     ran = run(["--version"])
     compare("--version", (b"amqp 0.1.0\n", b"", 0), (ran.stdout, ran.stderr, ran.returncode))
-    for arguments in (["--help"], ["show", "--help"]):
+    for arguments in (["--help"], ["show", "--help"], ["check", "--help"]):
         ran = run(arguments)
         compare(f"{arguments}", (b"", 0, True), (ran.stderr, ran.returncode, b"Usage: amqp" in ran.stdout))
-    for arguments in ([], ["shew"], ["show", "twice"], ["show", "--twice"], ["--twice"]):
+    for arguments in ([], ["shew"], ["show", "twice"], ["show", "--twice"], ["--twice"], ["check"], ["check", "server", "client"]):
         ran = run(arguments)
         compare(f"{arguments}", (b"", 2, True), (ran.stdout, ran.returncode, b"Usage: amqp" in ran.stderr))
+    for arguments in (["broker"], ["client", "--frame-max", "4095"], ["client", "--channel-max", "0"], ["client", "--max-body", "1073741825"]):
+        ran = run(["check", *arguments])
+        compare(f"check {arguments}", (b"", 2, True), (ran.stdout, ran.returncode, ran.stderr.startswith(b"error: invalid value")))
 
 
 def failing_streams():
@@ -156,9 +214,14 @@ def failing_streams():
             compare(f"{many} frames to {where}", 1, ran.returncode)
     ran = subprocess.run(f"{PROGRAM} show >/dev/full", shell=True, input=b"", capture_output=True, timeout=60, check=False)
     compare("nothing to /dev/full", 0, ran.returncode)
+    ran = subprocess.run(f"{PROGRAM} check client <&-", shell=True, capture_output=True, timeout=60, check=False)
+    compare("standard input of check closed", (b"fault read\n", 1), (ran.stdout, ran.returncode))
+    for side, status in (("client", 1), ("server", 0)):
+        ran = subprocess.run(f"{PROGRAM} check {side} >/dev/full", shell=True, input=b"", capture_output=True, timeout=60, check=False)
+        compare(f"nothing at a {side} to /dev/full", status, ran.returncode)
 
 
-for part in (streams, payloads, large, hexadecimal, command_lines, failing_streams):
+for part in (streams, payloads, large, hexadecimal, servers, clients, command_lines, failing_streams):
     part()
 for difference in differences:
     print(difference)

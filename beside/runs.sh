@@ -7,6 +7,6 @@ cd "$(dirname "${BASH_SOURCE[0]}")/.." || exit 1
 place=$(mktemp -d) || exit 1
 trap 'rm -rf "$place"' EXIT
 gcc -O2 -shared -fPIC -o "$place/refuse.so" beside/memory/refuse.c -ldl || exit 1
-./amqp --version >/dev/null || exit 1
+beside/built_program || exit 1
 program=crates/amqp/out/amqp
 python3 beside/runs.py "$program" && python3 beside/memory/refused.py "$program" "$place/refuse.so"

@@ -254,7 +254,7 @@ def faults():
         defined = [(number, name) for name, number in re.findall(rf"^{function} \(?(\w+)(?: kind\))? = (\d+)$", specs, re.M)]
         compare(f"faults of {crate}", [row[:2] for row in rows], defined, "the definition")
         helped[crate == "amqp_frame"] += [(prefix + row[0], row[3]) for row in rows if row[3]]
-    shown = re.findall(r"^    (\d(?:\.\d)?) +(.+)$", help_text, re.M)
+    shown = re.findall(r"^    (\d(?:\.\d)?) {2,}(.+)$", help_text, re.M)
     compare("help", sorted(helped[False] + helped[True]), sorted(shown), "the help of show")
 
 

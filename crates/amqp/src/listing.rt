@@ -69,7 +69,7 @@ pub fn frame_line(alloc: Global, frame: &RawFrame) -> Result<String, OutOfMemory
 }
 
 /// Octets in lower-case hexadecimal, `-` for none.
-fn payload_text(alloc: Global, octets: &[u8]) -> Result<String, OutOfMemory>
+pub fn payload_text(alloc: Global, octets: &[u8]) -> Result<String, OutOfMemory>
     ensures { IfOk result (λ text. string_bytes text ≡ hexadecimal octets.now) }
 {
     if octets.is_empty() {

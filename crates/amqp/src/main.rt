@@ -2,10 +2,16 @@
 #![tactic(auto)]
 
 mod arguments;
+mod checking;
+mod events;
+mod hellos;
 mod hexadecimal;
+mod input;
 mod listing;
+mod options;
 mod payloads;
 mod showing;
+mod statuses;
 #[cfg(test)]
 mod tests;
 
@@ -27,6 +33,11 @@ fn main(rt: HostRuntime) -> anyhow::Result<ExitCode> {
         Request::Show => {
             let mut output = BufWriter::new(alloc, io::writer(&rt))?;
             let status = showing::show(alloc, &mut rt.reader(), &mut output);
+            Ok(ExitCode::from(status))
+        }
+        Request::Check(side, limits) => {
+            let mut output = BufWriter::new(alloc, io::writer(&rt))?;
+            let status = checking::check_side(alloc, side, limits, &mut rt.reader(), &mut output);
             Ok(ExitCode::from(status))
         }
     }

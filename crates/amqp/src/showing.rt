@@ -1,15 +1,10 @@
 //! The subcommand `show`.
-use crate::hexadecimal::{HexFault, octets_of};
+use crate::input::read_octets;
 use crate::listing::{Ending, frame_line, list};
 use crate::payloads::payload_line;
+use crate::statuses::{DONE, FAULT};
 use std::alloc::Global;
 use std::io::{self, Read, Write};
-
-/// The status of a run that met no fault.
-const DONE: u8 = 0;
-
-/// The status of a run that printed a fault, or could not print.
-const FAULT: u8 = 1;
 
 /// Reads hexadecimal to its end, prints a line for each frame, one below it for a method or a header, and one for what ends
 /// them otherwise, and answers the exit status.
@@ -24,21 +19,12 @@ pub fn show<R: Read, W: Write>(alloc: Global, input: &mut R, output: &mut W) -> 
 
 /// The same, without the last octets reaching the output for sure.
 fn print_frames<R: Read, W: Write>(alloc: Global, input: &mut R, output: &mut W) -> io::Result<u8> {
-    let mut text = Vec::new(alloc);
-    if let Err(fault) = input.read_to_end(&mut text) {
-        if fault.kind() == io::ErrorKind::OutOfMemory {
-            return print_out_of_memory(output);
-        }
-        writeln!(output, "fault read")?;
-        return Ok(FAULT);
-    }
-    let octets = match octets_of(alloc, &text) {
+    let octets = match read_octets(alloc, input) {
         Ok(octets) => octets,
-        Err(HexFault::NotHex(line)) => {
-            writeln!(output, "line {line}: not hex")?;
+        Err(fault) => {
+            writeln!(output, "{fault}")?;
             return Ok(FAULT);
         }
-        Err(HexFault::OutOfMemory) => return print_out_of_memory(output),
     };
     let Ok(listing) = list(alloc, &octets) else {
         return print_out_of_memory(output);

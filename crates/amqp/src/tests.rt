@@ -1,6 +1,8 @@
 //! Lines that are known for known octets, and what the reader and the writer of `show` may do to it.
-use crate::arguments::request_of;
+use crate::arguments::{Request, request_of};
+use crate::options::Limits;
 use crate::showing::show;
+use amqp_core::Side;
 use std::alloc::Global;
 use std::io::{self, Cursor, ErrorKind, Read, Write};
 use std::test::Fail;
@@ -117,7 +119,7 @@ fn payloads_are_shown(rt: HostRuntime) -> Result<(), Fail> {
 
 /// A reader that fails at once.
 #[derive(Drop)]
-struct Broken;
+pub struct Broken;
 
 impl Read for Broken {
     fn read(&mut self, _buf: &mut [u8]) -> io::Result<usize> {
@@ -127,7 +129,7 @@ impl Read for Broken {
 
 /// A writer that takes nothing.
 #[derive(Drop)]
-struct Full;
+pub struct Full;
 
 impl Write for Full {
     fn write(&mut self, _buf: &[u8]) -> io::Result<usize> {
@@ -153,32 +155,70 @@ fn a_failing_writer_ends_with_one(rt: HostRuntime) {
     assert_eq!(rt; show(rt.alloc(), &mut reader, &mut Full), 1);
 }
 
-/// The exit code with which a command line is refused or answered with a text, if it is.
-fn refusal(alloc: Global, words: &[&str]) -> Result<Option<i32>, Fail> {
+/// What a command line asks for, or the exit code with which it is refused or answered with a text.
+fn requested(alloc: Global, words: &[&str]) -> Result<Result<Request, i32>, Fail> {
     let mut line: Vec<String> = Vec::new(alloc);
     for word in words {
         line.push(word.to_string(alloc)?)?;
     }
-    Ok(
-        request_of(alloc, line.as_slice())
-            .err()
-            .map(|error| error.exit_code()),
-    )
+    match request_of(alloc, line.as_slice()) {
+        Ok(request) => Ok(Ok(request)),
+        Err(error) => Ok(Err(error.exit_code())),
+    }
 }
 
 #[test]
 fn command_lines_are_read(rt: HostRuntime) -> Result<(), Fail> {
-    let table: [(&[&str], Option<i32>); 7] = [
-        (&["amqp", "show"], None),
-        (&["amqp", "--version"], Some(0)),
-        (&["amqp", "--help"], Some(0)),
-        (&["amqp", "show", "--help"], Some(0)),
-        (&["amqp"], Some(2)),
-        (&["amqp", "check", "client"], Some(2)),
-        (&["amqp", "show", "twice"], Some(2)),
+    let defaults = Limits {
+        frame_max: 131_072,
+        channel_max: 2047,
+        max_body: 16_777_216,
+    };
+    let least = Limits {
+        frame_max: 4096,
+        channel_max: 1,
+        max_body: 0,
+    };
+    let most = Limits {
+        frame_max: 1_048_576,
+        channel_max: 65_535,
+        max_body: 1_073_741_824,
+    };
+    let table: [(&str, Result<Request, i32>); 20] = [
+        ("show", Ok(Request::Show)),
+        ("--version", Err(0)),
+        ("--help", Err(0)),
+        ("show --help", Err(0)),
+        ("", Err(2)),
+        ("show twice", Err(2)),
+        ("check", Err(2)),
+        ("check --help", Err(0)),
+        ("check broker", Err(2)),
+        ("check client", Ok(Request::Check(Side::Client, defaults))),
+        ("check server", Ok(Request::Check(Side::Server, defaults))),
+        (
+            "check --frame-max 4096 --channel-max 1 --max-body 0 client",
+            Ok(Request::Check(Side::Client, least)),
+        ),
+        (
+            "check server --frame-max=1048576 --channel-max=65535 --max-body=1073741824",
+            Ok(Request::Check(Side::Server, most)),
+        ),
+        ("check client --frame-max 4095", Err(2)),
+        ("check client --frame-max 1048577", Err(2)),
+        ("check client --channel-max 0", Err(2)),
+        ("check client --channel-max 65536", Err(2)),
+        ("check client --max-body 1073741825", Err(2)),
+        ("check client --max-body -1", Err(2)),
+        ("show --frame-max 4096", Err(2)),
     ];
-    for (words, code) in table {
-        assert_eq!(rt; refusal(rt.alloc(), words)?, code, "for {words:?}");
+    for (line, request) in table {
+        let mut words = Vec::new(rt.alloc());
+        words.push("amqp")?;
+        for word in line.split_whitespace() {
+            words.push(word)?;
+        }
+        assert_eq!(rt; requested(rt.alloc(), &words)?, request, "for {line}");
     }
     Ok(())
 }

@@ -40,7 +40,7 @@ only_at : (b : Bool) (number other : ℕ) (old new : ℕ → Channel) → (other
 only_at true number other old new e h = ap new (eqb-true other number e)
 only_at false number other old new e h = h other (eqb-false other number e)
 
-set_only : (number : ℕ) (old new : ℕ → Channel) → OnlyAt number old new → new ≡ set_channel number (new number) old
+pub set_only : (number : ℕ) (old new : ℕ → Channel) → OnlyAt number old new → new ≡ set_channel number (new number) old
 set_only number old new h = λ i other. only_at (other == number) number other old new refl h i
 
 same_end : (before after : End) (number : ℕ) → after.phase ≡ before.phase → after.agreed ≡ before.agreed → OnlyAt number before.channels after.channels → after ≡ with_channel number (after.channels number) before

@@ -41,7 +41,7 @@ same_end : (one other : End) → one ≡ other → SameEnd one other
 same_end one other e = record { phase = ap (λ (x : End). x.phase) e; agreed = ap (λ (x : End). x.agreed) e; no_channel = ap (λ (x : End). x.channels 0) e; channels = λ running. ap (λ (x : End). x.channels) e }
 
 -- the close that an end puts leaves what was agreed, and the channels
-close_agreed : (role : Role) (config : Config role) (closing : Bool) (fault : Fault) (end : End) → (end_after_owed role config (owed_for closing fault) end).agreed ≡ end.agreed
+pub close_agreed : (role : Role) (config : Config role) (closing : Bool) (fault : Fault) (end : End) → (end_after_owed role config (owed_for closing fault) end).agreed ≡ end.agreed
 close_agreed Client config true (Peer code) end = refl
 close_agreed Client config false (Peer code) end = refl
 close_agreed Server config true (Peer code) end = refl
@@ -51,7 +51,7 @@ close_agreed role config closing WrongProtocolHeader end = refl
 close_agreed role config closing AlreadyClosed end = refl
 close_agreed role config closing AlreadyFailed end = refl
 
-close_channels : (role : Role) (config : Config role) (closing : Bool) (fault : Fault) (end : End) → (end_after_owed role config (owed_for closing fault) end).channels ≡ end.channels
+pub close_channels : (role : Role) (config : Config role) (closing : Bool) (fault : Fault) (end : End) → (end_after_owed role config (owed_for closing fault) end).channels ≡ end.channels
 close_channels role config true (Peer code) end = refl
 close_channels role config false (Peer code) end = refl
 close_channels role config closing Fatal end = refl

@@ -1,5 +1,6 @@
 pub mod Roles
 pub mod Settings
+pub mod Configs
 pub mod Messages
 pub mod Filling
 pub mod CarrierView
@@ -18,6 +19,7 @@ pub mod VerdictView
 pub mod Unreads
 pub mod Reads
 pub mod OwedView
+pub mod HandshakeMethods
 pub mod CoreView
 pub mod Handshakes
 pub mod Outcomes
@@ -28,3 +30,17 @@ pub mod OutboxView
 pub mod OutboxFields
 pub mod OutboxFrames
 pub mod OutboxFaults
+pub mod Answering
+pub mod Bounded
+pub mod EndpointView
+pub mod StateView
+pub mod Kept
+pub mod Feeding
+pub mod Following
+pub mod EndView
+pub mod AskView
+pub mod Asked
+pub mod Refusals
+pub mod Asking
+pub mod Dropping
+pub mod Owing

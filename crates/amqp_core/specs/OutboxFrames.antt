@@ -1,14 +1,19 @@
 -- The frames that an outbox is handed, and how their octets come about.
-use Rattle.std.specs.Prelude.{ℕ, ◌+◌, List, [], ◌∷◌, ◌++◌, length, take, drop}
+use Rattle.std.specs.Prelude.{◌≡◌, ℕ, ◌+◌, List, [], ◌∷◌, ◌++◌, length, take, drop, Some}
 use Rattle.byteorder.specs.Endian.{big_bytes}
 use Rattle.amqp_frame.specs.Frame.{Frame, END}
 use Rattle.amqp_method.specs.Properties.{ContentHeader}
 use Rattle.amqp_model.specs.Asks.{payload_frame}
 use Rattle.amqp_model.specs.Contents.{Header, Body}
+use Rattle.amqp_model.specs.Methods.{header_at, plain_header}
 
 -- the frame of a content header, plainly encoded
 abbrev pub header_frame : (channel : ℕ) → ContentHeader → Frame
 header_frame channel header = payload_frame channel (Header header.body_size header.properties)
+
+-- what is written of the header reads as the header
+abbrev pub HeaderReadsBack : ContentHeader → Type 0
+HeaderReadsBack header = header_at (plain_header header) ≡ Some header
 
 -- the frame of a part of a body
 abbrev pub body_frame : (channel : ℕ) → List ℕ → Frame

@@ -1,6 +1,5 @@
 -- The methods that an end puts of itself, in the words of the model.
 use Rattle.std.specs.Prelude.{List, [], ◌∷◌, map, Some}
-use Rattle.amqp_method.specs.MethodView.{method_view}
 use Rattle.amqp_model.specs.Channels as channels
 use Rattle.amqp_model.specs.Closes as closes
 use Rattle.amqp_model.specs.Closes.{connection_close, connection_close_ok, channel_close, reply_to}
@@ -13,7 +12,6 @@ use Rattle.amqp_core.specs.Settings.{role_for, config_view}
 use Rattle.amqp_core.specs.VerdictView.{reply_kind}
 use Rattle.amqp_core.specs.declared.owed.Owed.{Owed}
 use Rattle.amqp_core.specs.declared.owed.Owed.TheVariants as code
-use Rattle.amqp_core.specs.declared.owed.OwedMethod.{OwedMethod}
 use Rattle.amqp_core.specs.declared.settings.Settings.{Settings}
 
 -- what one role alone puts in the handshake
@@ -45,10 +43,3 @@ owed_view settings (code.Close reason) = connection_close (code_view reason) ∷
 owed_view settings code.CloseOk = connection_close_ok ∷ []
 owed_view settings (code.OnChannel number reply) = map (on_channel number) (reply_to (Some (reply_kind reply)))
 owed_view settings (code.ChannelClose number reason) = channel_close number (code_view reason) ∷ []
-
--- methods that were made, each with its channel
-abbrev pub made_view : OwedMethod → closes.Owed
-made_view owed = record { channel = owed.channel; method = method_view owed.method }
-
-abbrev pub owed_methods : List OwedMethod → List closes.Owed
-owed_methods made = map made_view made

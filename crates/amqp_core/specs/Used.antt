@@ -29,3 +29,8 @@ NoneFreeBelow used low = (j : ℕ) → suc j < low → is_free (used_view used (
 abbrev pub is_closing_at : model.Channel → Bool
 is_closing_at model.Closing = true
 is_closing_at channel = false
+
+-- the channel is Open
+abbrev pub is_open_at : model.Channel → Bool
+is_open_at (model.Open life) = true
+is_open_at channel = false

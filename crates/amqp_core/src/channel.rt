@@ -5,7 +5,7 @@
 //!
 //!     Free --open put--> Opening --open-ok--> Open --close put--> Closing --close-ok--> Free
 //!     Free --open taken--> Open --close taken--> Free
-ghost use Rattle.std.specs.Prelude.{◌≡◌, ◌≢◌, ◌<◌, ℕ, List, IfOk, OnOk, OnErr};
+ghost use Rattle.std.specs.Prelude.{◌≡◌, ◌≢◌, ◌<◌, false, ℕ, List, IfOk, OnOk, OnErr};
 ghost use Rattle.amqp_method.specs.HeaderView.{properties_view};
 ghost use Rattle.amqp_method.specs.MethodView.{method_view};
 ghost use Rattle.amqp_model.specs.Frame.{Frame};
@@ -283,7 +283,8 @@ impl Channel {
     /// A close that an end puts, with any code and text.
     pub(crate) fn put_close(&mut self, site: Site)
         requires { IsOpen self.old }
-        ensures { (code : ℕ) (text : List ℕ) (frame : Frame) → channel_view self.new ≡ channel_after (role_of site.side) (PutHere (Calls (close_as Kind.ChannelClose code text)) frame) (channel_view self.old) }
+        ensures taken { is_free (channel_view self.new) ≡ false }
+        ensures after { (code : ℕ) (text : List ℕ) (frame : Frame) → channel_view self.new ≡ channel_after (role_of site.side) (PutHere (Calls (close_as Kind.ChannelClose code text)) frame) (channel_view self.old) }
     {
         *self = Channel::Closing;
     }
@@ -291,7 +292,8 @@ impl Channel {
     /// A flow that an end puts.
     pub(crate) fn put_flow(&mut self, site: Site, active: bool)
         requires { IsOpen self.old }
-        ensures { (frame : Frame) → channel_view self.new ≡ channel_after (role_of site.side) (PutHere (Calls (flow_as Kind.ChannelFlow active)) frame) (channel_view self.old) }
+        ensures taken { is_free (channel_view self.new) ≡ false }
+        ensures after { (frame : Frame) → channel_view self.new ≡ channel_after (role_of site.side) (PutHere (Calls (flow_as Kind.ChannelFlow active)) frame) (channel_view self.old) }
     {
         if let Channel::Open(life) = self {
             life.awaits = true;
@@ -302,6 +304,7 @@ impl Channel {
     pub(crate) fn put_message(&mut self, site: Site, message: &Message) -> Result<(), OutOfMemory>
         requires is_open { IsOpen self.old }
         requires other { IsOther (kind_of (Calls (message_view message.now).call)) }
+        ensures taken { is_free (channel_view self.new) ≡ false }
         ensures ok { OnOk result ((frame_max : ℕ) → channel_view self.new ≡ after_payloads (role_of site.side) site.number (message_payloads frame_max (message_of (message_view message.now))) (channel_view self.old)) }
         ensures err { OnErr result (channel_view self.new ≡ channel_view self.old) }
     {

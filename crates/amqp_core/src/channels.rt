@@ -1,10 +1,10 @@
 //! The channels of a connection, by number.
 //!
 //! A channel is kept from its open to its end, so memory is bounded by the channels in use, whatever their numbers are.
-ghost use Rattle.std.specs.Prelude.{◌≡◌, ◌≢◌, ◌<◌, ◌≤◌, true, false, ℕ, suc, IfOk, OnErr, OnOk, MatchOption};
+ghost use Rattle.std.specs.Prelude.{◌≡◌, ◌≢◌, ◌+◌, ◌<◌, ◌≤◌, true, false, not, ℕ, suc, IfOk, IfSome, OnErr, OnOk, MatchOption, None};
 ghost use Rattle.amqp_method.specs.HeaderView.{properties_view};
 ghost use Rattle.amqp_method.specs.MethodView.{method_view};
-ghost use Rattle.amqp_model.specs.Asks.{is_free};
+ghost use Rattle.amqp_model.specs.Asks.{is_free, first_free};
 ghost use Rattle.amqp_model.specs.Channels.{Free};
 ghost use Rattle.amqp_model.specs.Frame.{Frame};
 ghost use Rattle.amqp_model.specs.Readings.{Calls, HeaderOf, MalformedHeader, BodyOf, kind_of};
@@ -14,6 +14,8 @@ ghost use Rattle.amqp_core.specs.ChannelView.{channel_view};
 ghost use Rattle.amqp_core.specs.Used.{is_closing_at, used_view, NoneFreeBelow};
 ghost use Rattle.amqp_core.specs.Roles.{role_of};
 ghost use Rattle.amqp_core.specs.VerdictView.{verdict_view, Decides, LeavesAfter};
+
+mod puts;
 
 use crate::channel::Channel;
 use crate::codes::CloseCode;
@@ -198,5 +200,50 @@ impl Channels {
             }
             None => unreachable!(),
         }
+    }
+
+    /// Whether a channel is in use.
+    fn is_taken(&self, number: u16) -> bool
+        requires { 0 < number }
+        ensures { result ≡ not (is_free (channels_view self.now number)) }
+    {
+        match self.used.get(&number) {
+            Some(channel) => !channel.is_free(),
+            None => false,
+        }
+    }
+
+    /// The lowest number that is free, up to the greatest.
+    fn first_free(&self, most: u16) -> Option<u16>
+        ensures lowest { result ≡ first_free (channels_view self.now) most 1 }
+        ensures above { IfSome result (λ number. (0 < number) × NoneFreeBelow self.now.used number) }
+        ensures free { IfSome result (λ number. is_free (channels_view self.now number) ≡ true) }
+        ensures none { result ≡ None → NoneFreeBelow self.now.used (most + 1) }
+    {
+        for number in self.low..=most {
+            if !self.is_taken(number) {
+                return Some(number);
+            }
+        }
+        None
+    }
+
+    /// The lowest number that is free, up to the greatest. Of those below, none is looked at again while they stay in use.
+    pub(crate) fn lowest_free(&mut self, most: u16) -> Option<u16>
+        ensures lowest { result ≡ first_free (channels_view self.old) most 1 }
+        ensures above { IfSome result (λ number. 0 < number) }
+        ensures free { IfSome result (λ number. is_free (channels_view self.old number) ≡ true) }
+        ensures same { (number : ℕ) → channels_view self.new number ≡ channels_view self.old number }
+    {
+        let found = self.first_free(most);
+        match found {
+            Some(number) => self.low = number,
+            None => {
+                if self.low < most {
+                    self.low = most;
+                }
+            }
+        }
+        found
     }
 }

@@ -22,14 +22,14 @@ pub struct Agreed {
 }
 
 /// The code and the text of a close.
-#[derive(Debug, Drop)]
+#[derive(PartialEq, Eq, Debug, Drop)]
 pub struct Reason {
     pub code: u16,
     pub text: ShortStr,
 }
 
 /// What an end tells of what it takes.
-#[derive(Debug, Drop)]
+#[derive(PartialEq, Eq, Debug, Drop)]
 pub enum Event {
     /// The handshake is over.
     Negotiated(Agreed),
@@ -53,6 +53,14 @@ pub enum Event {
     Unblocked,
     /// A step of the handshake, a heartbeat, or a close that crosses this end's own.
     Quiet,
+}
+
+/// How many octets of a piece were taken, and what came of them: no event where no frame was finished, or where the frame is a
+/// part of a content that isn't whole.
+#[derive(PartialEq, Eq, Debug, Drop)]
+pub struct Taken {
+    pub octets: usize,
+    pub event: Option<Event>,
 }
 
 /// The number that an argument of 16 bits is.

@@ -6,6 +6,7 @@ ghost use Rattle.amqp_core.specs.declared.faults.AskFault.TheVariants as ask_fau
 ghost use Rattle.amqp_core.specs.Faults.{core_fault_number, config_fault_number, ask_fault_number};
 
 use crate::codes::CloseCode;
+use crate::staging::StageFault;
 use std::alloc::{AllocError, AllocFailed};
 use thiserror::Error;
 
@@ -28,6 +29,13 @@ impl<T: Drop> From<AllocFailed<T>> for OutOfMemory {
 
 impl From<amqp_value::OutOfMemory> for OutOfMemory {
     fn from(_: amqp_value::OutOfMemory) -> OutOfMemory {
+        OutOfMemory
+    }
+}
+
+/// For the methods that an end puts of itself. They are short, so staging them fails only where memory is refused.
+impl From<StageFault> for OutOfMemory {
+    fn from(_: StageFault) -> OutOfMemory {
         OutOfMemory
     }
 }

@@ -17,13 +17,10 @@ use crate::faults::OutOfMemory;
 use crate::one_end::{Core, Decision, Fault, closes_with};
 use crate::owed::Owed;
 use crate::roles::Side;
-use crate::settings::Settings;
+use crate::settings::{FRAME_MIN, Settings};
 use crate::stage::Stage;
 use crate::words::{is_of_connection, number_at, same};
 use amqp_method::{Kind, Method};
-
-/// No smaller frame may be agreed.
-const FRAME_MIN: u64 = 4096;
 
 /// The smaller of two limits, where the other end's 0 means none.
 fn smaller(own: u64, others: u64) -> u64

@@ -2,21 +2,33 @@
 //! applications ask. No socket is touched and no thread started.
 #![tactic(auto)]
 
+mod answering;
+mod asking;
+mod asks;
 mod carrier;
 mod channel;
 mod channels;
 mod codes;
+mod config;
+mod end;
+mod endpoint;
 mod events;
 mod faults;
 mod gathering;
+mod greeting;
 mod handshake;
 mod laws;
 mod life;
 mod one_end;
+mod opening;
 mod outbox;
 mod owed;
+mod queries;
 mod read;
+mod refusing;
+mod replies;
 mod roles;
+mod sending;
 mod settings;
 mod slots;
 mod stage;
@@ -27,10 +39,14 @@ mod tests;
 mod verdict;
 mod words;
 
+pub use crate::asks::Ask;
 pub use crate::codes::CloseCode;
-pub use crate::events::{Agreed, Event, Reason};
+pub use crate::config::Config;
+pub use crate::end::End;
+pub use crate::events::{Agreed, Event, Reason, Taken};
 pub use crate::faults::{AskFault, ConfigFault, CoreFault, OutOfMemory};
 pub use crate::laws::sent_is_taken;
+pub use crate::queries::ChannelState;
 pub use crate::roles::{Client, Role, Server, Side};
-pub use crate::settings::{ClientHello, ServerHello};
+pub use crate::settings::{ClientHello, Hello, ServerHello};
 pub use crate::stage::Phase;

@@ -1,7 +1,7 @@
 //! One end of a connection, frame by frame: the rules in their order, of which the first that applies decides.
 //!
 //! A header or a body is read only where no rule before drops the frame, so a frame that is dropped takes no memory.
-ghost use Rattle.std.specs.Prelude.{◌≡◌, ◌<◌, ℕ, true, false, Some, IfOk};
+ghost use Rattle.std.specs.Prelude.{◌≡◌, ◌⊎◌, ◌<◌, ℕ, true, false, Some, IfOk};
 ghost use Rattle.amqp_method.specs.MethodView.{method_view};
 ghost use Rattle.amqp_model.specs.Channels.{End};
 ghost use Rattle.amqp_model.specs.EndVerdict.{takes_frames};
@@ -91,6 +91,7 @@ impl Unread {
 impl Core {
     ghost use Rattle.amqp_core.specs.ChannelsView.{channels_view};
     ghost use Rattle.amqp_core.specs.CoreView.{core_end, IsVerdict, LeavesEnd, site_at, decision_view};
+    ghost use Rattle.amqp_core.specs.Owing.{OwesNothing};
     ghost use Rattle.amqp_core.specs.Settings.{config_view, role_for};
     ghost use Rattle.amqp_core.specs.Used.{is_closing_at};
     ghost use Rattle.amqp_core.specs.VerdictView.{verdict_view};
@@ -119,7 +120,7 @@ impl Core {
         self.stage = Stage::Failed(self.stage.agreed());
     }
 
-    fn site(&self, number: u16, channel_max: u16) -> Site
+    pub(crate) fn site(&self, number: u16, channel_max: u16) -> Site
         ensures { result ≡ site_at self.now.settings number channel_max }
     {
         Site {
@@ -149,6 +150,7 @@ impl Core {
         requires { takes_frames (phase_at self.now.stage) ≡ true }
         ensures verdict { IsVerdict self.now.settings (core_end self.now) number (Beat empty) result }
         ensures after { LeavesEnd self.now.settings number (Beat empty) result (core_end self.now) (core_end self.now) }
+        ensures alone { (leaves (phase_at self.now.stage) ≡ true) ⊎ ((number ≡ 0) × (empty ≡ true)) → OwesNothing result }
     {
         if self.stage.is_closing() {
             return discards(number);

@@ -15,9 +15,10 @@ ghost use Rattle.amqp_method.specs.HeaderView.{header_view};
 ghost use Rattle.amqp_method.specs.MethodView.{method_view};
 ghost use Rattle.amqp_method.specs.Plain.{plain_method, plain_header, CountsAllFit, CountsPresentFit};
 ghost use Rattle.amqp_model.specs.Closes.{method_frame};
+ghost use Rattle.amqp_model.specs.Methods.{ReadsBack};
 ghost use Rattle.amqp_model.specs.Outputs.{output_octets, after_writing};
 ghost use Rattle.amqp_core.specs.OutboxFaults.{out_of_memory, too_long};
-ghost use Rattle.amqp_core.specs.OutboxFrames.{header_frame, body_frame};
+ghost use Rattle.amqp_core.specs.OutboxFrames.{header_frame, body_frame, HeaderReadsBack};
 ghost use Rattle.amqp_core.specs.OutboxSlots.{moved_up, moved_down};
 ghost use Rattle.amqp_core.specs.OutboxView.{only, begins_with, with_staged, with_output, all_put, IsPutOfFirst};
 
@@ -164,6 +165,7 @@ impl Outbox {
     /// Stages a frame with this method.
     pub(crate) fn stage_method(&mut self, channel: u16, method: &Method) -> Result<(), StageFault>
         ensures ok { OnOk result (self.new ≡ with_staged self.old (method_frame channel (method_view method.now) ∷ [])) }
+        ensures reads_back { OnOk result (ReadsBack (method_view method.now)) }
         ensures too_long { result ≡ Err too_long → length (plain_method (method_view method.now)) < 2 ^ 32 → CountsAllFit (method_view method.now).args → ⊥ }
         ensures same { OnErr result (self.new ≡ self.old) }
     {
@@ -179,6 +181,7 @@ impl Outbox {
     /// Stages a frame with this content header.
     pub(crate) fn stage_header(&mut self, channel: u16, header: &Header) -> Result<(), StageFault>
         ensures ok { OnOk result (self.new ≡ with_staged self.old (header_frame channel (header_view header.now) ∷ [])) }
+        ensures reads_back { OnOk result (HeaderReadsBack (header_view header.now)) }
         ensures too_long { result ≡ Err too_long → length (plain_header (header_view header.now)) < 2 ^ 32 → CountsPresentFit (header_view header.now).properties → ⊥ }
         ensures same { OnErr result (self.new ≡ self.old) }
     {

@@ -1,26 +1,51 @@
 //! What an end is set up with: its limits, and what it says of itself.
-ghost use Rattle.std.specs.Prelude.{◌≡◌, IfOk};
-ghost use Rattle.amqp_core.specs.Settings.{client_hello_view, server_hello_view, side_in};
+ghost use Rattle.std.specs.Prelude.{◌≡◌, ◌<◌, ◌≤◌, ◌^◌, ◌↔◌, length, IfOk, IfSome, OnOk, None};
+ghost use Rattle.amqp_value.specs.Lengths.{capped};
+ghost use Rattle.amqp_method.specs.Fitting.{FitsShort};
+ghost use Rattle.amqp_model.specs.Fitting.{ConfigWrites, HostFits, config_fault};
+ghost use Rattle.amqp_core.specs.Faults.{config_fault_view};
+ghost use Rattle.amqp_core.specs.HandshakeMethods.{IsStartLength, IsStartOkLength, greeting_length};
+ghost use Rattle.amqp_core.specs.Settings.{client_hello_view, server_hello_view, hello_view, side_in};
 
-use crate::faults::OutOfMemory;
+use crate::faults::{ConfigFault, OutOfMemory};
 use crate::roles::Side;
+use amqp_method::{encoded_is_read, write_method};
 use amqp_value::{ShortStr, Table};
+use std::alloc::Global;
+
+/// No smaller frame may be agreed, and no frame of the handshake may be longer.
+pub(crate) const FRAME_MIN: u64 = 4096;
+
+/// The greatest frame that an end may be set up to take.
+const FRAME_MOST: u64 = 1_048_576;
+
+/// What stands in the frame of a start beside its table and its strings: the frame's own 8 octets, the two ids, the version,
+/// and the lengths of two strings.
+const START_LENGTH: u64 = 8 + 4 + 2 + 4 + 4;
+
+/// What stands in the frame of a start-ok beside its table and its strings: the frame's own 8 octets, the two ids, and the
+/// lengths of a short string, a long one, and a short one.
+const START_OK_LENGTH: u64 = 8 + 4 + 1 + 4 + 1;
 
 /// What a client says of itself, in start-ok and in open.
 #[derive(Debug, Drop)]
 pub struct ClientHello {
+    /// What the program is and can do, by name: product, version, capabilities.
     pub properties: Table,
     /// The name of the security mechanism that the client picks.
     pub mechanism: ShortStr,
     /// The mechanism's own octets, which hold the credentials.
     pub response: Vec<u8>,
+    /// The name of the locale that the client picks.
     pub locale: ShortStr,
+    /// The name of the virtual host that the client opens.
     pub virtual_host: ShortStr,
 }
 
 /// What a server says of itself, in start.
 #[derive(Debug, Drop)]
 pub struct ServerHello {
+    /// What the program is and can do, by name: product, version, capabilities.
     pub properties: Table,
     /// The names of the security mechanisms, parted by spaces.
     pub mechanisms: Vec<u8>,
@@ -46,6 +71,18 @@ impl ClientHello {
             virtual_host,
         })
     }
+
+    /// How long the frame of the start-ok would be. `u64::MAX` stands for every length from there on.
+    fn start_ok_length(&self) -> u64
+        ensures { IsStartOkLength self.now result }
+    {
+        let texts = (self.mechanism.len() as u64 + self.locale.len() as u64).saturating_add(
+            self.response.len() as u64,
+        );
+        START_OK_LENGTH
+            .saturating_add(self.properties.encoded_length())
+            .saturating_add(texts)
+    }
 }
 
 impl ServerHello {
@@ -62,16 +99,27 @@ impl ServerHello {
             locales,
         })
     }
+
+    /// How long the frame of the start would be. `u64::MAX` stands for every length from there on.
+    fn start_length(&self) -> u64
+        ensures { IsStartLength self.now result }
+    {
+        let texts = (self.mechanisms.len() as u64).saturating_add(self.locales.len() as u64);
+        START_LENGTH
+            .saturating_add(self.properties.encoded_length())
+            .saturating_add(texts)
+    }
 }
 
 /// What an end of either side says of itself.
 #[derive(Debug, Drop)]
-pub(crate) enum Hello {
+pub enum Hello {
     Client(ClientHello),
     Server(ServerHello),
 }
 
 impl Hello {
+    /// Whose hello it is.
     pub(crate) fn side(&self) -> Side
         ensures { result ≡ side_in self.now }
     {
@@ -82,6 +130,12 @@ impl Hello {
     }
 }
 
+/// A string of up to 255 octets fits a field of short strings.
+fn fits_field(octets: &[u8])
+    requires { length octets.now ≤ 255 }
+    ensures { FitsShort octets.now }
+{}
+
 /// What an end is set up with, whichever side it is.
 #[derive(Debug, Drop)]
 pub(crate) struct Settings {
@@ -89,4 +143,63 @@ pub(crate) struct Settings {
     pub(crate) channel_max: u16,
     pub(crate) max_body: u64,
     pub(crate) hello: Hello,
+}
+
+impl Settings {
+    ghost use Rattle.amqp_core.specs.Settings.{role_for, config_view};
+
+    /// How long the frame of the greeting would be, which is a client's start-ok or a server's start.
+    fn greeting_length(&self) -> u64
+        ensures { result ≡ capped (greeting_length (role_for self.now) (config_view self.now)) }
+    {
+        match &self.hello {
+            Hello::Client(hello) => hello.start_ok_length(),
+            Hello::Server(hello) => hello.start_length(),
+        }
+    }
+
+    /// Why an end can't be set up so, if it can't. It takes no memory.
+    pub(crate) fn fault(&self) -> Option<ConfigFault>
+        ensures none { (result ≡ None) ↔ (config_fault (role_for self.now) (config_view self.now) ≡ None) }
+        ensures fault { IfSome result (λ f. config_fault_view f ≡ config_fault (role_for self.now) (config_view self.now)) }
+    {
+        let frame_max = u64::from(self.frame_max);
+        if frame_max < FRAME_MIN || FRAME_MOST < frame_max {
+            return Some(ConfigFault::FrameMax);
+        }
+        if self.channel_max == 0 {
+            return Some(ConfigFault::ChannelMax);
+        }
+        if FRAME_MIN < self.greeting_length() {
+            return Some(ConfigFault::HelloTooLong);
+        }
+        None
+    }
+
+    /// A channel number is of 16 bits, and a virtual host is a short string.
+    fn fits_fields(&self)
+        ensures channel { self.now.channel_max < 2 ^ 16 }
+        ensures host { HostFits (hello_view self.now.hello) }
+    {
+        let _channel_max = self.channel_max;
+        match &self.hello {
+            Hello::Client(hello) => fits_field(hello.virtual_host.as_bytes()),
+            Hello::Server(_) => {}
+        }
+    }
+
+    /// The hello is written once, on trial. What could be written reads back.
+    pub(crate) fn try_greeting(&self, alloc: Global) -> Result<(), OutOfMemory>
+        requires { config_fault (role_for self.now) (config_view self.now) ≡ None }
+        ensures { OnOk result (ConfigWrites (config_view self.now)) }
+    {
+        encoded_is_read();
+        self.fits_fields();
+        let method = self.greeting(alloc)?;
+        let mut scratch = Vec::new(alloc);
+        let Ok(()) = write_method(&method, &mut scratch) else {
+            return Err(OutOfMemory);
+        };
+        Ok(())
+    }
 }

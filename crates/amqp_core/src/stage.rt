@@ -1,5 +1,7 @@
 //! Where a connection stands: what an end awaits next, and what was agreed by then.
-ghost use Rattle.std.specs.Prelude.{◌≡◌, None};
+ghost use Rattle.std.specs.Prelude.{◌≡◌, ◌≢◌, true, false, None};
+ghost use Rattle.amqp_model.specs.Channels as model;
+ghost use Rattle.amqp_model.specs.EndVerdict.{takes_octets};
 ghost use Rattle.amqp_model.specs.Machine.{new_end};
 ghost use Rattle.amqp_core.specs.Roles.{role_of};
 ghost use Rattle.amqp_core.specs.EventView.{agreed_there};
@@ -98,6 +100,46 @@ impl Stage {
             | Stage::Running(_)
             | Stage::Closed(_)
             | Stage::Failed(_) => false,
+        }
+    }
+
+    /// Whether the connection is closed.
+    pub(crate) fn is_closed(self) -> bool
+        ensures closed { result ≡ true → phase_at self ≡ model.Closed }
+        ensures not { result ≡ false → phase_at self ≢ model.Closed }
+    {
+        match self {
+            Stage::Closed(_) => true,
+            Stage::AwaitsProtocolHeader
+            | Stage::AwaitsStart
+            | Stage::AwaitsStartOk
+            | Stage::AwaitsTune
+            | Stage::AwaitsTuneOk
+            | Stage::AwaitsOpen(_)
+            | Stage::AwaitsOpenOk(_)
+            | Stage::Running(_)
+            | Stage::Closing(_)
+            | Stage::Failed(_) => false,
+        }
+    }
+
+    /// Whether the end has failed.
+    pub(crate) fn is_failed(self) -> bool
+        ensures failed { result ≡ true → phase_at self ≡ model.Failed }
+        ensures takes { result ≡ false → phase_at self ≢ model.Closed → takes_octets (phase_at self) ≡ true }
+    {
+        match self {
+            Stage::Failed(_) => true,
+            Stage::AwaitsProtocolHeader
+            | Stage::AwaitsStart
+            | Stage::AwaitsStartOk
+            | Stage::AwaitsTune
+            | Stage::AwaitsTuneOk
+            | Stage::AwaitsOpen(_)
+            | Stage::AwaitsOpenOk(_)
+            | Stage::Running(_)
+            | Stage::Closing(_)
+            | Stage::Closed(_) => false,
         }
     }
 }

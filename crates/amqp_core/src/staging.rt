@@ -8,10 +8,12 @@ ghost use Rattle.amqp_method.specs.MethodView.{method_view};
 ghost use Rattle.amqp_method.specs.Plain.{plain_method, plain_header, CountsAllFit, CountsPresentFit};
 ghost use Rattle.amqp_model.specs.Arrangement.{names_leaving};
 ghost use Rattle.amqp_model.specs.Closes.{method_frame};
+ghost use Rattle.amqp_model.specs.Methods.{ReadsBack};
 ghost use Rattle.amqp_core.specs.OutboxFaults.{out_of_memory, too_long};
-ghost use Rattle.amqp_core.specs.OutboxFrames.{ended, header_frame, body_frame};
+ghost use Rattle.amqp_core.specs.OutboxFrames.{ended, header_frame, body_frame, HeaderReadsBack};
 ghost use Rattle.amqp_core.specs.OutboxSlots.{slot_of};
 
+use crate::faults::OutOfMemory;
 use crate::slots::Slot;
 use amqp_frame::FrameKind;
 use amqp_method::{Header, Method, MethodFault, MethodFaultKind, write_header, write_method};
@@ -39,6 +41,14 @@ impl From<AllocError> for StageFault {
     ghost from_gives = { λ _ e. e ≡ out_of_memory };
 
     fn from(_: AllocError) -> StageFault {
+        StageFault::OutOfMemory
+    }
+}
+
+impl From<OutOfMemory> for StageFault {
+    ghost from_gives = { λ _ e. e ≡ out_of_memory };
+
+    fn from(_: OutOfMemory) -> StageFault {
         StageFault::OutOfMemory
     }
 }
@@ -113,9 +123,11 @@ pub(crate) fn append_method(
 ) -> Result<(), StageFault>
     ensures ok { OnOk result (octets.new.items ≡ octets.old.items ++ encoded (method_frame channel (method_view method.now))) }
     ensures fits { OnOk result (length (plain_method (method_view method.now)) < 2 ^ 32) }
+    ensures reads_back { OnOk result (ReadsBack (method_view method.now)) }
     ensures too_long { result ≡ Err too_long → length (plain_method (method_view method.now)) < 2 ^ 32 → CountsAllFit (method_view method.now).args → ⊥ }
     ensures same { OnErr result (octets.new.items ≡ octets.old.items) }
 {
+    amqp_method::encoded_is_read();
     let at = octets.len();
     begin_frame(octets, FrameKind::Method, channel)?;
     match write_method(method, octets) {
@@ -135,9 +147,11 @@ pub(crate) fn append_header(
 ) -> Result<(), StageFault>
     ensures ok { OnOk result (octets.new.items ≡ octets.old.items ++ encoded (header_frame channel (header_view header.now))) }
     ensures fits { OnOk result (length (plain_header (header_view header.now)) < 2 ^ 32) }
+    ensures reads_back { OnOk result (HeaderReadsBack (header_view header.now)) }
     ensures too_long { result ≡ Err too_long → length (plain_header (header_view header.now)) < 2 ^ 32 → CountsPresentFit (header_view header.now).properties → ⊥ }
     ensures same { OnErr result (octets.new.items ≡ octets.old.items) }
 {
+    amqp_method::encoded_is_read();
     let at = octets.len();
     begin_frame(octets, FrameKind::Header, channel)?;
     match write_header(header, octets) {

@@ -3,7 +3,7 @@
 //! An end that has put connection.close drops all but the other end's close and close-ok. A heartbeat stands on channel 0. A
 //! channel that this end has closed drops all but close and close-ok. A method has to be one that there is. Until the handshake
 //! is over nothing but its next method is taken. What is left is for the channel, or for the connection.
-ghost use Rattle.std.specs.Prelude.{◌≡◌, ◌<◌, ℕ, true, false, IfOk, OnErr};
+ghost use Rattle.std.specs.Prelude.{◌≡◌, ◌<◌, ℕ, true, false, [], IfOk, OnErr};
 ghost use Rattle.amqp_method.specs.MethodView.{method_view};
 ghost use Rattle.amqp_model.specs.EndVerdict.{end_verdict, facts_at, takes_frames};
 ghost use Rattle.amqp_model.specs.Endpoint.{outcome_of};
@@ -31,7 +31,7 @@ use amqp_frame::FrameKind;
 use amqp_method::Method;
 
 /// What an end puts that finds fault.
-fn owed_at(closing: bool, fault: Fault) -> Owed
+pub(crate) fn owed_at(closing: bool, fault: Fault) -> Owed
     ensures { (settings : Settings) → owed_view settings result ≡ owed_for closing (fault_of fault) }
 {
     match fault {
@@ -48,7 +48,8 @@ fn owed_at(closing: bool, fault: Fault) -> Owed
 
 /// Whether a heartbeat is empty, as it is to be.
 fn is_empty_beat(payload: &[u8]) -> bool
-    ensures { (number : ℕ) → Beat result ≡ reading (frame_at number FrameKind.Heartbeat payload.now) }
+    ensures beat { (number : ℕ) → Beat result ≡ reading (frame_at number FrameKind.Heartbeat payload.now) }
+    ensures empty { payload.now ≡ [] → result ≡ true }
 {
     payload.is_empty()
 }
@@ -56,6 +57,8 @@ fn is_empty_beat(payload: &[u8]) -> bool
 impl Core {
     ghost use Rattle.amqp_core.specs.ChannelsView.{channels_view};
     ghost use Rattle.amqp_core.specs.CoreView.{core_end, decision_view, told_view, IsVerdict, LeavesEnd};
+    ghost use Rattle.amqp_core.specs.Dropping.{IsDropped};
+    ghost use Rattle.amqp_core.specs.Owing.{DecidesAlone, EndsAlone, OwesNothing, TakesAlone};
     ghost use Rattle.amqp_core.specs.Outcomes.{owed_by, told_by, ended_by, SameEnd};
     ghost use Rattle.amqp_core.specs.Settings.{config_view, role_for};
 
@@ -158,6 +161,7 @@ impl Core {
         ensures after { IfOk result (λ d. LeavesEnd self.old.settings number (header_reading (header_at payload.now)) d (core_end self.old) (core_end self.new)) }
         ensures settings { self.new.settings ≡ self.old.settings }
         ensures err { OnErr result (self.new.stage ≡ self.old.stage) }
+        ensures alone { IsDropped (phase_at self.old.stage) (channels_view self.old.channels number) number FrameKind.Header payload.now → DecidesAlone result }
     {
         if self.stage.is_closing() {
             return Ok(discards(number));
@@ -181,6 +185,7 @@ impl Core {
         ensures after { IfOk result (λ d. LeavesEnd self.old.settings number (BodyOf payload.now) d (core_end self.old) (core_end self.new)) }
         ensures settings { self.new.settings ≡ self.old.settings }
         ensures err { OnErr result (self.new.stage ≡ self.old.stage) }
+        ensures alone { IsDropped (phase_at self.old.stage) (channels_view self.old.channels number) number FrameKind.Body payload.now → DecidesAlone result }
     {
         if self.stage.is_closing() {
             return Ok(discards(number));
@@ -209,6 +214,7 @@ impl Core {
         ensures after { IfOk result (λ d. LeavesEnd self.old.settings number (reading (frame_at number kind payload.now)) d (core_end self.old) (core_end self.new)) }
         ensures settings { self.new.settings ≡ self.old.settings }
         ensures err { OnErr result (self.new.stage ≡ self.old.stage) }
+        ensures alone { IsDropped (phase_at self.old.stage) (channels_view self.old.channels number) number kind payload.now → DecidesAlone result }
     {
         match kind {
             FrameKind::Heartbeat => Ok(self.on_heartbeat(number, is_empty_beat(payload))),
@@ -223,6 +229,7 @@ impl Core {
         ensures owed { owed_view self.old.settings result.owed ≡ owed_by closing number (decision_view self.old.settings decision) }
         ensures told { told_view result.told ≡ told_by number (decision_view self.old.settings decision) }
         ensures after { core_end self.new ≡ ended_by (decision_view self.old.settings decision) (core_end self.old) }
+        ensures alone { OwesNothing decision → EndsAlone result }
         ensures settings { self.new.settings ≡ self.old.settings }
     {
         match decision {
@@ -257,6 +264,7 @@ impl Core {
         ensures after { IfOk result (λ o. SameEnd (end_after_taken (role_for self.old.settings) (config_view self.old.settings) (core_end self.old) (reading (frame_at number kind payload.now)) (frame_at number kind payload.now)) (core_end self.new)) }
         ensures settings { self.new.settings ≡ self.old.settings }
         ensures err { OnErr result (self.new.stage ≡ self.old.stage) }
+        ensures alone { IsDropped (phase_at self.old.stage) (channels_view self.old.channels number) number kind payload.now → TakesAlone result }
     {
         let closing = self.stage.is_closing();
         let decision = self.decide_frame(kind, number, payload)?;

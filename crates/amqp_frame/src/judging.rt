@@ -1,5 +1,5 @@
 //! Whether octets are a frame begun, a whole frame, or none.
-ghost use Rattle.std.specs.Prelude.{◌≡◌, ◌+◌, ◌≤◌, ◌^◌, ◌<◌, ◌++◌, length, slice_index, IfOk, MatchOption, vec_len};
+ghost use Rattle.std.specs.Prelude.{◌≡◌, ◌+◌, ◌≤◌, ◌^◌, ◌<◌, ◌++◌, [], length, slice_index, IfOk, IsTrue, MatchOption, None, vec_len};
 ghost use Rattle.amqp_frame.specs.Splitting.{size_of};
 ghost use Rattle.amqp_frame.specs.Judged.{judged as judgement_on};
 ghost use Rattle.amqp_frame.specs.Judging.{IsBegun, IsJudged, IsFilled, IsPlaced, ShowsFault, ShowsNoFault, judgement_view, pending_of};
@@ -120,6 +120,19 @@ pub(crate) fn fault_across(
         return Some((FrameFaultKind::BadEnd, total - 1));
     }
     None
+}
+
+/// Whether no fault was told and no octets are pending.
+#[inline(always)]
+pub(crate) fn is_between_frames(fault: Option<u64>, spent: bool, buffer: &Vec<u8>) -> bool
+    ensures no_fault { IsTrue result → fault ≡ None }
+    ensures none_pending { IsTrue result → pending_of spent buffer.now.items ≡ [] }
+    ensures otherwise { fault ≡ None → pending_of spent buffer.now.items ≡ [] → IsTrue result }
+{
+    if fault.is_some() {
+        return false;
+    }
+    spent || buffer.is_empty()
 }
 
 /// Empties a buffer whose octets are spent.

@@ -6,7 +6,7 @@ ghost use Rattle.amqp_frame.specs.Splitter.{Completes, Waits, Faults, LacksMemor
 
 use crate::faults::{FrameFault, FrameFaultKind};
 use crate::frames::{FrameRef, OVERHEAD, RawFrame};
-use crate::judging::{Judgement, fault_across, fill, judge, renew};
+use crate::judging::{Judgement, fault_across, fill, is_between_frames, judge, renew};
 use std::alloc::Global;
 use std::marker::Model;
 
@@ -129,15 +129,7 @@ impl Splitter {
             → HasFrameAtStart self.old.limit piece.now → IsOk result }
         ensures* after { sem 𝓛 (LeavesAfter self.entry piece.now result) }
     {
-        if let Some(at) = self.fault {
-            return Err(FrameFault {
-                at,
-                kind: FrameFaultKind::Failed,
-            });
-        }
-        renew(&mut self.buffer, self.spent);
-        self.spent = false;
-        if self.buffer.is_empty() {
+        if is_between_frames(self.fault, self.spent, &self.buffer) {
             match judge(piece, self.limit) {
                 Judgement::Whole(frame) => {
                     let taken = frame.payload.len() + OVERHEAD;
@@ -151,6 +143,31 @@ impl Splitter {
                 Judgement::Begun => {}
             }
         }
+        self.feed_buffer(piece)
+    }
+
+    /// The same by way of the buffer, wherever the frame lies. It stands apart so that the path above, which takes a frame in
+    /// place, stays small.
+    #[inline(never)]
+    fn feed_buffer<'a>(&'a mut self, piece: &'a [u8]) -> Result<FedRef<'a>, FrameFault>
+        ensures frame { IfOk result (λ fed. IfSome fed.frame (λ f. Completes self.old (take fed.taken piece.now) (lent f))) }
+        ensures rest { IfOk result (λ fed. IfNone fed.frame (Waits self.old piece.now fed.taken)) }
+        ensures fault { IfErr result (λ fault. Faults self.old.fault self.old piece.now fault) }
+        ensures memory { IfErr result (λ fault. LacksMemoryIfNeeded fault.kind self.old piece.now) }
+        ensures running { IsOk result → self.old.fault ≡ None }
+
+        ensures within { IfOk result (λ fed. fed.taken ≤ length piece.now) }
+        ensures progress { IfOk result (λ fed. piece.now ≢ [] → 0 < fed.taken) }
+        ensures* after { sem 𝓛 (LeavesAfter self.entry piece.now result) }
+    {
+        if let Some(at) = self.fault {
+            return Err(FrameFault {
+                at,
+                kind: FrameFaultKind::Failed,
+            });
+        }
+        renew(&mut self.buffer, self.spent);
+        self.spent = false;
         if piece.is_empty() {
             return Ok(FedRef {
                 taken: 0,

@@ -82,12 +82,17 @@ pub record FaultInArgs (fields : List FieldRow) (at : ℕ) (octets : List ℕ) (
 -- The fault of octets that encode no method. The class id stands at 0, the method id at 2, the first argument at 4.
 pub data FirstFaultOfMethod (octets : List ℕ) (fault : MethodFault) : Type 0 where
   class_ends : length octets < 2 → fault ≡ fault_at 0 (Value Ends) → FirstFaultOfMethod octets fault
-  id_ends : (class : ℕ) (first rest : List ℕ) → octets ≡ first ++ rest → EncodesNumber 2 class first → length rest < 2 → fault ≡ fault_at 2 (Value Ends) → FirstFaultOfMethod octets fault
+  id_ends : (class : ℕ) (first rest : List ℕ)
+      → octets ≡ first ++ rest → EncodesNumber 2 class first → length rest < 2 → fault ≡ fault_at 2 (Value Ends)
+      → FirstFaultOfMethod octets fault
   unknown : (class id : ℕ) (first second rest : List ℕ) → octets ≡ first ++ (second ++ rest) → EncodesNumber 2 class first → EncodesNumber 2 id second
       → ((kind : Kind) → HasIds class id kind → ⊥) → fault ≡ fault_at 0 UnknownMethod → FirstFaultOfMethod octets fault
-  in_argument : (kind : Kind) (first second rest : List ℕ) → octets ≡ first ++ (second ++ rest) → EncodesNumber 2 (row kind).class first → EncodesNumber 2 (row kind).id second
+  in_argument : (kind : Kind) (first second rest : List ℕ)
+      → octets ≡ first ++ (second ++ rest) → EncodesNumber 2 (row kind).class first → EncodesNumber 2 (row kind).id second
       → FaultInArgs (fields_of kind) 4 rest fault → FirstFaultOfMethod octets fault
-  method_trailing : (call : Call) (prefix rest : List ℕ) → octets ≡ prefix ++ rest → EncodesMethod call prefix → 0 < length rest → fault ≡ fault_at (length prefix) Trailing → FirstFaultOfMethod octets fault
+  method_trailing : (call : Call) (prefix rest : List ℕ)
+      → octets ≡ prefix ++ rest → EncodesMethod call prefix → 0 < length rest → fault ≡ fault_at (length prefix) Trailing
+      → FirstFaultOfMethod octets fault
 
 -- ---- headers
 
@@ -131,14 +136,27 @@ pub record EncodesPrefix (flags : ℕ) (octets : List ℕ) : Type 0 where
 -- 12, the first property at 14. Bits 1 and 0 of the flags have to be clear.
 pub data FirstFaultOfHeader (octets : List ℕ) (fault : MethodFault) : Type 0 where
   header_class_ends : length octets < 2 → fault ≡ fault_at 0 (Value Ends) → FirstFaultOfHeader octets fault
-  not_basic : (class : ℕ) (first rest : List ℕ) → octets ≡ first ++ rest → EncodesNumber 2 class first → class ≢ 60 → fault ≡ fault_at 0 UnknownMethod → FirstFaultOfHeader octets fault
-  weight_ends : (first rest : List ℕ) → octets ≡ first ++ rest → EncodesNumber 2 60 first → length rest < 2 → fault ≡ fault_at 2 (Value Ends) → FirstFaultOfHeader octets fault
-  bad_weight : (weight : ℕ) (first second rest : List ℕ) → octets ≡ first ++ (second ++ rest) → EncodesNumber 2 60 first → EncodesNumber 2 weight second → weight ≢ 0
+  not_basic : (class : ℕ) (first rest : List ℕ)
+      → octets ≡ first ++ rest → EncodesNumber 2 class first → class ≢ 60 → fault ≡ fault_at 0 UnknownMethod
+      → FirstFaultOfHeader octets fault
+  weight_ends : (first rest : List ℕ)
+      → octets ≡ first ++ rest → EncodesNumber 2 60 first → length rest < 2 → fault ≡ fault_at 2 (Value Ends)
+      → FirstFaultOfHeader octets fault
+  bad_weight : (weight : ℕ) (first second rest : List ℕ)
+      → octets ≡ first ++ (second ++ rest) → EncodesNumber 2 60 first → EncodesNumber 2 weight second → weight ≢ 0
       → fault ≡ fault_at 2 BadWeight → FirstFaultOfHeader octets fault
-  size_ends : (first second rest : List ℕ) → octets ≡ first ++ (second ++ rest) → EncodesNumber 2 60 first → EncodesNumber 2 0 second → length rest < 8
+  size_ends : (first second rest : List ℕ)
+      → octets ≡ first ++ (second ++ rest) → EncodesNumber 2 60 first → EncodesNumber 2 0 second → length rest < 8
       → fault ≡ fault_at 4 (Value Ends) → FirstFaultOfHeader octets fault
-  flags_end : (size : ℕ) (first second third rest : List ℕ) → octets ≡ first ++ (second ++ (third ++ rest)) → EncodesNumber 2 60 first → EncodesNumber 2 0 second → EncodesNumber 8 size third → length rest < 2
-      → fault ≡ fault_at 12 (Value Ends) → FirstFaultOfHeader octets fault
-  bad_flags : (flags : ℕ) (prefix rest : List ℕ) → octets ≡ prefix ++ rest → EncodesPrefix flags prefix → flags % 4 ≢ 0 → fault ≡ fault_at 12 BadFlags → FirstFaultOfHeader octets fault
-  in_property : (flags : ℕ) (prefix rest : List ℕ) → octets ≡ prefix ++ rest → EncodesPrefix flags prefix → flags % 4 ≡ 0 → FaultInProperties property_kinds flags 14 rest fault → FirstFaultOfHeader octets fault
-  header_trailing : (header : ContentHeader) (prefix rest : List ℕ) → octets ≡ prefix ++ rest → EncodesHeader header prefix → 0 < length rest → fault ≡ fault_at (length prefix) Trailing → FirstFaultOfHeader octets fault
+  flags_end : (size : ℕ) (first second third rest : List ℕ)
+      → octets ≡ first ++ (second ++ (third ++ rest)) → EncodesNumber 2 60 first → EncodesNumber 2 0 second → EncodesNumber 8 size third
+      → length rest < 2 → fault ≡ fault_at 12 (Value Ends) → FirstFaultOfHeader octets fault
+  bad_flags : (flags : ℕ) (prefix rest : List ℕ)
+      → octets ≡ prefix ++ rest → EncodesPrefix flags prefix → flags % 4 ≢ 0 → fault ≡ fault_at 12 BadFlags
+      → FirstFaultOfHeader octets fault
+  in_property : (flags : ℕ) (prefix rest : List ℕ)
+      → octets ≡ prefix ++ rest → EncodesPrefix flags prefix → flags % 4 ≡ 0 → FaultInProperties property_kinds flags 14 rest fault
+      → FirstFaultOfHeader octets fault
+  header_trailing : (header : ContentHeader) (prefix rest : List ℕ)
+      → octets ≡ prefix ++ rest → EncodesHeader header prefix → 0 < length rest → fault ≡ fault_at (length prefix) Trailing
+      → FirstFaultOfHeader octets fault

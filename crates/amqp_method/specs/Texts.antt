@@ -1,5 +1,5 @@
 -- The printed texts of methods and content headers.
-use Rattle.std.specs.Prelude.{ℕ, List, [], ◌∷◌, ◌++◌, map, Bool, true, false, Option, Some, None, codes}
+use Rattle.std.specs.Prelude.{ℕ, List, [], ◌∷◌, ◌++◌, drop, map, Bool, true, false, Option, Some, None, codes}
 use Rattle.std.specs.Fmt.{decimal}
 use Rattle.amqp_value.specs.Text.{quoted, text_of_table}
 use Rattle.amqp_method.specs.Arguments.{Argument, bit, octet, short, long, long_long, short_string, long_string, table, Call}
@@ -60,3 +60,17 @@ properties_text (name ∷ names) (p ∷ properties) = property_text name p ++ pr
 -- `header size=N` and the properties that are there
 abbrev pub text_of_header : ContentHeader → List ℕ
 text_of_header h = codes "header size=" ++ (decimal h.body_size ++ properties_text property_names h.properties)
+
+-- the space before a property, unless it is the first of a text
+abbrev pub space_text : (is_first : Bool) → List ℕ
+space_text true = []
+space_text false = codes " "
+
+-- the text of properties at the start of a text, without its first space, or after something else
+abbrev pub parted : (starts : Bool) → List ℕ → List ℕ
+parted true text = drop 1 text
+parted false text = text
+
+-- the properties that are there, as a header's text has them, parted by spaces
+abbrev pub text_of_properties : List (Option Argument) → List ℕ
+text_of_properties properties = parted true (properties_text property_names properties)

@@ -11,6 +11,7 @@
 #![tactic(auto)]
 
 mod bit_run;
+mod display;
 mod faults;
 mod fields;
 mod header_octets;

@@ -41,7 +41,7 @@ static PROPERTY_NAMES: [&str; PROPERTIES] = [
 ];
 
 /// The name of the property at a place, in the order of the flags.
-fn property_name(index: usize) -> &'static str
+pub(crate) fn property_name(index: usize) -> &'static str
     requires { index < 14 }
     ensures { (default : List ℕ) → result.now ≡ get_or property_names index default }
 {

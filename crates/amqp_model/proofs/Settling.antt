@@ -13,12 +13,12 @@ use Rattle.amqp_model.specs.StateFromHistory.{accepted, awaits_tune_ok, agreed_f
 use Rattle.amqp_model.specs.Closes.{FrameError, Owed, frame_of}
 use Rattle.amqp_model.specs.Events.{FrameVerdict, Proceeds, RefusesContent, Faults, Peer}
 use Rattle.amqp_model.specs.FrameVerdict.{methods_put}
-use Rattle.amqp_model.specs.Asks.{refusal, frames_asked}
+use Rattle.amqp_model.specs.Asks.{Ask, refusal, frames_asked}
 use Rattle.amqp_model.specs.EndVerdict.{facts_at, end_verdict}
 use Rattle.amqp_model.specs.LawfulHistories.{Goes, greets, takes, faults, meets_too_large, fails, asks, begun, goes}
 use Rattle.amqp_model.specs.Machine.{agreed_after, end_after, end_after_owed, failed_by, StandsFor}
 use Rattle.amqp_model.specs.Fitting.{ConfigWrites, IfAgreedFits}
-use Rattle.amqp_model.specs.FittingLaws.{MethodReadsBack, AgreedIsWithin}
+use Rattle.amqp_model.specs.FittingLaws.{MethodReadsBack, AgreedIsWithin, AgreedStaysWithin, AskKeepsAgreed}
 use Rattle.amqp_model.proofs.Asking.{accepted as accepted-ask, accepted-none}
 use Rattle.amqp_model.proofs.FrameSteps.{frame-follows}
 use Rattle.amqp_model.proofs.Failing.{frame-fails, too-large-fails}
@@ -105,3 +105,12 @@ pub agreed-within : ((method : Method) → MethodReadsBack method) → (role : R
 agreed-within reads role config failed history writes begun = tt
 agreed-within reads role config failed history writes (goes {before = before} {taken = taken} lawful step) =
     goes-within reads role config before taken failed history writes (lawful-stands role config false before (all-reads-back reads role config writes) lawful) (agreed-within reads role config false before writes lawful) step
+
+pub agreed-stays : (role : Role) (config : Config role) (end : End) (frame : Frame) → AgreedStaysWithin role config end frame
+agreed-stays role config end frame writes fits =
+    by-verdict (end_verdict config end frame) _ (after-owed role config frame.channel (methods_put (facts_at config end frame.channel) (end_verdict config end frame)) _ (owed-sound role (facts_at config end frame.channel) (reading frame) writes) (after-taken role config frame.channel (reading frame) frame end writes fits))
+
+pub ask-keeps-agreed : (role : Role) (config : Config role) (end : End) (ask : Ask) (frames : List Frame) → AskKeepsAgreed role config end ask frames
+ask-keeps-agreed role config end ask frames back e =
+    let parts = accepted-none (refusal role end ask) (frames_asked end ask) frames e in
+    all-keep role config frames end (subst (AllKeep role config) parts.1 (ask-keeps role config end ask back (accepted-ask role end ask parts.0)))

@@ -1,5 +1,5 @@
 -- What an end says grows by the item of each message that it puts, and by nothing else.
-use Rattle.std.proofs.Common.{◌≡◌, ◌≤◌, ◌⊎◌, inl, inr, Bool, true, false, cond, ℕ, zero, suc, ◌+◌, ◌==◌, nat_lt, arith, List, [], ◌∷◌, ◌++◌, map, reverse, length, Some, None, refl, sym, ap, ◌∙◌, append_assoc, append-nil}
+use Rattle.std.proofs.Common.{◌≡◌, ◌≤◌, ◌⊎◌, inl, inr, Bool, true, false, cond, ℕ, zero, suc, ◌+◌, ◌==◌, nat_lt, arith, List, [], ◌∷◌, ◌++◌, map, reverse, length, Option, Some, None, refl, sym, ap, ◌∙◌, append_assoc, append-nil}
 use Rattle.std.specs.Option.{option_to_list}
 use Rattle.std.proofs.lemmas.Bool.{true≢false, eq-eqb, ltb-false, not-true}
 use Rattle.std.proofs.lemmas.List.{map-append, reverse-append}
@@ -8,7 +8,8 @@ use Rattle.amqp_model.specs.Notes.{Role, Kind, Other, Note, is_message}
 use Rattle.amqp_model.specs.Notes as notes_of
 use Rattle.amqp_model.specs.Lives.{lives}
 use Rattle.amqp_model.specs.Carried.{puts, sent}
-use Rattle.amqp_model.specs.Methods.{Method, carries_content, sort_of, bit_at, class_of, plain_method}
+use Rattle.amqp_method.specs.declared.kinds.Kind.TheVariants as kinds
+use Rattle.amqp_model.specs.Methods.{Method, ReadsBack, carries_content, sort_of, bit_at, class_of, plain_method}
 use Rattle.amqp_model.specs.Contents.{Payload, cut}
 use Rattle.amqp_model.specs.Gathering.{Gathering, Nothing, step, remains, gathering}
 use Rattle.amqp_model.specs.Items.{Item, PlainMethod, item_of, item_ended, items}
@@ -16,15 +17,15 @@ use Rattle.amqp_model.specs.Readings.{Calls, reading, kind_of, payload_of}
 use Rattle.amqp_model.specs.Histories.{Put, History, notes}
 use Rattle.amqp_model.specs.Channels.{End}
 use Rattle.amqp_model.specs.Negotiation.{Config}
-use Rattle.amqp_model.specs.Closes.{method_frame}
+use Rattle.amqp_model.specs.Closes.{method_frame, without_arguments, flow_as}
 use Rattle.amqp_model.specs.Events.{Message, Plain, Whole, method_of}
-use Rattle.amqp_model.specs.Asks.{Ask, Send, is_made, Refusal, frame_max, payload_frame, message_payloads, refusal, frames_asked}
+use Rattle.amqp_model.specs.Asks.{Ask, Send, is_made, Refusal, frame_max, payload_frame, message_payloads, refusal, frames_asked, opens_on, Puts, ask_verdict}
 use Rattle.amqp_model.specs.ReadingBack.{AskReadsBack}
 use Rattle.amqp_model.specs.LawfulHistories.{end_of, then_put}
 use Rattle.amqp_model.specs.EndLaws.{notes_on}
 use Rattle.amqp_model.specs.Sent.{payload_in, life_on, Telling, ended_by, said_at, said}
 use Rattle.amqp_model.specs.WholeMessages.{FitAfter, AreWholeMessages}
-use Rattle.amqp_model.specs.Traces.{telling_at, SaysMethod, item_of_message, SaysMessage, TakenSaysNothing}
+use Rattle.amqp_model.specs.Traces.{telling_at, SaysMethod, item_of_message, SaysMessage, SaysAsk, TakenSaysNothing}
 use Rattle.amqp_model.proofs.Acting.{seen-put, reads-back}
 use Rattle.amqp_model.proofs.Asking.{Accepted, accepted, accepted-none, not-when, first-false, frame-channel, sent-kind, message-class}
 use Rattle.amqp_model.proofs.CutLemmas.{cut-content}
@@ -164,3 +165,44 @@ says-message role config history (suc m) message frames back lawful made read v 
 
     class : (class_of (method_of message).kind == 20) ≡ false
     class = message-class role (suc m) message taken.sendable
+
+-- The other asks put one method, or none.
+
+-- a method that ends no item adds nothing
+quiet-says : (role : Role) (channel : ℕ) (method : Method) (history : History) → ReadsBack method → item_of method (sort_of method) ≡ None
+    → said role (Put (method_frame channel method) ∷ history) ≡ said role history ++ []
+quiet-says role zero method history back none = refl
+quiet-says role (suc m) method history back none = says-method role (suc m) method history back ∙ ap (λ item. said role history ++ telling_at (suc m) (life_on role (suc m) history) item) none
+
+open-says : (role : Role) (history : History) (free : Option ℕ) → ReadsBack (without_arguments kinds.ChannelOpen)
+    → said role (then_put (opens_on free) history) ≡ said role history ++ []
+open-says role history None back = sym (append-nil (said role history))
+open-says role history (Some k) back = quiet-says role k (without_arguments kinds.ChannelOpen) history back refl
+
+-- what was put is what the ask puts
+as-asked : (role : Role) (end : End) (history : History) (ask : Ask) (frames : List Frame) (all : List Telling)
+    → ask_verdict role end ask ≡ Puts frames → said role (then_put (frames_asked end ask) history) ≡ all
+    → said role (then_put frames history) ≡ all
+as-asked role end history ask frames all v e =
+    let parts = accepted-none (refusal role end ask) (frames_asked end ask) frames v in
+    ap (λ frames. said role (then_put frames history)) (sym parts.1) ∙ e
+
+pub says-ask : (role : Role) (config : Config role) (history : History) (ask : Ask) (frames : List Frame) → SaysAsk role config history ask frames
+says-ask role config history (Send channel message) frames back lawful made read v =
+    says-message role config history channel message frames back lawful made read v
+says-ask role config history (Ask.Flow zero active) frames back lawful made read v =
+    let parts = accepted-none (refusal role (end_of config history) (Ask.Flow zero active)) (frames_asked (end_of config history) (Ask.Flow zero active)) frames v in
+    let a = accepted role (end_of config history) (Ask.Flow zero active) parts.0 in
+    absurd (true≢false (not-when _ Refusal.BadChannel a.numbered))
+says-ask role config history (Ask.Flow (suc m) active) frames back lawful made read v =
+    as-asked role (end_of config history) history (Ask.Flow (suc m) active) frames _ v (says-method role (suc m) (flow_as kinds.ChannelFlow active) history read.method)
+says-ask role config history Ask.Open frames back lawful made read v =
+    as-asked role (end_of config history) history Ask.Open frames _ v (open-says role history _ read.method)
+says-ask role config history (Ask.CloseChannel channel code text) frames back lawful made read v =
+    as-asked role (end_of config history) history (Ask.CloseChannel channel code text) frames _ v (quiet-says role channel _ history read.method refl)
+says-ask role config history (Ask.Close code text) frames back lawful made read v =
+    as-asked role (end_of config history) history (Ask.Close code text) frames _ v refl
+says-ask role config history (Ask.Blocked reason) frames back lawful made read v =
+    as-asked role (end_of config history) history (Ask.Blocked reason) frames _ v refl
+says-ask role config history Ask.Unblocked frames back lawful made read v =
+    as-asked role (end_of config history) history Ask.Unblocked frames _ v refl

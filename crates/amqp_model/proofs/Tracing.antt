@@ -1,6 +1,7 @@
 -- What a frame adds to what an end writes down.
 use Rattle.std.proofs.Common.{◌≡◌, Bool, true, false, cond, not, ◌&&◌, ℕ, ◌==◌, nat_lt, nat_le, arith, List, [], ◌∷◌, map, length, Option, Some, None, refl, sym, ap, ◌∙◌, subst, append_assoc, append-nil}
-use Rattle.std.proofs.lemmas.Bool.{false≢true, true≢false, ltb-true, eqb-true}
+use Rattle.std.proofs.lemmas.Bool.{false≢true, true≢false, ltb-true, eqb-true, eq-eqb, ne_eqb}
+use Rattle.amqp_method.specs.Arguments.{Argument}
 use Rattle.amqp_method.specs.declared.kinds.Kind.TheVariants as kinds
 use Rattle.amqp_model.specs.Frame.{Frame}
 use Rattle.amqp_model.specs.Notes.{Role, Client, Server, Kind, Open, OpenOk, Close, CloseOk, Flow, FlowOk, Other, is_message}
@@ -10,7 +11,7 @@ use Rattle.amqp_model.specs.Methods.{MethodKind, Method, Properties, carries_con
 use Rattle.amqp_model.specs.Contents.{Payload}
 use Rattle.amqp_model.specs.Gathering.{Gathering, Nothing, HeaderDue, BodyDue, Step, Keeps, Completes, Breaks, Misfit, step}
 use Rattle.amqp_model.specs.Items.{Item, PlainMethod, FlowItem, FlowOkItem, item_of, completed, item_ended}
-use Rattle.amqp_model.specs.Readings.{Reading, Calls, UnknownMethod, MalformedMethod, HeaderOf, MalformedHeader, BodyOf, Beat, kind_of, kind_of_method, payload_of}
+use Rattle.amqp_model.specs.Readings.{Reading, Calls, UnknownMethod, MalformedMethod, HeaderOf, MalformedHeader, BodyOf, Beat, reading, kind_of, kind_of_method, payload_of}
 use Rattle.amqp_model.specs.Histories.{Put, Took, History}
 use Rattle.amqp_model.specs.Channels.{Life, Channel, Free, Opening, Closing, HandshakeStep, AwaitsProtocolHeader, AwaitsStart, AwaitsStartOk, AwaitsTune, AwaitsTuneOk, AwaitsOpen, AwaitsOpenOk, Phase, Handshake, Running, Closed, Failed, Agreed}
 use Rattle.amqp_model.specs.Channels as channels
@@ -21,10 +22,32 @@ use Rattle.amqp_model.specs.Events.{Event, FrameVerdict, Proceeds, RefusesConten
 use Rattle.amqp_model.specs.FrameVerdict.{Facts, first_of, as_lives, after_part, on_part, by_state, on_open, on_idle, on_matched, on_message, is_gathering, is_no_channel, MOST_REQUESTS, answers_first, verdict_on, event_told}
 use Rattle.amqp_model.specs.EndVerdict.{goes_on, end_puts}
 use Rattle.amqp_model.specs.LawfulHistories.{end_of}
-use Rattle.amqp_model.specs.Traces.{noted, IsPut, IsTaken, trace, TracePuts, TraceTakes, item_in_event}
+use Rattle.amqp_model.specs.Traces.{Word, Direction, word_of, is_word_of, NotesFrame, noted, IsPut, IsTaken, trace, TracePuts, TraceTakes, item_in_event}
 use Rattle.amqp_model.proofs.Agreeing.{is_closing}
 use Rattle.amqp_model.proofs.Going.{running}
 use Rattle.amqp_model.proofs.SentTelling.{no-item}
+
+-- the word of what is read is the one that it calls
+word-called : (r : Reading) → is_word_of (word_of (kind_of r)) r ≡ true
+word-called (Calls method) = by-kind method.kind (bit_at 0 method) method.args
+  where
+    by-kind : (kind : MethodKind) (active : Bool) (args : List Argument) → is_word_of (word_of (kind_of_method kind active)) (Calls (record { kind = kind; args = args })) ≡ true
+    by-kind kinds.ChannelOpen active args = refl
+    by-kind kinds.ChannelOpenOk active args = refl
+    by-kind kinds.ChannelClose active args = refl
+    by-kind kinds.ChannelCloseOk active args = refl
+    by-kind kinds.ChannelFlow active args = refl
+    by-kind kinds.ChannelFlowOk active args = refl
+    by-kind kind active args = refl
+word-called r = refl
+
+pub notes-frame : (direction : Direction) (frame : Frame) → NotesFrame direction frame
+notes-frame direction frame = record {
+  same_channel = refl;
+  same_direction = refl;
+  on_zero = λ e. ap (λ b. cond b Word.Other (word_of (kind_of (reading frame)))) (eq-eqb frame.channel 0 e);
+  above_zero = λ n. ap (λ b. is_word_of (cond b Word.Other (word_of (kind_of (reading frame)))) (reading frame)) (ne_eqb frame.channel 0 n) ∙ word-called (reading frame);
+}
 
 pub trace-puts : (frames : List Frame) (history : History) → TracePuts frames history
 trace-puts [] history = sym (append-nil (trace history))

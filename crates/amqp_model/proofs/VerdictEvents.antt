@@ -1,22 +1,25 @@
 -- A verdict that goes on says what the lives of a channel say, event included.
-use Rattle.std.proofs.Common.{◌≡◌, ◌≢◌, Bool, true, false, cond, ℕ, ◌==◌, Option, None, refl, sym, ap, ◌∙◌, subst}
+use Rattle.std.proofs.Common.{◌≡◌, ◌≢◌, Bool, true, false, cond, not, ◌&&◌, ℕ, ◌==◌, nat_lt, nat_le, List, [], ◌∷◌, length, Option, Some, None, refl, sym, ap, ◌∙◌, subst}
 use Rattle.std.proofs.lemmas.Bool.{false≢true, true≢false, eqb-true}
-use Rattle.amqp_model.specs.Notes.{Role, Client, Server, Kind, Close, Other}
+use Rattle.amqp_method.specs.declared.kinds.Kind.TheVariants as kinds
+use Rattle.amqp_model.specs.Notes.{Role, Client, Server, is_client, Kind, Close, Other}
 use Rattle.amqp_model.specs.Verdict as lives
 use Rattle.amqp_model.specs.Verdict.{verdict_at, when_open}
-use Rattle.amqp_model.specs.Methods.{Method}
+use Rattle.amqp_model.specs.Methods.{Method, MethodKind, same_kind, class_of, sends, carries_content, is_request, is_reply}
+use Rattle.amqp_model.specs.Gathering.{Gathering, HeaderDue, PastSize, Step, Keeps, Completes, Breaks, step}
 use Rattle.amqp_model.specs.Readings.{Reading, Calls, UnknownMethod, MalformedMethod, HeaderOf, MalformedHeader, BodyOf, Beat, kind_of, payload_of}
 use Rattle.amqp_model.specs.Channels.{Life, Channel, Free, Opening, Closing, Phase, Handshake, Running, Closed, Failed, Agreed, state_of}
 use Rattle.amqp_model.specs.Channels as channels
 use Rattle.amqp_model.specs.Negotiation.{Config}
-use Rattle.amqp_model.specs.Closes.{UnexpectedFrame}
-use Rattle.amqp_model.specs.Events.{FrameVerdict, Faults, Peer}
-use Rattle.amqp_model.specs.FrameVerdict.{Facts, as_lives, awaits_in, by_state, on_open, is_gathering, is_no_channel, verdict_on, event_told}
+use Rattle.amqp_model.specs.Closes.{UnexpectedFrame, CommandInvalid, ChannelError, FrameError, ResourceError}
+use Rattle.amqp_model.specs.Events as Events
+use Rattle.amqp_model.specs.Events.{Event, FrameVerdict, Proceeds, RefusesContent, Faults, Peer}
+use Rattle.amqp_model.specs.FrameVerdict.{Facts, MOST_REQUESTS, first_of, event_of, as_lives, awaits_in, after_part, on_part, on_content, on_connection, on_message, answers_first, on_matched, on_idle, by_state, on_open, is_gathering, is_no_channel, verdict_on, event_told}
 use Rattle.amqp_model.specs.EndVerdict.{goes_on}
 use Rattle.amqp_model.specs.Items.{item_ended}
 use Rattle.amqp_model.specs.Traces.{item_in_event}
 use Rattle.amqp_model.specs.EndLaws.{is_over}
-use Rattle.amqp_model.specs.VerdictInWords.{SaysAsLives, TellsItemEnded}
+use Rattle.amqp_model.specs.VerdictInWords.{SaysAsLives, Tells, TellsItemEnded}
 use Rattle.amqp_model.proofs.Agreeing.{facts_in, handshake-stops}
 use Rattle.amqp_model.proofs.Going.{running}
 use Rattle.amqp_model.proofs.Tracing.{last-is, no-part, no-beat, running-tells}
@@ -105,11 +108,130 @@ pub says-as-lives : (role : Role) (facts : Facts role) (reading : Reading) (even
 says-as-lives role facts reading event owed o above g e other =
     any-is facts.config facts.agreed facts.number (not-0 facts.number above) facts.phase facts.channel reading o g (event, owed, e, other) ∙ ap (as_lives facts.number reading) e
 
+-- The event that tells an item tells it on the channel of the frame.
+
+-- an event that tells an item tells it on this channel
+abbrev IsOn : ℕ → Option Event → Type 0
+IsOn n (Some (Event.Told channel message)) = channel ≡ n
+IsOn n (Some (Event.Flow channel active)) = channel ≡ n
+IsOn n (Some (Event.FlowOk channel active)) = channel ≡ n
+IsOn n event = Unit {0}
+
+named : (n : ℕ) (event : Option Event) → IsOn n event → Tells n (item_in_event event) event
+named n None on = refl
+named n (Some (Event.Told channel (Events.Plain method))) on = ap (λ c. Some (Event.Told c (Events.Plain method))) on
+named n (Some (Event.Told channel (Events.Whole content))) on = ap (λ c. Some (Event.Told c (Events.Whole content))) on
+named n (Some (Event.Flow channel active)) on = ap (λ c. Some (Event.Flow c active)) on
+named n (Some (Event.FlowOk channel active)) on = ap (λ c. Some (Event.FlowOk c active)) on
+named n (Some (Event.Negotiated agreed)) on = refl
+named n (Some (Event.Opened channel)) on = refl
+named n (Some (Event.ChannelClosed channel reason)) on = refl
+named n (Some (Event.ConnectionClosed reason)) on = refl
+named n (Some (Event.Discarded channel)) on = refl
+named n (Some (Event.Blocked reason)) on = refl
+named n (Some Event.Unblocked) on = refl
+named n (Some Event.Quiet) on = refl
+
+lives-on : (n : ℕ) (r : Reading) (event : lives.Event) → IsOn n (event_of n r event)
+lives-on n r (lives.FlowAsked active) = refl
+lives-on n r (lives.FlowAnswered active) = refl
+lives-on n r lives.Opened = tt
+lives-on n r lives.Acted = tt
+lives-on n r lives.ClosedByUs = tt
+lives-on n r lives.ClosedByPeer = tt
+lives-on n r lives.Discarded = tt
+lives-on n r lives.Quiet = tt
+
+module _ {role : Role} (config : Config role) (agreed : Option Agreed) (number : ℕ) (life : Life) where
+  abbrev here : Facts role
+  here = running config agreed number (channels.Open life)
+
+  abbrev SaysHere : FrameVerdict → Type 0
+  SaysHere verdict = IsOn number (event_told here verdict)
+
+  either : (b : Bool) (v w : FrameVerdict) → SaysHere v → SaysHere w → SaysHere (cond b v w)
+  either true v w first later = first
+  either false v w first later = later
+
+  -- a rule that applies, and those after it
+  by-rule : (b : Bool) (v : FrameVerdict) (later : List (Option FrameVerdict)) (last : FrameVerdict)
+      → SaysHere v → SaysHere (first_of later last) → SaysHere (first_of (cond b (Some v) None ∷ later) last)
+  by-rule true v later last first rest = first
+  by-rule false v later last first rest = rest
+
+  unless-rule : (b : Bool) (v : FrameVerdict) (later : List (Option FrameVerdict)) (last : FrameVerdict)
+      → SaysHere v → SaysHere (first_of later last) → SaysHere (first_of (cond b None (Some v) ∷ later) last)
+  unless-rule true v later last first rest = rest
+  unless-rule false v later last first rest = first
+
+  as-lives-on : (r : Reading) (verdict : lives.Verdict) → SaysHere (as_lives number r verdict)
+  as-lives-on r (lives.GoesOn event owed) = lives-on number r event
+  as-lives-on r (lives.Fault code) = tt
+
+  message-on : (method : Method) → SaysHere (on_message number method)
+  message-on method = either (carries_content method) (Proceeds None []) _ tt refl
+
+  matched-on : (r : Role) (requests : List MethodKind) (method : Method) → SaysHere (on_matched r number requests method)
+  matched-on Client requests method = either (is_reply method.kind && not (answers_first method.kind requests)) (Faults (Peer CommandInvalid)) _ tt (message-on method)
+  matched-on Server requests method = either (is_request method && nat_le MOST_REQUESTS (length requests)) (Faults (Peer ResourceError)) _ tt (message-on method)
+
+  idle-on : (method : Method) (kind : Kind) → SaysHere (on_idle here life method kind)
+  idle-on method (Other begins) = matched-on role life.requests method
+  idle-on method kind = as-lives-on (Calls method) (when_open role life.awaits kind)
+
+  method-on : (method : Method) (kind : Kind) → SaysHere (on_open here life method kind)
+  method-on method Close = as-lives-on (Calls method) (when_open role life.awaits Close)
+  method-on method kind = either (is_gathering life.content) (Faults (Peer UnexpectedFrame)) _ tt (idle-on method kind)
+
+  connection-on : (method : Method) → SaysHere (on_connection role method)
+  connection-on method =
+      either (same_kind method.kind kinds.ConnectionClose) _ _ tt
+      (either (is_client role && same_kind method.kind kinds.ConnectionSecure) _ _ tt
+      (either (is_client role && same_kind method.kind kinds.ConnectionBlocked) _ _ tt (either (is_client role && same_kind method.kind kinds.ConnectionUnblocked) _ _ tt tt)))
+
+  step-on : (s : Step) → SaysHere (after_part number s)
+  step-on (Completes content) = refl
+  step-on (Keeps kept) = tt
+  step-on (Breaks PastSize) = tt
+  step-on (Breaks misfit) = tt
+
+  part-on : (kept : Gathering) (r : Reading) → SaysHere (on_part here kept r)
+  part-on (HeaderDue method) MalformedHeader = tt
+  part-on (HeaderDue method) (HeaderOf size properties) = either (nat_lt config.max_body size) RefusesContent _ tt (step-on (step (HeaderDue method) (payload_of (HeaderOf size properties))))
+  part-on kept r = step-on (step kept (payload_of r))
+
+  content-on : (r : Reading) → SaysHere (on_content here r)
+  content-on r = either (is_no_channel here) (Faults (Peer ChannelError)) _ tt (part-on life.content r)
+
+  open-on : (r : Reading) → SaysHere (verdict_on here r)
+  open-on (Calls method) =
+      by-rule (class_of method.kind == 10) _ _ _ (either (number == 0) (on_connection role method) (Faults (Peer CommandInvalid)) (connection-on method) tt)
+      (unless-rule (sends (not (is_client role)) method.kind) (Faults (Peer CommandInvalid)) _ _ tt
+      (by-rule (is_no_channel here) (Faults (Peer ChannelError)) [] _ tt (method-on method (kind_of (Calls method)))))
+  open-on (Beat empty) = either ((number == 0) && empty) (Proceeds (Some Event.Quiet) []) (Faults (Peer FrameError)) tt tt
+  open-on UnknownMethod = tt
+  open-on MalformedMethod = tt
+  open-on (HeaderOf size properties) = content-on (HeaderOf size properties)
+  open-on MalformedHeader = content-on MalformedHeader
+  open-on (BodyOf octets) = content-on (BodyOf octets)
+
+-- what is claimed where the end is in such a phase and the channel such a one
+abbrev Claim : {role : Role} → Facts role → Reading → Life → Phase → Channel → Type 0
+Claim facts reading life phase channel =
+    goes_on (verdict_on (facts_in facts.config phase facts.agreed facts.number channel) reading) ≡ true
+    → Tells facts.number (item_ended life.content (payload_of reading))
+    (event_told (facts_in facts.config phase facts.agreed facts.number channel) (verdict_on (facts_in facts.config phase facts.agreed facts.number channel) reading))
+
 pub tells-item-ended : (role : Role) (facts : Facts role) (reading : Reading) (life : Life) → TellsItemEnded role facts reading life
 tells-item-ended role facts reading life runs above opened = by-parts facts.phase runs facts.channel opened
   where
-    by-parts : (phase : Phase) → phase ≡ Running → (channel : Channel) → channel ≡ channels.Open life → goes_on (verdict_on (facts_in facts.config phase facts.agreed facts.number channel) reading) ≡ true → item_in_event (event_told (facts_in facts.config phase facts.agreed facts.number channel) (verdict_on (facts_in facts.config phase facts.agreed facts.number channel) reading)) ≡ item_ended life.content (payload_of reading)
-    by-parts phase p channel c =
-        subst (λ phase. goes_on (verdict_on (facts_in facts.config phase facts.agreed facts.number channel) reading) ≡ true → item_in_event (event_told (facts_in facts.config phase facts.agreed facts.number channel) (verdict_on (facts_in facts.config phase facts.agreed facts.number channel) reading)) ≡ item_ended life.content (payload_of reading)) (sym p)
-        (subst (λ channel. goes_on (verdict_on (facts_in facts.config Running facts.agreed facts.number channel) reading) ≡ true → item_in_event (event_told (facts_in facts.config Running facts.agreed facts.number channel) (verdict_on (facts_in facts.config Running facts.agreed facts.number channel) reading)) ≡ item_ended life.content (payload_of reading)) (sym c)
-        (running-tells facts.config facts.agreed facts.number (channels.Open life) reading (not-0 facts.number above)))
+    event : Option Event
+    event = event_told (running facts.config facts.agreed facts.number (channels.Open life)) (verdict_on (running facts.config facts.agreed facts.number (channels.Open life)) reading)
+
+    is-told : Claim facts reading life Running (channels.Open life)
+    is-told g =
+        subst (λ item. Tells facts.number item event) (running-tells facts.config facts.agreed facts.number (channels.Open life) reading (not-0 facts.number above) g)
+        (named facts.number event (open-on facts.config facts.agreed facts.number life reading))
+
+    by-parts : (phase : Phase) → phase ≡ Running → (channel : Channel) → channel ≡ channels.Open life → Claim facts reading life phase channel
+    by-parts phase p channel c = subst (λ phase. Claim facts reading life phase channel) (sym p) (subst (λ channel. Claim facts reading life Running channel) (sym c) is-told)

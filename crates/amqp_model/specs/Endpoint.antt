@@ -103,7 +103,7 @@ after_opening role config endpoint octets Differs =
       outcome = Found WrongProtocolHeader;
     }
 
--- what is told of a frame that was taken
+-- what is reported of a frame that was taken
 abbrev pub outcome_of : {role : Role} → Facts role → FrameVerdict → Outcome
 outcome_of facts (Faults fault) = Found fault
 outcome_of facts verdict = Finished (event_told facts verdict)

@@ -1,4 +1,4 @@
--- What an end tells of a frame that it takes, and how it goes on.
+-- What an end reports of a frame that it takes, and how it goes on.
 use Rattle.std.specs.Prelude.{Bool, ℕ, List, Option}
 use Rattle.amqp_model.specs.Methods.{Method, number_at, octets_at}
 use Rattle.amqp_model.specs.Contents.{Content}

@@ -12,11 +12,12 @@ use Rattle.amqp_model.specs.Negotiation.{Config, FRAME_MIN, start}
 use Rattle.amqp_model.specs.Closes.{FrameError, AllReadBack, method_frame, frame_of}
 use Rattle.amqp_model.specs.Events.{Message, Peer, Faults}
 use Rattle.amqp_model.specs.FrameVerdict.{Facts, verdict_on, methods_put}
-use Rattle.amqp_model.specs.Asks.{Ask, Send, frame_max, payload_frame, message_payloads, Puts, ask_verdict}
+use Rattle.amqp_model.specs.Asks.{Ask, Send, frame_max, method_asked, payload_frame, message_payloads, Puts, ask_verdict}
 use Rattle.amqp_model.specs.ReadingBack.{AskReadsBack, WritesReadBack}
 use Rattle.amqp_model.specs.Histories.{History}
 use Rattle.amqp_model.specs.StateFromHistory.{end_from}
 use Rattle.amqp_model.specs.LawfulHistories.{Lawful}
+use Rattle.amqp_model.specs.Machine.{end_after_taken, end_after_put}
 use Rattle.amqp_model.specs.Fitting.{MethodFits, HeaderFits, ConfigFits, ConfigWrites, AgreedFits, AskFits, HelloFits, config_fault, IfAgreedFits}
 
 -- what is written of a method that fits its fields reads as the method
@@ -95,3 +96,12 @@ AskedAreWithin role end ask frames = AskReadsBack ask → FRAME_MIN ≤ frame_ma
 -- what was agreed in a lawful history is within the limits
 abbrev pub AgreedIsWithin : (role : Role) → Config role → (failed : Bool) → History → Type 0
 AgreedIsWithin role config failed history = ConfigWrites config → Lawful role config failed history → IfAgreedFits (end_from role config failed history).agreed
+
+-- it stays so by each frame that an end takes
+abbrev pub AgreedStaysWithin : (role : Role) → Config role → End → Frame → Type 0
+AgreedStaysWithin role config end frame = ConfigWrites config → IfAgreedFits end.agreed → IfAgreedFits (end_after_taken role config end (reading_of frame) frame).agreed
+
+-- and no ask changes it
+abbrev pub AskKeepsAgreed : (role : Role) → Config role → End → Ask → List Frame → Type 0
+AskKeepsAgreed role config end ask frames =
+    ReadsBack (method_asked ask) → ask_verdict role end ask ≡ Puts frames → (end_after_put role config frames end).agreed ≡ end.agreed

@@ -70,7 +70,7 @@ abbrev reason_of : Reading → Option Reason
 reason_of (Calls method) = Some (reason_in method)
 reason_of reading = None
 
-abbrev event_of : (number : ℕ) → Reading → lives.Event → Option Event
+abbrev pub event_of : (number : ℕ) → Reading → lives.Event → Option Event
 event_of number reading lives.Opened = Some (Opened number)
 event_of number reading lives.ClosedByUs = Some (ChannelClosed number None)
 event_of number reading lives.ClosedByPeer = Some (ChannelClosed number (reason_of reading))
@@ -194,7 +194,7 @@ when_content facts MalformedHeader = Some (on_content facts MalformedHeader)
 when_content facts (BodyOf octets) = Some (on_content facts (BodyOf octets))
 when_content facts reading = None
 
--- The class connection, on channel 0 alone: a close is answered, the server's blocked and unblocked are told,
+-- The class connection, on channel 0 alone: a close is answered, the server's blocked and unblocked are reported,
 -- secure is not there. Nothing else of it comes once the handshake is over.
 abbrev pub on_connection : Role → Method → FrameVerdict
 on_connection role method =

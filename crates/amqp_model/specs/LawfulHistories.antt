@@ -34,7 +34,7 @@ pub data Goes : (role : Role) → Config role → (before : History) → (taken 
   takes : {role : Role} {config : Config role} {before : History} (frame : Frame) → CanTake (end_of config before) frame → goes_on (end_verdict config (end_of config before) frame) ≡ true → Goes role config before (Some frame) false (then_taken config (end_of config before) frame before)
   -- it takes a frame, and finds fault with it
   faults : {role : Role} {config : Config role} {before : History} (frame : Frame) → CanTake (end_of config before) frame → goes_on (end_verdict config (end_of config before) frame) ≡ false → Goes role config before (Some frame) true (then_taken config (end_of config before) frame before)
-  -- octets tell that a frame is above the limit: it is not taken, and the connection is closed
+  -- octets show a frame above the limit: it is not taken, and the connection is closed
   meets_too_large : {role : Role} {config : Config role} {before : History} → takes_frames (end_of config before).phase ≡ true → Goes role config before None true (then_put (too_large_puts config (end_of config before)) before)
   -- octets that can't be answered, or out of memory: nothing is put
   fails : {role : Role} {config : Config role} {before : History} → takes_octets (end_of config before).phase ≡ true → Goes role config before None true before

@@ -210,7 +210,7 @@ end_after_taken role config end reading frame =
     failed_by (taken_verdict config end frame.channel reading)
     (end_after_owed role config (methods_put (facts_at config end frame.channel) (taken_verdict config end frame.channel reading)) (end_after role config frame.channel (TookHere reading frame) end))
 
--- Octets tell that a frame is above the limit: the end closes the connection, and has failed.
+-- Octets show a frame above the limit: the end closes the connection, and has failed.
 abbrev pub end_after_too_large : (role : Role) → Config role → End → End
 end_after_too_large role config end = as_failed (end_after_owed role config (methods_put (facts_at config end 0) (Faults (Peer FrameError))) end)
 

@@ -1,15 +1,15 @@
 -- What holds of one end, octet by octet: the statements that the public laws carry.
-use Rattle.std.specs.Prelude.{◌≡◌, ◌≢◌, ℕ, ◌+◌, ◌^◌, ◌<◌, ◌≤◌, true, false, not, List, [], ◌∷◌, ◌++◌, length, map, take, Some, All}
+use Rattle.std.specs.Prelude.{◌≡◌, ◌≢◌, ℕ, ◌+◌, ◌^◌, ◌<◌, ◌≤◌, true, false, not, List, [], ◌∷◌, ◌++◌, length, map, take, Option, Some, All}
 use Rattle.amqp_frame.specs.declared.faults.FrameFaultKind.{FrameFaultKind}
 use Rattle.amqp_frame.specs.Frame.{octets, Fits, frame_length}
 use Rattle.amqp_frame.specs.Splitting.{AllFit, IsRest, TellsFirst}
 use Rattle.amqp_model.specs.Frame.{Frame}
 use Rattle.amqp_model.specs.Notes.{Role}
 use Rattle.amqp_model.specs.Histories.{History}
-use Rattle.amqp_model.specs.Channels.{Closed, Failed}
+use Rattle.amqp_model.specs.Channels.{Closed, Failed, End}
 use Rattle.amqp_model.specs.Negotiation.{Config, PROTOCOL_HEADER, frame_limit}
 use Rattle.amqp_model.specs.Closes.{frame_of}
-use Rattle.amqp_model.specs.Events.{Quiet, Fault, WrongProtocolHeader, AlreadyClosed, AlreadyFailed, Faults}
+use Rattle.amqp_model.specs.Events.{Event, Quiet, Fault, WrongProtocolHeader, AlreadyClosed, AlreadyFailed, Faults}
 use Rattle.amqp_model.specs.FrameVerdict.{event_told}
 use Rattle.amqp_model.specs.Asks.{Ask, Refusal, is_made, Refused, Puts, ask_verdict}
 use Rattle.amqp_model.specs.Outputs.{output_octets}
@@ -20,7 +20,9 @@ use Rattle.amqp_model.specs.ReadingBack.{AskReadsBack}
 use Rattle.amqp_model.specs.LawfulHistories.{Lawful, then_put, then_taken}
 use Rattle.amqp_model.specs.Machine.{StandsFor}
 use Rattle.amqp_model.specs.Octets.{frames_put, opening_written, has_opened, FedAs, FailedAt}
-use Rattle.amqp_model.specs.Endpoint.{Judgement, Begun, Whole, Wrong, judged, Endpoint, Feeding, Unfinished, Finished, Found, new_endpoint, awaits_opening, greeting, fault_told, owed_at_fault, after_octet, after_feed, after_ask, after_wrote}
+use Rattle.amqp_model.specs.Endpoint.{Judgement, Begun, Whole, Wrong, judged}
+use Rattle.amqp_model.specs.Endpoint.{Endpoint, Feeding, Unfinished, Finished, Found, new_endpoint}
+use Rattle.amqp_model.specs.Endpoint.{awaits_opening, greeting, fault_told, owed_at_fault, after_octet, after_feed, after_ask, after_wrote}
 
 -- a number of eight bits
 abbrev pub IsOctet : ℕ → Type 0
@@ -66,7 +68,8 @@ then_fed first later = record { endpoint = later.endpoint; taken = first.taken +
 abbrev pub CutGoesOn : (role : Role) → Config role → Endpoint → (p q : List ℕ) → Type 0
 CutGoesOn role config endpoint p q =
     (after_feed role config endpoint p).outcome ≡ Unfinished
-    → after_feed role config endpoint (p ++ q) ≡ then_fed (after_feed role config endpoint p) (after_feed role config (after_feed role config endpoint p).endpoint q)
+    → after_feed role config endpoint (p ++ q)
+    ≡ then_fed (after_feed role config endpoint p) (after_feed role config (after_feed role config endpoint p).endpoint q)
 
 -- where something comes of the first piece, it does not matter what stands after it
 abbrev pub CutStops : (role : Role) → Config role → Endpoint → (p q : List ℕ) → Type 0
@@ -75,7 +78,8 @@ CutStops role config endpoint p q =
 
 -- a piece that has octets loses one, unless the end is closed or has failed
 abbrev pub FeedProgresses : (role : Role) → Config role → Endpoint → (piece : List ℕ) → Type 0
-FeedProgresses role config endpoint piece = endpoint.end.phase ≢ Closed → endpoint.end.phase ≢ Failed → piece ≢ [] → 0 < (after_feed role config endpoint piece).taken
+FeedProgresses role config endpoint piece =
+    endpoint.end.phase ≢ Closed → endpoint.end.phase ≢ Failed → piece ≢ [] → 0 < (after_feed role config endpoint piece).taken
 
 -- no more octets are taken than the piece has
 abbrev pub FeedTakesWithin : (role : Role) → Config role → Endpoint → (piece : List ℕ) → Type 0
@@ -83,15 +87,20 @@ FeedTakesWithin role config endpoint piece = (after_feed role config endpoint pi
 
 -- where nothing came of the piece, all of it was taken
 abbrev pub FeedTakesAll : (role : Role) → Config role → Endpoint → (piece : List ℕ) → Type 0
-FeedTakesAll role config endpoint piece = (after_feed role config endpoint piece).outcome ≡ Unfinished → (after_feed role config endpoint piece).taken ≡ length piece
+FeedTakesAll role config endpoint piece =
+    (after_feed role config endpoint piece).outcome ≡ Unfinished → (after_feed role config endpoint piece).taken ≡ length piece
 
--- an end that is closed takes nothing, stays as it is, and says so
+-- an end that takes nothing stays as it is, and says why
+abbrev pub nothing_taken : Endpoint → Fault → Feeding
+nothing_taken endpoint fault = record { endpoint = endpoint; taken = 0; outcome = Found fault }
+
+-- an end that is closed takes nothing, and says so
 abbrev pub FeedStaysClosed : (role : Role) → Config role → Endpoint → (piece : List ℕ) → Type 0
-FeedStaysClosed role config endpoint piece = endpoint.end.phase ≡ Closed → after_feed role config endpoint piece ≡ record { endpoint = endpoint; taken = 0; outcome = Found AlreadyClosed }
+FeedStaysClosed role config endpoint piece = endpoint.end.phase ≡ Closed → after_feed role config endpoint piece ≡ nothing_taken endpoint AlreadyClosed
 
 -- and so does one that has failed
 abbrev pub FeedStaysFailed : (role : Role) → Config role → Endpoint → (piece : List ℕ) → Type 0
-FeedStaysFailed role config endpoint piece = endpoint.end.phase ≡ Failed → after_feed role config endpoint piece ≡ record { endpoint = endpoint; taken = 0; outcome = Found AlreadyFailed }
+FeedStaysFailed role config endpoint piece = endpoint.end.phase ≡ Failed → after_feed role config endpoint piece ≡ nothing_taken endpoint AlreadyFailed
 
 -- What an end stands for.
 
@@ -106,9 +115,10 @@ pub record EndpointStandsFor (role : Role) (config : Config role) (endpoint : En
   pub read : FedAs role (frame_limit endpoint.end.agreed) history fed endpoint.unfinished
   pub out : IsOutputOf (opening_written role) (frames_put history) written endpoint.output
 
--- An end that has failed: its record stands for its history, which is lawful; what it was fed tells why at its last octet;
+-- An end that has failed: its record stands for its history, which is lawful; what it was fed shows why at its last octet;
 -- and its output is what was put and not written, after these octets.
-pub record HasFailed (role : Role) (config : Config role) (limit : ℕ) (opening : List ℕ) (history : History) (fed written : List ℕ) (endpoint : Endpoint) : Type 0 where
+pub record HasFailed (role : Role) (config : Config role) (limit : ℕ) (opening : List ℕ)
+    (history : History) (fed written : List ℕ) (endpoint : Endpoint) : Type 0 where
   pub lawful : Lawful role config true history
   pub stands : StandsFor role config true endpoint.end history
   pub read : FailedAt role limit history fed
@@ -121,22 +131,59 @@ pub record AskWrites (ask : Ask) (frames : List Frame) : Type 0 where
 
 -- What becomes of an end that stands for a history.
 
+-- these octets, and those that are taken of a piece after them
+abbrev pub with_taken_of : (piece : List ℕ) → Feeding → (octets : List ℕ) → List ℕ
+with_taken_of piece new octets = octets ++ take new.taken piece
+
+-- what the feeding leaves stands for such a history
+abbrev pub StandsThen : (role : Role) → Config role → History → (fed written piece : List ℕ) → Feeding → Type 0
+StandsThen role config history fed written piece new = EndpointStandsFor role config new.endpoint history (with_taken_of piece new fed) written
+
+-- it has failed with such a history, by the limit on frames that held before
+abbrev pub HasFailedThen : (role : Role) → Config role → Endpoint → (opening : List ℕ) → History → (fed written piece : List ℕ) → Feeding → Type 0
+HasFailedThen role config old opening history fed written piece new =
+    HasFailed role config (frame_limit old.end.agreed) opening history (with_taken_of piece new fed) written new.endpoint
+
+-- the octets that were unfinished, with those taken, are this whole frame
+abbrev pub CompletesFrame : Endpoint → (piece : List ℕ) → Feeding → Frame → Type 0
+CompletesFrame old piece new frame = IsWhole (frame_limit old.end.agreed) (with_taken_of piece new old.unfinished) frame
+
+-- the last of them is the first that shows this fault
+abbrev pub ShowsFault : Endpoint → (piece : List ℕ) → Feeding → FrameFaultKind → Type 0
+ShowsFault old piece new kind = TellsLast (frame_limit old.end.agreed) (with_taken_of piece new old.unfinished) kind
+
+-- the event of a frame that an end takes
+abbrev pub event_of_frame : {role : Role} → Config role → End → Frame → Option Event
+event_of_frame config end frame = event_told (facts_at config end frame.channel) (end_verdict config end frame)
+
 -- What comes of a piece that is fed: the history that follows, and what the end stands for then, with the octets taken.
 pub data Follows (role : Role) (config : Config role) (old : Endpoint) (history : History) (fed written piece : List ℕ) (new : Feeding) : Type 0 where
   -- nothing is whole yet, and the history is what it was
-  waits : new.outcome ≡ Unfinished → EndpointStandsFor role config new.endpoint history (fed ++ take new.taken piece) written → Follows role config old history fed written piece new
+  waits : new.outcome ≡ Unfinished → StandsThen role config history fed written piece new → Follows role config old history fed written piece new
   -- the protocol header is whole, and start is put
-  greets : awaits_opening role old.end.phase ≡ true → history ≡ [] → new.outcome ≡ Finished (Some Quiet) → EndpointStandsFor role config new.endpoint (then_put (map frame_of (greeting role config)) history) (fed ++ take new.taken piece) written → Follows role config old history fed written piece new
+  greets : awaits_opening role old.end.phase ≡ true → history ≡ [] → new.outcome ≡ Finished (Some Quiet)
+      → StandsThen role config (then_put (map frame_of (greeting role config)) history) fed written piece new
+      → Follows role config old history fed written piece new
   -- a frame is whole and taken, and the end goes on
-  takes : (frame : Frame) → takes_frames old.end.phase ≡ true → IsWhole (frame_limit old.end.agreed) (old.unfinished ++ take new.taken piece) frame → goes_on (end_verdict config old.end frame) ≡ true → new.outcome ≡ Finished (event_told (facts_at config old.end frame.channel) (end_verdict config old.end frame)) → EndpointStandsFor role config new.endpoint (then_taken config old.end frame history) (fed ++ take new.taken piece) written → Follows role config old history fed written piece new
+  takes : (frame : Frame) → takes_frames old.end.phase ≡ true → CompletesFrame old piece new frame
+      → goes_on (end_verdict config old.end frame) ≡ true → new.outcome ≡ Finished (event_of_frame config old.end frame)
+      → StandsThen role config (then_taken config old.end frame history) fed written piece new
+      → Follows role config old history fed written piece new
   -- a frame is whole and taken, and the end finds fault with it
-  faults : (frame : Frame) (fault : Fault) → takes_frames old.end.phase ≡ true → IsWhole (frame_limit old.end.agreed) (old.unfinished ++ take new.taken piece) frame → end_verdict config old.end frame ≡ Faults fault → new.outcome ≡ Found fault → HasFailed role config (frame_limit old.end.agreed) (opening_written role) (then_taken config old.end frame history) (fed ++ take new.taken piece) written new.endpoint → Follows role config old history fed written piece new
+  faults : (frame : Frame) (fault : Fault) → takes_frames old.end.phase ≡ true → CompletesFrame old piece new frame
+      → end_verdict config old.end frame ≡ Faults fault → new.outcome ≡ Found fault
+      → HasFailedThen role config old (opening_written role) (then_taken config old.end frame history) fed written piece new
+      → Follows role config old history fed written piece new
   -- the octets that are no whole frame show a fault
-  tells : (kind : FrameFaultKind) → takes_frames old.end.phase ≡ true → TellsLast (frame_limit old.end.agreed) (old.unfinished ++ take new.taken piece) kind → new.outcome ≡ Found (fault_told kind) → HasFailed role config (frame_limit old.end.agreed) (opening_written role) (then_put (map frame_of (owed_at_fault config old.end kind)) history) (fed ++ take new.taken piece) written new.endpoint → Follows role config old history fed written piece new
+  tells : (kind : FrameFaultKind) → takes_frames old.end.phase ≡ true → ShowsFault old piece new kind → new.outcome ≡ Found (fault_told kind)
+      → HasFailedThen role config old (opening_written role) (then_put (map frame_of (owed_at_fault config old.end kind)) history) fed written piece new
+      → Follows role config old history fed written piece new
   -- an octet is not the protocol header's, and nothing was put yet
-  differs : awaits_opening role old.end.phase ≡ true → new.outcome ≡ Found WrongProtocolHeader → HasFailed role config (frame_limit old.end.agreed) PROTOCOL_HEADER history (fed ++ take new.taken piece) written new.endpoint → Follows role config old history fed written piece new
+  differs : awaits_opening role old.end.phase ≡ true → new.outcome ≡ Found WrongProtocolHeader
+      → HasFailedThen role config old PROTOCOL_HEADER history fed written piece new
+      → Follows role config old history fed written piece new
   -- the connection is closed, and nothing is taken
-  refuses : old.end.phase ≡ Closed → new ≡ record { endpoint = old; taken = 0; outcome = Found AlreadyClosed } → Follows role config old history fed written piece new
+  refuses : old.end.phase ≡ Closed → new ≡ nothing_taken old AlreadyClosed → Follows role config old history fed written piece new
 
 -- a new end stands for nothing put or taken, fed or written
 abbrev pub NewStands : (role : Role) → Config role → Type 0
@@ -157,12 +204,14 @@ FeedFollows role config endpoint history fed written piece =
 -- an ask is accepted: the end stands for its history with the frames put
 abbrev pub AcceptedFollows : (role : Role) → Config role → Endpoint → History → (fed written : List ℕ) → Ask → List Frame → Type 0
 AcceptedFollows role config endpoint history fed written ask frames =
-    EndpointStandsFor role config endpoint history fed written → AskWrites ask frames → is_made ask ≡ true → ask_verdict role endpoint.end ask ≡ Puts frames
+    EndpointStandsFor role config endpoint history fed written
+    → AskWrites ask frames → is_made ask ≡ true → ask_verdict role endpoint.end ask ≡ Puts frames
     → EndpointStandsFor role config (after_ask role config endpoint ask) (then_put frames history) fed written
 
 -- an ask is refused: nothing changes
 abbrev pub RefusedStays : (role : Role) → Config role → Endpoint → Ask → Refusal → Type 0
-RefusedStays role config endpoint ask refusal = ask_verdict role endpoint.end ask ≡ Refused refusal → after_ask role config endpoint ask ≡ endpoint
+RefusedStays role config endpoint ask refusal =
+    ask_verdict role endpoint.end ask ≡ Refused refusal → after_ask role config endpoint ask ≡ endpoint
 
 -- some octets of the output are written, or all of them: the end stands for what was written and these
 abbrev pub WroteFollows : (role : Role) → Config role → Endpoint → History → (fed written : List ℕ) → (n : ℕ) → Type 0

@@ -42,7 +42,7 @@ pub data FedAs (role : Role) (limit : ℕ) (history : History) (fed unfinished :
   in_opening : (missing : List ℕ) → missing ≢ [] → opening_read role ≡ fed ++ missing → history ≡ [] → unfinished ≡ fed → FedAs role limit history fed unfinished
   in_frames : has_opened role history ≡ true → fed ≡ opening_read role ++ (stream (frames_taken history) ++ unfinished) → AllFit (frames_taken history) → IsRest limit unfinished → FedAs role limit history fed unfinished
 
--- What was fed to an end up to the octet that told a fault: an octet that is not the opening's, the last octet of the frame
+-- What was fed to an end up to the octet that showed a fault: an octet that is not the opening's, the last octet of the frame
 -- that it took last, or an octet by which the rest shows a fault.
 pub data FailedAt (role : Role) (limit : ℕ) (history : History) (fed : List ℕ) : Type 0 where
   off_opening : (prefix later : List ℕ) (octet wanted : ℕ) → opening_read role ≡ prefix ++ wanted ∷ later → fed ≡ prefix ++ octet ∷ [] → octet ≢ wanted → history ≡ [] → FailedAt role limit history fed

@@ -28,8 +28,12 @@ AllComeNext theirs mine (Some frame) = ComesNext theirs mine frame
 -- comes next. An end that has failed, or is heard no more, just does no more steps.
 pub data Pair (client_config : Config Client) (server_config : Config Server) : (client server : History) → Type 0 where
   both_begin : Pair client_config server_config [] []
-  client_goes : {client server after : History} {taken : Option Frame} → Pair client_config server_config client server → AllComeNext server client taken → Goes Client client_config client taken false after → Pair client_config server_config after server
-  server_goes : {client server after : History} {taken : Option Frame} → Pair client_config server_config client server → AllComeNext client server taken → Goes Server server_config server taken false after → Pair client_config server_config client after
+  client_goes : {client server after : History} {taken : Option Frame}
+      → Pair client_config server_config client server → AllComeNext server client taken → Goes Client client_config client taken false after
+      → Pair client_config server_config after server
+  server_goes : {client server after : History} {taken : Option Frame}
+      → Pair client_config server_config client server → AllComeNext client server taken → Goes Server server_config server taken false after
+      → Pair client_config server_config client after
 
 -- the same, as one of the two ends sees it
 abbrev pub PairOf : Role → Config Client → Config Server → (mine theirs : History) → Type 0
@@ -54,7 +58,9 @@ NewEndsPair role client_config server_config = PairOf role client_config server_
 -- and a pair stays one with each step of an end, where a frame that it takes comes next
 abbrev pub StepStaysPair : (role : Role) → Config Client → Config Server → (mine theirs : History) → Option Frame → (after : History) → Type 0
 StepStaysPair role client_config server_config mine theirs taken after =
-    PairOf role client_config server_config mine theirs → AllComeNext theirs mine taken → Goes role (config_of role client_config server_config) mine taken false after → PairOf role client_config server_config after theirs
+    PairOf role client_config server_config mine theirs → AllComeNext theirs mine taken
+    → Goes role (config_of role client_config server_config) mine taken false after
+    → PairOf role client_config server_config after theirs
 
 -- the two histories are lawful
 abbrev pub BothLawful : Config Client → Config Server → (client server : History) → Type 0
@@ -64,4 +70,5 @@ BothLawful client_config server_config client server =
 -- on each channel above 0 the two histories are a run in the sense of the lives of a channel
 abbrev pub RunsOnEach : Config Client → Config Server → (client server : History) → Type 0
 RunsOnEach client_config server_config client server =
-    WritesReadBack Client client_config → WritesReadBack Server server_config → Pair client_config server_config client server → (n : ℕ) → Run (notes_on (suc n) client) (notes_on (suc n) server)
+    WritesReadBack Client client_config → WritesReadBack Server server_config → Pair client_config server_config client server
+    → (n : ℕ) → Run (notes_on (suc n) client) (notes_on (suc n) server)

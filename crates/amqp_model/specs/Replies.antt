@@ -14,7 +14,7 @@ abbrev pub request_made : Reading → List MethodKind
 request_made (Calls method) = cond (is_request method) (method.kind ∷ []) []
 request_made reading = []
 
--- a reply that carries no content, which is told as it is taken
+-- a reply that carries no content, which answers as it is taken
 abbrev pub replies_plainly : Reading → Bool
 replies_plainly (Calls method) = is_reply method.kind && not (carries_content method)
 replies_plainly reading = false
@@ -40,7 +40,7 @@ asked_by Client (PutHere reading frame) = request_made reading
 asked_by Server (TookHere reading frame) = request_made reading
 asked_by role entry = []
 
--- a server answers with the method frame of what it puts; a client is answered with what it is told, a content once
+-- a server answers with the method frame of what it puts; a client is answered by what it takes, a content once
 -- that is whole
 abbrev pub answered_by : Role → ChannelEntry → (kept : Gathering) → ℕ
 answered_by Server (PutHere reading frame) kept = one_if (begins_reply reading)

@@ -1,14 +1,15 @@
 -- What an end writes down of itself: one note a frame, the items that it told and those that it said, in the order in which
 -- these came over all channels. Each frame taken and each frame put makes them longer, and by these words it is said by what.
-use Rattle.std.specs.Prelude.{◌≡◌, true, false, cond, ℕ, zero, suc, ◌==◌, List, [], ◌∷◌, ◌++◌, map, Option, Some, None}
+use Rattle.std.specs.Prelude.{◌≡◌, ◌≢◌, Bool, true, false, cond, not, ◌||◌, ℕ, zero, suc, ◌==◌, List, [], ◌∷◌, ◌++◌, map, Option, Some, None}
 use Rattle.std.specs.Option.{option_to_list}
+use Rattle.amqp_method.specs.declared.kinds.Kind.TheVariants as kinds
 use Rattle.amqp_model.specs.Frame.{Frame}
 use Rattle.amqp_model.specs.Notes.{Role, Kind}
 use Rattle.amqp_model.specs.Items.{Item, PlainMethod, WholeContent, FlowItem, FlowOkItem, item_of}
 use Rattle.amqp_model.specs.Methods.{Method, ReadsBack, sort_of}
 use Rattle.amqp_model.specs.Closes.{method_frame}
-use Rattle.amqp_model.specs.Asks.{Send, is_made, Puts, ask_verdict}
-use Rattle.amqp_model.specs.Readings.{reading, kind_of}
+use Rattle.amqp_model.specs.Asks.{Ask, Send, is_made, Puts, ask_verdict}
+use Rattle.amqp_model.specs.Readings.{Reading, is_call, reading, kind_of}
 use Rattle.amqp_model.specs.Histories.{Put, Took, History}
 use Rattle.amqp_model.specs.Negotiation.{Config}
 use Rattle.amqp_model.specs.Events as events
@@ -43,6 +44,33 @@ word_of (Kind.Other begins_content) = Other
 -- the note of a frame
 abbrev pub noted : Direction → Frame → Noted
 noted direction frame = record { channel = frame.channel; direction = direction; word = cond (frame.channel == 0) Other (word_of (kind_of (reading frame))) }
+
+-- the frame calls the method that the word names; an Other calls none of these
+abbrev pub is_word_of : Word → Reading → Bool
+is_word_of Open reading = is_call kinds.ChannelOpen reading
+is_word_of OpenOk reading = is_call kinds.ChannelOpenOk reading
+is_word_of Close reading = is_call kinds.ChannelClose reading
+is_word_of CloseOk reading = is_call kinds.ChannelCloseOk reading
+is_word_of Flow reading = is_call kinds.ChannelFlow reading
+is_word_of FlowOk reading = is_call kinds.ChannelFlowOk reading
+is_word_of Other reading =
+    not
+    (is_call kinds.ChannelOpen reading
+    || is_call kinds.ChannelOpenOk reading
+    || is_call kinds.ChannelClose reading
+    || is_call kinds.ChannelCloseOk reading
+    || is_call kinds.ChannelFlow reading
+    || is_call kinds.ChannelFlowOk reading)
+
+-- A note has the channel and the direction of its frame. Its word is the one that the frame calls, and on channel 0 an Other.
+pub record IsNoteOf (direction : Direction) (frame : Frame) (note : Noted) : Type 0 where
+  pub same_channel : note.channel ≡ frame.channel
+  pub same_direction : note.direction ≡ direction
+  pub on_zero : frame.channel ≡ 0 → note.word ≡ Other
+  pub above_zero : frame.channel ≢ 0 → is_word_of note.word (reading frame) ≡ true
+
+abbrev pub NotesFrame : Direction → Frame → Type 0
+NotesFrame direction frame = IsNoteOf direction frame (noted direction frame)
 
 -- the notes of a history, the oldest first
 abbrev pub trace : History → List Noted
@@ -112,6 +140,20 @@ SaysMessage role config history channel message frames =
     WritesReadBack role config → Lawful role config false history
     → is_made (Send channel message) ≡ true → AskReadsBack (Send channel message) → ask_verdict role (end_of config history) (Send channel message) ≡ Puts frames
     → said role (then_put frames history) ≡ said role history ++ telling_at channel (life_on role channel history) (Some (item_of_message message))
+
+-- What an ask says: a message that is sent says itself, and a flow that is asked its flow, each on its channel in the life
+-- that the channel has then. All other asks say nothing.
+abbrev pub said_by_ask : Role → Ask → History → List Telling
+said_by_ask role (Send channel message) history = telling_at channel (life_on role channel history) (Some (item_of_message message))
+said_by_ask role (Ask.Flow channel active) history = telling_at channel (life_on role channel history) (Some (FlowItem active))
+said_by_ask role ask history = []
+
+-- An ask that is accepted makes `said` longer by just that, last of all.
+abbrev pub SaysAsk : (role : Role) → Config role → History → Ask → List Frame → Type 0
+SaysAsk role config history ask frames =
+    WritesReadBack role config → Lawful role config false history
+    → is_made ask ≡ true → AskReadsBack ask → ask_verdict role (end_of config history) ask ≡ Puts frames
+    → said role (then_put frames history) ≡ said role history ++ said_by_ask role ask history
 
 -- and frames that are taken leave it
 abbrev pub TakenSaysNothing : Role → Frame → History → Type 0

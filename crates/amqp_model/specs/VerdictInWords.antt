@@ -1,10 +1,11 @@
 -- What an end says of a frame that it goes on after: what the lives of a channel say of it, event and reply, and of a message
 -- the item that is whole with the frame.
-use Rattle.std.specs.Prelude.{◌≡◌, ◌≢◌, true, false, Option}
+use Rattle.std.specs.Prelude.{◌≡◌, ◌≢◌, true, false, ℕ, Option, Some, None}
 use Rattle.amqp_model.specs.Notes.{Role, Kind}
 use Rattle.amqp_model.specs.Verdict as lives
 use Rattle.amqp_model.specs.Verdict.{verdict_at}
-use Rattle.amqp_model.specs.Items.{item_ended}
+use Rattle.amqp_model.specs.Items.{Item, PlainMethod, WholeContent, FlowItem, FlowOkItem, item_ended}
+use Rattle.amqp_model.specs.Events.{Event, Told, Flow, FlowOk, Plain, Whole}
 use Rattle.amqp_model.specs.Readings.{Reading, kind_of, payload_of}
 use Rattle.amqp_model.specs.Channels.{Life, Open, Running, state_of}
 use Rattle.amqp_model.specs.FrameVerdict.{Facts, as_lives, awaits_in, verdict_on, event_told}
@@ -20,8 +21,21 @@ SaysAsLives role facts reading event owed =
     → verdict_at role (state_of facts.channel) (awaits_in facts.channel) (kind_of reading) ≡ lives.GoesOn event owed → event ≢ lives.Acted
     → verdict_on facts reading ≡ as_lives facts.number reading (lives.GoesOn event owed)
 
--- On an Open channel of a Running end the event tells the item that the frame ends, and nothing where it ends none.
+-- the event that tells an item on a channel
+abbrev pub event_telling : (channel : ℕ) → Item → Event
+event_telling channel (PlainMethod method) = Told channel (Plain method)
+event_telling channel (WholeContent content) = Told channel (Whole content)
+event_telling channel (FlowItem active) = Flow channel active
+event_telling channel (FlowOkItem active) = FlowOk channel active
+
+-- an event, or none, tells this item on this channel, or no item at all
+abbrev pub Tells : (channel : ℕ) → Option Item → Option Event → Type 0
+Tells channel (Some item) event = event ≡ Some (event_telling channel item)
+Tells channel None event = item_in_event event ≡ None
+
+-- On an Open channel of a Running end the event tells the item that the frame ends, on this channel, and no item where it ends
+-- none.
 abbrev pub TellsItemEnded : (role : Role) → Facts role → Reading → Life → Type 0
 TellsItemEnded role facts reading life =
     facts.phase ≡ Running → facts.number ≢ 0 → facts.channel ≡ Open life → goes_on (verdict_on facts reading) ≡ true
-    → item_in_event (event_told facts (verdict_on facts reading)) ≡ item_ended life.content (payload_of reading)
+    → Tells facts.number (item_ended life.content (payload_of reading)) (event_told facts (verdict_on facts reading))

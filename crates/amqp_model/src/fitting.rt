@@ -8,7 +8,7 @@ ghost use Rattle.std.specs.Prelude.{Bool, ℕ, List};
 ghost use Rattle.amqp_model.specs.Asks.{Ask};
 ghost use Rattle.amqp_model.specs.Channels.{End};
 ghost use Rattle.amqp_model.specs.Events.{Message};
-ghost use Rattle.amqp_model.specs.FittingLaws.{AgreedIsWithin, AllReadsBack, AskedAreWithin, AskedFit, AskedReadsBack, CloseFits, CloseIsShort, CloseReadsBack, FaultlessConfigFits, FittingConfigIsFaultless, FittingConfigWrites, FramesSayPayloads, HeaderReadsBack, MethodReadsBack, OwedAreShort, OwedFit, OwedReadBack, StartFits};
+ghost use Rattle.amqp_model.specs.FittingLaws.{AgreedIsWithin, AgreedStaysWithin, AllReadsBack, AskKeepsAgreed, AskedAreWithin, AskedFit, AskedReadsBack, CloseFits, CloseIsShort, CloseReadsBack, FaultlessConfigFits, FittingConfigIsFaultless, FittingConfigWrites, FramesSayPayloads, HeaderReadsBack, MethodReadsBack, OwedAreShort, OwedFit, OwedReadBack, StartFits};
 ghost use Rattle.amqp_model.specs.Frame.{Frame};
 ghost use Rattle.amqp_model.specs.FrameVerdict.{Facts};
 ghost use Rattle.amqp_model.specs.Histories.{History};
@@ -68,9 +68,11 @@ pub fn frames_fit()
 {}
 
 /// What was agreed in a lawful history has a channel at least, fits its fields, and has a frame size of 4096 to 1048576
-/// octets.
+/// octets. It stays so by each frame that an end takes, and no ask changes it.
 pub fn agreed_is_within()
-    ensures { (role : Role) (config : Config role) (failed : Bool) (history : History) → AgreedIsWithin role config failed history }
+    ensures history { (role : Role) (config : Config role) (failed : Bool) (history : History) → AgreedIsWithin role config failed history }
+    ensures frame { (role : Role) (config : Config role) (end : End) (frame : Frame) → AgreedStaysWithin role config end frame }
+    ensures ask { (role : Role) (config : Config role) (end : End) (ask : Ask) (frames : List Frame) → AskKeepsAgreed role config end ask frames }
 {
     written_reads_back();
 }

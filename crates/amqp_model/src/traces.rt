@@ -5,6 +5,7 @@
 //! that leaves out an item, is none of them.
 
 ghost use Rattle.std.specs.Prelude.{ℕ, List};
+ghost use Rattle.amqp_model.specs.Asks.{Ask};
 ghost use Rattle.amqp_model.specs.Endpoint.{Endpoint};
 ghost use Rattle.amqp_model.specs.Events.{Message};
 ghost use Rattle.amqp_model.specs.Frame.{Frame};
@@ -13,12 +14,13 @@ ghost use Rattle.amqp_model.specs.Methods.{Method};
 ghost use Rattle.amqp_model.specs.Negotiation.{Config};
 ghost use Rattle.amqp_model.specs.Notes.{Role};
 ghost use Rattle.amqp_model.specs.RunningOut.{RanOutStays, RanOutWrites, RunsOut};
-ghost use Rattle.amqp_model.specs.Traces.{PutsTellNothing, SaysMessage, SaysMethod, TakenSaysNothing, TellsEvent, TracePuts, TraceTakes};
+ghost use Rattle.amqp_model.specs.Traces.{Direction, NotesFrame, PutsTellNothing, SaysAsk, SaysMessage, SaysMethod, TakenSaysNothing, TellsEvent, TracePuts, TraceTakes};
 
-/// Each frame put or taken is noted once, after all earlier ones.
+/// Each frame put or taken is noted once, after all earlier ones, with its channel and the word for what it is to its channel.
 pub fn frames_are_noted()
     ensures put { (frames : List Frame) (history : History) → TracePuts frames history }
     ensures taken { (role : Role) (config : Config role) (history : History) (frame : Frame) → TraceTakes role config history frame }
+    ensures note { (direction : Direction) (frame : Frame) → NotesFrame direction frame }
 {}
 
 /// What an end told grows by the item of the event that a frame comes to, in the life of its channel, and by nothing else.
@@ -27,12 +29,13 @@ pub fn events_are_told()
     ensures put { (role : Role) (config : Config role) (frames : List Frame) (history : History) → PutsTellNothing role config frames history }
 {}
 
-/// What an end said grows by each message that it sends, whole and once, and by each method that is a message by itself. What
-/// it takes adds nothing.
+/// What an end said grows by each message that it sends, whole and once, and by each method that is a message by itself. Of
+/// its asks, a message and a flow add themselves and the others nothing. What it takes adds nothing.
 pub fn messages_are_said()
     ensures method { (role : Role) (channel : ℕ) (method : Method) (history : History) → SaysMethod role channel method history }
     ensures message { (role : Role) (config : Config role) (history : History) (channel : ℕ) (message : Message) (frames : List Frame) → SaysMessage role config history channel message frames }
     ensures taken { (role : Role) (frame : Frame) (history : History) → TakenSaysNothing role frame history }
+    ensures ask { (role : Role) (config : Config role) (history : History) (ask : Ask) (frames : List Frame) → SaysAsk role config history ask frames }
 {}
 
 /// An end that runs out of memory has failed. What it took, put and was fed stays as it was; it still writes its output, and

@@ -9,7 +9,7 @@ ghost use Rattle.amqp_model.specs.Verdict.{Event};
 ghost use Rattle.amqp_model.specs.VerdictInWords.{SaysAsLives, TellsItemEnded};
 
 /// Where an end goes on after a frame of a channel above 0, its verdict is that of the lives of a channel, event and reply. Of a
-/// message it tells the item that is whole with the frame, if one is.
+/// message it tells the item that is whole with the frame, if one is, on the channel of the frame.
 pub fn verdict_names_event()
     ensures lives { (role : Role) (facts : Facts role) (reading : Reading) (event : Event) (owed : Option Kind) → SaysAsLives role facts reading event owed }
     ensures item { (role : Role) (facts : Facts role) (reading : Reading) (life : Life) → TellsItemEnded role facts reading life }

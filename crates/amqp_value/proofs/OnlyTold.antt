@@ -179,16 +179,16 @@ rest_place at end octets prefix rest sum is = let whole : length octets ≡ leng
 
 mutual
   told_items : (levels at end : ℕ) (octets : List ℕ) (e : ValueFault) → at + length octets ≡ end → FaultInItems levels at octets e → elements (value_at levels) end octets ≡ Err e
-  told_items levels at end octets e sum (in_item items prefix rest is encodes within long fault) =
+  told_items levels at end octets e sum (in_item items prefix rest is (encodes, within) long fault) =
       ap (elements (value_at levels) end) is
       ∙ items_fail levels (value_at levels) (value_at-complete levels) end items prefix rest e encodes within long (told_value levels (at + length prefix) end rest e (rest_place at end octets prefix rest sum is) fault)
 
   told_pairs : (levels at end : ℕ) (octets : List ℕ) (e : ValueFault) → at + length octets ≡ end → FaultInPairs levels at octets e → elements (named (value_at levels)) end octets ≡ Err e
-  told_pairs levels at end octets e sum (in_name pairs prefix rest is encodes within passed told) =
+  told_pairs levels at end octets e sum (in_name pairs prefix rest is (encodes, within) passed told) =
       let here = name_at-passes end rest passed ∙ ap (λ f. Err f) (place (at + length prefix) end rest PassesItsEnd e (rest_place at end octets prefix rest sum is) told) in
       ap (elements (named (value_at levels)) end) is
       ∙ pairs_fail levels (value_at levels) (value_at-complete levels) end pairs prefix rest e encodes within (some_name rest passed) (named-err_name (value_at levels) end rest e here)
-  told_pairs levels at end octets e sum (in_value pairs name prefix first rest is encodes within named_encoded fault) =
+  told_pairs levels at end octets e sum (in_value pairs name prefix first rest is (encodes, within) named_encoded fault) =
       let read = value_at levels in
       let outer = rest_place at end octets prefix (first ++ rest) sum is in
       let value = told_value levels (at + length prefix + length first) end rest e (rest_place (at + length prefix) end (first ++ rest) first rest outer refl) fault in

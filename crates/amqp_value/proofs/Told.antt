@@ -81,12 +81,12 @@ at_first : (levels at : ℕ) (octets : List ℕ) (e : ValueFault) → FaultInVal
 at_first levels at octets e fault = let same : at ≡ at + 0 = omega arith in subst (λ a. FaultInValue levels a octets e) same fault
 
 item_later : (levels at : ℕ) (octets rest : List ℕ) (value : Datum) (e : ValueFault) (takes : TakesValue levels octets value rest) → FaultInItems levels (at + length (tag_octet value ∷ takes.field)) rest e → FaultInItems levels at octets e
-item_later levels at octets rest value e takes (in_item items prefix after is encodes within long fault) =
+item_later levels at octets rest value e takes (in_item items prefix after is (encodes, within) long fault) =
     let first = tag_octet value ∷ takes.field in
     let whole : octets ≡ (first ++ prefix) ++ after = takes.parts ∙ ap (λ o. first ++ o) is ∙ sym (append_assoc first prefix after) in
     let place : (at + length first) + length prefix ≡ at + length (first ++ prefix) = omega (arith, length-append first prefix) in
     let both : max (depth value) (items_depth items) ≤ levels = let one = takes.within in omega arith in
-    in_item (item value items) (first ++ prefix) after whole (takes.field, prefix, refl, takes.encodes, encodes) both long (subst (λ a. FaultInValue levels a after e) place fault)
+    in_item (item value items) (first ++ prefix) after whole ((takes.field, prefix, refl, takes.encodes, encodes), both) long (subst (λ a. FaultInValue levels a after e) place fault)
 
 many-items_told : (levels : ℕ) (read : Reader Datum) → IsSound levels read → IsTold levels read → (fuel at end : ℕ) (octets : List ℕ) (e : ValueFault) → at + length octets ≡ end → IsBytes octets
     → many read fuel end octets ≡ Err e → FaultInItems levels at octets e
@@ -95,7 +95,7 @@ many-items_told levels read sound told fuel at end [] e sum fits h = no_err _ e 
 many-items_told levels read sound told zero at end (octet ∷ octets) e sum fits h = no_err _ e h
 many-items_told levels read sound told (suc fuel) at end (octet ∷ octets) e sum fits h =
     elim (bind_err (read end (octet ∷ octets)) _ e h) [
-      | inl first ↦ in_item no_items [] (octet ∷ octets) refl refl (omega arith) (omega arith) (at_first levels at (octet ∷ octets) e (told.tells at end (octet ∷ octets) e sum fits first))
+      | inl first ↦ in_item no_items [] (octet ∷ octets) refl (refl, omega arith) (omega arith) (at_first levels at (octet ∷ octets) e (told.tells at end (octet ∷ octets) e sum fits first))
       | inr more ↦ (
           let x = more.0 in
           let takes = sound.takes end (octet ∷ octets) x fits more.1 in
@@ -109,20 +109,20 @@ many-items_told levels read sound told (suc fuel) at end (octet ∷ octets) e su
 
 pair_later : (levels at : ℕ) (octets field rest : List ℕ) (name : List ℕ) (value : Datum) (e : ValueFault) (named : TakesName octets name field) (takes : TakesValue levels field value rest)
     → FaultInPairs levels (at + length named.field + length (tag_octet value ∷ takes.field)) rest e → FaultInPairs levels at octets e
-pair_later levels at octets field rest name value e named takes (in_name pairs prefix after is encodes within passed fault) =
+pair_later levels at octets field rest name value e named takes (in_name pairs prefix after is (encodes, within) passed fault) =
     let second = tag_octet value ∷ takes.field in
     let whole : octets ≡ (named.field ++ (second ++ prefix)) ++ after =
     named.parts ∙ ap (λ o. named.field ++ o) (takes.parts ∙ ap (λ o. second ++ o) is) ∙ simp append_assoc in
     let place : at + length named.field + length second + length prefix ≡ at + length (named.field ++ (second ++ prefix)) = omega (arith, length-append named.field (second ++ prefix), length-append second prefix) in
     let both : max (depth value) (pairs_depth pairs) ≤ levels = let one = takes.within in omega arith in
-    in_name (pair name value pairs) (named.field ++ (second ++ prefix)) after whole (named.field, takes.field, prefix, refl, named.encodes, takes.encodes, encodes) both passed (fault ∙ ap (λ a. fault_at a PassesItsEnd) place)
-pair_later levels at octets field rest name value e named takes (in_value pairs other prefix first after is encodes within other_encoded fault) =
+    in_name (pair name value pairs) (named.field ++ (second ++ prefix)) after whole ((named.field, takes.field, prefix, refl, named.encodes, takes.encodes, encodes), both) passed (fault ∙ ap (λ a. fault_at a PassesItsEnd) place)
+pair_later levels at octets field rest name value e named takes (in_value pairs other prefix first after is (encodes, within) other_encoded fault) =
     let second = tag_octet value ∷ takes.field in
     let whole : octets ≡ (named.field ++ (second ++ prefix)) ++ (first ++ after) =
     named.parts ∙ ap (λ o. named.field ++ o) (takes.parts ∙ ap (λ o. second ++ o) is) ∙ simp append_assoc in
     let place : at + length named.field + length second + length prefix + length first ≡ at + length (named.field ++ (second ++ prefix)) + length first = omega (arith, length-append named.field (second ++ prefix), length-append second prefix) in
     let both : max (depth value) (pairs_depth pairs) ≤ levels = let one = takes.within in omega arith in
-    in_value (pair name value pairs) other (named.field ++ (second ++ prefix)) first after whole (named.field, takes.field, prefix, refl, named.encodes, takes.encodes, encodes) both other_encoded
+    in_value (pair name value pairs) other (named.field ++ (second ++ prefix)) first after whole ((named.field, takes.field, prefix, refl, named.encodes, takes.encodes, encodes), both) other_encoded
     (subst (λ a. FaultInValue levels a after e) place fault)
 
 -- a pair was read, and one after it fails
@@ -159,13 +159,13 @@ many-pairs_told levels read sound told (suc fuel) at end (octet ∷ octets) e su
             let is = name_at-err end octet octets e no_name in
             let place : at + length (octet ∷ octets) ≡ end = sum in
             let at_place : at ≡ at + 0 = omega arith in
-            in_name no_pairs [] (octet ∷ octets) refl refl (omega arith) is.0 (is.1 ∙ here at end (octet ∷ octets) PassesItsEnd sum ∙ ap (λ a. fault_at a PassesItsEnd) at_place))
+            in_name no_pairs [] (octet ∷ octets) refl (refl, omega arith) is.0 (is.1 ∙ here at end (octet ∷ octets) PassesItsEnd sum ∙ ap (λ a. fault_at a PassesItsEnd) at_place))
         | inr n ↦ (
             let name = name_at-takes end (octet ∷ octets) n.0 fits n.1 in
             let len : length (octet ∷ octets) ≡ length name.field + length n.0.1 = ap length name.parts ∙ length-append name.field n.0.1 in
             let at_place : at + length name.field ≡ at + 0 + length name.field = omega arith in
             elim (bind_err (read end n.0.1) _ e n.2) [
-              | inl no_value ↦ in_value no_pairs n.0.0 [] name.field n.0.1 name.parts refl (omega arith) name.encodes
+              | inl no_value ↦ in_value no_pairs n.0.0 [] name.field n.0.1 name.parts (refl, omega arith) name.encodes
                   (subst (λ a. FaultInValue levels a n.0.1 e) at_place (told.tells (at + length name.field) end n.0.1 e (omega arith) name.after_fits no_value))
               | inr none ↦ no_err _ e none.2
             ])

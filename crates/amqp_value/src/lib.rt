@@ -2,6 +2,7 @@
 //! that is met, and written in its one plain encoding (AMQP 0-9-1 specification, 4.2.1 and 4.2.5).
 #![tactic(auto)]
 
+mod display;
 mod fault;
 mod from;
 mod laws;
@@ -14,6 +15,7 @@ mod text;
 mod values;
 mod write;
 
+pub use display::write_quoted;
 pub use fault::{OutOfMemory, ValueFault, ValueFaultKind};
 pub use laws::{one_table, one_value};
 pub use read::read_table;

@@ -48,7 +48,7 @@ impl fmt::Display for Table {
 }
 
 /// A digit below 16, lower case.
-fn hex_digit(number: u8) -> char
+pub(crate) fn hex_digit(number: u8) -> char
     requires { number < 16 }
     ensures { result ≡ digit_text number }
 {

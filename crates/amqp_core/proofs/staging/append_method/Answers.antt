@@ -4,6 +4,7 @@ use Rattle.amqp_method.specs.MethodView.{method_view}
 use Rattle.amqp_model.specs.Methods.{plain_method}
 use Rattle.amqp_model.specs.Closes.{method_frame}
 use Rattle.amqp_core.proofs.OutboxFrames.{ended-is}
+use Rattle.amqp_core.proofs.ReadLemmas.{method_reads_back}
 use Rattle.amqp_core.proofs.staging.append_method.Goals as goal
 
 pub returns-in-Ok-clause-ok : goal.returns-in-Ok-clause-ok
@@ -13,3 +14,7 @@ returns-in-Ok-clause-ok c =
     on_ok_weaker c.end_frame.result
     (λ e. e ∙ ended-is (method_frame c.args.channel (method_view c.args.method.now)) c.args.octets.now.items _ c.len-at.result (omega arith) (c.in-Ok.ensures.ok ∙ ap (λ xs. xs ++ payload) c.in_ok-begin_frame.ensures.ok))
     c.end_frame.ensures.ok
+
+pub returns-in-Ok-clause-reads_back : goal.returns-in-Ok-clause-reads_back
+returns-in-Ok-clause-reads_back c =
+    on_ok_weaker c.end_frame.result (λ e. method_reads_back (method_view c.args.method.now) c.encoded_is_read.ensures.method c.in-Ok.ensures.encoded) c.end_frame.ensures.ok

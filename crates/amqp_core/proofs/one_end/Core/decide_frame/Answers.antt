@@ -7,12 +7,12 @@ use Rattle.amqp_core.proofs.one_end.Core.decide_frame.Goals as goal
 
 pub returns-in-Heartbeat-clause-verdict : goal.returns-in-Heartbeat-clause-verdict
 returns-in-Heartbeat-clause-verdict c =
-    let read : Beat c.is_empty_beat.result ≡ reading (frame_at c.args.number c.args.kind c.args.payload.now) = c.is_empty_beat.ensures c.args.number ∙ ap (λ (k : FrameKind). reading (frame_at c.args.number k c.args.payload.now)) (sym c.in-Heartbeat.is) in
+    let read : Beat c.is_empty_beat.result ≡ reading (frame_at c.args.number c.args.kind c.args.payload.now) = c.is_empty_beat.ensures.beat c.args.number ∙ ap (λ (k : FrameKind). reading (frame_at c.args.number k c.args.payload.now)) (sym c.in-Heartbeat.is) in
     subst (λ (r : Reading). IsVerdict c.args.self.now.settings (core_end c.args.self.now) c.args.number r c.on_heartbeat.result) read c.on_heartbeat.ensures.verdict
 
 pub returns-in-Heartbeat-clause-after : goal.returns-in-Heartbeat-clause-after
 returns-in-Heartbeat-clause-after c =
-    let read : Beat c.is_empty_beat.result ≡ reading (frame_at c.args.number c.args.kind c.args.payload.now) = c.is_empty_beat.ensures c.args.number ∙ ap (λ (k : FrameKind). reading (frame_at c.args.number k c.args.payload.now)) (sym c.in-Heartbeat.is) in
+    let read : Beat c.is_empty_beat.result ≡ reading (frame_at c.args.number c.args.kind c.args.payload.now) = c.is_empty_beat.ensures.beat c.args.number ∙ ap (λ (k : FrameKind). reading (frame_at c.args.number k c.args.payload.now)) (sym c.in-Heartbeat.is) in
     subst (λ (r : Reading). LeavesEnd c.args.self.now.settings c.args.number r c.on_heartbeat.result (core_end c.args.self.now) (core_end c.args.self.now)) read c.on_heartbeat.ensures.after
 
 pub returns-in-Method-clause-verdict : goal.returns-in-Method-clause-verdict

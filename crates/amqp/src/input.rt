@@ -1,0 +1,33 @@
+//! Hexadecimal from a reader, read whole.
+use crate::hexadecimal::{HexFault, octets_of};
+use std::alloc::Global;
+use std::io::{self, Read};
+use thiserror::Error;
+
+/// Why an input is no octets, as the line that says so.
+#[derive(Clone, Copy, PartialEq, Eq, Debug, Error)]
+pub enum InputFault {
+    #[error("fault read")]
+    Read,
+    /// This line, counted from 1, is the first that isn't hexadecimal of whole octets.
+    #[error("line {0}: not hex")]
+    NotHex(usize),
+    #[error("fault memory")]
+    OutOfMemory,
+}
+
+/// The octets that all lines of the input encode.
+pub fn read_octets<I: Read>(alloc: Global, input: &mut I) -> Result<Vec<u8>, InputFault> {
+    let mut text = Vec::new(alloc);
+    if let Err(fault) = input.read_to_end(&mut text) {
+        if fault.kind() == io::ErrorKind::OutOfMemory {
+            return Err(InputFault::OutOfMemory);
+        }
+        return Err(InputFault::Read);
+    }
+    match octets_of(alloc, &text) {
+        Ok(octets) => Ok(octets),
+        Err(HexFault::NotHex(line)) => Err(InputFault::NotHex(line)),
+        Err(HexFault::OutOfMemory) => Err(InputFault::OutOfMemory),
+    }
+}

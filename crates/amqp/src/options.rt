@@ -1,0 +1,63 @@
+//! The options with which an end is set up.
+use clap::{Arg, ArgAction, ArgMatches, Command, value_parser};
+use std::alloc::{AllocError, Global};
+
+/// The limits of an end.
+#[derive(Clone, Copy, PartialEq, Eq, Debug)]
+pub struct Limits {
+    /// The greatest frame, in octets.
+    pub frame_max: u32,
+    /// The greatest channel number.
+    pub channel_max: u16,
+    /// The greatest body of a content, in octets.
+    pub max_body: u64,
+}
+
+impl Limits {
+    /// The limits where no option says otherwise.
+    pub const DEFAULT: Limits = Limits {
+        frame_max: 131_072,
+        channel_max: 2047,
+        max_body: 16_777_216,
+    };
+}
+
+/// The command with an option for each limit.
+pub fn with_limits<'a>(alloc: Global, command: Command<'a>) -> Result<Command<'a>, AllocError> {
+    let frame_max = Arg::new(alloc, "frame-max")
+        .long("frame-max")
+        .value_name("OCTETS")
+        .value_parser(value_parser!(u32).range(4096..=1_048_576))
+        .action(ArgAction::Set)
+        .default_value("131072")
+        .help("The greatest frame, all its octets counted: 4096 to 1048576");
+    let channel_max = Arg::new(alloc, "channel-max")
+        .long("channel-max")
+        .value_name("NUMBER")
+        .value_parser(value_parser!(u16).range(1..=65_535))
+        .action(ArgAction::Set)
+        .default_value("2047")
+        .help("The greatest channel number: 1 to 65535");
+    let max_body = Arg::new(alloc, "max-body")
+        .long("max-body")
+        .value_name("OCTETS")
+        .value_parser(value_parser!(u64).range(0..=1_073_741_824))
+        .action(ArgAction::Set)
+        .default_value("16777216")
+        .help("The greatest body of a content that is taken: 0 to 1073741824");
+    let command = command.arg(frame_max)?;
+    let command = command.arg(channel_max)?;
+    command.arg(max_body)
+}
+
+/// The limits that the options give.
+pub fn limits_of(matches: &ArgMatches) -> Limits {
+    let frame_max = matches.get_one::<u32>("frame-max");
+    let channel_max = matches.get_one::<u16>("channel-max");
+    let max_body = matches.get_one::<u64>("max-body");
+    Limits {
+        frame_max: frame_max.unwrap_or(Limits::DEFAULT.frame_max),
+        channel_max: channel_max.unwrap_or(Limits::DEFAULT.channel_max),
+        max_body: max_body.unwrap_or(Limits::DEFAULT.max_body),
+    }
+}

@@ -1,0 +1,100 @@
+-- An end that reads frames reads the protocol header no more, whatever it takes and puts.
+use Rattle.std.proofs.Common.{◌≡◌, Bool, true, false, cond, ℕ, zero, suc, List, [], ◌∷◌, refl}
+use Rattle.std.proofs.lemmas.Bool.{false≢true}
+use Rattle.amqp_method.specs.declared.kinds.Kind.TheVariants as kinds
+use Rattle.amqp_model.specs.Channels.{End, Phase, Handshake, Running, Closing, Closed, Failed, HandshakeStep, AwaitsProtocolHeader, AwaitsStart, AwaitsStartOk, AwaitsTune, AwaitsTuneOk, AwaitsOpen, AwaitsOpenOk}
+use Rattle.amqp_model.specs.Closes.{Owed, frame_of}
+use Rattle.amqp_model.specs.EndVerdict.{facts_at}
+use Rattle.amqp_model.specs.Events.{FrameVerdict, Proceeds, RefusesContent, Faults}
+use Rattle.amqp_model.specs.Frame.{Frame}
+use Rattle.amqp_model.specs.FrameVerdict.{methods_put}
+use Rattle.amqp_model.specs.Histories.{PutHere, TookHere}
+use Rattle.amqp_model.specs.Machine.{after_start, after_start_ok, after_start_put, end_after, end_after_owed, end_after_put, end_after_taken, failed_by, phase_put, phase_taken, step_put, step_taken, taken_verdict, taken_ends_handshake, put_ends_handshake}
+use Rattle.amqp_model.specs.Negotiation.{Config}
+use Rattle.amqp_model.specs.Notes.{Role, Client, Server}
+use Rattle.amqp_model.specs.Readings.{Reading, Calls, is_call, reading as reading_of}
+use Rattle.amqp_core.specs.EndpointView.{is_opened}
+
+either : (b : Bool) (one other : Phase) → is_opened one ≡ true → is_opened other ≡ true → is_opened (cond b one other) ≡ true
+either true one other p q = p
+either false one other p q = q
+
+either_step : (b : Bool) (one other : HandshakeStep) → is_opened (Handshake one) ≡ true → is_opened (Handshake other) ≡ true → is_opened (Handshake (cond b one other)) ≡ true
+either_step true one other p q = p
+either_step false one other p q = q
+
+starts : (step : HandshakeStep) → is_opened (Handshake step) ≡ true → is_opened (Handshake (after_start step)) ≡ true
+starts AwaitsProtocolHeader o = absurd (false≢true o)
+starts AwaitsStart o = refl
+starts AwaitsStartOk o = refl
+starts AwaitsTune o = refl
+starts AwaitsTuneOk o = refl
+starts AwaitsOpen o = refl
+starts AwaitsOpenOk o = refl
+
+starts_ok : (step : HandshakeStep) → is_opened (Handshake step) ≡ true → is_opened (Handshake (after_start_ok step)) ≡ true
+starts_ok AwaitsProtocolHeader o = absurd (false≢true o)
+starts_ok AwaitsStart o = refl
+starts_ok AwaitsStartOk o = refl
+starts_ok AwaitsTune o = refl
+starts_ok AwaitsTuneOk o = refl
+starts_ok AwaitsOpen o = refl
+starts_ok AwaitsOpenOk o = refl
+
+starts_put : (step : HandshakeStep) → is_opened (Handshake step) ≡ true → is_opened (Handshake (after_start_put step)) ≡ true
+starts_put AwaitsProtocolHeader o = absurd (false≢true o)
+starts_put AwaitsStart o = refl
+starts_put AwaitsStartOk o = refl
+starts_put AwaitsTune o = refl
+starts_put AwaitsTuneOk o = refl
+starts_put AwaitsOpen o = refl
+starts_put AwaitsOpenOk o = refl
+
+taken_step : (role : Role) (r : Reading) (step : HandshakeStep) → is_opened (Handshake step) ≡ true → is_opened (Handshake (step_taken role r step)) ≡ true
+taken_step Client r step o = either_step (is_call kinds.ConnectionTune r) _ _ refl (either_step (is_call kinds.ConnectionStart r) _ _ (starts step o) o)
+taken_step Server r step o = either_step (is_call kinds.ConnectionTuneOk r) _ _ refl (either_step (is_call kinds.ConnectionStartOk r) _ _ (starts_ok step o) o)
+
+put_step : (role : Role) (r : Reading) (step : HandshakeStep) → is_opened (Handshake step) ≡ true → is_opened (Handshake (step_put role r step)) ≡ true
+put_step Client r step o = o
+put_step Server r step o = either_step (is_call kinds.ConnectionStart r) _ _ (starts_put step o) o
+
+phase_after_taken : (role : Role) (r : Reading) (phase : Phase) → is_opened phase ≡ true → is_opened (phase_taken role r phase) ≡ true
+phase_after_taken role r (Handshake step) o = either _ Closed _ refl (either (taken_ends_handshake role r) Running _ refl (taken_step role r step o))
+phase_after_taken role r Running o = either _ Closed Running refl refl
+phase_after_taken role r Closing o = either _ Closed Closing refl refl
+phase_after_taken role r Closed o = refl
+phase_after_taken role r Failed o = refl
+
+phase_after_put : (role : Role) (r : Reading) (phase : Phase) → is_opened phase ≡ true → is_opened (phase_put role r phase) ≡ true
+phase_after_put role r (Handshake step) o = either _ Closing _ refl (either (put_ends_handshake role r) Running _ refl (put_step role r step o))
+phase_after_put role r Running o = either _ Closing Running refl refl
+phase_after_put role r Closing o = refl
+phase_after_put role r Closed o = refl
+phase_after_put role r Failed o = refl
+
+pub put_opened : (role : Role) (config : Config role) (number : ℕ) (r : Reading) (frame : Frame) (end : End) → is_opened end.phase ≡ true → is_opened (end_after role config number (PutHere r frame) end).phase ≡ true
+put_opened role config zero r frame end o = phase_after_put role r end.phase o
+put_opened role config (suc n) r frame end o = o
+
+taken_opened : (role : Role) (config : Config role) (number : ℕ) (r : Reading) (frame : Frame) (end : End) → is_opened end.phase ≡ true → is_opened (end_after role config number (TookHere r frame) end).phase ≡ true
+taken_opened role config zero r frame end o = phase_after_taken role r end.phase o
+taken_opened role config (suc n) r frame end o = o
+
+owed_opened : (role : Role) (config : Config role) (owed : List Owed) (end : End) → is_opened end.phase ≡ true → is_opened (end_after_owed role config owed end).phase ≡ true
+owed_opened role config [] end o = o
+owed_opened role config (owed ∷ later) end o = owed_opened role config later _ (put_opened role config owed.channel (Calls owed.method) (frame_of owed) end o)
+
+by_verdict : (verdict : FrameVerdict) (end : End) → is_opened end.phase ≡ true → is_opened (failed_by verdict end).phase ≡ true
+by_verdict (Proceeds event owed) end o = o
+by_verdict RefusesContent end o = o
+by_verdict (Faults fault) end o = refl
+
+-- after a frame
+pub frame_opened : (role : Role) (config : Config role) (end : End) (r : Reading) (frame : Frame) → is_opened end.phase ≡ true → is_opened (end_after_taken role config end r frame).phase ≡ true
+frame_opened role config end r frame o =
+    by_verdict (taken_verdict config end frame.channel r) _ (owed_opened role config (methods_put (facts_at config end frame.channel) (taken_verdict config end frame.channel r)) _ (taken_opened role config frame.channel r frame end o))
+
+-- after what an application asks
+pub asked_opened : (role : Role) (config : Config role) (frames : List Frame) (end : End) → is_opened end.phase ≡ true → is_opened (end_after_put role config frames end).phase ≡ true
+asked_opened role config [] end o = o
+asked_opened role config (frame ∷ later) end o = asked_opened role config later _ (put_opened role config frame.channel (reading_of frame) frame end o)

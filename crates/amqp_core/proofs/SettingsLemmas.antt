@@ -1,0 +1,50 @@
+-- The configuration that settings say, by the hello that they have.
+use Rattle.std.proofs.Common.{◌≡◌, sym, ap, subst}
+use Rattle.amqp_method.specs.Fitting.{FitsShort}
+use Rattle.amqp_model.specs.Fitting.{HostFits}
+use Rattle.amqp_model.specs.Negotiation as model
+use Rattle.amqp_model.specs.Negotiation.{Config}
+use Rattle.amqp_model.specs.Notes.{Role}
+use Rattle.amqp_core.specs.Configs.{said_in, set_up_as}
+use Rattle.amqp_core.specs.Settings.{role_in, hello_view, role_for, config_view}
+use Rattle.amqp_core.specs.declared.settings.ClientHello.{ClientHello}
+use Rattle.amqp_core.specs.declared.settings.ServerHello.{ServerHello}
+use Rattle.amqp_core.specs.declared.settings.Hello.{Hello}
+use Rattle.amqp_core.specs.declared.settings.Hello.TheVariants as code
+use Rattle.amqp_core.specs.declared.settings.Settings.{Settings}
+
+-- the settings with another hello, and their configuration
+abbrev with_hello : Settings → Hello → Settings
+with_hello settings hello = record settings { hello = hello }
+
+abbrev pub config_with : Settings → (hello : Hello) → Config (role_in hello)
+config_with settings hello = config_view (with_hello settings hello)
+
+-- what holds of the configuration with the hello that the settings have holds of theirs
+pub by_hello : (P : (role : Role) → Config role → Type 0) (settings : Settings) (hello : Hello) → settings.hello ≡ hello
+    → P (role_in hello) (config_with settings hello) → P (role_for settings) (config_view settings)
+by_hello P settings hello is holds =
+    let Q : Hello → Type 0 = λ h. P (role_in h) (config_with settings h) in
+    subst Q (sym is) holds
+
+-- the virtual host of a client fits its field, and a server has none
+pub client_host : (hello : Hello) (client : ClientHello) → hello ≡ code.Client client → FitsShort client.virtual_host → HostFits (hello_view hello)
+client_host hello client is fits = let P : Hello → Type 0 = λ h. HostFits (hello_view h) in subst P (sym is) fits
+
+pub server_host : (hello : Hello) (server : ServerHello) → hello ≡ code.Server server → HostFits (hello_view hello)
+server_host hello server is = let P : Hello → Type 0 = λ h. HostFits (hello_view h) in subst P (sym is) tt
+
+-- settings whose hellos say the same are set up alike
+abbrev set_up_with : Settings → (role : Role) × model.Hello role → (role : Role) × Config role
+set_up_with settings said =
+    let config : Config said.0 = record {
+      frame_max = settings.frame_max;
+      channel_max = settings.channel_max;
+      max_body = settings.max_body;
+      hello = said.1;
+    } in
+    (said.0, config)
+
+pub set_up_alike : (settings : Settings) (hello : Hello) → said_in hello ≡ said_in settings.hello
+    → set_up_as (with_hello settings hello) ≡ set_up_as settings
+set_up_alike settings hello same = ap (set_up_with settings) same

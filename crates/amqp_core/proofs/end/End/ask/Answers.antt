@@ -1,0 +1,27 @@
+-- What holds of the end holds of its endpoint.
+use Rattle.std.proofs.Common.{ap, ◌∙◌, subst, OnOk, IfErr}
+use Rattle.amqp_model.specs.Asks.{Ask}
+use Rattle.amqp_core.specs.Asking.{AcceptsAsk, RefusesAsk}
+use Rattle.amqp_core.specs.EndView.{config_at, endpoint_of, role_played}
+use Rattle.amqp_core.specs.EndpointView.{endpoint_view}
+use Rattle.amqp_core.specs.Settings.{role_for}
+use Rattle.amqp_core.specs.declared.settings.Settings.{Settings}
+use Rattle.amqp_core.proofs.KeptLemmas.{kept_sound, sound_kept}
+use Rattle.amqp_core.proofs.end.End.ask.Goals as goal
+
+pub ask-requires : goal.ask-requires
+ask-requires g c = kept_sound c.args.self.now.inner c.args.self.now.kept
+
+pub invariant_of-self : goal.invariant_of-self
+invariant_of-self g c = record {
+  kept = sound_kept c.ask.new.self c.ask.ensures.sound;
+  plays = ap (λ (s : Settings). role_for s) c.ask.ensures.settings ∙ c.args.self.now.plays;
+}
+
+pub returns-clause-accepted : goal.returns-clause-accepted
+returns-clause-accepted g c =
+    subst (λ (asked : Ask). OnOk c.ask.result (AcceptsAsk (role_played c.args.self.now) (config_at c.args.self.now) asked (endpoint_of c.args.self.now) (endpoint_view c.ask.new.self))) c.lent.ensures c.ask.ensures.accepted
+
+pub returns-clause-refused : goal.returns-clause-refused
+returns-clause-refused g c =
+    subst (λ (asked : Ask). IfErr c.ask.result (λ fault. RefusesAsk (role_played c.args.self.now) asked fault (endpoint_of c.args.self.now) (endpoint_view c.ask.new.self))) c.lent.ensures c.ask.ensures.refused

@@ -1,0 +1,62 @@
+-- Octets of the protocol header are compared with it.
+use Rattle.std.proofs.Common.{◌+◌, ◌<◌, length, refl, sym, ap, ◌∙◌, subst, arith}
+use Rattle.amqp_model.specs.Channels.{End}
+use Rattle.amqp_model.specs.Fitting.{IfAgreedFits}
+use Rattle.amqp_core.specs.ChannelsView.{channels_view}
+use Rattle.amqp_core.specs.CoreView.{core_end}
+use Rattle.amqp_core.specs.EndpointView.{endpoint_view, role_at}
+use Rattle.amqp_core.specs.OutboxView.{Outgoing}
+use Rattle.amqp_core.specs.Settings.{config_view}
+use Rattle.amqp_core.proofs.BoundLemmas.{bounded_failed, bounded_same}
+use Rattle.amqp_core.proofs.FeedLemmas.{sound_with, fields_failed}
+use Rattle.amqp_core.proofs.HearLemmas.{awaits_octets, whole_fed, part_fed, other_fed, piece_holds, fields_part, fields_greeted}
+use Rattle.amqp_core.proofs.OpeningLemmas.{greets, nothing_agreed}
+use Rattle.amqp_core.proofs.endpoint.Endpoint.hear.Goals as goal
+
+pub returns-then-self-same-eq8-clause-fed : goal.returns-then-self-same-eq8-clause-fed
+returns-then-self-same-eq8-clause-fed c =
+    let old = c.args.self.now in
+    whole_fed (role_at old) (config_view old.core.settings) (core_end old.core) (core_end c.greet.new.self) old.heard c.going_on-same.result old.splitter.pending c.args.piece.now old.outbox.output c.greet.new.outbox.output
+    (c.pieces_are_compared.ensures.ends (role_at old) (config_view old.core.settings) (endpoint_view old) c.args.piece.now c.going_on-same.result) c.requires.awaits c.requires.sound.holds (c.requires.sound.fields.opening c.requires.awaits) c.going_on-same.ensures.within c.if-self-same-eq8.true c.going_on-same.ensures.same c.in-Ok.ensures.end (ap (λ (o : Outgoing). o.output) c.in-Ok.ensures.output)
+
+pub returns-then-self-same-eq8-clause-sound : goal.returns-then-self-same-eq8-clause-sound
+returns-then-self-same-eq8-clause-sound c =
+    let old = c.args.self.now in
+    sound_with old.core.settings (record { core = c.greet.new.self; splitter = old.splitter; heard = 0; outbox = c.greet.new.outbox }) c.greet.ensures.settings c.requires.sound.writes (ap (λ (o : Outgoing). o.staged) c.in-Ok.ensures.output)
+    (fields_greeted (role_at old) (core_end old.core) (core_end c.greet.new.self) (channels_view old.core.channels) old.heard old.splitter c.requires.awaits (awaits_octets (role_at old) (core_end old.core).phase c.requires.awaits) (nothing_agreed (role_at old) old.core.stage c.requires.awaits) c.requires.sound.fields
+    (c.in-Ok.ensures.end ∙ greets (role_at old) (config_view old.core.settings) old.core.stage (channels_view old.core.channels) c.requires.awaits))
+    (piece_holds (role_at old) (config_view old.core.settings) (endpoint_view old) _ c.args.piece.now _ (c.unfinished_is_held.ensures.feed (role_at old) (config_view old.core.settings) (endpoint_view old) c.args.piece.now) c.requires.sound.holds (λ i. omega (arith, c.type_inv.piece i)) (returns-then-self-same-eq8-clause-fed c))
+    (bounded_same (role_at old) (config_view old.core.settings) (core_end old.core) (core_end c.greet.new.self) (sym (ap (λ (e : End). e.channels) (c.in-Ok.ensures.end ∙ greets (role_at old) (config_view old.core.settings) old.core.stage (channels_view old.core.channels) c.requires.awaits))) (awaits_octets (role_at old) (core_end old.core).phase c.requires.awaits) c.requires.sound.bounded)
+
+pub returns-then-same-piece-clause-fed : goal.returns-then-same-piece-clause-fed
+returns-then-same-piece-clause-fed c =
+    let old = c.args.self.now in
+    part_fed (role_at old) (config_view old.core.settings) (core_end old.core) old.heard c.going_on-same.result old.splitter.pending c.args.piece.now old.outbox.output
+    (c.pieces_are_compared.ensures.begins (role_at old) (config_view old.core.settings) (endpoint_view old) c.args.piece.now) c.requires.awaits (c.requires.sound.fields.opening c.requires.awaits) c.if-same-piece.true (omega (arith, c.going_on-same.ensures.room, c.if-self-same-eq8.false)) c.going_on-same.ensures.same
+
+pub returns-then-same-piece-clause-sound : goal.returns-then-same-piece-clause-sound
+returns-then-same-piece-clause-sound c =
+    let old = c.args.self.now in
+    record {
+      writes = c.requires.sound.writes;
+      staged = c.requires.sound.staged;
+      fields = fields_part (role_at old) (core_end old.core) old.heard (old.heard + c.going_on-same.result) old.splitter c.requires.awaits c.requires.sound.fields (omega (arith, c.going_on-same.ensures.room, c.if-self-same-eq8.false));
+      holds = piece_holds (role_at old) (config_view old.core.settings) (endpoint_view old) _ c.args.piece.now _ (c.unfinished_is_held.ensures.feed (role_at old) (config_view old.core.settings) (endpoint_view old) c.args.piece.now) c.requires.sound.holds (λ i. omega (arith, c.type_inv.piece i)) (returns-then-same-piece-clause-fed c);
+      bounded = c.requires.sound.bounded;
+    }
+
+pub returns-clause-fed : goal.returns-clause-fed
+returns-clause-fed c =
+    let old = c.args.self.now in
+    let room : old.heard + c.going_on-same.result < 8 = omega (arith, c.going_on-same.ensures.room, c.if-self-same-eq8.false) in
+    let within : c.going_on-same.result < length c.args.piece.now = omega (arith, c.going_on-same.ensures.within, c.if-same-piece.false) in
+    other_fed (role_at old) (config_view old.core.settings) (core_end old.core) (core_end c.fail.new.self) old.heard c.going_on-same.result old.splitter.pending c.args.piece.now old.outbox.output c.begin_with.new.self.output
+    (c.pieces_are_compared.ensures.leaves (role_at old) (config_view old.core.settings) (endpoint_view old) c.args.piece.now c.going_on-same.result) c.requires.awaits (c.requires.sound.fields.opening c.requires.awaits) c.requires.sound.fields.within within room c.going_on-same.ensures.same (c.going_on-same.ensures.differs within room) c.fail.ensures.end (ap (λ (o : Outgoing). o.output) c.in-Ok-begin_with.ensures.ok)
+
+pub returns-clause-sound : goal.returns-clause-sound
+returns-clause-sound c =
+    let old = c.args.self.now in
+    sound_with old.core.settings (record { core = c.fail.new.self; splitter = old.splitter; heard = 0; outbox = c.begin_with.new.self }) c.fail.ensures.settings c.requires.sound.writes (ap (λ (o : Outgoing). o.staged) c.in-Ok-begin_with.ensures.ok)
+    (fields_failed (role_at old) (core_end c.fail.new.self) 0 old.splitter (sym (ap (λ (e : End). e.phase) c.fail.ensures.end)) (subst IfAgreedFits (sym (ap (λ (e : End). e.agreed) c.fail.ensures.end)) c.requires.sound.fields.agreed) refl)
+    (piece_holds (role_at old) (config_view old.core.settings) (endpoint_view old) _ c.args.piece.now _ (c.unfinished_is_held.ensures.feed (role_at old) (config_view old.core.settings) (endpoint_view old) c.args.piece.now) c.requires.sound.holds (λ i. omega (arith, c.type_inv.piece i)) (returns-clause-fed c))
+    (bounded_failed (role_at old) (config_view old.core.settings) (core_end c.fail.new.self) (sym (ap (λ (e : End). e.phase) c.fail.ensures.end)))

@@ -1,0 +1,110 @@
+-- Each answer of the splitter is a law on pieces.
+use Rattle.std.proofs.Common.{◌≡◌, [], ◌++◌, take, IfSome, IfNone, IsOk, sym, ap, ◌∙◌, subst, arith}
+use Rattle.std.proofs.lemmas.Bool.{false≢true}
+use Rattle.amqp_frame.specs.Frame.{lent}
+use Rattle.amqp_frame.specs.Splitter.{Completes, Waits, place_after}
+use Rattle.amqp_frame.specs.Stream.{Stream}
+use Rattle.amqp_model.specs.Endpoint.{after_feed}
+use Rattle.amqp_core.specs.Answering.{is_out_of_memory, ran_out}
+use Rattle.amqp_core.specs.CoreView.{core_end}
+use Rattle.amqp_core.specs.EndpointView.{endpoint_view, role_at, unfinished_of}
+use Rattle.amqp_core.specs.Feeding.{IsFed}
+use Rattle.amqp_core.specs.OutboxView.{Outgoing}
+use Rattle.amqp_core.specs.Settings.{config_view}
+use Rattle.amqp_core.proofs.BoundLemmas.{bounded_failed, bounded_frame}
+use Rattle.amqp_core.proofs.DropLemmas.{none_pending, frame_there, given_dropped}
+use Rattle.amqp_core.proofs.FeedLemmas.{sound_with, reads, takes, fed_by, frame_fed, rest_fed, fault_fed, first_fault, stop_leaves, fed_holds, after_rest, after_frame, after_stop, fields_rest, fields_frame, fields_failed, frame_leaves, rest_unfinished, none_unfinished}
+use Rattle.amqp_core.proofs.endpoint.Endpoint.read.Goals as goal
+
+pub answer-answer-requires-clause-taking : goal.answer-answer-requires-clause-taking
+answer-answer-requires-clause-taking c = takes (role_at c.args.self.now) (core_end c.args.self.now.core) c.args.self.now.heard c.args.self.now.splitter c.requires.sound.fields c.requires.reads
+
+pub tune-requires-clause-fits : goal.tune-requires-clause-fits
+tune-requires-clause-fits c =
+    let old = c.args.self.now in
+    let r = reads (role_at old) (core_end old.core).phase c.requires.reads in
+    let left = frame_leaves (role_at old) (config_view old.core.settings) (core_end old.core) (core_end c.answer-answer.new.self) (lent c.in-Some.frame) (ran_out c.answer-answer.result) c.requires.sound.writes (c.agreed_is_within.ensures.frame (role_at old) (config_view old.core.settings) (core_end old.core) (lent c.in-Some.frame)) (c.requires.sound.fields.awaited r.opened) c.requires.sound.fields.agreed c.answer-answer.ensures.end in
+    left.0
+
+pub returns-in_default-clause-fed : goal.returns-in_default-clause-fed
+returns-in_default-clause-fed c =
+    let old = c.args.self.now in
+    let none : old.heard ≡ 0 = c.requires.sound.fields.opened (reads (role_at old) (core_end old.core).phase c.requires.reads).opened in
+    let by = fed_by (role_at old) (core_end old.core) old.heard old.splitter old.outbox.output c.args.piece.now c.requires.reads c.requires.sound.fields c.requires.sound.holds (λ i. omega (arith, c.type_inv.piece i)) in
+    let after = after_rest old.splitter c.args.piece.now c.feed_ref.result c.in-Ok.fed c.feed_ref.follows.lender-at-none c.feed_ref.follows.holds-at-none c.in-Ok.is c.in_default.is in
+    let waits : Waits old.splitter c.args.piece.now c.in-Ok.fed.taken = subst (λ o. IfNone o (Waits old.splitter c.args.piece.now c.in-Ok.fed.taken)) c.in_default.is c.in-Ok.ensures.rest in
+    rest_fed (role_at old) (config_view old.core.settings) (endpoint_view old) old.splitter c.args.piece.now c.in-Ok.fed.taken (unfinished_of old.heard c.feed_ref.follows.lender-at-none.pending) (c.pieces_are_split.ensures.rest (role_at old) (config_view old.core.settings) (endpoint_view old) old.splitter c.args.piece.now c.in-Ok.fed.taken) by waits
+    (rest_unfinished old.heard (place_after old.splitter.taken c.in-Ok.fed.taken) old.splitter c.feed_ref.follows.lender-at-none c.args.piece.now none after)
+
+pub returns-in_default-clause-sound : goal.returns-in_default-clause-sound
+returns-in_default-clause-sound c =
+    let old = c.args.self.now in
+    let by = fed_by (role_at old) (core_end old.core) old.heard old.splitter old.outbox.output c.args.piece.now c.requires.reads c.requires.sound.fields c.requires.sound.holds (λ i. omega (arith, c.type_inv.piece i)) in
+    let after = after_rest old.splitter c.args.piece.now c.feed_ref.result c.in-Ok.fed c.feed_ref.follows.lender-at-none c.feed_ref.follows.holds-at-none c.in-Ok.is c.in_default.is in
+    record {
+      writes = c.requires.sound.writes;
+      staged = c.requires.sound.staged;
+      fields = fields_rest (role_at old) (core_end old.core) old.heard (place_after old.splitter.taken c.in-Ok.fed.taken) (old.splitter.pending ++ c.args.piece.now) old.splitter c.feed_ref.follows.lender-at-none c.requires.reads c.requires.sound.fields after;
+      holds = fed_holds (role_at old) (config_view old.core.settings) (endpoint_view old) _ old.splitter c.args.piece.now _ (c.unfinished_is_held.ensures.feed (role_at old) (config_view old.core.settings) (endpoint_view old) c.args.piece.now) by (returns-in_default-clause-fed c);
+      bounded = c.requires.sound.bounded;
+    }
+
+pub returns-in-Some-clause-fed : goal.returns-in-Some-clause-fed
+returns-in-Some-clause-fed c =
+    let old = c.args.self.now in
+    let none : old.heard ≡ 0 = c.requires.sound.fields.opened (reads (role_at old) (core_end old.core).phase c.requires.reads).opened in
+    let by = fed_by (role_at old) (core_end old.core) old.heard old.splitter old.outbox.output c.args.piece.now c.requires.reads c.requires.sound.fields c.requires.sound.holds (λ i. omega (arith, c.type_inv.piece i)) in
+    let after = after_frame old.splitter c.args.piece.now c.feed_ref.result c.in-Ok.fed c.in-Some.frame c.feed_ref.follows.lender-at-none c.feed_ref.follows.holds-at-none c.in-Ok.is c.in-Some.is in
+    let completes : Completes old.splitter (take c.in-Ok.fed.taken c.args.piece.now) (lent c.in-Some.frame) = subst (λ o. IfSome o (λ f. Completes old.splitter (take c.in-Ok.fed.taken c.args.piece.now) (lent f))) c.in-Some.is c.in-Ok.ensures.frame in
+    let pending : c.tune.new.splitter.pending ≡ [] = ap (λ (s : Stream). s.pending) c.tune.ensures ∙ ap (λ (s : Stream). s.pending) after in
+    subst (λ r. IsFed r (endpoint_view old) (after_feed (role_at old) (config_view old.core.settings) (endpoint_view old) c.args.piece.now) (endpoint_view record { core = c.answer-answer.new.self; splitter = c.tune.new.splitter; heard = old.heard; outbox = c.answer-answer.new.outbox })) (sym c.after_octets.ensures.piece)
+    (frame_fed (role_at old) (config_view old.core.settings) (endpoint_view old) old.splitter c.args.piece.now c.in-Ok.fed.taken (lent c.in-Some.frame) c.answer-answer.result (core_end c.answer-answer.new.self) (unfinished_of old.heard c.tune.new.splitter.pending) c.answer-answer.new.outbox
+    (c.pieces_are_split.ensures.frame (role_at old) (config_view old.core.settings) (endpoint_view old) old.splitter c.args.piece.now c.in-Ok.fed.taken (lent c.in-Some.frame)) by c.in-Ok.ensures.within completes c.answer-answer.ensures.said c.answer-answer.ensures.end (none_unfinished old.heard c.tune.new.splitter.pending none pending) c.answer-answer.ensures.output)
+
+pub returns-in-Some-clause-sound : goal.returns-in-Some-clause-sound
+returns-in-Some-clause-sound c =
+    let old = c.args.self.now in
+    let r = reads (role_at old) (core_end old.core).phase c.requires.reads in
+    let by = fed_by (role_at old) (core_end old.core) old.heard old.splitter old.outbox.output c.args.piece.now c.requires.reads c.requires.sound.fields c.requires.sound.holds (λ i. omega (arith, c.type_inv.piece i)) in
+    let after = after_frame old.splitter c.args.piece.now c.feed_ref.result c.in-Ok.fed c.in-Some.frame c.feed_ref.follows.lender-at-none c.feed_ref.follows.holds-at-none c.in-Ok.is c.in-Some.is in
+    let left = frame_leaves (role_at old) (config_view old.core.settings) (core_end old.core) (core_end c.answer-answer.new.self) (lent c.in-Some.frame) (ran_out c.answer-answer.result) c.requires.sound.writes (c.agreed_is_within.ensures.frame (role_at old) (config_view old.core.settings) (core_end old.core) (lent c.in-Some.frame)) (c.requires.sound.fields.awaited r.opened) c.requires.sound.fields.agreed c.answer-answer.ensures.end in
+    sound_with old.core.settings (record { core = c.answer-answer.new.self; splitter = c.tune.new.splitter; heard = old.heard; outbox = c.answer-answer.new.outbox }) c.answer-answer.ensures.settings c.requires.sound.writes (ap (λ (o : Outgoing). o.staged) c.answer-answer.ensures.output)
+    (fields_frame (role_at old) (core_end old.core) (core_end c.answer-answer.new.self) old.heard old.splitter c.feed_ref.follows.lender-at-none c.tune.new.splitter (place_after old.splitter.taken c.in-Ok.fed.taken) c.requires.reads c.requires.sound.fields after c.tune.ensures left.0 left.1)
+    (fed_holds (role_at old) (config_view old.core.settings) (endpoint_view old) _ old.splitter c.args.piece.now _ (c.unfinished_is_held.ensures.feed (role_at old) (config_view old.core.settings) (endpoint_view old) c.args.piece.now) by (returns-in-Some-clause-fed c))
+    (bounded_frame (role_at old) (config_view old.core.settings) (core_end old.core) (core_end c.answer-answer.new.self) (lent c.in-Some.frame) (ran_out c.answer-answer.result) (c.ends_are_bounded.ensures.frame (role_at old) (config_view old.core.settings) (core_end old.core) (lent c.in-Some.frame)) r.octets c.requires.sound.bounded c.answer-answer.ensures.end)
+
+pub returns-in-Err-clause-fed : goal.returns-in-Err-clause-fed
+returns-in-Err-clause-fed c =
+    let old = c.args.self.now in
+    let r = reads (role_at old) (core_end old.core).phase c.requires.reads in
+    let none : old.heard ≡ 0 = c.requires.sound.fields.opened r.opened in
+    let by = fed_by (role_at old) (core_end old.core) old.heard old.splitter old.outbox.output c.args.piece.now c.requires.reads c.requires.sound.fields c.requires.sound.holds (λ i. omega (arith, c.type_inv.piece i)) in
+    let pending = after_stop old.splitter c.args.piece.now c.feed_ref.result c.in-Err.fault c.feed_ref.follows.lender-at-none c.feed_ref.follows.holds-at-none c.in-Err.is in
+    fault_fed (role_at old) (config_view old.core.settings) (endpoint_view old) old.splitter c.args.piece.now c.in-Err.fault.kind c.in-Err.fault.at c.stop.result (core_end c.stop.new.self) (unfinished_of old.heard c.feed_ref.follows.lender-at-none.pending) c.stop.new.outbox
+    (c.pieces_are_split.ensures.fault (role_at old) (config_view old.core.settings) (endpoint_view old) old.splitter c.args.piece.now c.in-Err.fault.kind c.in-Err.fault.at) by
+    (first_fault old.splitter c.args.piece.now c.in-Err.fault (c.requires.sound.fields.ready r.octets).running c.in-Err.ensures.fault) c.stop.ensures.memory c.stop.ensures.said c.stop.ensures.end (none_unfinished old.heard c.feed_ref.follows.lender-at-none.pending none pending) c.stop.ensures.output
+
+pub returns-in-Err-clause-sound : goal.returns-in-Err-clause-sound
+returns-in-Err-clause-sound c =
+    let old = c.args.self.now in
+    let r = reads (role_at old) (core_end old.core).phase c.requires.reads in
+    let by = fed_by (role_at old) (core_end old.core) old.heard old.splitter old.outbox.output c.args.piece.now c.requires.reads c.requires.sound.fields c.requires.sound.holds (λ i. omega (arith, c.type_inv.piece i)) in
+    let left = stop_leaves (role_at old) (config_view old.core.settings) (core_end old.core) (core_end c.stop.new.self) c.in-Err.fault.kind (is_out_of_memory c.stop.result) c.stop.ensures.end c.requires.sound.fields.agreed in
+    sound_with old.core.settings (record { core = c.stop.new.self; splitter = c.feed_ref.follows.lender-at-none; heard = old.heard; outbox = c.stop.new.outbox }) c.stop.ensures.settings c.requires.sound.writes (ap (λ (o : Outgoing). o.staged) c.stop.ensures.output)
+    (fields_failed (role_at old) (core_end c.stop.new.self) old.heard c.feed_ref.follows.lender-at-none left.0 left.1 (c.requires.sound.fields.opened r.opened))
+    (fed_holds (role_at old) (config_view old.core.settings) (endpoint_view old) _ old.splitter c.args.piece.now _ (c.unfinished_is_held.ensures.feed (role_at old) (config_view old.core.settings) (endpoint_view old) c.args.piece.now) by (returns-in-Err-clause-fed c))
+    (bounded_failed (role_at old) (config_view old.core.settings) (core_end c.stop.new.self) left.0)
+
+pub returns-in-Some-clause-in_place : goal.returns-in-Some-clause-in_place
+returns-in-Some-clause-in_place c = λ drops.
+    let old = c.args.self.now in
+    let completes : Completes old.splitter (take c.in-Ok.fed.taken c.args.piece.now) (lent c.in-Some.frame) = subst (λ o. IfSome o (λ f. Completes old.splitter (take c.in-Ok.fed.taken c.args.piece.now) (lent f))) c.in-Some.is c.in-Ok.ensures.frame in
+    let none = none_pending (role_at old) (core_end old.core) old.heard old.splitter old.outbox.output c.args.piece.now c.requires.sound.fields drops in
+    c.after_octets.ensures.ok (c.answer-answer.ensures.alone (given_dropped (role_at old) (endpoint_view old) old.splitter c.args.piece.now c.in-Ok.fed.taken (lent c.in-Some.frame) c.one_frame_at_start.ensures drops none completes))
+
+pub returns-in-Err-clause-in_place : goal.returns-in-Err-clause-in_place
+returns-in-Err-clause-in_place c = λ drops.
+    let old = c.args.self.now in
+    let none = none_pending (role_at old) (core_end old.core) old.heard old.splitter old.outbox.output c.args.piece.now c.requires.sound.fields drops in
+    let running = (c.requires.sound.fields.ready (reads (role_at old) (core_end old.core).phase c.requires.reads).octets).running in
+    absurd (false≢true (subst (λ r. IsOk r) c.in-Err.is (c.feed_ref.ensures.in_place running none (frame_there (role_at old) (core_end old.core) old.heard old.splitter old.outbox.output c.args.piece.now c.requires.sound.fields drops))))

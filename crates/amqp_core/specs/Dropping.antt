@@ -1,0 +1,31 @@
+-- Frames that are taken without memory: a header, a body or a heartbeat that is dropped, and a heartbeat that changes nothing.
+use Rattle.std.specs.Prelude.{◌≡◌, ◌≤◌, ◌⊎◌, true, ℕ, List, [], ◌++◌}
+use Rattle.amqp_frame.specs.Frame.{Fits, frame_length, octets}
+use Rattle.amqp_frame.specs.declared.frames.FrameKind.{FrameKind}
+use Rattle.amqp_frame.specs.declared.frames.FrameKind.TheVariants.{Method, Header, Body, Heartbeat}
+use Rattle.amqp_model.specs.Channels as model
+use Rattle.amqp_model.specs.Endpoint.{Endpoint}
+use Rattle.amqp_model.specs.Frame.{Frame}
+use Rattle.amqp_model.specs.Negotiation.{frame_limit}
+use Rattle.amqp_model.specs.Notes.{Role}
+use Rattle.amqp_model.specs.Pieces.{reads_frames}
+use Rattle.amqp_core.specs.Stages.{leaves}
+use Rattle.amqp_core.specs.Used.{is_closing_at}
+
+-- The end has put connection.close; or it has closed the channel; or the heartbeat is as it is to be.
+abbrev pub IsDropped : model.Phase → model.Channel → (number : ℕ) → FrameKind → (payload : List ℕ) → Type 0
+IsDropped phase channel number Method payload = ⊥
+IsDropped phase channel number Header payload = (leaves phase ≡ true) ⊎ (is_closing_at channel ≡ true)
+IsDropped phase channel number Body payload = (leaves phase ≡ true) ⊎ (is_closing_at channel ≡ true)
+IsDropped phase channel number Heartbeat payload = (leaves phase ≡ true) ⊎ ((number ≡ 0) × (payload ≡ []))
+
+-- nothing is unfinished, and a whole frame that is dropped stands at the start of the piece
+pub record DropsInPlace (role : Role) (endpoint : Endpoint) (piece : List ℕ) : Type 0 where
+  pub reads : reads_frames role endpoint.end.phase ≡ true
+  pub none : endpoint.unfinished ≡ []
+  pub frame : Frame
+  pub later : List ℕ
+  pub fits : Fits frame
+  pub within : frame_length frame ≤ frame_limit endpoint.end.agreed
+  pub at_start : piece ≡ octets frame ++ later
+  pub dropped : IsDropped endpoint.end.phase (endpoint.end.channels frame.channel) frame.channel frame.kind frame.payload

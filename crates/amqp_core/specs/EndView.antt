@@ -1,0 +1,23 @@
+-- What callers see of an end: an endpoint of the model, of a role and with a configuration.
+use Rattle.amqp_model.specs.Endpoint.{Endpoint}
+use Rattle.amqp_model.specs.Negotiation.{Config}
+use Rattle.amqp_model.specs.Notes.{Role}
+use Rattle.amqp_core.specs.EndpointView.{endpoint_view}
+use Rattle.amqp_core.specs.Settings.{config_view, role_for}
+use Rattle.amqp_core.specs.declared.end.End.{End}
+use Rattle.amqp_core.specs.declared.roles.Role.{Ghosts}
+use Rattle.amqp_core.specs.declared.settings.Settings.{Settings}
+
+-- what it is set up with
+abbrev pub settings_at : {R H : Type 0} {G : Ghosts R H} → End R H G → Settings
+settings_at end = end.inner.core.settings
+
+abbrev pub role_played : {R H : Type 0} {G : Ghosts R H} → End R H G → Role
+role_played end = role_for (settings_at end)
+
+abbrev pub config_at : {R H : Type 0} {G : Ghosts R H} → (end : End R H G) → Config (role_played end)
+config_at end = config_view (settings_at end)
+
+-- what it keeps, the octets that are no whole frame yet, and what it has to write
+abbrev pub endpoint_of : {R H : Type 0} {G : Ghosts R H} → End R H G → Endpoint
+endpoint_of end = endpoint_view end.inner

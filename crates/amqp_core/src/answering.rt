@@ -1,0 +1,140 @@
+//! A frame is taken, and what the end owes is put: both, or, out of memory, nothing.
+ghost use Rattle.std.specs.Prelude.{◌≡◌, cond, true, false, [], map, IsOk, OnOk, OnErr};
+ghost use Rattle.amqp_model.specs.Channels.{End, Free};
+ghost use Rattle.amqp_model.specs.Closes.{frame_of};
+ghost use Rattle.amqp_model.specs.EndVerdict.{end_puts, end_verdict, facts_at, takes_frames};
+ghost use Rattle.amqp_model.specs.Endpoint.{Found, fault_told, outcome_of, owed_at_fault};
+ghost use Rattle.amqp_model.specs.Machine.{as_failed, end_after_taken};
+ghost use Rattle.amqp_model.specs.Outputs.{after_puts};
+ghost use Rattle.amqp_model.specs.Readings.{reading};
+ghost use Rattle.amqp_core.specs.Answering.{Answers, EndsAs, PutsAs, Reports, is_out_of_memory, ran_out, stopped};
+ghost use Rattle.amqp_core.specs.CoreView.{core_end, fault_of, frame_at, told_view};
+ghost use Rattle.amqp_core.specs.Dropping.{IsDropped};
+ghost use Rattle.amqp_core.specs.OutboxView.{only};
+ghost use Rattle.amqp_core.specs.Owing.{IsNothing};
+ghost use Rattle.amqp_core.specs.Outcomes.{SameEnd};
+ghost use Rattle.amqp_core.specs.OwedView.{owed_view};
+ghost use Rattle.amqp_core.specs.Settings.{config_view, role_for};
+ghost use Rattle.amqp_core.specs.Stages.{agreed_at, phase_at};
+
+use crate::codes::CloseCode;
+use crate::events::Event;
+use crate::faults::{CoreFault, OutOfMemory};
+use crate::one_end::{Core, Fault, Outcome};
+use crate::outbox::Outbox;
+use crate::owed::Owed;
+use crate::settings::Settings;
+use crate::stage::Stage;
+use crate::taking::owed_at;
+use amqp_frame::{FrameFaultKind, FrameKind};
+use std::alloc::Global;
+
+impl Fault {
+    /// The fault, as the application sees it.
+    fn reported(self) -> CoreFault
+        ensures says { Reports result (Found (fault_of self)) }
+        ensures fault { is_out_of_memory result ≡ false }
+    {
+        match self {
+            Fault::Peer(code) => CoreFault::Peer(code),
+            Fault::Fatal => CoreFault::Fatal,
+        }
+    }
+}
+
+/// What a frame tells, as the application sees it.
+fn report(told: Result<Option<Event>, Fault>) -> Result<Option<Event>, CoreFault>
+    ensures says { Answers result (told_view told) }
+    ensures memory { ran_out result ≡ false }
+    ensures ok { IsOk told → IsOk result }
+{
+    match told {
+        Ok(event) => Ok(event),
+        Err(fault) => Err(fault.reported()),
+    }
+}
+
+/// Puts what is owed: all of it, or nothing where memory is refused.
+pub(crate) fn put_owed(
+    alloc: Global,
+    settings: &Settings,
+    owed: Owed,
+    outbox: &mut Outbox,
+) -> Result<(), OutOfMemory>
+    requires { outbox.old.staged ≡ [] }
+    ensures ok { OnOk result (outbox.new ≡ only (after_puts (map frame_of (owed_view settings.now owed)) outbox.old.output)) }
+    ensures err { OnErr result (outbox.new ≡ only outbox.old.output) }
+    ensures nothing { IsNothing owed → IsOk result }
+{
+    let Ok(()) = owed.stage(alloc, settings, outbox) else {
+        outbox.discard();
+        return Err(OutOfMemory);
+    };
+    outbox.put();
+    Ok(())
+}
+
+impl Core {
+    /// Out of memory: the end fails, and knows no more of what was agreed than at an earlier stage.
+    fn fail_at(&mut self, before: Stage)
+        ensures end { (end : End) → end.agreed ≡ agreed_at before → end.channels 0 ≡ Free → SameEnd (as_failed end) (core_end self.new) }
+        ensures settings { self.new.settings ≡ self.old.settings }
+    {
+        self.stage = Stage::Failed(before.agreed());
+    }
+
+    /// Takes a frame, and puts what the end owes. Out of memory, the end fails, and nothing is put.
+    pub(crate) fn answer(
+        &mut self,
+        outbox: &mut Outbox,
+        kind: FrameKind,
+        number: u16,
+        payload: &[u8],
+    ) -> Result<Option<Event>, CoreFault>
+        requires taking { takes_frames (phase_at self.old.stage) ≡ true }
+        requires staged { outbox.old.staged ≡ [] }
+        ensures said { Answers result (outcome_of (facts_at (config_view self.old.settings) (core_end self.old) number) (end_verdict (config_view self.old.settings) (core_end self.old) (frame_at number kind payload.now))) }
+        ensures end { EndsAs result (core_end self.old) (end_after_taken (role_for self.old.settings) (config_view self.old.settings) (core_end self.old) (reading (frame_at number kind payload.now)) (frame_at number kind payload.now)) (core_end self.new) }
+        ensures output { PutsAs result outbox.old.output (after_puts (end_puts (config_view self.old.settings) (core_end self.old) (frame_at number kind payload.now)) outbox.old.output) outbox.new }
+        ensures alone { IsDropped (phase_at self.old.stage) ((core_end self.old).channels number) number kind payload.now → IsOk result }
+        ensures settings { self.new.settings ≡ self.old.settings }
+    {
+        let before = self.stage;
+        let Ok(outcome) = self.take(kind, number, payload) else {
+            self.fail_at(before);
+            return Err(CoreFault::OutOfMemory);
+        };
+        let Outcome { told, owed } = outcome;
+        let Ok(()) = put_owed(self.alloc, &self.settings, owed, outbox) else {
+            drop(told);
+            self.fail_at(before);
+            return Err(CoreFault::OutOfMemory);
+        };
+        report(told)
+    }
+    /// Octets are no frame: one above the limit is answered with a close of the connection, and to the others there is no
+    /// answer.
+    pub(crate) fn stop(&mut self, outbox: &mut Outbox, kind: FrameFaultKind) -> CoreFault
+        requires { outbox.old.staged ≡ [] }
+        ensures said { Reports result (Found (fault_told kind)) }
+        ensures memory { kind ≡ FrameFaultKind.OutOfMemory → is_out_of_memory result ≡ true }
+        ensures end { SameEnd (cond (is_out_of_memory result) (as_failed (core_end self.old)) (stopped (role_for self.old.settings) (config_view self.old.settings) (core_end self.old) kind)) (core_end self.new) }
+        ensures output { outbox.new ≡ only (cond (is_out_of_memory result) outbox.old.output (after_puts (map frame_of (owed_at_fault (config_view self.old.settings) (core_end self.old) kind)) outbox.old.output)) }
+        ensures settings { self.new.settings ≡ self.old.settings }
+    {
+        let before = self.stage;
+        self.fail_at(before);
+        let fault = match kind {
+            FrameFaultKind::OutOfMemory => return CoreFault::OutOfMemory,
+            FrameFaultKind::TooLarge => Fault::Peer(CloseCode::FrameError),
+            FrameFaultKind::UnknownType | FrameFaultKind::BadEnd | FrameFaultKind::Failed => {
+                Fault::Fatal
+            }
+        };
+        let owed = owed_at(before.is_closing(), fault);
+        let Ok(()) = put_owed(self.alloc, &self.settings, owed, outbox) else {
+            return CoreFault::OutOfMemory;
+        };
+        fault.reported()
+    }
+}

@@ -1,0 +1,194 @@
+//! What an application asks of an end: it is refused with the first refusal that applies, or its frames are put.
+//!
+//! The refusals come first, and change nothing. Then all is done that may want memory, the frames being staged; then the state
+//! changes, and the frames are put, which can't fail.
+ghost use Rattle.std.specs.Prelude.{◌≡◌, [], Some, IfOk, IfErr, OnOk};
+ghost use Rattle.amqp_method.specs.MessageView.{message_view};
+ghost use Rattle.amqp_model.specs.Asks as asks;
+ghost use Rattle.amqp_model.specs.Asks.{lowest_free};
+ghost use Rattle.amqp_core.specs.AskView.{lent_view};
+ghost use Rattle.amqp_core.specs.Asked.{number_taken, IsAccepted, IsRefused};
+ghost use Rattle.amqp_core.specs.Messages.{message_of};
+
+#[cfg(test)]
+mod tests;
+
+use crate::asks::LentAsk;
+use crate::channel::Channel;
+use crate::faults::AskFault;
+use crate::one_end::Core;
+use crate::outbox::Outbox;
+use crate::replies::bare;
+use crate::sending;
+use crate::stage::Stage;
+use amqp_method::{Kind, Message};
+use amqp_value::ShortStr;
+
+impl Core {
+    ghost use Rattle.amqp_core.specs.CoreView.{core_end};
+
+    /// Opens the lowest channel that is free, which it answers.
+    pub(crate) fn open_channel(&mut self, outbox: &mut Outbox) -> Result<u16, AskFault>
+        requires staged { outbox.old.staged ≡ [] }
+        ensures accepted { OnOk result (IsAccepted self.old.settings asks.Open (core_end self.old) (core_end self.new) outbox.old outbox.new) }
+        ensures number { IfOk result (λ number. lowest_free (core_end self.old) ≡ Some number) }
+        ensures refused { IfErr result (λ fault. IsRefused self.old.settings asks.Open fault (core_end self.old) (core_end self.new) outbox.old outbox.new) }
+        ensures settings { self.new.settings ≡ self.old.settings }
+    {
+        let number = self.allow_open()?;
+        let method = bare(self.alloc, Kind::ChannelOpen);
+        sending::stage_method(outbox, number, &method)?;
+        let Ok(()) = self.channels.put_open(number) else {
+            outbox.discard();
+            return Err(AskFault::OutOfMemory);
+        };
+        outbox.put();
+        Ok(number)
+    }
+
+    /// Sends a message on a channel.
+    pub(crate) fn send(
+        &mut self,
+        outbox: &mut Outbox,
+        number: u16,
+        message: &Message,
+    ) -> Result<(), AskFault>
+        requires staged { outbox.old.staged ≡ [] }
+        ensures accepted { OnOk result (IsAccepted self.old.settings (asks.Send number (message_of (message_view message.now))) (core_end self.old) (core_end self.new) outbox.old outbox.new) }
+        ensures refused { IfErr result (λ fault. IsRefused self.old.settings (asks.Send number (message_of (message_view message.now))) fault (core_end self.old) (core_end self.new) outbox.old outbox.new) }
+        ensures settings { self.new.settings ≡ self.old.settings }
+    {
+        let agreed = self.allow_send(number, message)?;
+        let site = self.site(number, agreed.channel_max);
+        let Ok(()) = sending::stage_message(outbox, number, agreed.frame_max, message) else {
+            outbox.discard();
+            return Err(AskFault::OutOfMemory);
+        };
+        let Ok(()) = self.channels.put_message(site, message) else {
+            outbox.discard();
+            return Err(AskFault::OutOfMemory);
+        };
+        outbox.put();
+        Ok(())
+    }
+
+    /// Asks the other end to send contents on a channel, or no more of them.
+    pub(crate) fn flow(
+        &mut self,
+        outbox: &mut Outbox,
+        number: u16,
+        active: bool,
+    ) -> Result<(), AskFault>
+        requires staged { outbox.old.staged ≡ [] }
+        ensures accepted { OnOk result (IsAccepted self.old.settings (asks.Flow number active) (core_end self.old) (core_end self.new) outbox.old outbox.new) }
+        ensures refused { IfErr result (λ fault. IsRefused self.old.settings (asks.Flow number active) fault (core_end self.old) (core_end self.new) outbox.old outbox.new) }
+        ensures settings { self.new.settings ≡ self.old.settings }
+    {
+        let agreed = self.allow_flow(number)?;
+        let site = self.site(number, agreed.channel_max);
+        let method = sending::flow(self.alloc, active)?;
+        sending::stage_method(outbox, number, &method)?;
+        self.channels.put_flow(site, active);
+        outbox.put();
+        Ok(())
+    }
+
+    /// Closes a channel.
+    pub(crate) fn close_channel(
+        &mut self,
+        outbox: &mut Outbox,
+        number: u16,
+        code: u16,
+        text: &ShortStr,
+    ) -> Result<(), AskFault>
+        requires staged { outbox.old.staged ≡ [] }
+        ensures accepted { OnOk result (IsAccepted self.old.settings (asks.CloseChannel number code text.now) (core_end self.old) (core_end self.new) outbox.old outbox.new) }
+        ensures refused { IfErr result (λ fault. IsRefused self.old.settings (asks.CloseChannel number code text.now) fault (core_end self.old) (core_end self.new) outbox.old outbox.new) }
+        ensures settings { self.new.settings ≡ self.old.settings }
+    {
+        let agreed = self.allow_close(number)?;
+        let site = self.site(number, agreed.channel_max);
+        let method = sending::close(self.alloc, Kind::ChannelClose, code, text)?;
+        sending::stage_method(outbox, number, &method)?;
+        self.channels.put_close(site);
+        outbox.put();
+        Ok(())
+    }
+
+    /// Closes the connection.
+    pub(crate) fn close(
+        &mut self,
+        outbox: &mut Outbox,
+        code: u16,
+        text: &ShortStr,
+    ) -> Result<(), AskFault>
+        requires staged { outbox.old.staged ≡ [] }
+        ensures accepted { OnOk result (IsAccepted self.old.settings (asks.Close code text.now) (core_end self.old) (core_end self.new) outbox.old outbox.new) }
+        ensures refused { IfErr result (λ fault. IsRefused self.old.settings (asks.Close code text.now) fault (core_end self.old) (core_end self.new) outbox.old outbox.new) }
+        ensures settings { self.new.settings ≡ self.old.settings }
+    {
+        let agreed = self.running()?;
+        let method = sending::close(self.alloc, Kind::ConnectionClose, code, text)?;
+        sending::stage_method(outbox, 0, &method)?;
+        self.stage = Stage::Closing(Some(agreed));
+        outbox.put();
+        Ok(())
+    }
+
+    /// Says that the server takes no more contents, and why.
+    pub(crate) fn blocked(&mut self, outbox: &mut Outbox, reason: &ShortStr) -> Result<(), AskFault>
+        requires staged { outbox.old.staged ≡ [] }
+        ensures accepted { OnOk result (IsAccepted self.old.settings (asks.Blocked reason.now) (core_end self.old) (core_end self.new) outbox.old outbox.new) }
+        ensures refused { IfErr result (λ fault. IsRefused self.old.settings (asks.Blocked reason.now) fault (core_end self.old) (core_end self.new) outbox.old outbox.new) }
+        ensures settings { self.new.settings ≡ self.old.settings }
+    {
+        let _agreed = self.allow_block()?;
+        let method = sending::blocked(self.alloc, reason)?;
+        sending::stage_method(outbox, 0, &method)?;
+        outbox.put();
+        Ok(())
+    }
+
+    /// Says that the server takes contents again.
+    pub(crate) fn unblocked(&mut self, outbox: &mut Outbox) -> Result<(), AskFault>
+        requires staged { outbox.old.staged ≡ [] }
+        ensures accepted { OnOk result (IsAccepted self.old.settings asks.Unblocked (core_end self.old) (core_end self.new) outbox.old outbox.new) }
+        ensures refused { IfErr result (λ fault. IsRefused self.old.settings asks.Unblocked fault (core_end self.old) (core_end self.new) outbox.old outbox.new) }
+        ensures settings { self.new.settings ≡ self.old.settings }
+    {
+        let _agreed = self.allow_block()?;
+        let method = bare(self.alloc, Kind::ConnectionUnblocked);
+        sending::stage_method(outbox, 0, &method)?;
+        outbox.put();
+        Ok(())
+    }
+
+    /// Does what is asked. The answer is the channel that an open takes.
+    pub(crate) fn ask(
+        &mut self,
+        outbox: &mut Outbox,
+        ask: LentAsk<'_>,
+    ) -> Result<Option<u16>, AskFault>
+        requires staged { outbox.old.staged ≡ [] }
+        ensures accepted { OnOk result (IsAccepted self.old.settings (lent_view ask.entry) (core_end self.old) (core_end self.new) outbox.old outbox.new) }
+        ensures number { IfOk result (λ number. number ≡ number_taken (core_end self.old) (lent_view ask.entry)) }
+        ensures refused { IfErr result (λ fault. IsRefused self.old.settings (lent_view ask.entry) fault (core_end self.old) (core_end self.new) outbox.old outbox.new) }
+        ensures settings { self.new.settings ≡ self.old.settings }
+    {
+        match ask {
+            LentAsk::Open => {
+                let number = self.open_channel(outbox)?;
+                return Ok(Some(number));
+            }
+            LentAsk::Send(channel, message) => self.send(outbox, channel, message)?,
+            LentAsk::Flow(channel, active) => self.flow(outbox, channel, active)?,
+            LentAsk::CloseChannel(channel, code, text) => {
+                self.close_channel(outbox, channel, code, text)?
+            }
+            LentAsk::Close(code, text) => self.close(outbox, code, text)?,
+            LentAsk::Blocked(reason) => self.blocked(outbox, reason)?,
+            LentAsk::Unblocked => self.unblocked(outbox)?,
+        }
+        Ok(None)
+    }
+}

@@ -1,0 +1,85 @@
+//! What an application asks of an end.
+ghost use Rattle.std.specs.Prelude.{◌≡◌, IfOk};
+ghost use Rattle.amqp_core.specs.AskView.{ask_view, lent_view};
+
+use crate::faults::OutOfMemory;
+use amqp_method::Message;
+use amqp_value::ShortStr;
+
+/// What an application asks of an end: it is refused, or its frames are put at once.
+#[derive(Debug, Drop)]
+pub enum Ask {
+    /// Opens the lowest channel that is free. Only a client opens channels.
+    Open,
+    /// Sends a message on a channel: a method alone, or with its content. The methods of the classes connection and channel are
+    /// put by the other asks, and by the end itself.
+    Send(u16, Message),
+    /// Asks the other end to send contents on a channel, or no more of them.
+    Flow(u16, bool),
+    /// Closes a channel, with a code and a text.
+    CloseChannel(u16, u16, ShortStr),
+    /// Closes the connection, with a code and a text.
+    Close(u16, ShortStr),
+    /// Says that the server takes no more contents, and why. Only a server says so.
+    Blocked(ShortStr),
+    /// Says that the server takes contents again. Only a server says so.
+    Unblocked,
+}
+
+/// An ask whose message and texts are lent.
+#[derive(Clone, Copy)]
+pub(crate) enum LentAsk<'a> {
+    Open,
+    Send(u16, &'a Message),
+    Flow(u16, bool),
+    CloseChannel(u16, u16, &'a ShortStr),
+    Close(u16, &'a ShortStr),
+    Blocked(&'a ShortStr),
+    Unblocked,
+}
+
+impl Ask {
+    /// The ask, lent.
+    pub(crate) fn lent(&self) -> LentAsk<'_>
+        ensures { lent_view result ≡ ask_view self.now }
+    {
+        match self {
+            Ask::Open => LentAsk::Open,
+            Ask::Send(channel, message) => LentAsk::Send(*channel, message),
+            Ask::Flow(channel, active) => LentAsk::Flow(*channel, *active),
+            Ask::CloseChannel(channel, code, text) => LentAsk::CloseChannel(*channel, *code, text),
+            Ask::Close(code, text) => LentAsk::Close(*code, text),
+            Ask::Blocked(reason) => LentAsk::Blocked(reason),
+            Ask::Unblocked => LentAsk::Unblocked,
+        }
+    }
+
+    /// An equal ask.
+    pub fn copy(&self) -> Result<Ask, OutOfMemory>
+        ensures { IfOk result (λ ask. ask_view ask ≡ ask_view self.now) }
+    {
+        match self {
+            Ask::Open => Ok(Ask::Open),
+            Ask::Send(channel, message) => {
+                let Ok(message) = message.copy() else {
+                    return Err(OutOfMemory);
+                };
+                Ok(Ask::Send(*channel, message))
+            }
+            Ask::Flow(channel, active) => Ok(Ask::Flow(*channel, *active)),
+            Ask::CloseChannel(channel, code, text) => {
+                let text = text.copy()?;
+                Ok(Ask::CloseChannel(*channel, *code, text))
+            }
+            Ask::Close(code, text) => {
+                let text = text.copy()?;
+                Ok(Ask::Close(*code, text))
+            }
+            Ask::Blocked(reason) => {
+                let reason = reason.copy()?;
+                Ok(Ask::Blocked(reason))
+            }
+            Ask::Unblocked => Ok(Ask::Unblocked),
+        }
+    }
+}

@@ -1,0 +1,70 @@
+//! What an application sets an end up with.
+ghost use Rattle.std.specs.Prelude.{◌≡◌, IfOk};
+ghost use Rattle.amqp_core.specs.Configs.{set_up_as, settings_of};
+ghost use Rattle.amqp_core.specs.Settings.{role_for};
+
+#[cfg(test)]
+mod tests;
+
+use crate::faults::OutOfMemory;
+use crate::roles::Role;
+use crate::settings::Settings;
+
+/// What an end is set up with.
+#[derive(Drop)]
+pub struct Config<R: Role> {
+    /// The greatest frame that the end takes, in octets, all of the frame counted: from 4096 to 1048576. A server says it in
+    /// tune; a client settles on the smaller of its own and the server's.
+    pub frame_max: u32,
+    /// The greatest channel number, from 1 to 65535, agreed in the same way. So many channels can be open at once.
+    pub channel_max: u16,
+    /// The greatest body of a content that the end takes, in octets. A content whose header says more is refused, which
+    /// closes its channel.
+    pub max_body: u64,
+    /// What the end says of itself: a server in start, a client in start-ok and in open. The frame of start or of start-ok
+    /// has at most 4096 octets.
+    pub hello: R::Hello,
+}
+
+impl<R: Role> Config<R> {
+    /// The defaults: frames of 131072 octets, 2047 channels, bodies of 16777216 octets.
+    pub fn new(hello: R::Hello) -> Config<R>
+        ensures frame { result.frame_max ≡ 131072 }
+        ensures channels { result.channel_max ≡ 2047 }
+        ensures body { result.max_body ≡ 16777216 }
+        ensures hello { result.hello ≡ hello }
+    {
+        Config {
+            frame_max: 131_072,
+            channel_max: 2047,
+            max_body: 16_777_216,
+            hello,
+        }
+    }
+
+    /// An equal configuration.
+    pub fn copy(&self) -> Result<Config<R>, OutOfMemory>
+        ensures { IfOk result (λ copy. set_up_as (settings_of R.hello_of copy) ≡ set_up_as (settings_of R.hello_of self.now)) }
+    {
+        let hello = R::copy_hello(&self.hello)?;
+        Ok(Config {
+            frame_max: self.frame_max,
+            channel_max: self.channel_max,
+            max_body: self.max_body,
+            hello,
+        })
+    }
+
+    /// The settings of an end, whichever role it plays.
+    pub(crate) fn into_settings(self) -> Settings
+        ensures settings { result ≡ settings_of R.hello_of self }
+        ensures role { role_for result ≡ R.role }
+    {
+        Settings {
+            frame_max: self.frame_max,
+            channel_max: self.channel_max,
+            max_body: self.max_body,
+            hello: R::into_hello(self.hello),
+        }
+    }
+}

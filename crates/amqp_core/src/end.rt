@@ -1,0 +1,264 @@
+//! One end of a connection, a client or a server.
+ghost use Rattle.std.specs.Prelude.{ℕ, List, ◌≡◌, ◌≢◌, ◌<◌, ◌≤◌, true, [], length, IsOk, IfOk, IfErr, OnOk, Some, None};
+ghost use Rattle.amqp_method.specs.MessageView.{message_view};
+ghost use Rattle.amqp_model.specs.Answers.{channel_state, gathered, reply_due};
+ghost use Rattle.amqp_model.specs.Asks as asks;
+ghost use Rattle.amqp_model.specs.Asks.{lowest_free};
+ghost use Rattle.amqp_model.specs.EndVerdict.{takes_octets};
+ghost use Rattle.amqp_model.specs.Endpoint.{after_feed, after_wrote, new_endpoint};
+ghost use Rattle.amqp_model.specs.Fitting.{config_fault};
+ghost use Rattle.amqp_model.specs.Histories.{History};
+ghost use Rattle.amqp_model.specs.Negotiation.{frame_limit};
+ghost use Rattle.amqp_model.specs.OctetLaws.{EndpointStandsFor};
+ghost use Rattle.amqp_model.specs.Outputs.{output_octets};
+ghost use Rattle.amqp_core.specs.Answering.{ran_out};
+ghost use Rattle.amqp_core.specs.AskView.{ask_view};
+ghost use Rattle.amqp_core.specs.Asked.{number_taken};
+ghost use Rattle.amqp_core.specs.Asking.{AcceptsAsk, RefusesAsk};
+ghost use Rattle.amqp_core.specs.Configs.{settings_of};
+ghost use Rattle.amqp_core.specs.EndpointView.{role_at};
+ghost use Rattle.std.proofs.Props.{props};
+ghost use Rattle.amqp_core.specs.Kept.{IsKept, agreed_prop};
+ghost use Rattle.amqp_core.specs.Faults.{config_fault_view};
+ghost use Rattle.amqp_core.specs.Dropping.{DropsInPlace};
+ghost use Rattle.amqp_core.specs.Feeding.{IsFed};
+ghost use Rattle.amqp_core.specs.Following.{GoesOn};
+ghost use Rattle.amqp_core.specs.EventView.{agreed_there};
+ghost use Rattle.amqp_core.specs.Messages.{message_of};
+ghost use Rattle.amqp_core.specs.Settings.{config_view, role_for};
+ghost use Rattle.amqp_core.specs.Stages.{phase_name};
+ghost use Rattle.amqp_core.specs.StateView.{state_view};
+
+use crate::asks::{Ask, LentAsk};
+use crate::config::Config;
+use crate::endpoint::Endpoint;
+use crate::events::{Agreed, Taken};
+use crate::faults::{AskFault, ConfigFault, CoreFault};
+use crate::queries::ChannelState;
+use crate::roles::Role;
+use crate::stage::Phase;
+use amqp_method::{Kind, Message};
+use amqp_model::{bounds, octets, one_end, traces};
+use amqp_value::ShortStr;
+use std::alloc::Global;
+use std::marker::PhantomData;
+
+/// One end of a connection.
+///
+/// It touches no socket. Octets that came are handed to [`End::feed`], piece by piece, however they were cut; octets that
+/// are to be sent are read from [`End::output`], and [`End::wrote`] says how many of them were sent. What an application does
+/// with the octets that one read gave it, and with those that are to be sent:
+///
+///     let mut rest = &buffer[..read];
+///     while !rest.is_empty() {
+///         let taken = end.feed(rest)?;
+///         rest = &rest[taken.octets..];
+///         if let Some(event) = taken.event {
+///             handle(event)?;
+///         }
+///     }
+///     let sent = stream.write(end.output())?;
+///     end.wrote(sent);
+///
+/// After a fault, and after a close, what was put before can still be sent.
+#[derive(Drop)]
+pub struct End<R: Role> {
+    inner: Endpoint,
+    role: PhantomData<R>,
+    pub ghost kept: { IsKept inner } by { Prim.hlevel (props, agreed_prop) },
+    pub ghost plays: { role_at inner ≡ R.role },
+}
+
+impl<R: Role> End<R> {
+    ghost use Rattle.amqp_core.specs.EndView.{config_at, endpoint_of, role_played, settings_at};
+
+    /// An end as it begins. A client has the protocol header to write, a server nothing.
+    pub fn new(alloc: Global, config: Config<R>) -> Result<End<R>, ConfigFault>
+        ensures begins { IfOk result (λ end. endpoint_of end ≡ new_endpoint (role_played end)) }
+        ensures settings { IfOk result (λ end. settings_at end ≡ settings_of R.hello_of config) }
+        ensures faultless { IfOk result (λ end. config_fault (role_played end) (config_at end) ≡ None) }
+        ensures fault { IfErr result (λ fault. config_fault_view fault ≡ config_fault (role_for (settings_of R.hello_of config)) (config_view (settings_of R.hello_of config))) }
+    {
+        let settings = config.into_settings();
+        if let Some(fault) = settings.fault() {
+            return Err(fault);
+        }
+        settings.try_greeting(alloc)?;
+        let inner = Endpoint::new(alloc, settings)?;
+        Ok(End {
+            inner,
+            role: PhantomData,
+        })
+    }
+
+    /// Takes octets of a piece: up to the end of the next frame, or of the protocol header at a server that awaits it. Where
+    /// the piece ends before that, all of it is taken. A piece that has octets loses at least one, unless the end is closed or
+    /// has failed.
+    pub fn feed(&mut self, piece: &[u8]) -> Result<Taken, CoreFault>
+        ensures fed { IsFed result (endpoint_of self.old) (after_feed (role_played self.old) (config_at self.old) (endpoint_of self.old) piece.now) (endpoint_of self.new) }
+        ensures within { IfOk result (λ taken. taken.octets ≤ length piece.now) }
+        ensures progress { IfOk result (λ taken. piece.now ≢ [] → 0 < taken.octets) }
+        // A header, a body or a heartbeat that is dropped takes no memory, where it lies whole in the piece.
+        ensures in_place { DropsInPlace (role_played self.old) (endpoint_of self.old) piece.now → IsOk result }
+        // For every history that the end stands for: what comes of the piece, and the history that follows.
+        ensures history { (history : History) (fed written : List ℕ) → EndpointStandsFor (role_played self.old) (config_at self.old) (endpoint_of self.old) history fed written
+            → ∥ GoesOn (role_played self.old) (config_at self.old) (ran_out result) (endpoint_of self.old) history fed written piece.now (after_feed (role_played self.old) (config_at self.old) (endpoint_of self.old) piece.now) (endpoint_of self.new) ∥₁ }
+        ensures settings { settings_at self.new ≡ settings_at self.old }
+    {
+        octets::octets_follow();
+        one_end::failed_follows();
+        traces::memory_runs_out();
+        self.inner.feed(piece)
+    }
+
+    /// The octets to send next. They stay until [`End::wrote`] says that they were sent.
+    pub fn output(&self) -> &[u8]
+        ensures { result.now ≡ output_octets (endpoint_of self.now).output }
+    {
+        self.inner.outbox.output()
+    }
+
+    /// So many octets of the output were sent.
+    pub fn wrote(&mut self, octets: usize)
+        requires { octets ≤ length (output_octets (endpoint_of self.old).output) }
+        ensures written { endpoint_of self.new ≡ after_wrote octets (endpoint_of self.old) }
+        ensures settings { settings_at self.new ≡ settings_at self.old }
+    {
+        self.inner.wrote(octets);
+    }
+
+    /// How far the connection is.
+    pub fn phase(&self) -> Phase
+        ensures { result ≡ phase_name (endpoint_of self.now).end.phase }
+    {
+        self.inner.core.stage.phase()
+    }
+
+    /// What tune-ok settled: known from the moment on that a client has put it, or that a server has taken it.
+    pub fn agreed(&self) -> Option<Agreed>
+        ensures { agreed_there result ≡ (endpoint_of self.now).end.agreed }
+    {
+        self.inner.core.stage.agreed()
+    }
+
+    /// The state of a channel. Channel 0 and the numbers above the agreed maximum are Free.
+    pub fn channel_state(&self, channel: u16) -> ChannelState
+        ensures { state_view result ≡ channel_state (endpoint_of self.now).end channel }
+    {
+        self.inner.core.channel_state(channel)
+    }
+
+    /// How many octets were taken of a frame that isn't whole yet, or of the protocol header: fewer than a frame may have.
+    pub fn pending(&self) -> usize
+        ensures count { result ≡ length (endpoint_of self.now).unfinished }
+        ensures below { takes_octets (endpoint_of self.now).end.phase ≡ true → result < frame_limit (endpoint_of self.now).end.agreed }
+    {
+        self.inner.pending()
+    }
+
+    /// How many octets are kept of the body of a content that isn't whole yet, in phase Running on an Open channel.
+    pub fn gathered(&self, channel: u16) -> usize
+        ensures gathered { result ≡ gathered (endpoint_of self.now).end channel }
+        ensures most { result ≤ (config_at self.now).max_body }
+    {
+        bounds::answers_are_bounded();
+        self.inner.core.gathered(channel)
+    }
+
+    /// The request that is to be answered next on a channel: at a client the one that waits for its reply, at a server the
+    /// oldest that it took.
+    pub fn reply_due(&self, channel: u16) -> Option<Kind>
+        ensures { result ≡ reply_due (endpoint_of self.now).end channel }
+    {
+        self.inner.core.reply_due(channel)
+    }
+
+    /// Asks something of the end: it is refused with the first refusal that applies, which changes nothing, or its frames are
+    /// put. The answer is the channel that an open takes.
+    pub fn ask(&mut self, ask: &Ask) -> Result<Option<u16>, AskFault>
+        ensures accepted { OnOk result (AcceptsAsk (role_played self.old) (config_at self.old) (ask_view ask.now) (endpoint_of self.old) (endpoint_of self.new)) }
+        ensures refused { IfErr result (λ fault. RefusesAsk (role_played self.old) (ask_view ask.now) fault (endpoint_of self.old) (endpoint_of self.new)) }
+        ensures number { IfOk result (λ number. number ≡ number_taken (endpoint_of self.old).end (ask_view ask.now)) }
+        ensures settings { settings_at self.new ≡ settings_at self.old }
+    {
+        self.inner.ask(ask.lent())
+    }
+
+    /// Opens the lowest channel that is free, which it answers. Only a client opens channels.
+    pub fn open_channel(&mut self) -> Result<u16, AskFault>
+        ensures accepted { OnOk result (AcceptsAsk (role_played self.old) (config_at self.old) (asks.Open) (endpoint_of self.old) (endpoint_of self.new)) }
+        ensures refused { IfErr result (λ fault. RefusesAsk (role_played self.old) (asks.Open) fault (endpoint_of self.old) (endpoint_of self.new)) }
+        ensures number { IfOk result (λ number. lowest_free (endpoint_of self.old).end ≡ Some number) }
+        ensures settings { settings_at self.new ≡ settings_at self.old }
+    {
+        match self.inner.ask(LentAsk::Open)? {
+            Some(number) => Ok(number),
+            None => unreachable!(),
+        }
+    }
+
+    /// Sends a message on a channel: a method, or a method with its content, which is cut to the agreed frame size.
+    pub fn send(&mut self, channel: u16, message: &Message) -> Result<(), AskFault>
+        ensures accepted { OnOk result (AcceptsAsk (role_played self.old) (config_at self.old) (asks.Send channel (message_of (message_view message.now))) (endpoint_of self.old) (endpoint_of self.new)) }
+        ensures refused { IfErr result (λ fault. RefusesAsk (role_played self.old) (asks.Send channel (message_of (message_view message.now))) fault (endpoint_of self.old) (endpoint_of self.new)) }
+        ensures settings { settings_at self.new ≡ settings_at self.old }
+    {
+        self.inner.ask(LentAsk::Send(channel, message))?;
+        Ok(())
+    }
+
+    /// Asks the other end to send contents on a channel, or no more of them.
+    pub fn flow(&mut self, channel: u16, active: bool) -> Result<(), AskFault>
+        ensures accepted { OnOk result (AcceptsAsk (role_played self.old) (config_at self.old) (asks.Flow channel active) (endpoint_of self.old) (endpoint_of self.new)) }
+        ensures refused { IfErr result (λ fault. RefusesAsk (role_played self.old) (asks.Flow channel active) fault (endpoint_of self.old) (endpoint_of self.new)) }
+        ensures settings { settings_at self.new ≡ settings_at self.old }
+    {
+        self.inner.ask(LentAsk::Flow(channel, active))?;
+        Ok(())
+    }
+
+    /// Closes a channel, with a code and a text.
+    pub fn close_channel(
+        &mut self,
+        channel: u16,
+        code: u16,
+        text: &ShortStr,
+    ) -> Result<(), AskFault>
+        ensures accepted { OnOk result (AcceptsAsk (role_played self.old) (config_at self.old) (asks.CloseChannel channel code text.now) (endpoint_of self.old) (endpoint_of self.new)) }
+        ensures refused { IfErr result (λ fault. RefusesAsk (role_played self.old) (asks.CloseChannel channel code text.now) fault (endpoint_of self.old) (endpoint_of self.new)) }
+        ensures settings { settings_at self.new ≡ settings_at self.old }
+    {
+        self.inner.ask(LentAsk::CloseChannel(channel, code, text))?;
+        Ok(())
+    }
+
+    /// Closes the connection, with a code and a text.
+    pub fn close(&mut self, code: u16, text: &ShortStr) -> Result<(), AskFault>
+        ensures accepted { OnOk result (AcceptsAsk (role_played self.old) (config_at self.old) (asks.Close code text.now) (endpoint_of self.old) (endpoint_of self.new)) }
+        ensures refused { IfErr result (λ fault. RefusesAsk (role_played self.old) (asks.Close code text.now) fault (endpoint_of self.old) (endpoint_of self.new)) }
+        ensures settings { settings_at self.new ≡ settings_at self.old }
+    {
+        self.inner.ask(LentAsk::Close(code, text))?;
+        Ok(())
+    }
+
+    /// Says that the server takes no more contents, and why. Only a server says so.
+    pub fn blocked(&mut self, reason: &ShortStr) -> Result<(), AskFault>
+        ensures accepted { OnOk result (AcceptsAsk (role_played self.old) (config_at self.old) (asks.Blocked reason.now) (endpoint_of self.old) (endpoint_of self.new)) }
+        ensures refused { IfErr result (λ fault. RefusesAsk (role_played self.old) (asks.Blocked reason.now) fault (endpoint_of self.old) (endpoint_of self.new)) }
+        ensures settings { settings_at self.new ≡ settings_at self.old }
+    {
+        self.inner.ask(LentAsk::Blocked(reason))?;
+        Ok(())
+    }
+
+    /// Says that the server takes contents again. Only a server says so.
+    pub fn unblocked(&mut self) -> Result<(), AskFault>
+        ensures accepted { OnOk result (AcceptsAsk (role_played self.old) (config_at self.old) (asks.Unblocked) (endpoint_of self.old) (endpoint_of self.new)) }
+        ensures refused { IfErr result (λ fault. RefusesAsk (role_played self.old) (asks.Unblocked) fault (endpoint_of self.old) (endpoint_of self.new)) }
+        ensures settings { settings_at self.new ≡ settings_at self.old }
+    {
+        self.inner.ask(LentAsk::Unblocked)?;
+        Ok(())
+    }
+}

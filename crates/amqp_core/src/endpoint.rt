@@ -1,0 +1,262 @@
+//! One end of a connection, octet by octet: what is taken of a piece, and the octets that are to be written.
+//!
+//! A server compares the first octets with the protocol header. All others go to the splitter, which lends each frame from
+//! the piece where it lies whole in it; the frame is taken while it is lent, so a body is copied once.
+ghost use Rattle.std.specs.Prelude.{◌≡◌, ◌≢◌, ◌<◌, ◌≤◌, length, true, [], IsOk, IfOk, IfErr, OnOk};
+ghost use Rattle.amqp_model.specs.Endpoint.{after_feed, after_wrote, awaits_opening, new_endpoint};
+ghost use Rattle.amqp_model.specs.EndVerdict.{takes_octets};
+ghost use Rattle.amqp_model.specs.Negotiation.{frame_limit};
+ghost use Rattle.amqp_model.specs.Fitting.{ConfigWrites, IfAgreedFits};
+ghost use Rattle.amqp_model.specs.Octets.{opening_written};
+ghost use Rattle.amqp_model.specs.Outputs.{output_octets};
+ghost use Rattle.amqp_model.specs.Pieces.{reads_frames};
+ghost use Rattle.amqp_core.specs.AskView.{lent_view};
+ghost use Rattle.amqp_core.specs.Asked.{number_taken};
+ghost use Rattle.amqp_core.specs.Asking.{AcceptsAsk, RefusesAsk};
+ghost use Rattle.amqp_core.specs.Answering.{ran_out};
+ghost use Rattle.amqp_core.specs.Dropping.{DropsInPlace};
+ghost use Rattle.amqp_core.specs.Feeding.{IsFed, in_piece};
+ghost use Rattle.amqp_core.specs.OutboxView.{begins_with};
+ghost use Rattle.amqp_core.specs.Roles.{role_of};
+ghost use Rattle.amqp_core.specs.Settings.{config_view, role_for};
+ghost use Rattle.amqp_core.specs.Stages.{agreed_at, phase_at};
+
+use crate::asks::LentAsk;
+use crate::events::{Event, Taken};
+use crate::faults::{AskFault, CoreFault, OutOfMemory};
+use crate::one_end::Core;
+use crate::opening::going_on;
+use crate::outbox::Outbox;
+use crate::roles::Side;
+use crate::settings::Settings;
+use crate::stage::Stage;
+use amqp_frame::{PROTOCOL_HEADER, Splitter, one_frame_at_start};
+use amqp_model::{bounds, fitting, octets, pieces};
+use std::alloc::Global;
+
+/// What an end keeps.
+#[derive(Drop)]
+pub(crate) struct Endpoint {
+    pub(crate) core: Core,
+    pub(crate) splitter: Splitter,
+    /// how many octets of the protocol header a server has heard that awaits it
+    pub(crate) heard: usize,
+    pub(crate) outbox: Outbox,
+}
+
+/// No frame above this many octets is taken before a size is agreed.
+const FRAME_MIN: u32 = 4096;
+
+/// Frames are taken up to the agreed size from the moment on that it is agreed.
+fn tune(splitter: &mut Splitter, stage: Stage)
+    requires pending { splitter.old.pending ≡ [] }
+    requires fits { IfAgreedFits (agreed_at stage) }
+    ensures { splitter.new ≡ record splitter.old { limit = frame_limit (agreed_at stage) } }
+{
+    match stage.agreed() {
+        Some(agreed) => splitter.set_limit(agreed.frame_max),
+        None => splitter.set_limit(FRAME_MIN),
+    }
+}
+
+/// The answer to the frame that so many octets of a piece end.
+fn after_octets(octets: usize, answer: Result<Option<Event>, CoreFault>) -> Result<Taken, CoreFault>
+    ensures piece { result ≡ in_piece octets answer }
+    ensures ok { IsOk answer → IsOk result }
+{
+    match answer {
+        Ok(event) => Ok(Taken { octets, event }),
+        Err(fault) => Err(fault),
+    }
+}
+
+/// What an end of a side has to write as it begins.
+fn begun(alloc: Global, side: Side) -> Result<Outbox, OutOfMemory>
+    ensures { IfOk result (λ outbox. outbox ≡ begins_with (opening_written (role_of side))) }
+{
+    let mut outbox = Outbox::new(alloc);
+    match side {
+        Side::Client => {
+            outbox.begin_with(&PROTOCOL_HEADER)?;
+            Ok(outbox)
+        }
+        Side::Server => Ok(outbox),
+    }
+}
+
+impl Endpoint {
+    ghost use Rattle.amqp_core.specs.EndpointView.{endpoint_view, role_at, IsSound};
+
+    /// Octets of the protocol header, at a server that awaits it.
+    fn hear(&mut self, piece: &[u8]) -> Result<Taken, CoreFault>
+        requires sound { IsSound self.old }
+        requires awaits { awaits_opening (role_at self.old) (phase_at self.old.core.stage) ≡ true }
+        ensures fed { IsFed result (endpoint_view self.old) (after_feed (role_at self.old) (config_view self.old.core.settings) (endpoint_view self.old) piece.now) (endpoint_view self.new) }
+        ensures sound { IsSound self.new }
+        ensures settings { self.new.core.settings ≡ self.old.core.settings }
+    {
+        pieces::pieces_are_compared();
+        pieces::unfinished_is_held();
+        let same = going_on(self.heard, piece);
+        if self.heard + same == PROTOCOL_HEADER.len() {
+            self.heard = 0;
+            let Ok(()) = self.core.greet(&mut self.outbox) else {
+                return Err(CoreFault::OutOfMemory);
+            };
+            return Ok(Taken {
+                octets: same,
+                event: Some(Event::Quiet),
+            });
+        }
+        if same == piece.len() {
+            self.heard += same;
+            return Ok(Taken {
+                octets: same,
+                event: None,
+            });
+        }
+        self.heard = 0;
+        self.core.fail();
+        let Ok(()) = self.outbox.begin_with(&PROTOCOL_HEADER) else {
+            return Err(CoreFault::OutOfMemory);
+        };
+        Err(CoreFault::Fatal)
+    }
+
+    /// Octets of frames.
+    fn read(&mut self, piece: &[u8]) -> Result<Taken, CoreFault>
+        requires sound { IsSound self.old }
+        requires reads { reads_frames (role_at self.old) (phase_at self.old.core.stage) ≡ true }
+        ensures fed { IsFed result (endpoint_view self.old) (after_feed (role_at self.old) (config_view self.old.core.settings) (endpoint_view self.old) piece.now) (endpoint_view self.new) }
+        // A frame that is dropped takes no memory, where it lies whole in the piece.
+        ensures in_place { DropsInPlace (role_at self.old) (endpoint_view self.old) piece.now → IsOk result }
+        ensures sound { IsSound self.new }
+        ensures settings { self.new.core.settings ≡ self.old.core.settings }
+    {
+        pieces::pieces_are_split();
+        pieces::unfinished_is_held();
+        fitting::agreed_is_within();
+        bounds::ends_are_bounded();
+        one_frame_at_start();
+        match self.splitter.feed_ref(piece) {
+            Ok(fed) => {
+                let octets = fed.taken;
+                let Some(frame) = fed.frame else {
+                    return Ok(Taken {
+                        octets,
+                        event: None,
+                    });
+                };
+                let answer = self
+                    .core
+                    .answer(&mut self.outbox, frame.kind, frame.channel, frame.payload);
+                tune(&mut self.splitter, self.core.stage);
+                after_octets(octets, answer)
+            }
+            Err(fault) => Err(self.core.stop(&mut self.outbox, fault.kind)),
+        }
+    }
+
+    /// An end as it begins: a client has the protocol header to write, a server nothing.
+    pub(crate) fn new(alloc: Global, settings: Settings) -> Result<Endpoint, OutOfMemory>
+        requires { ConfigWrites (config_view settings) }
+        ensures view { IfOk result (λ end. endpoint_view end ≡ new_endpoint (role_for settings)) }
+        ensures sound { IfOk result IsSound }
+        ensures settings { IfOk result (λ end. end.core.settings ≡ settings) }
+    {
+        pieces::unfinished_is_held();
+        bounds::ends_are_bounded();
+        let outbox = begun(alloc, settings.hello.side())?;
+        Ok(Endpoint {
+            core: Core::new(alloc, settings),
+            splitter: Splitter::new(alloc, FRAME_MIN),
+            heard: 0,
+            outbox,
+        })
+    }
+
+    /// Takes octets up to the end of the next frame, or of the protocol header at a server that awaits it.
+    pub(crate) fn feed(&mut self, piece: &[u8]) -> Result<Taken, CoreFault>
+        requires { IsSound self.old }
+        ensures fed { IsFed result (endpoint_view self.old) (after_feed (role_at self.old) (config_view self.old.core.settings) (endpoint_view self.old) piece.now) (endpoint_view self.new) }
+        ensures memory { ran_out result ≡ true → takes_octets (phase_at self.old.core.stage) ≡ true }
+        // A frame that is dropped takes no memory, where it lies whole in the piece.
+        ensures in_place { DropsInPlace (role_at self.old) (endpoint_view self.old) piece.now → IsOk result }
+        ensures within { IfOk result (λ taken. taken.octets ≤ length piece.now) }
+        ensures progress { IfOk result (λ taken. piece.now ≢ [] → 0 < taken.octets) }
+        ensures sound { IsSound self.new }
+        ensures settings { self.new.core.settings ≡ self.old.core.settings }
+    {
+        octets::cut_changes_nothing();
+        if self.core.stage.is_closed() {
+            return Err(CoreFault::Closed);
+        }
+        if self.core.stage.is_failed() {
+            return Err(CoreFault::Failed);
+        }
+        if self.awaits_header() {
+            return self.hear(piece);
+        }
+        self.read(piece)
+    }
+
+    /// Whether the protocol header is awaited.
+    fn awaits_header(&self) -> bool
+        ensures { result ≡ awaits_opening (role_at self.now) (phase_at self.now.core.stage) }
+    {
+        match self.core.stage {
+            Stage::AwaitsProtocolHeader => !self.core.settings.hello.side().is_client(),
+            Stage::AwaitsStart
+            | Stage::AwaitsStartOk
+            | Stage::AwaitsTune
+            | Stage::AwaitsTuneOk
+            | Stage::AwaitsOpen(_)
+            | Stage::AwaitsOpenOk(_)
+            | Stage::Running(_)
+            | Stage::Closing(_)
+            | Stage::Closed(_)
+            | Stage::Failed(_) => false,
+        }
+    }
+
+    /// So many octets of the output were written.
+    pub(crate) fn wrote(&mut self, octets: usize)
+        requires within { octets ≤ length (output_octets (endpoint_view self.old).output) }
+        requires sound { IsSound self.old }
+        ensures written { endpoint_view self.new ≡ after_wrote octets (endpoint_view self.old) }
+        ensures sound { IsSound self.new }
+        ensures settings { self.new.core.settings ≡ self.old.core.settings }
+    {
+        pieces::unfinished_is_held();
+        self.outbox.wrote(octets);
+    }
+
+    /// How many octets were taken of a frame that isn't whole yet, or of the protocol header.
+    pub(crate) fn pending(&self) -> usize
+        requires { IsSound self.now }
+        ensures count { result ≡ length (endpoint_view self.now).unfinished }
+        ensures below { takes_octets (phase_at self.now.core.stage) ≡ true → result < frame_limit (agreed_at self.now.core.stage) }
+    {
+        self.heard + self.splitter.pending()
+    }
+
+    /// What an application asks: it is refused, or its frames are put. The answer is the channel that an open takes.
+    pub(crate) fn ask(&mut self, ask: LentAsk<'_>) -> Result<Option<u16>, AskFault>
+        requires { IsSound self.old }
+        ensures accepted { OnOk result (AcceptsAsk (role_at self.old) (config_view self.old.core.settings) (lent_view ask.entry) (endpoint_view self.old) (endpoint_view self.new)) }
+        ensures number { IfOk result (λ number. number ≡ number_taken (endpoint_view self.old).end (lent_view ask.entry)) }
+        ensures refused { IfErr result (λ fault. RefusesAsk (role_at self.old) (lent_view ask.entry) fault (endpoint_view self.old) (endpoint_view self.new)) }
+        ensures sound { IsSound self.new }
+        ensures settings { self.new.core.settings ≡ self.old.core.settings }
+    {
+        pieces::unfinished_is_held();
+        fitting::agreed_is_within();
+        fitting::frames_fit();
+        bounds::ends_are_bounded();
+        octets::octets_follow();
+        match self.core.ask(&mut self.outbox, ask) {
+            Ok(number) => Ok(number),
+            Err(fault) => Err(fault),
+        }
+    }
+}

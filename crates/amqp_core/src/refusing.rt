@@ -1,0 +1,264 @@
+//! Why what is asked is refused: the reasons in their order, of which the first that applies is answered. Nothing here takes
+//! memory, and nothing that is seen changes.
+ghost use Rattle.std.specs.Prelude.{◌≡◌, ◌<◌, ◌+◌, ◌&&◌, true, Bool, ℕ, List, Option, length, nat_lt, Some, None, IfOk, IfErr, OnOk};
+ghost use Rattle.amqp_method.specs.HeaderView.{properties_view};
+ghost use Rattle.amqp_method.specs.MessageView.{message_view};
+ghost use Rattle.amqp_method.specs.MethodView.{method_view};
+ghost use Rattle.amqp_method.specs.Properties.{header};
+ghost use Rattle.amqp_model.specs.Asks.{is_pausable as is_paused_with, is_sendable as is_sent_as_message, Refusal};
+ghost use Rattle.amqp_model.specs.Methods.{plain_method, plain_header};
+ghost use Rattle.amqp_value.specs.Lengths.{capped};
+ghost use Rattle.amqp_core.specs.LifeView.{life_view, IsOther};
+ghost use Rattle.amqp_core.specs.Messages.{message_of};
+ghost use Rattle.amqp_core.specs.Refusals.{refusal_there, refusal_in, reply_refusal, passes as is_passed, is_too_large as is_longer};
+ghost use Rattle.amqp_core.specs.Roles.{role_of};
+
+use crate::channel::Channel;
+use crate::events::Agreed;
+use crate::faults::AskFault;
+use crate::life::Life;
+use crate::one_end::Core;
+use crate::roles::Side;
+use crate::stage::Stage;
+use crate::words::{answers_first, same};
+use amqp_method::{Kind, Message, Method, Properties};
+
+/// A payload of so many octets is too long for a frame, in which eight octets stand around it.
+fn passes(frame_max: u32, payload: u64) -> bool
+    ensures { (octets : ℕ) → payload ≡ capped octets → result ≡ nat_lt frame_max (octets + 8) }
+{
+    u64::from(frame_max) < payload.saturating_add(8)
+}
+
+#[tactic(auto, unfolding(amqp_model::specs::Methods::plain_method))]
+fn method_passes(frame_max: u32, method: &Method) -> bool
+    ensures { result ≡ is_passed frame_max (plain_method (method_view method.now)) }
+{
+    let length = method.payload_length();
+    passes(frame_max, length)
+}
+
+#[tactic(auto, unfolding(amqp_model::specs::Methods::plain_header))]
+fn header_passes(frame_max: u32, properties: &Properties) -> bool
+    ensures { (size : ℕ) → result ≡ is_passed frame_max (plain_header (header size (properties_view properties.now))) }
+{
+    let length = properties.header_length();
+    passes(frame_max, length)
+}
+
+/// The method or the content header is too long for a frame.
+fn is_too_large(frame_max: u32, message: &Message) -> bool
+    ensures { result ≡ is_longer frame_max (message_of (message_view message.now)) }
+{
+    if method_passes(frame_max, message.method()) {
+        return true;
+    }
+    match message.content_parts() {
+        Some((properties, _)) => header_passes(frame_max, properties),
+        None => false,
+    }
+}
+
+/// The message has a content that a paused end may not begin.
+fn is_pausable(message: &Message) -> bool
+    ensures { result ≡ is_paused_with (message_of (message_view message.now)) }
+{
+    match message.content_parts() {
+        Some(_) => !same(message.method().kind(), Kind::BasicGetOk),
+        None => false,
+    }
+}
+
+/// The other end asked for no more contents, and the message has one that waits for that.
+fn is_paused(life: &Life, message: &Message) -> bool
+    ensures { result ≡ (is_paused_with (message_of (message_view message.now)) && (life_view life.now).paused) }
+{
+    is_pausable(message) && life.paused
+}
+
+/// The side may send the method, and it is sent as a message.
+fn is_sendable(side: Side, kind: Kind) -> bool
+    ensures { result ≡ is_sent_as_message (role_of side) kind }
+{
+    side.may_send(kind) && kind.class_id() != 10 && kind.class_id() != 20
+}
+
+/// Why a request or a reply is out of turn.
+fn refusal_of_turn(side: Side, life: &Life, method: &Method) -> Option<AskFault>
+    ensures { refusal_there result ≡ reply_refusal (role_of side) (life_view life.now).requests (method_view method.now) }
+{
+    match side {
+        Side::Client => {
+            if method.is_request() && !life.requests.is_empty() {
+                return Some(AskFault::ReplyPending);
+            }
+        }
+        Side::Server => {
+            if method.kind().is_reply() && !answers_first(method.kind(), &life.requests) {
+                return Some(AskFault::NoSuchRequest);
+            }
+        }
+    }
+    None
+}
+
+/// Why a message is refused on a channel that is Open.
+fn refusal_of_message(
+    side: Side,
+    frame_max: u32,
+    life: &Life,
+    message: &Message,
+) -> Option<AskFault>
+    ensures { refusal_there result ≡ refusal_in (role_of side) frame_max (life_view life.now) (message_of (message_view message.now)) }
+{
+    if is_paused(life, message) {
+        return Some(AskFault::Paused);
+    }
+    if !is_sendable(side, message.method().kind()) {
+        return Some(AskFault::NotSendable);
+    }
+    if is_too_large(frame_max, message) {
+        return Some(AskFault::TooLarge);
+    }
+    refusal_of_turn(side, life, message.method())
+}
+
+impl Core {
+    ghost use Rattle.amqp_model.specs.Asks as asks;
+    ghost use Rattle.amqp_model.specs.Asks.{is_free, is_running, lowest_free, refusal};
+    ghost use Rattle.amqp_model.specs.Notes.{Client, Role, Server};
+    ghost use Rattle.amqp_model.specs.Readings.{Calls, kind_of};
+    ghost use Rattle.amqp_core.specs.Asked.{IsAllowed, IsRefusal};
+    ghost use Rattle.amqp_core.specs.ChannelsView.{channels_view};
+    ghost use Rattle.amqp_core.specs.CoreView.{core_end};
+    ghost use Rattle.amqp_core.specs.Faults.{refusal_view};
+    ghost use Rattle.amqp_core.specs.Refusals.{refused_on, IsOpenIn};
+    ghost use Rattle.amqp_core.specs.Settings.{role_for};
+    ghost use Rattle.amqp_core.specs.Used.{is_open_at};
+    ghost use Rattle.amqp_core.specs.declared.stage.Stage.TheVariants.{Running};
+
+    /// What was agreed on a connection that is Running.
+    pub(crate) fn running(&self) -> Result<Agreed, AskFault>
+        ensures running { IfOk result (λ agreed. self.now.stage ≡ Running agreed) }
+        ensures refused { IfErr result (λ fault. (role : Role) (ask : asks.Ask) → refusal_view fault ≡ refusal role (core_end self.now) ask) }
+    {
+        match self.stage {
+            Stage::Running(agreed) => Ok(agreed),
+            Stage::AwaitsProtocolHeader
+            | Stage::AwaitsStart
+            | Stage::AwaitsStartOk
+            | Stage::AwaitsTune
+            | Stage::AwaitsTuneOk
+            | Stage::AwaitsOpen(_)
+            | Stage::AwaitsOpenOk(_)
+            | Stage::Closing(_)
+            | Stage::Closed(_)
+            | Stage::Failed(_) => Err(AskFault::NotRunning),
+        }
+    }
+
+    /// The life of a channel that is Open.
+    fn open_life(&self, agreed: Agreed, number: u16) -> Result<&Life, AskFault>
+        requires { self.now.stage ≡ Running agreed }
+        ensures open { IfOk result (λ life. IsOpenIn (core_end self.now) number (life_view life.now)) }
+        ensures refused { IfErr result (λ fault. (later : List (Option Refusal)) → refusal_view fault ≡ refused_on (core_end self.now) number later) }
+    {
+        if number == 0 || agreed.channel_max < number {
+            return Err(AskFault::BadChannel);
+        }
+        match self.channels.get(number) {
+            Some(Channel::Open(life)) => Ok(life),
+            Some(Channel::Free) => Err(AskFault::NotOpen),
+            Some(Channel::Opening) => Err(AskFault::NotOpen),
+            Some(Channel::Closing) => Err(AskFault::NotOpen),
+            None => Err(AskFault::NotOpen),
+        }
+    }
+
+    /// The channel that an open takes, where it isn't refused.
+    pub(crate) fn allow_open(&mut self) -> Result<u16, AskFault>
+        ensures allowed { OnOk result (IsAllowed self.old.settings (core_end self.old) asks.Open) }
+        ensures refused { IfErr result (λ fault. IsRefusal self.old.settings (core_end self.old) asks.Open fault) }
+        ensures running { OnOk result (is_running (core_end self.old).phase ≡ true) }
+        ensures lowest { IfOk result (λ number. lowest_free (core_end self.old) ≡ Some number) }
+        ensures above { IfOk result (λ number. 0 < number) }
+        ensures free { IfOk result (λ number. is_free (channels_view self.old.channels number) ≡ true) }
+        ensures client { OnOk result (role_for self.old.settings ≡ Client) }
+        ensures same { (number : ℕ) → channels_view self.new.channels number ≡ channels_view self.old.channels number }
+        ensures settings { self.new.settings ≡ self.old.settings }
+        ensures stage { self.new.stage ≡ self.old.stage }
+    {
+        let agreed = self.running()?;
+        match self.settings.hello.side() {
+            Side::Server => Err(AskFault::NotSendable),
+            Side::Client => match self.channels.lowest_free(agreed.channel_max) {
+                Some(number) => Ok(number),
+                None => Err(AskFault::NoFreeChannel),
+            },
+        }
+    }
+
+    /// What was agreed, where a message isn't refused.
+    pub(crate) fn allow_send(&self, number: u16, message: &Message) -> Result<Agreed, AskFault>
+        ensures allowed { OnOk result (IsAllowed self.now.settings (core_end self.now) (asks.Send number (message_of (message_view message.now)))) }
+        ensures refused { IfErr result (λ fault. IsRefusal self.now.settings (core_end self.now) (asks.Send number (message_of (message_view message.now))) fault) }
+        ensures running { IfOk result (λ agreed. self.now.stage ≡ Running agreed) }
+        ensures above { OnOk result (0 < number) }
+        ensures open { OnOk result (is_open_at (channels_view self.now.channels number) ≡ true) }
+        ensures other { OnOk result (IsOther (kind_of (Calls (message_view message.now).call))) }
+        ensures room { IfOk result (λ agreed. 8 < agreed.frame_max) }
+    {
+        let agreed = self.running()?;
+        let life = self.open_life(agreed, number)?;
+        let side = self.settings.hello.side();
+        match refusal_of_message(side, agreed.frame_max, life, message) {
+            Some(fault) => Err(fault),
+            None => Ok(agreed),
+        }
+    }
+
+    /// What was agreed, where a flow isn't refused.
+    pub(crate) fn allow_flow(&self, number: u16) -> Result<Agreed, AskFault>
+        ensures allowed { OnOk result ((active : Bool) → IsAllowed self.now.settings (core_end self.now) (asks.Flow number active)) }
+        ensures refused { IfErr result (λ fault. (active : Bool) → IsRefusal self.now.settings (core_end self.now) (asks.Flow number active) fault) }
+        ensures running { IfOk result (λ agreed. self.now.stage ≡ Running agreed) }
+        ensures above { OnOk result (0 < number) }
+        ensures open { OnOk result (is_open_at (channels_view self.now.channels number) ≡ true) }
+    {
+        let agreed = self.running()?;
+        let life = self.open_life(agreed, number)?;
+        if life.awaits {
+            return Err(AskFault::FlowPending);
+        }
+        Ok(agreed)
+    }
+
+    /// What was agreed, where a close of a channel isn't refused.
+    pub(crate) fn allow_close(&self, number: u16) -> Result<Agreed, AskFault>
+        ensures allowed { OnOk result ((code : ℕ) (text : List ℕ) → IsAllowed self.now.settings (core_end self.now) (asks.CloseChannel number code text)) }
+        ensures refused { IfErr result (λ fault. (code : ℕ) (text : List ℕ) → IsRefusal self.now.settings (core_end self.now) (asks.CloseChannel number code text) fault) }
+        ensures running { IfOk result (λ agreed. self.now.stage ≡ Running agreed) }
+        ensures above { OnOk result (0 < number) }
+        ensures open { OnOk result (is_open_at (channels_view self.now.channels number) ≡ true) }
+    {
+        let agreed = self.running()?;
+        let _life = self.open_life(agreed, number)?;
+        Ok(agreed)
+    }
+
+    /// What was agreed, where it isn't refused to say that contents are taken or not.
+    pub(crate) fn allow_block(&self) -> Result<Agreed, AskFault>
+        ensures allowed { OnOk result ((reason : List ℕ) → IsAllowed self.now.settings (core_end self.now) (asks.Blocked reason)) }
+        ensures unblocking { OnOk result (IsAllowed self.now.settings (core_end self.now) asks.Unblocked) }
+        ensures refused { IfErr result (λ fault. (reason : List ℕ) → IsRefusal self.now.settings (core_end self.now) (asks.Blocked reason) fault) }
+        ensures no_unblocking { IfErr result (λ fault. IsRefusal self.now.settings (core_end self.now) asks.Unblocked fault) }
+        ensures running { IfOk result (λ agreed. self.now.stage ≡ Running agreed) }
+        ensures server { OnOk result (role_for self.now.settings ≡ Server) }
+    {
+        let agreed = self.running()?;
+        match self.settings.hello.side() {
+            Side::Client => Err(AskFault::NotSendable),
+            Side::Server => Ok(agreed),
+        }
+    }
+}

@@ -1,0 +1,338 @@
+//! Content headers as the standard lays them out, read, written and printed.
+use amqp_method::{
+    Header, MethodFault, MethodFaultKind, Properties, header_text, read_header, write_header,
+};
+use amqp_value::ValueFaultKind;
+use std::alloc::Global;
+use std::process::Abort;
+use std::test::Fail;
+
+fn header_reads_as(rt: &impl Abort, alloc: Global, octets: &[u8], text: &str) -> Result<(), Fail> {
+    let header = read_header(alloc, octets)?;
+    let printed = header_text(alloc, &header)?;
+    assert_eq!(rt; printed.as_str(), text);
+    Ok(())
+}
+
+static BROKEN_HEADERS: [(&[u8], MethodFault); 6] = [
+    (
+        &[
+            0x00, 0x3c, 0x00, 0x01, 0x00, 0x00, 0x00, 0x00, 0x00, 0x00, 0x00, 0x00, 0x00, 0x00,
+        ],
+        MethodFault {
+            at: 2,
+            kind: MethodFaultKind::BadWeight,
+        },
+    ),
+    (
+        &[
+            0x00, 0x3c, 0x00, 0x00, 0x00, 0x00, 0x00, 0x00, 0x00, 0x00, 0x00, 0x00, 0x00, 0x01,
+        ],
+        MethodFault {
+            at: 12,
+            kind: MethodFaultKind::BadFlags,
+        },
+    ),
+    (
+        &[
+            0x00, 0x32, 0x00, 0x00, 0x00, 0x00, 0x00, 0x00, 0x00, 0x00, 0x00, 0x00, 0x00, 0x00,
+        ],
+        MethodFault {
+            at: 0,
+            kind: MethodFaultKind::UnknownMethod,
+        },
+    ),
+    (
+        &[0x00, 0x32],
+        MethodFault {
+            at: 0,
+            kind: MethodFaultKind::UnknownMethod,
+        },
+    ),
+    (
+        &[
+            0x00, 0x3c, 0x00, 0x00, 0x00, 0x00, 0x00, 0x00, 0x00, 0x00, 0x00, 0x00, 0x00, 0x00,
+            0x00,
+        ],
+        MethodFault {
+            at: 14,
+            kind: MethodFaultKind::Trailing,
+        },
+    ),
+    (
+        &[
+            0x00, 0x3c, 0x00, 0x00, 0x00, 0x00, 0x00, 0x00, 0x00, 0x00, 0x00, 0x00, 0x80, 0x00,
+        ],
+        MethodFault {
+            at: 14,
+            kind: MethodFaultKind::Value(ValueFaultKind::Ends),
+        },
+    ),
+];
+
+#[test]
+fn faults_of_headers(rt: HostRuntime) {
+    for (octets, fault) in BROKEN_HEADERS {
+        assert_eq!(rt; read_header(rt.alloc(), octets).err(), Some(fault));
+    }
+}
+
+#[test]
+fn a_header_with_two_properties(rt: HostRuntime) -> Result<(), Fail> {
+    header_reads_as(
+        &rt,
+        rt.alloc(),
+        &[
+            0x00, 0x3c, 0x00, 0x00, 0x00, 0x00, 0x00, 0x00, 0x00, 0x00, 0x00, 0x02, 0x90, 0x00,
+            0x0a, 0x74, 0x65, 0x78, 0x74, 0x2f, 0x70, 0x6c, 0x61, 0x69, 0x6e, 0x02,
+        ],
+        "header size=2 content-type=\"text/plain\" delivery-mode=2",
+    )
+}
+
+/// Headers with no property, with each one alone and with all, and their texts.
+static HEADERS: [(&[u8], &str); 16] = [
+    (
+        &[
+            0x00, 0x3c, 0x00, 0x00, 0x00, 0x00, 0x00, 0x00, 0x00, 0x00, 0x00, 0x07, 0x00, 0x00,
+        ],
+        "header size=7",
+    ),
+    (
+        &[
+            0x00, 0x3c, 0x00, 0x00, 0x00, 0x00, 0x00, 0x00, 0x00, 0x00, 0x00, 0x07, 0x80, 0x00,
+            0x02, 0x70, 0x61,
+        ],
+        "header size=7 content-type=\"pa\"",
+    ),
+    (
+        &[
+            0x00, 0x3c, 0x00, 0x00, 0x00, 0x00, 0x00, 0x00, 0x00, 0x00, 0x00, 0x07, 0x40, 0x00,
+            0x02, 0x70, 0x62,
+        ],
+        "header size=7 content-encoding=\"pb\"",
+    ),
+    (
+        &[
+            0x00, 0x3c, 0x00, 0x00, 0x00, 0x00, 0x00, 0x00, 0x00, 0x00, 0x00, 0x07, 0x20, 0x00,
+            0x00, 0x00, 0x00, 0x04, 0x01, 0x6b, 0x74, 0x01,
+        ],
+        "header size=7 headers={\"k\"=t:1}",
+    ),
+    (
+        &[
+            0x00, 0x3c, 0x00, 0x00, 0x00, 0x00, 0x00, 0x00, 0x00, 0x00, 0x00, 0x07, 0x10, 0x00,
+            0x04,
+        ],
+        "header size=7 delivery-mode=4",
+    ),
+    (
+        &[
+            0x00, 0x3c, 0x00, 0x00, 0x00, 0x00, 0x00, 0x00, 0x00, 0x00, 0x00, 0x07, 0x08, 0x00,
+            0x05,
+        ],
+        "header size=7 priority=5",
+    ),
+    (
+        &[
+            0x00, 0x3c, 0x00, 0x00, 0x00, 0x00, 0x00, 0x00, 0x00, 0x00, 0x00, 0x07, 0x04, 0x00,
+            0x02, 0x70, 0x66,
+        ],
+        "header size=7 correlation-id=\"pf\"",
+    ),
+    (
+        &[
+            0x00, 0x3c, 0x00, 0x00, 0x00, 0x00, 0x00, 0x00, 0x00, 0x00, 0x00, 0x07, 0x02, 0x00,
+            0x02, 0x70, 0x67,
+        ],
+        "header size=7 reply-to=\"pg\"",
+    ),
+    (
+        &[
+            0x00, 0x3c, 0x00, 0x00, 0x00, 0x00, 0x00, 0x00, 0x00, 0x00, 0x00, 0x07, 0x01, 0x00,
+            0x02, 0x70, 0x68,
+        ],
+        "header size=7 expiration=\"ph\"",
+    ),
+    (
+        &[
+            0x00, 0x3c, 0x00, 0x00, 0x00, 0x00, 0x00, 0x00, 0x00, 0x00, 0x00, 0x07, 0x00, 0x80,
+            0x02, 0x70, 0x69,
+        ],
+        "header size=7 message-id=\"pi\"",
+    ),
+    (
+        &[
+            0x00, 0x3c, 0x00, 0x00, 0x00, 0x00, 0x00, 0x00, 0x00, 0x00, 0x00, 0x07, 0x00, 0x40,
+            0x00, 0x00, 0x00, 0x00, 0x00, 0x00, 0x03, 0xf1,
+        ],
+        "header size=7 timestamp=1009",
+    ),
+    (
+        &[
+            0x00, 0x3c, 0x00, 0x00, 0x00, 0x00, 0x00, 0x00, 0x00, 0x00, 0x00, 0x07, 0x00, 0x20,
+            0x02, 0x70, 0x6b,
+        ],
+        "header size=7 type=\"pk\"",
+    ),
+    (
+        &[
+            0x00, 0x3c, 0x00, 0x00, 0x00, 0x00, 0x00, 0x00, 0x00, 0x00, 0x00, 0x07, 0x00, 0x10,
+            0x02, 0x70, 0x6c,
+        ],
+        "header size=7 user-id=\"pl\"",
+    ),
+    (
+        &[
+            0x00, 0x3c, 0x00, 0x00, 0x00, 0x00, 0x00, 0x00, 0x00, 0x00, 0x00, 0x07, 0x00, 0x08,
+            0x02, 0x70, 0x6d,
+        ],
+        "header size=7 app-id=\"pm\"",
+    ),
+    (
+        &[
+            0x00, 0x3c, 0x00, 0x00, 0x00, 0x00, 0x00, 0x00, 0x00, 0x00, 0x00, 0x07, 0x00, 0x04,
+            0x02, 0x70, 0x6e,
+        ],
+        "header size=7 cluster-id=\"pn\"",
+    ),
+    (
+        &[
+            0x00, 0x3c, 0x00, 0x00, 0x00, 0x00, 0x00, 0x00, 0x00, 0x00, 0x00, 0x07, 0xff, 0xfc,
+            0x02, 0x70, 0x61, 0x02, 0x70, 0x62, 0x00, 0x00, 0x00, 0x04, 0x01, 0x6b, 0x74, 0x01,
+            0x04, 0x05, 0x02, 0x70, 0x66, 0x02, 0x70, 0x67, 0x02, 0x70, 0x68, 0x02, 0x70, 0x69,
+            0x00, 0x00, 0x00, 0x00, 0x00, 0x00, 0x03, 0xf1, 0x02, 0x70, 0x6b, 0x02, 0x70, 0x6c,
+            0x02, 0x70, 0x6d, 0x02, 0x70, 0x6e,
+        ],
+        "header size=7 content-type=\"pa\" content-encoding=\"pb\" headers={\"k\"=t:1} delivery-mode=4 priority=5 correlation-id=\"pf\" reply-to=\"pg\" expiration=\"ph\" message-id=\"pi\" timestamp=1009 type=\"pk\" user-id=\"pl\" app-id=\"pm\" cluster-id=\"pn\"",
+    ),
+];
+
+/// The header of the octets has that text, and so has its display.
+fn assert_shown(rt: &impl Abort, alloc: Global, octets: &[u8], text: &str) -> Result<(), Fail> {
+    let header = read_header(alloc, octets)?;
+    assert_eq!(rt; header_text(alloc, &header)?.as_str(), text);
+    assert_eq!(rt; format!(in alloc; "{header}")?.as_str(), text);
+    Ok(())
+}
+
+/// Its properties, displayed alone, have that text without its start.
+fn assert_properties_shown(
+    rt: &impl Abort,
+    alloc: Global,
+    octets: &[u8],
+    text: &str,
+) -> Result<(), Fail> {
+    let properties = read_header(alloc, octets)?.properties;
+    let shown = format!(in alloc; "{properties}")?;
+    match text.split_once("size=7 ") {
+        Some((_, wanted)) => assert_eq!(rt; shown.as_str(), wanted),
+        None => assert_eq!(rt; shown.as_str(), ""),
+    }
+    Ok(())
+}
+
+/// A copy of it is written to the same octets.
+fn assert_copied(rt: &impl Abort, alloc: Global, octets: &[u8]) -> Result<(), Fail> {
+    let header = read_header(alloc, octets)?;
+    let copy = Header {
+        body_size: header.body_size,
+        properties: header.properties.copy()?,
+    };
+    let mut out = Vec::new(alloc);
+    write_header(&copy, &mut out)?;
+    assert_eq!(rt; out.as_slice(), octets);
+    Ok(())
+}
+
+#[test]
+fn each_property_alone_all_and_none(rt: HostRuntime) -> Result<(), Fail> {
+    for (octets, text) in HEADERS.iter().copied() {
+        assert_shown(&rt, rt.alloc(), octets, text)?;
+        assert_properties_shown(&rt, rt.alloc(), octets, text)?;
+        assert_copied(&rt, rt.alloc(), octets)?;
+    }
+    Ok(())
+}
+
+#[test]
+fn defaults_are_empty(rt: HostRuntime) -> Result<(), Fail> {
+    let mut octets = Vec::new(rt.alloc());
+    write_header(&Header::default(), &mut octets)?;
+    let empty = [0, 60, 0, 0, 0, 0, 0, 0, 0, 0, 0, 0, 0, 0];
+    assert_eq!(rt; octets.as_slice(), empty.as_slice());
+    let header = Header {
+        body_size: 0,
+        properties: Properties::default(),
+    };
+    octets.clear();
+    write_header(&header, &mut octets)?;
+    assert_eq!(rt; octets.as_slice(), empty.as_slice());
+    Ok(())
+}
+
+/// So many octets, which differ from their neighbours.
+fn octets(alloc: Global, count: usize) -> Result<Vec<u8>, Fail> {
+    let mut octets = Vec::new(alloc);
+    for place in 0..count {
+        octets.push((place % 251) as u8)?;
+    }
+    Ok(octets)
+}
+
+/// The parts, one after the other.
+fn joined(alloc: Global, parts: &[&[u8]]) -> Result<Vec<u8>, Fail> {
+    let mut joined = Vec::new(alloc);
+    for part in parts {
+        joined.extend_from_slice(part)?;
+    }
+    Ok(joined)
+}
+
+fn assert_header(
+    rt: &impl Abort,
+    alloc: Global,
+    header: &Header,
+    octets: &[u8],
+) -> Result<(), Fail> {
+    let mut written = Vec::new(alloc);
+    write_header(header, &mut written)?;
+    assert!(rt; written.as_slice() == octets);
+    Ok(())
+}
+
+#[test]
+fn a_header_with_long_properties(rt: HostRuntime) -> Result<(), Fail> {
+    let text = octets(rt.alloc(), 255)?;
+    let name = joined(rt.alloc(), &[&[255], &text])?;
+    let start = [0, 60, 0, 0, 0, 0, 0, 0, 0, 0x0f, 0x42, 0x40, 0xff, 0xfc];
+    let mut table = Vec::from_slice(rt.alloc(), &[0, 0, 7, 0xd0])?;
+    for _ in 0..1000 {
+        table.extend_from_slice(&[0, b'V'])?;
+    }
+    let parts: [&[u8]; 14] = [
+        &start,
+        &name,
+        &name,
+        &table,
+        &[2, 9],
+        &name,
+        &name,
+        &name,
+        &name,
+        &[0xff; 8],
+        &name,
+        &name,
+        &name,
+        &name,
+    ];
+    let whole = joined(rt.alloc(), &parts)?;
+    let header = read_header(rt.alloc(), &whole)?;
+    assert_eq!(rt; header.body_size, 1_000_000);
+    assert_header(&rt, rt.alloc(), &header, &whole)?;
+    let copy = Header {
+        body_size: header.body_size,
+        properties: header.properties.copy()?,
+    };
+    assert_header(&rt, rt.alloc(), &copy, &whole)
+}

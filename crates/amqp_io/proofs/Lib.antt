@@ -1,0 +1,4 @@
+pub mod StreamLemmas
+pub mod ProgressLemmas
+pub mod FeedingLemmas
+pub mod TurnLemmas

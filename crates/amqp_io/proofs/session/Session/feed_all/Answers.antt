@@ -1,0 +1,67 @@
+-- Each feed is one of the octets that are left, of an end set up as at first, and takes some of them.
+use Rattle.std.proofs.Common.{◌≡◌, ◌<◌, length, ◌++◌, option_to_list, ◌∙◌, ap, refl, arith}
+use Rattle.std.proofs.lemmas.List.{length-drop}
+use Rattle.std.proofs.lemmas.Bool.Decides.{nat_tests}
+use Rattle.amqp_core.specs.EndView.{config_at, endpoint_of, role_played, settings_at}
+use Rattle.amqp_io.specs.Intakes.{not_yet}
+use Rattle.amqp_io.specs.SessionView.{intake_of, settings_in}
+use Rattle.amqp_io.proofs.FeedingLemmas.{feeds_as, fed_further}
+use Rattle.amqp_io.proofs.ProgressLemmas.{fed_some, fed_within}
+use Rattle.amqp_io.proofs.session.Session.feed_all.Goals as goal
+
+pub loop-self-init : goal.loop-self-init
+loop-self-init g c = record { fed = not_yet; settings = refl; stream = refl }
+
+pub fed-requires : goal.fed-requires
+fed-requires g c =
+    let end = c.loop-self.self.end in
+    let old = endpoint_of end in
+    let new = endpoint_of c.feed.new.self in
+    let taken = c.in-Ok-feed.taken in
+    let within = fed_within (role_played end) (config_at end) old new c.octets.result.now taken c.in-Ok-feed.ensures.fed in
+    omega (arith, ap length c.octets.ensures)
+
+pub returns-in-Err-clause-fed : goal.returns-in-Err-clause-fed
+returns-in-Err-clause-fed g c =
+    let end = c.loop-self.self.end in
+    let unfed = c.loop-self.self.unfed in
+    let old = endpoint_of end in
+    let new = endpoint_of c.feed.new.self in
+    let some : 0 < length unfed = grind (arith, nat_tests) in
+    record {
+      before = intake_of c.loop-self.self;
+      fed = c.loop-self.invariant.fed;
+      some_left = some;
+      found = feeds_as (settings_in c.args.self.now) (settings_at end) _ old new unfed c.octets.result.now c.loop-self.invariant.settings
+          c.octets.ensures (record { answered = c.in-Err.ensures.fed; follows = c.in-Err.ensures.history });
+      dropped = c.clear.ensures;
+      events_stay = c.try_reserve.ensures.items;
+    }
+
+pub loop-self-smaller : goal.loop-self-smaller
+loop-self-smaller g c =
+    let end = c.loop-self.self.end in
+    let unfed = c.loop-self.self.unfed in
+    let old = endpoint_of end in
+    let new = endpoint_of c.feed.new.self in
+    let taken = c.in-Ok-feed.taken in
+    let some : 0 < length unfed = grind (arith, nat_tests) in
+    let same : length c.octets.result.now ≡ length unfed = ap length c.octets.ensures in
+    let progress : 0 < taken.octets = fed_some (role_played end) (config_at end) old new c.octets.result.now taken (omega arith) c.in-Ok-feed.ensures.fed in
+    omega (arith, length-drop taken.octets unfed, ap length c.fed.ensures)
+
+pub loop-self-preserved : goal.loop-self-preserved
+loop-self-preserved g c =
+    let end = c.loop-self.self.end in
+    let unfed = c.loop-self.self.unfed in
+    let old = endpoint_of end in
+    let new = endpoint_of c.feed.new.self in
+    let some : 0 < length unfed = grind (arith, nat_tests) in
+    let feeds = feeds_as (settings_in c.args.self.now) (settings_at end) _ old new unfed c.octets.result.now c.loop-self.invariant.settings
+    c.octets.ensures (record { answered = c.in-Ok-feed.ensures.fed; follows = c.in-Ok-feed.ensures.history }) in
+    record {
+      fed = fed_further _ _ _ (intake_of c.loop-self.self) _ c.in-Ok-feed.taken c.loop-self.invariant.fed some feeds c.fed.ensures
+          (c.keep.ensures ∙ ap (λ events. events ++ option_to_list c.in-Ok-feed.taken.event) c.try_reserve.ensures.items);
+      settings = c.feed.ensures.settings ∙ c.loop-self.invariant.settings;
+      stream = c.loop-self.invariant.stream;
+    }

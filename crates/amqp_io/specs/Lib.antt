@@ -1,0 +1,12 @@
+pub mod Streams
+pub mod Reading
+pub mod Refilling
+pub mod UnfedFields
+pub mod Sockets
+pub mod SocketFields
+pub mod Tape
+pub mod ScriptFields
+pub mod IoFaults
+pub mod Intakes
+pub mod Sessions
+pub mod SessionView

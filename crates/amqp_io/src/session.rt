@@ -1,0 +1,197 @@
+//! One end of a connection, over a stream.
+ghost use Rattle.std.specs.Prelude.{◌≡◌, ◌⊎◌, ◌<◌, ℕ, min, [], ◌++◌, length, option_to_list, Result, Ok, Err, Some, None, IfOk, IfErr, OnOk};
+ghost use Rattle.std.specs.VecDeque.{deque_len, deque_capacity};
+ghost use Rattle.amqp_model.specs.Outputs.{output_octets};
+ghost use Rattle.amqp_core.specs.AskView.{ask_view};
+ghost use Rattle.amqp_core.specs.Asked.{number_taken};
+ghost use Rattle.amqp_core.specs.Asking.{AcceptsAsk, RefusesAsk};
+ghost use Rattle.amqp_core.specs.EndView.{endpoint_of};
+ghost use Rattle.amqp_io.specs.Sessions.{FeedsThose, Pulls, Pushes, Turns};
+ghost use Rattle.amqp_io.specs.Streams.{Marks};
+
+use crate::faults::IoFault;
+use crate::reading::Arrival;
+use crate::stream::Stream;
+use crate::unfed::Unfed;
+use crate::writing::write_prefix;
+use amqp_core::{Ask, AskFault, End, Event, Role, Taken};
+use std::alloc::Global;
+use std::collections::VecDeque;
+
+/// One end of a connection, over a stream.
+///
+/// [`Session::pull`] reads from the stream and feeds the end, [`Session::push`] writes what the end has put, and
+/// [`Session::turn`] does the one and then the other. The end's events are kept until [`Session::next_event`] hands them
+/// out. After a fault the session may be used again: [`IoFault`] says what stands after each.
+///
+/// It has room for the 4096 octets of one read in itself, so that reading takes no memory.
+#[derive(Drop)]
+pub struct Session<R: Role, S: Stream> {
+    end: End<R>,
+    stream: S,
+    /// what was read and not fed
+    unfed: Unfed,
+    /// what was not handed out, oldest first
+    events: VecDeque<Event>,
+}
+
+/// Keeps an event, if there is one, after those that are there.
+fn keep(events: &mut VecDeque<Event>, event: Option<Event>)
+    requires { deque_len events.old < deque_capacity events.old }
+    ensures { events.new.items ≡ events.old.items ++ option_to_list event }
+{
+    match event {
+        Some(event) => events.push_back_reserved(event),
+        None => {}
+    }
+}
+
+impl<R: Role, S: Stream> Session<R, S> {
+    ghost use Rattle.amqp_io.specs.SessionView.{end_of, stream_of, unfed_in, events_in, intake_of, settings_in, role_in, config_in};
+
+    /// An end over a stream. Nothing is read or written yet.
+    pub fn new(alloc: Global, end: End<R>, stream: S) -> Session<R, S>
+        ensures end { end_of result ≡ end }
+        ensures stream { stream_of result ≡ stream }
+        ensures unfed { unfed_in result ≡ [] }
+        ensures events { events_in result ≡ [] }
+    {
+        Session {
+            end,
+            stream,
+            unfed: Unfed::new(),
+            events: VecDeque::new(alloc),
+        }
+    }
+
+    /// The end.
+    pub fn end(&self) -> &End<R>
+        ensures { result.now ≡ end_of self.now }
+    {
+        &self.end
+    }
+
+    /// The stream.
+    pub fn stream(&self) -> &S
+        ensures { result.now ≡ stream_of self.now }
+    {
+        &self.stream
+    }
+
+    /// Gives the end and the stream back. Octets that were read and not fed are dropped, and so are the events that were not
+    /// handed out.
+    pub fn into_parts(self) -> (End<R>, S)
+        ensures end { result.0 ≡ end_of self }
+        ensures stream { result.1 ≡ stream_of self }
+    {
+        let Session {
+            end,
+            stream,
+            unfed: _,
+            events: _,
+        } = self;
+        (end, stream)
+    }
+
+    /// Asks something of the end, as [`End::ask`].
+    pub fn ask(&mut self, ask: &Ask) -> Result<Option<u16>, AskFault>
+        ensures accepted { OnOk result (AcceptsAsk (role_in self.old) (config_in self.old) (ask_view ask.now) (endpoint_of (end_of self.old)) (endpoint_of (end_of self.new))) }
+        ensures refused { IfErr result (λ fault. RefusesAsk (role_in self.old) (ask_view ask.now) fault (endpoint_of (end_of self.old)) (endpoint_of (end_of self.new))) }
+        ensures number { IfOk result (λ number. number ≡ number_taken (endpoint_of (end_of self.old)).end (ask_view ask.now)) }
+        ensures settings { settings_in self.new ≡ settings_in self.old }
+        ensures stream { stream_of self.new ≡ stream_of self.old }
+        ensures unfed { unfed_in self.new ≡ unfed_in self.old }
+        ensures events { events_in self.new ≡ events_in self.old }
+    {
+        self.end.ask(ask)
+    }
+
+    /// The oldest of the events that were not handed out yet.
+    pub fn next_event(&mut self) -> Option<Event>
+        ensures first { events_in self.old ≡ option_to_list result ++ events_in self.new }
+        ensures none { result ≡ None → events_in self.old ≡ [] }
+        ensures end { end_of self.new ≡ end_of self.old }
+        ensures stream { stream_of self.new ≡ stream_of self.old }
+        ensures unfed { unfed_in self.new ≡ unfed_in self.old }
+    {
+        self.events.pop_front()
+    }
+
+    /// Writes octets of the output, at most so many, in as many writes as it takes. It answers how many: as many as the limit
+    /// allows and there are. Where there is nothing to write, no write is called.
+    pub fn push(&mut self, limit: usize) -> Result<usize, IoFault>
+        ensures pushed { Pushes limit result (endpoint_of (end_of self.old)) (endpoint_of (end_of self.new)) (S.taken (stream_of self.old)) (S.taken (stream_of self.new)) }
+        ensures untouched { min limit (length (output_octets (endpoint_of (end_of self.old)).output)) ≡ 0 → stream_of self.new ≡ stream_of self.old }
+        ensures to_give { S.to_give (stream_of self.new) ≡ S.to_give (stream_of self.old) }
+        ensures failure { Marks (result ≡ Err IoFault.Write) (S.failures (stream_of self.old)) (S.failures (stream_of self.new)) }
+        ensures no_end { S.ends (stream_of self.new) ≡ S.ends (stream_of self.old) }
+        ensures settings { settings_in self.new ≡ settings_in self.old }
+        ensures unfed { unfed_in self.new ≡ unfed_in self.old }
+        ensures events { events_in self.new ≡ events_in self.old }
+    {
+        let output = self.end.output();
+        let count = limit.min(output.len());
+        let written = write_prefix(&mut self.stream, &output[..count]);
+        self.end.wrote(written.octets);
+        if written.failed {
+            return Err(IoFault::Write);
+        }
+        Ok(written.octets)
+    }
+
+    /// Feeds the end all that is there to feed. Room for an event is made before each feed, so that no event is lost.
+    fn feed_all(&mut self) -> Result<(), IoFault>
+        ensures fed { FeedsThose (role_in self.old) (config_in self.old) result (intake_of self.old) (intake_of self.new) }
+        ensures settings { settings_in self.new ≡ settings_in self.old }
+        ensures stream { stream_of self.new ≡ stream_of self.old }
+    {
+        while !self.unfed.is_empty() {
+            let Ok(()) = self.events.try_reserve(1) else {
+                return Err(IoFault::OutOfMemory);
+            };
+            let taken = match self.end.feed(self.unfed.octets()) {
+                Ok(taken) => taken,
+                Err(fault) => {
+                    self.unfed.clear();
+                    return Err(IoFault::Core(fault));
+                }
+            };
+            let Taken { octets, event } = taken;
+            self.unfed.fed(octets);
+            keep(&mut self.events, event);
+        }
+        Ok(())
+    }
+
+    /// Feeds the end what was read before and not fed. Then it reads once, at most 4096 octets, and feeds all of them. It
+    /// answers how many it read: at least 1. Nothing is written.
+    pub fn pull(&mut self) -> Result<usize, IoFault>
+        ensures pulled { Pulls (role_in self.old) (config_in self.old) result (intake_of self.old) (intake_of self.new) (S.to_give (stream_of self.old)) (S.to_give (stream_of self.new)) }
+        ensures taken { S.taken (stream_of self.new) ≡ S.taken (stream_of self.old) }
+        ensures failure { Marks (result ≡ Err IoFault.Read) (S.failures (stream_of self.old)) (S.failures (stream_of self.new)) }
+        ensures end { Marks (result ≡ Err IoFault.EndOfInput) (S.ends (stream_of self.old)) (S.ends (stream_of self.new)) }
+        ensures settings { settings_in self.new ≡ settings_in self.old }
+    {
+        self.feed_all()?;
+        let count = match self.unfed.refill(&mut self.stream) {
+            Arrival::Octets(count) => count,
+            Arrival::End => return Err(IoFault::EndOfInput),
+            Arrival::Failure => return Err(IoFault::Read),
+        };
+        self.feed_all()?;
+        Ok(count)
+    }
+
+    /// Pulls, and then, if that answers Ok, pushes the whole output.
+    pub fn turn(&mut self) -> Result<(), IoFault>
+        ensures turned { Turns (role_in self.old) (config_in self.old) result (intake_of self.old) (intake_of self.new) (S.to_give (stream_of self.old)) (S.to_give (stream_of self.new)) (S.taken (stream_of self.old)) (S.taken (stream_of self.new)) }
+        ensures failure { Marks ((result ≡ Err IoFault.Read) ⊎ (result ≡ Err IoFault.Write)) (S.failures (stream_of self.old)) (S.failures (stream_of self.new)) }
+        ensures end { Marks (result ≡ Err IoFault.EndOfInput) (S.ends (stream_of self.old)) (S.ends (stream_of self.new)) }
+        ensures settings { settings_in self.new ≡ settings_in self.old }
+    {
+        self.pull()?;
+        let all = self.end.output().len();
+        self.push(all)?;
+        Ok(())
+    }
+}

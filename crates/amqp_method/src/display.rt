@@ -1,0 +1,96 @@
+//! Headers and properties in a format string.
+ghost use Rattle.std.specs.Prelude.{◌≡◌, ◌≤◌, ◌&&◌, length, is_none, Some};
+ghost use Rattle.std.specs.Fmt.{WritesOnOk};
+ghost use Rattle.amqp_method.specs.HeaderView.{header_view, properties_view};
+ghost use Rattle.amqp_method.specs.Lent.{value_view, lent_view, lent_views};
+ghost use Rattle.amqp_method.specs.Texts.{argument_text, space_text, parted, property_names, property_text, properties_text, text_of_properties, text_of_header};
+
+use crate::headers::{Header, Properties};
+use crate::properties::{Lent, lent_properties};
+use crate::texts::property_name;
+use amqp_value::write_quoted;
+use std::fmt;
+
+fn write_lent<W: fmt::Write>(f: &mut fmt::Formatter<W>, value: Lent) -> fmt::Result
+    ensures { WritesOnOk W.write_str_gives f.old result (argument_text (value_view value.entry)) f.new }
+{
+    match value {
+        Lent::Octet(number) => write!(f, "{number}"),
+        Lent::LongLong(number) => write!(f, "{number}"),
+        Lent::ShortStr(octets) => write_quoted(f, octets.as_bytes()),
+        Lent::Table(table) => write!(f, "{table}"),
+    }
+}
+
+/// The space before a property, unless it is the first.
+fn write_space<W: fmt::Write>(f: &mut fmt::Formatter<W>, is_first: bool) -> fmt::Result
+    ensures { WritesOnOk W.write_str_gives f.old result (space_text is_first) f.new }
+{
+    f.write_str(if is_first { "" } else { " " })
+}
+
+/// A property with its name, if it is there.
+#[tactic(auto, using(crate::proofs::TextLemmas::parted_name))]
+fn write_property<W: fmt::Write>(
+    f: &mut fmt::Formatter<W>,
+    is_first: bool,
+    name: &str,
+    property: Option<Lent>,
+) -> fmt::Result
+    ensures { WritesOnOk W.write_str_gives f.old result (parted is_first (property_text name.now (lent_view property.entry))) f.new }
+{
+    let Some(value) = property else {
+        return Ok(());
+    };
+    write_space(f, is_first)?;
+    write!(f, "{name}=")?;
+    write_lent(f, value)
+}
+
+/// Whether the next property is the first that is there, after this one.
+fn is_first_after(is_first: bool, property: &Option<Lent>) -> bool
+    ensures { result ≡ (is_first && is_none (lent_view property.now)) }
+{
+    match property {
+        Some(_) => false,
+        None => is_first,
+    }
+}
+
+/// The properties that are there, each after a space, but for the first of a text.
+fn write_properties<W: fmt::Write>(
+    f: &mut fmt::Formatter<W>,
+    starts: bool,
+    properties: &[Option<Lent>],
+) -> fmt::Result
+    requires { length properties.now ≤ 14 }
+    ensures { WritesOnOk W.write_str_gives f.old result (parted starts (properties_text property_names (lent_views properties.now))) f.new }
+{
+    let mut is_first = starts;
+    for (index, property) in properties.iter().enumerate() {
+        write_property(f, is_first, property_name(index), *property)?;
+        is_first = is_first_after(is_first, property);
+    }
+    Ok(())
+}
+
+/// Prints what [`header_text`](crate::header_text) gives. A field table takes memory for its text, where it has its own;
+/// nothing else does.
+impl fmt::Display for Header {
+    ghost output = { λ h. Some (text_of_header (header_view h)) };
+
+    fn fmt<W: fmt::Write>(&self, f: &mut fmt::Formatter<W>) -> fmt::Result {
+        let body_size = self.body_size;
+        write!(f, "header size={body_size}")?;
+        write_properties(f, false, &lent_properties(&self.properties))
+    }
+}
+
+/// Prints the properties as a header's text has them, parted by spaces.
+impl fmt::Display for Properties {
+    ghost output = { λ p. Some (text_of_properties (properties_view p)) };
+
+    fn fmt<W: fmt::Write>(&self, f: &mut fmt::Formatter<W>) -> fmt::Result {
+        write_properties(f, true, &lent_properties(self))
+    }
+}

@@ -1,0 +1,59 @@
+//! A method with an argument that is long, with ample memory, and the answers whole. A body that gives up with "out of memory" where
+//! memory is at hand is proved; it is here that it is seen.
+use amqp_method::{Arg, Kind, Method, fits, method_text, read_method, write_method};
+use std::alloc::Global;
+use std::process::Abort;
+use std::test::Fail;
+
+/// So many octets, which differ from their neighbours.
+fn octets(alloc: Global, count: usize) -> Result<Vec<u8>, Fail> {
+    let mut octets = Vec::new(alloc);
+    for place in 0..count {
+        octets.push((place % 251) as u8)?;
+    }
+    Ok(octets)
+}
+
+/// The parts, one after the other.
+fn joined(alloc: Global, parts: &[&[u8]]) -> Result<Vec<u8>, Fail> {
+    let mut joined = Vec::new(alloc);
+    for part in parts {
+        joined.extend_from_slice(part)?;
+    }
+    Ok(joined)
+}
+
+/// The count 100,000, in 32 bits.
+const COUNT: [u8; 4] = [0, 1, 0x86, 0xa0];
+
+fn assert_method(
+    rt: &impl Abort,
+    alloc: Global,
+    method: &Method,
+    octets: &[u8],
+    text: usize,
+) -> Result<(), Fail> {
+    assert_eq!(rt; method_text(method)?.len(), text);
+    let mut written = Vec::new(alloc);
+    write_method(method, &mut written)?;
+    assert!(rt; written.as_slice() == octets);
+    Ok(())
+}
+
+#[test]
+fn a_long_string_in_a_method(rt: HostRuntime) -> Result<(), Fail> {
+    let challenge = octets(rt.alloc(), 100_000)?;
+    let whole = joined(rt.alloc(), &[&[0, 10, 0, 20], &COUNT, &challenge])?;
+    let args = vec![in rt.alloc(); Arg::LongStr(challenge)]?;
+    assert!(rt; fits(Kind::ConnectionSecure, &args));
+    assert_method(
+        &rt,
+        rt.alloc(),
+        &Method::new(Kind::ConnectionSecure, args),
+        &whole,
+        288_784,
+    )?;
+    let read = read_method(rt.alloc(), &whole)?;
+    assert_method(&rt, rt.alloc(), &read, &whole, 288_784)?;
+    assert_method(&rt, rt.alloc(), &read.copy()?, &whole, 288_784)
+}

@@ -1,0 +1,54 @@
+//! What calls ask of the allocator. By themselves these tests compare answers; where requests are counted between the marks
+//! (`beside/memory/count.c`, preloaded), they show which call takes how much.
+use amqp_method::{read_method, write_method};
+use std::alloc::Global;
+use std::process::Abort;
+use std::test::Fail;
+
+const MARK: usize = 77_000_000;
+
+fn mark(rt: &impl Abort, alloc: Global, part: u8) -> Result<(), Fail> {
+    let room: Vec<u8> = Vec::with_capacity(alloc, MARK + part as usize)?;
+    assert!(rt; room.is_empty());
+    Ok(())
+}
+
+/// Reads a method between the marks, writes it between the next, and says how many arguments it has, if it is one.
+fn method_between(
+    rt: &impl Abort,
+    alloc: Global,
+    part: u8,
+    digits: &str,
+) -> Result<Option<usize>, Fail> {
+    let octets = hex::decode(alloc, digits)?;
+    mark(rt, alloc, part)?;
+    let read = read_method(alloc, &octets).ok();
+    mark(rt, alloc, 0)?;
+    let mut out = Vec::with_capacity(alloc, 100)?;
+    let Some(method) = read else {
+        return Ok(None);
+    };
+    mark(rt, alloc, part.wrapping_add(1))?;
+    write_method(&method, &mut out)?;
+    mark(rt, alloc, 0)?;
+    assert_eq!(rt; out.as_slice(), octets.as_slice());
+    Ok(Some(method.args().len()))
+}
+
+#[test]
+fn methods_take_what_they_have(rt: HostRuntime) -> Result<(), Fail> {
+    for (part, digits, args) in [
+        // tx.select, basic.publish with two short names, a string that is announced, an unknown method
+        (30, "005a000a", Some(0)),
+        (32, "003c002800000165016200", Some(4)),
+        (34, "000a0014ffffffff", None),
+        (36, "003c0079", None),
+    ] {
+        assert_eq!(rt;
+            method_between(&rt, rt.alloc(), part, digits)?,
+            args,
+            "for {digits}"
+        );
+    }
+    Ok(())
+}

@@ -1,0 +1,181 @@
+//! Values: each variant made and read, and every octet in quotes.
+use amqp_value::{ShortStr, Table, Value, read_table, table_text, text_of, write_table};
+use std::alloc::Global;
+use std::test::Fail;
+
+/// A value of each variant that takes no memory, with its tag.
+fn scalars(alloc: Global) -> Result<Vec<(u8, Value)>, Fail> {
+    let decimal = Value::Decimal {
+        scale: 2,
+        number: 4294967295,
+    };
+    Ok(vec![in alloc;
+        (b't', Value::Boolean(true)),
+        (b'b', Value::ShortShortInt(-128)),
+        (b'B', Value::ShortShortUint(255)),
+        (b's', Value::ErrataShortInt(-2)),
+        (b'U', Value::ShortInt(-32768)),
+        (b'u', Value::ShortUint(65535)),
+        (b'I', Value::LongInt(-1)),
+        (b'i', Value::LongUint(4294967295)),
+        (b'l', Value::ErrataLongLongInt(-9223372036854775808)),
+        (b'L', Value::LongLongInt(9223372036854775807)),
+        (b'f', Value::Float([0x3f, 0x80, 0, 0])),
+        (b'd', Value::Double([0x3f, 0xf0, 0, 0, 0, 0, 0, 0])),
+        (b'D', decimal),
+        (b'T', Value::Timestamp(18446744073709551615)),
+        (b'V', Value::Void),
+    ]?)
+}
+
+fn array(alloc: Global) -> Result<Value, Fail> {
+    let empty = Value::Array(Vec::new(alloc));
+    let values = vec![in alloc; Value::Boolean(false), empty, Value::Void]?;
+    Ok(Value::Array(values))
+}
+
+fn nested(alloc: Global) -> Result<Value, Fail> {
+    let first = (ShortStr::new(alloc, b"k")?, Value::Void);
+    let second = (ShortStr::new(alloc, b"")?, Value::Table(Vec::new(alloc)));
+    Ok(Value::Table(vec![in alloc; first, second]?))
+}
+
+/// A table with a value of each variant, under the letter of its tag.
+fn every_variant(alloc: Global) -> Result<Table, Fail> {
+    let mut values = scalars(alloc)?;
+    let text = Vec::from_slice(alloc, b"\"\\A\x7f\n")?;
+    values.push((b'S', Value::LongString(text)))?;
+    let octets = Vec::from_slice(alloc, b"\x00\xff\x80")?;
+    values.push((b'x', Value::ByteArray(octets)))?;
+    values.push((b'A', array(alloc)?))?;
+    values.push((b'F', nested(alloc)?))?;
+    let mut table = Table::new(alloc);
+    for (letter, value) in values {
+        table.push(ShortStr::new(alloc, &[letter])?, value)?;
+    }
+    Ok(table)
+}
+
+/// Whether the value is of the variant of that tag, and has the number that [`every_variant`] gave it.
+fn is_of_tag(letter: u8, value: &Value) -> bool {
+    match value {
+        Value::Boolean(holds) => letter == b't' && *holds,
+        Value::ShortShortInt(number) => letter == b'b' && *number == -128,
+        Value::ShortShortUint(number) => letter == b'B' && *number == 255,
+        Value::ErrataShortInt(number) => letter == b's' && *number == -2,
+        Value::ShortInt(number) => letter == b'U' && *number == -32768,
+        Value::ShortUint(number) => letter == b'u' && *number == 65535,
+        Value::LongInt(number) => letter == b'I' && *number == -1,
+        Value::LongUint(number) => letter == b'i' && *number == 4294967295,
+        Value::ErrataLongLongInt(number) => letter == b'l' && *number == -9223372036854775808,
+        Value::LongLongInt(number) => letter == b'L' && *number == 9223372036854775807,
+        Value::Float(octets) => letter == b'f' && *octets == [0x3f, 0x80, 0, 0],
+        Value::Double(octets) => letter == b'd' && *octets == [0x3f, 0xf0, 0, 0, 0, 0, 0, 0],
+        Value::Decimal { scale, number } => letter == b'D' && *scale == 2 && *number == 4294967295,
+        Value::Timestamp(number) => letter == b'T' && *number == 18446744073709551615,
+        Value::Void => letter == b'V',
+        Value::LongString(octets) => letter == b'S' && octets.len() == 5,
+        Value::ByteArray(octets) => letter == b'x' && octets.len() == 3,
+        Value::Array(values) => letter == b'A' && values.len() == 3,
+        Value::Table(pairs) => letter == b'F' && pairs.len() == 2,
+    }
+}
+
+const EVERY_VARIANT: &str = "\
+0000009c\
+01747401\
+01626280\
+014242ff\
+017373fffe\
+0155558000\
+017575ffff\
+014949ffffffff\
+016969ffffffff\
+016c6c8000000000000000\
+014c4c7fffffffffffffff\
+0166663f800000\
+0164643ff0000000000000\
+01444402ffffffff\
+015454ffffffffffffffff\
+015656\
+01535300000005225c417f0a\
+0178780000000300ff80\
+014141000000087400410000000056\
+01464600000009016b56004600000000";
+
+#[test]
+fn each_variant_is_written_and_read(rt: HostRuntime) -> Result<(), Fail> {
+    let table = every_variant(rt.alloc())?;
+    let mut written = Vec::new(rt.alloc());
+    write_table(&table, &mut written)?;
+    assert_eq!(rt;
+        hex::encode(rt.alloc(), written.as_slice())?.as_str(),
+        EVERY_VARIANT
+    );
+    let octets = hex::decode(rt.alloc(), EVERY_VARIANT)?;
+    let (read, length) = read_table(rt.alloc(), &octets)?;
+    assert_eq!(rt; length, 160);
+    assert_eq!(rt; read.pairs().len(), 19);
+    for (name, value) in read.pairs() {
+        let letter = *name.as_bytes().first().ok_or("a name")?;
+        assert!(rt; is_of_tag(letter, value), "for {letter}");
+        assert!(rt; is_of_tag(letter, &value.copy()?), "for a copy of {letter}");
+    }
+    Ok(())
+}
+
+/// The text of each variant in a format string, one after the other.
+const EVERY_TEXT: &str =
+    "t:1;b:-128;B:255;s:-2;U:-32768;u:65535;I:-1;i:4294967295;l:-9223372036854775808;\
+L:9223372036854775807;f:3f800000;d:3ff0000000000000;D:2:4294967295;T:18446744073709551615;V;\
+S:\"\\x22\\x5cA\\x7f\\x0a\";x:00ff80;A[t:0,A[],V];F{\"k\"=V,\"\"=F{}};";
+
+#[test]
+fn each_variant_in_a_format_string(rt: HostRuntime) -> Result<(), Fail> {
+    let table = every_variant(rt.alloc())?;
+    let mut text = String::new(rt.alloc());
+    for (_, value) in table.pairs() {
+        write!(text, "{value};")?;
+    }
+    assert_eq!(rt; text.as_str(), EVERY_TEXT);
+    Ok(())
+}
+
+/// All octets in quotes, from 0 to 255.
+const EVERY_OCTET: &str = "\
+\\x00\\x01\\x02\\x03\\x04\\x05\\x06\\x07\\x08\\x09\\x0a\\x0b\\x0c\\x0d\\x0e\\x0f\\x10\\x11\\x12\\x13\
+\\x14\\x15\\x16\\x17\\x18\\x19\\x1a\\x1b\\x1c\\x1d\\x1e\\x1f !\\x22#$%&'()*+,-./0123456789:;<=>?@ABC\
+DEFGHIJKLMNOPQRSTUVWXYZ[\\x5c]^_`abcdefghijklmnopqrstuvwxyz{|}~\\x7f\\x80\\x81\\x82\\x83\\x84\\x85\
+\\x86\\x87\\x88\\x89\\x8a\\x8b\\x8c\\x8d\\x8e\\x8f\\x90\\x91\\x92\\x93\\x94\\x95\\x96\\x97\\x98\\x99\
+\\x9a\\x9b\\x9c\\x9d\\x9e\\x9f\\xa0\\xa1\\xa2\\xa3\\xa4\\xa5\\xa6\\xa7\\xa8\\xa9\\xaa\\xab\\xac\\xad\
+\\xae\\xaf\\xb0\\xb1\\xb2\\xb3\\xb4\\xb5\\xb6\\xb7\\xb8\\xb9\\xba\\xbb\\xbc\\xbd\\xbe\\xbf\\xc0\\xc1\
+\\xc2\\xc3\\xc4\\xc5\\xc6\\xc7\\xc8\\xc9\\xca\\xcb\\xcc\\xcd\\xce\\xcf\\xd0\\xd1\\xd2\\xd3\\xd4\\xd5\
+\\xd6\\xd7\\xd8\\xd9\\xda\\xdb\\xdc\\xdd\\xde\\xdf\\xe0\\xe1\\xe2\\xe3\\xe4\\xe5\\xe6\\xe7\\xe8\\xe9\
+\\xea\\xeb\\xec\\xed\\xee\\xef\\xf0\\xf1\\xf2\\xf3\\xf4\\xf5\\xf6\\xf7\\xf8\\xf9\\xfa\\xfb\\xfc\\xfd\
+\\xfe\\xff";
+
+/// The octets from 0 to 255.
+fn every_octet(alloc: Global) -> Result<Vec<u8>, Fail> {
+    let mut octets = Vec::new(alloc);
+    for octet in 0..=255u8 {
+        octets.push(octet)?;
+    }
+    Ok(octets)
+}
+
+#[test]
+fn every_octet_is_quoted(rt: HostRuntime) -> Result<(), Fail> {
+    let octets = every_octet(rt.alloc())?;
+    let name = ShortStr::new(rt.alloc(), octets.get(..128).ok_or("short")?)?;
+    let mut table = Table::new(rt.alloc());
+    table.push(name, Value::LongString(octets.to_vec(rt.alloc())?))?;
+    let text = table_text(&table)?;
+    let all = EVERY_OCTET;
+    let (half, _) = all.split_once("\\x80").ok_or("no 80")?;
+    let wanted = format!(in rt.alloc(); "{{\"{half}\"=S:\"{all}\"}}")?;
+    assert_eq!(rt; text.as_str(), wanted.as_str());
+    let text = text_of(rt.alloc(), &Value::LongString(octets))?;
+    let wanted = format!(in rt.alloc(); "S:\"{all}\"")?;
+    assert_eq!(rt; text.as_str(), wanted.as_str());
+    Ok(())
+}
