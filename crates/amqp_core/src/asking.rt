@@ -10,9 +10,6 @@ ghost use Rattle.amqp_core.specs.AskView.{lent_view};
 ghost use Rattle.amqp_core.specs.Asked.{number_taken, IsAccepted, IsRefused};
 ghost use Rattle.amqp_core.specs.Messages.{message_of};
 
-#[cfg(test)]
-mod tests;
-
 use crate::asks::LentAsk;
 use crate::channel::Channel;
 use crate::faults::AskFault;

@@ -3,9 +3,6 @@ ghost use Rattle.std.specs.Prelude.{◌≡◌, IfOk};
 ghost use Rattle.amqp_core.specs.Configs.{set_up_as, settings_of};
 ghost use Rattle.amqp_core.specs.Settings.{role_for};
 
-#[cfg(test)]
-mod tests;
-
 use crate::faults::OutOfMemory;
 use crate::roles::Role;
 use crate::settings::Settings;

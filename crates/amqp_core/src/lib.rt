@@ -34,8 +34,6 @@ mod slots;
 mod stage;
 mod staging;
 mod taking;
-#[cfg(test)]
-mod tests;
 mod verdict;
 mod words;
 

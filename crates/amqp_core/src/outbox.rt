@@ -22,9 +22,6 @@ ghost use Rattle.amqp_core.specs.OutboxFrames.{header_frame, body_frame, HeaderR
 ghost use Rattle.amqp_core.specs.OutboxSlots.{moved_up, moved_down};
 ghost use Rattle.amqp_core.specs.OutboxView.{only, begins_with, with_staged, with_output, all_put, IsPutOfFirst};
 
-#[cfg(test)]
-mod tests;
-
 use crate::slots::{Slot, begun_of, length_from, place_of};
 use crate::staging::{StageFault, append_body, append_header, append_method, enlist};
 use amqp_frame::FrameKind;

@@ -9,9 +9,6 @@ ghost use Rattle.amqp_core.specs.OwedView.{owed_view, starts, answers_start, tun
 ghost use Rattle.amqp_core.specs.Settings.{role_for, config_view};
 ghost use Rattle.amqp_core.specs.VerdictView.{reply_kind};
 
-#[cfg(test)]
-mod tests;
-
 use crate::codes::CloseCode;
 use crate::events::Agreed;
 use crate::greeting::{open, tune};
