@@ -61,31 +61,43 @@ def methods_of_code():
     """The rows of table.rt, each under the kind that row_for gives it to."""
     code = text_of("crates/amqp_method/src/table.rt")
     statics = {}
-    row = r'static (\w+): Row =\s*method!\((\d+) (\d+) "([^"]+)" from (\w+), content (\w+), answers (None|Some\(Kind::(\w+)\));([^;]*)\);'
+    row = r'static (\w+): Row =\s*method!\((\d+) (\d+) "([^"]+)" from (\w+), content (\w+), answers (None|Some\(Kind::(\w+)\))(?:,\s*wants (\w+)(?:\((\d+)\))?)?;([^;]*)\);'
     for name, *cells in re.findall(row, code):
         statics[name] = cells
     given = re.findall(r"Kind::(\w+) => &(\w+),", code)
     return {kind: code_row(*statics[name]) for kind, name in given}
 
 
-def code_row(class_id, method_id, name, sender, content, _answer, answered, fields):
+def code_row(class_id, method_id, name, sender, content, _answer, answered, wanted, place, fields):
     read = re.findall(r'(field|reserved) (\w+) "([^"]+)"', fields)
-    return method_row(class_id, method_id, name, sender, content, answered, read)
+    return method_row(class_id, method_id, name, sender, content, answered, wanted or "Never", place, read)
 
 
-def method_row(class_id, method_id, name, sender, content, answered, fields):
+def reply_wanted(wanted, place, fields):
+    """What the documented table says of the reply that a method wants; the place is that of no-wait among the arguments."""
+    if wanted != "UnlessNoWait":
+        return {"Always": "always", "Never": ""}[wanted]
+    arguments = [label for mark, _, label in fields if mark != "reserved"]
+    return "unless no-wait" if arguments[int(place)] == "no-wait" else f"unless {arguments[int(place)]}"
+
+
+def method_row(class_id, method_id, name, sender, content, answered, wanted, place, fields):
     words = [f"{'reserved ' if mark == 'reserved' else ''}{FIELD_KINDS[kind]} {label}" for mark, kind, label in fields]
-    return (class_id, method_id, name, sender.lower(), "yes" if content == "true" else "", answered, "; ".join(words))
+    wants = reply_wanted(wanted, place, fields)
+    return (class_id, method_id, name, sender.lower(), "yes" if content == "true" else "", answered, wants, "; ".join(words))
 
 
 def methods_of_definitions():
     specs = text_of("crates/amqp_method/specs/Methods.antt")
-    row = r'^row (\w+) = method (\d+) (\d+) \(codes "([^"]+)"\) (\w+) (\w+) (?:None|\(Some (\w+)\)) \((.*)\)$'
+    row = (
+        r'^row (\w+) =\s+method (\d+) (\d+) \(codes "([^"]+)"\) (\w+) (\w+) (?:None|\(Some (\w+)\)) '
+        r"(?:\(UnlessNoWait (\d+)\)|(\w+))\s+((?:.|\n    )*)$"
+    )
     rows = {}
-    for kind, class_id, method_id, name, sender, content, answered, fields in re.findall(row, specs, re.M):
+    for kind, class_id, method_id, name, sender, content, answered, place, wanted, fields in re.findall(row, specs, re.M):
         read = re.findall(r'(field|reserved_field) (\w+) \(codes "([^"]+)"\)', fields)
         read = [("reserved" if mark == "reserved_field" else "field", what, label) for mark, what, label in read]
-        rows[kind] = method_row(class_id, method_id, name, sender, content, answered, read)
+        rows[kind] = method_row(class_id, method_id, name, sender, content, answered, wanted or "UnlessNoWait", place, read)
     return rows
 
 
@@ -102,7 +114,7 @@ def ids_of_code():
 
 
 def methods():
-    head = "| Class | Id | Method | Sent by | Content | Answers | Fields |"
+    head = "| Class | Id | Method | Sent by | Content | Answers | Wants a reply | Fields |"
     rows = documented(head, 62)
     wanted = {camel(row[2]): row[:5] + (camel(row[5]),) + row[6:] for row in rows}
     for where, found in (("the code", methods_of_code()), ("the definition", methods_of_definitions())):

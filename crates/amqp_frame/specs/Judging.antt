@@ -23,7 +23,8 @@ abbrev pub IsJudged : ℕ → List ℕ → Judgement → Type 0
 IsJudged limit xs Begun = IsBegun limit xs
 IsJudged limit xs (Wrong kind place) = TellsFirst limit xs kind place
 IsJudged limit xs (Whole f) =
-    (frame_length (lent f) ≤ length xs) × (frame_length (lent f) ≤ limit) × Fits (lent f) × (take (frame_length (lent f)) xs ≡ octets (lent f))
+    (frame_length (lent f) ≤ length xs) × (frame_length (lent f) ≤ limit) × Fits (lent f)
+    × (take (frame_length (lent f)) xs ≡ octets (lent f))
 
 -- where the fault is shown
 abbrev pub IsPlaced : List ℕ → Judgement → Type 0

@@ -5,7 +5,14 @@ use Rattle.amqp_frame.specs.Judging.{IsBegun, pending_of}
 use Rattle.amqp_frame.specs.declared.splitting.Splitter.TheInside.{Inside}
 
 abbrev pub stream_of : Inside → Stream
-stream_of s = record { pending = pending_of s.spent s.buffer.items; limit = s.limit; taken = s.taken; fault = s.fault; taken_to_fault = s.taken_to_fault }
+stream_of s =
+    record {
+      pending = pending_of s.spent s.buffer.items;
+      limit = s.limit;
+      taken = s.taken;
+      fault = s.fault;
+      taken_to_fault = s.taken_to_fault;
+    }
 
 -- After a fault the buffer is spent.
 abbrev pub IsSpentAt : Option ℕ → Bool → Type 0

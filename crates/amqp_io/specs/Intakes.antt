@@ -19,7 +19,8 @@ pub record Intake : Type 0 where
   pub events : List Event
 
 -- each history that the end stands for goes on, by what comes of these octets
-abbrev pub HistoriesGoOn : (role : Role) → Config role → Result Taken CoreFault → (old : Endpoint) → (octets : List ℕ) → (new : Endpoint) → Type 0
+abbrev pub HistoriesGoOn :
+    (role : Role) → Config role → Result Taken CoreFault → (old : Endpoint) → (octets : List ℕ) → (new : Endpoint) → Type 0
 HistoriesGoOn role config result old octets new =
     (history : History) (fed written : List ℕ)
     → EndpointStandsFor role config old history fed written

@@ -82,7 +82,8 @@ pub record PullThenPush (role : Role) (config : Config role) (result : Result �
   pub events_stay : new.events ≡ between.events
 
 -- The fault is that of the one that fails. Where the pull does, nothing is written.
-abbrev pub Turns : {A : Type 0} → (role : Role) → Config role → Result A IoFault → (old new : Intake) → (to_give left before after : Known) → Type 0
+abbrev pub Turns :
+    {A : Type 0} → (role : Role) → Config role → Result A IoFault → (old new : Intake) → (to_give left before after : Known) → Type 0
 Turns role config (Ok done) old new to_give left before after = (n : ℕ) × PullThenPush role config (Ok n) old new to_give left before after
 Turns role config (Err fault) old new to_give left before after =
     (Pulls role config (Err fault) old new to_give left × (after ≡ before))

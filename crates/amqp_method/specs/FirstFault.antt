@@ -61,7 +61,8 @@ Passes Table left octets = ⊥
 -- the field of this kind that begins at a place, the first of the octets, can't be read
 pub data FaultInField (kind : FieldKind) (left at : ℕ) (octets : List ℕ) (fault : MethodFault) : Type 0 where
   passes : Passes kind left octets → fault ≡ fault_at at (Value Ends) → FaultInField kind left at octets fault
-  inside : (inner : ValueFault) → kind ≡ Table → FirstFault octets inner → fault ≡ in_table at inner → FaultInField kind left at octets fault
+  inside :
+      (inner : ValueFault) → kind ≡ Table → FirstFault octets inner → fault ≡ in_table at inner → FaultInField kind left at octets fault
 
 -- ---- methods
 
@@ -85,7 +86,9 @@ pub data FirstFaultOfMethod (octets : List ℕ) (fault : MethodFault) : Type 0 w
   id_ends : (class : ℕ) (first rest : List ℕ)
       → octets ≡ first ++ rest → EncodesNumber 2 class first → length rest < 2 → fault ≡ fault_at 2 (Value Ends)
       → FirstFaultOfMethod octets fault
-  unknown : (class id : ℕ) (first second rest : List ℕ) → octets ≡ first ++ (second ++ rest) → EncodesNumber 2 class first → EncodesNumber 2 id second
+  unknown :
+      (class id : ℕ) (first second rest : List ℕ) → octets ≡ first ++ (second ++ rest) → EncodesNumber 2 class first
+      → EncodesNumber 2 id second
       → ((kind : Kind) → HasIds class id kind → ⊥) → fault ≡ fault_at 0 UnknownMethod → FirstFaultOfMethod octets fault
   in_argument : (kind : Kind) (first second rest : List ℕ)
       → octets ≡ first ++ (second ++ rest) → EncodesNumber 2 (row kind).class first → EncodesNumber 2 (row kind).id second

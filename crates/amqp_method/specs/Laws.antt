@@ -37,7 +37,8 @@ MethodIsEncoded = (c : Call) → Fits c → ArgumentsFit c.args → EncodesMetho
 -- are of the kinds that their flags say
 abbrev pub HeaderIsEncoded : Type 0
 HeaderIsEncoded =
-    (h : ContentHeader) → h.body_size < 2 ^ 64 → HaveKinds h.properties property_kinds → PropertiesFit h.properties → EncodesHeader h (plain_header h)
+    (h : ContentHeader) → h.body_size < 2 ^ 64 → HaveKinds h.properties property_kinds → PropertiesFit h.properties
+    → EncodesHeader h (plain_header h)
 
 -- no two kinds have the same class id and method id
 abbrev pub DistinctIds : Type 0

@@ -26,4 +26,3 @@ pub mod Places
 pub mod Requests
 pub mod Sorts
 pub mod Texts
-pub mod Wanted

@@ -83,7 +83,8 @@ octets_at place call = octets_in (argument_at place call.args)
 -- the place of the first field with the name that isn't reserved, counted from `at`
 abbrev pub place_named : (at : ℕ) → List FieldRow → (name : List ℕ) → Option ℕ
 place_named at [] name = None
-place_named at (f ∷ fields) name = cond f.reserved (place_named at fields name) (cond (bytes_eq f.name name) (Some at) (place_named (suc at) fields name))
+place_named at (f ∷ fields) name =
+    cond f.reserved (place_named at fields name) (cond (bytes_eq f.name name) (Some at) (place_named (suc at) fields name))
 
 abbrev pub argument_in : Option ℕ → List Argument → Option Argument
 argument_in None args = None

@@ -1,41 +1,15 @@
 -- Requests and replies: what a method of a client asks for, and what a method of a server answers. The classes connection
 -- and channel, 10 and 20, have answers of their own: the opening, the closing and the flow of a channel are no requests.
---
--- What a kind asks for stands here kind by kind, so that it is found by the kind alone; a law says that it is what the
--- table of methods says.
 use Rattle.std.specs.Prelude.{Bool, true, false, not, cond, ◌&&◌, ◌||◌, ℕ, nat_lt, List, [], ◌∷◌, codes, Option, Some, None, is_some}
 use Rattle.amqp_method.specs.Arguments.{Call}
 use Rattle.amqp_method.specs.Kinds.{kinds, class_of, same_kind, fields_of}
-use Rattle.amqp_method.specs.Methods.{row}
+use Rattle.amqp_method.specs.Methods.{Wanted, Always, Never, UnlessNoWait, row}
 use Rattle.amqp_method.specs.Places.{bit_at, place_named}
 use Rattle.amqp_method.specs.declared.kinds.Kind.{Kind}
-use Rattle.amqp_method.specs.declared.kinds.Kind.TheVariants.{ExchangeDeclare, ExchangeDelete, ExchangeBind, ExchangeUnbind, QueueDeclare, QueueBind, QueuePurge, QueueDelete, QueueUnbind, BasicQos, BasicConsume, BasicCancel, BasicGet, BasicRecover, TxSelect, TxCommit, TxRollback, ConfirmSelect}
 
--- what a client's method asks for: a reply in any case, a reply unless the bit no-wait at this place is 1, or none
-pub data Wanted : Type 0 where
-  Always Never : Wanted
-  UnlessNoWait : (place : ℕ) → Wanted
-
+-- what a client's method asks for
 abbrev pub wants : Kind → Wanted
-wants ExchangeDeclare = UnlessNoWait 6
-wants ExchangeDelete = UnlessNoWait 2
-wants ExchangeBind = UnlessNoWait 3
-wants ExchangeUnbind = UnlessNoWait 3
-wants QueueDeclare = UnlessNoWait 5
-wants QueueBind = UnlessNoWait 3
-wants QueuePurge = UnlessNoWait 1
-wants QueueDelete = UnlessNoWait 3
-wants QueueUnbind = Always
-wants BasicQos = Always
-wants BasicConsume = UnlessNoWait 5
-wants BasicCancel = UnlessNoWait 1
-wants BasicGet = Always
-wants BasicRecover = Always
-wants TxSelect = Always
-wants TxCommit = Always
-wants TxRollback = Always
-wants ConfirmSelect = UnlessNoWait 0
-wants kind = Never
+wants kind = (row kind).wanted
 
 abbrev pub is_wanted : Call → Wanted → Bool
 is_wanted call Always = true
@@ -67,7 +41,7 @@ is_kind kind None = false
 abbrev pub answers : (reply request : Kind) → Bool
 answers reply request = is_kind request (answered reply)
 
--- ---- what the table says of it
+-- ---- what the columns of answers and of fields say of it
 
 -- one of these kinds answers it
 abbrev pub is_answered_by : Kind → List Kind → Bool
@@ -80,4 +54,5 @@ wanted_by None = Always
 
 -- a reply, where some method answers the kind, and where the argument no-wait is 0 if it has one
 abbrev pub wanted_in_table : Kind → Wanted
-wanted_in_table kind = cond (above_channels kind && is_answered_by kind kinds) (wanted_by (place_named 0 (fields_of kind) (codes "no-wait"))) Never
+wanted_in_table kind =
+    cond (above_channels kind && is_answered_by kind kinds) (wanted_by (place_named 0 (fields_of kind) (codes "no-wait"))) Never

@@ -1,48 +1,14 @@
 //! Requests and replies.
 ghost use Rattle.std.specs.Prelude.{◌≡◌};
 ghost use Rattle.amqp_method.specs.MethodView.{method_view};
-ghost use Rattle.amqp_method.specs.Requests.{wants, is_request as asks, answered, is_reply as replies, answers};
-ghost use Rattle.amqp_method.specs.Wanted.{wanted_view};
+ghost use Rattle.amqp_method.specs.Requests.{is_request as asks, answered, is_reply as replies, answers};
 
 use crate::kinds::Kind;
 use crate::methods::Method;
+use crate::table::{Wanted, row_for};
 
 /// The last class whose methods have answers of their own: connection is 10, and channel is 20.
 const CHANNEL: u16 = 20;
-
-/// What a method asks for.
-#[derive(Clone, Copy, PartialEq, Eq, Debug)]
-enum Wanted {
-    /// A reply.
-    Always,
-    /// None.
-    Never,
-    /// A reply, unless the bit no-wait at this place is set.
-    UnlessNoWait(usize),
-}
-
-fn wanted_reply(kind: Kind) -> Wanted
-    ensures { wanted_view result ≡ wants kind }
-{
-    match kind {
-        Kind::ConfirmSelect => Wanted::UnlessNoWait(0),
-        Kind::QueuePurge | Kind::BasicCancel => Wanted::UnlessNoWait(1),
-        Kind::ExchangeDelete => Wanted::UnlessNoWait(2),
-        Kind::ExchangeBind | Kind::ExchangeUnbind | Kind::QueueBind | Kind::QueueDelete => {
-            Wanted::UnlessNoWait(3)
-        }
-        Kind::QueueDeclare | Kind::BasicConsume => Wanted::UnlessNoWait(5),
-        Kind::ExchangeDeclare => Wanted::UnlessNoWait(6),
-        Kind::QueueUnbind
-        | Kind::BasicQos
-        | Kind::BasicGet
-        | Kind::BasicRecover
-        | Kind::TxSelect
-        | Kind::TxCommit
-        | Kind::TxRollback => Wanted::Always,
-        _ => Wanted::Never,
-    }
-}
 
 impl Method {
     /// Whether the server replies to the method: some method answers its kind, and its argument no-wait, if it has one, is
@@ -50,7 +16,7 @@ impl Method {
     pub fn is_request(&self) -> bool
         ensures { result ≡ asks (method_view self.now) }
     {
-        match wanted_reply(self.kind()) {
+        match row_for(self.kind()).wanted {
             Wanted::Always => true,
             Wanted::Never => false,
             Wanted::UnlessNoWait(place) => self.bit_at(place) != Some(true),

@@ -14,6 +14,17 @@ pub enum Sender {
     Both,
 }
 
+/// What a method of a client asks for. The classes connection and channel have answers of their own.
+#[derive(Clone, Copy)]
+pub(crate) enum Wanted {
+    /// A reply.
+    Always,
+    /// None.
+    Never,
+    /// A reply, unless the bit no-wait at this place is set.
+    UnlessNoWait(usize),
+}
+
 /// What the standard says of a method.
 pub(crate) struct Row {
     pub(crate) class: u16,
@@ -22,14 +33,30 @@ pub(crate) struct Row {
     pub(crate) sender: Sender,
     pub(crate) content: bool,
     pub(crate) answers: Option<Kind>,
+    pub(crate) wanted: Wanted,
     pub(crate) fields: &'static [Field],
 }
 
 /// A row: the class id and the method id, the name, who sends the method, whether content follows, the request that it
-/// answers, and the fields.
+/// answers, the reply that it wants, if it wants one, and the fields.
 macro_rules! method {
     ($class:literal $id:literal $name:literal from $sender:ident, content $content:literal, answers $answers:expr;
         $($reserved:ident $kind:ident $label:literal),*) => {
+        method!($class $id $name from $sender, content $content, answers $answers, wants Never;
+            $($reserved $kind $label),*)
+    };
+    ($class:literal $id:literal $name:literal from $sender:ident, content $content:literal, answers $answers:expr,
+        wants $wanted:ident; $($reserved:ident $kind:ident $label:literal),*) => {
+        method!($class $id $name from $sender, content $content, answers $answers, wanted Wanted::$wanted;
+            $($reserved $kind $label),*)
+    };
+    ($class:literal $id:literal $name:literal from $sender:ident, content $content:literal, answers $answers:expr,
+        wants $wanted:ident($place:literal); $($reserved:ident $kind:ident $label:literal),*) => {
+        method!($class $id $name from $sender, content $content, answers $answers, wanted Wanted::$wanted($place);
+            $($reserved $kind $label),*)
+    };
+    ($class:literal $id:literal $name:literal from $sender:ident, content $content:literal, answers $answers:expr,
+        wanted $wanted:expr; $($reserved:ident $kind:ident $label:literal),*) => {
         Row {
             class: $class,
             id: $id,
@@ -37,6 +64,7 @@ macro_rules! method {
             sender: Sender::$sender,
             content: $content,
             answers: $answers,
+            wanted: $wanted,
             fields: &[$(Field {
                 name: $label,
                 kind: FieldKind::$kind,
@@ -124,7 +152,7 @@ static CHANNEL_CLOSE_OK: Row =
     method!(20 41 "channel.close-ok" from Both, content false, answers Some(Kind::ChannelClose););
 
 static EXCHANGE_DECLARE: Row =
-    method!(40 10 "exchange.declare" from Client, content false, answers None;
+    method!(40 10 "exchange.declare" from Client, content false, answers None, wants UnlessNoWait(6);
     reserved Short "reserved-1", field ShortStr "exchange", field ShortStr "type", field Bit "passive",
     field Bit "durable", field Bit "auto-delete", field Bit "internal", field Bit "no-wait",
     field Table "arguments");
@@ -133,13 +161,14 @@ static EXCHANGE_DECLARE_OK: Row =
     method!(40 11 "exchange.declare-ok" from Server, content false, answers Some(Kind::ExchangeDeclare););
 
 static EXCHANGE_DELETE: Row =
-    method!(40 20 "exchange.delete" from Client, content false, answers None;
+    method!(40 20 "exchange.delete" from Client, content false, answers None, wants UnlessNoWait(2);
     reserved Short "reserved-1", field ShortStr "exchange", field Bit "if-unused", field Bit "no-wait");
 
 static EXCHANGE_DELETE_OK: Row =
     method!(40 21 "exchange.delete-ok" from Server, content false, answers Some(Kind::ExchangeDelete););
 
-static EXCHANGE_BIND: Row = method!(40 30 "exchange.bind" from Client, content false, answers None;
+static EXCHANGE_BIND: Row =
+    method!(40 30 "exchange.bind" from Client, content false, answers None, wants UnlessNoWait(3);
     reserved Short "reserved-1", field ShortStr "destination", field ShortStr "source",
     field ShortStr "routing-key", field Bit "no-wait", field Table "arguments");
 
@@ -147,14 +176,15 @@ static EXCHANGE_BIND_OK: Row =
     method!(40 31 "exchange.bind-ok" from Server, content false, answers Some(Kind::ExchangeBind););
 
 static EXCHANGE_UNBIND: Row =
-    method!(40 40 "exchange.unbind" from Client, content false, answers None;
+    method!(40 40 "exchange.unbind" from Client, content false, answers None, wants UnlessNoWait(3);
     reserved Short "reserved-1", field ShortStr "destination", field ShortStr "source",
     field ShortStr "routing-key", field Bit "no-wait", field Table "arguments");
 
 static EXCHANGE_UNBIND_OK: Row =
     method!(40 51 "exchange.unbind-ok" from Server, content false, answers Some(Kind::ExchangeUnbind););
 
-static QUEUE_DECLARE: Row = method!(50 10 "queue.declare" from Client, content false, answers None;
+static QUEUE_DECLARE: Row =
+    method!(50 10 "queue.declare" from Client, content false, answers None, wants UnlessNoWait(5);
     reserved Short "reserved-1", field ShortStr "queue", field Bit "passive", field Bit "durable",
     field Bit "exclusive", field Bit "auto-delete", field Bit "no-wait", field Table "arguments");
 
@@ -162,28 +192,32 @@ static QUEUE_DECLARE_OK: Row =
     method!(50 11 "queue.declare-ok" from Server, content false, answers Some(Kind::QueueDeclare);
     field ShortStr "queue", field Long "message-count", field Long "consumer-count");
 
-static QUEUE_BIND: Row = method!(50 20 "queue.bind" from Client, content false, answers None;
+static QUEUE_BIND: Row =
+    method!(50 20 "queue.bind" from Client, content false, answers None, wants UnlessNoWait(3);
     reserved Short "reserved-1", field ShortStr "queue", field ShortStr "exchange",
     field ShortStr "routing-key", field Bit "no-wait", field Table "arguments");
 
 static QUEUE_BIND_OK: Row =
     method!(50 21 "queue.bind-ok" from Server, content false, answers Some(Kind::QueueBind););
 
-static QUEUE_UNBIND: Row = method!(50 50 "queue.unbind" from Client, content false, answers None;
+static QUEUE_UNBIND: Row =
+    method!(50 50 "queue.unbind" from Client, content false, answers None, wants Always;
     reserved Short "reserved-1", field ShortStr "queue", field ShortStr "exchange",
     field ShortStr "routing-key", field Table "arguments");
 
 static QUEUE_UNBIND_OK: Row =
     method!(50 51 "queue.unbind-ok" from Server, content false, answers Some(Kind::QueueUnbind););
 
-static QUEUE_PURGE: Row = method!(50 30 "queue.purge" from Client, content false, answers None;
+static QUEUE_PURGE: Row =
+    method!(50 30 "queue.purge" from Client, content false, answers None, wants UnlessNoWait(1);
     reserved Short "reserved-1", field ShortStr "queue", field Bit "no-wait");
 
 static QUEUE_PURGE_OK: Row =
     method!(50 31 "queue.purge-ok" from Server, content false, answers Some(Kind::QueuePurge);
     field Long "message-count");
 
-static QUEUE_DELETE: Row = method!(50 40 "queue.delete" from Client, content false, answers None;
+static QUEUE_DELETE: Row =
+    method!(50 40 "queue.delete" from Client, content false, answers None, wants UnlessNoWait(3);
     reserved Short "reserved-1", field ShortStr "queue", field Bit "if-unused", field Bit "if-empty",
     field Bit "no-wait");
 
@@ -191,13 +225,15 @@ static QUEUE_DELETE_OK: Row =
     method!(50 41 "queue.delete-ok" from Server, content false, answers Some(Kind::QueueDelete);
     field Long "message-count");
 
-static BASIC_QOS: Row = method!(60 10 "basic.qos" from Client, content false, answers None;
+static BASIC_QOS: Row =
+    method!(60 10 "basic.qos" from Client, content false, answers None, wants Always;
     field Long "prefetch-size", field Short "prefetch-count", field Bit "global");
 
 static BASIC_QOS_OK: Row =
     method!(60 11 "basic.qos-ok" from Server, content false, answers Some(Kind::BasicQos););
 
-static BASIC_CONSUME: Row = method!(60 20 "basic.consume" from Client, content false, answers None;
+static BASIC_CONSUME: Row =
+    method!(60 20 "basic.consume" from Client, content false, answers None, wants UnlessNoWait(5);
     reserved Short "reserved-1", field ShortStr "queue", field ShortStr "consumer-tag", field Bit "no-local",
     field Bit "no-ack", field Bit "exclusive", field Bit "no-wait", field Table "arguments");
 
@@ -205,7 +241,8 @@ static BASIC_CONSUME_OK: Row =
     method!(60 21 "basic.consume-ok" from Server, content false, answers Some(Kind::BasicConsume);
     field ShortStr "consumer-tag");
 
-static BASIC_CANCEL: Row = method!(60 30 "basic.cancel" from Both, content false, answers None;
+static BASIC_CANCEL: Row =
+    method!(60 30 "basic.cancel" from Both, content false, answers None, wants UnlessNoWait(1);
     field ShortStr "consumer-tag", field Bit "no-wait");
 
 static BASIC_CANCEL_OK: Row =
@@ -224,7 +261,8 @@ static BASIC_DELIVER: Row = method!(60 60 "basic.deliver" from Server, content t
     field ShortStr "consumer-tag", field LongLong "delivery-tag", field Bit "redelivered",
     field ShortStr "exchange", field ShortStr "routing-key");
 
-static BASIC_GET: Row = method!(60 70 "basic.get" from Client, content false, answers None;
+static BASIC_GET: Row =
+    method!(60 70 "basic.get" from Client, content false, answers None, wants Always;
     reserved Short "reserved-1", field ShortStr "queue", field Bit "no-ack");
 
 static BASIC_GET_OK: Row =
@@ -246,7 +284,8 @@ static BASIC_RECOVER_ASYNC: Row =
     method!(60 100 "basic.recover-async" from Client, content false, answers None;
     field Bit "requeue");
 
-static BASIC_RECOVER: Row = method!(60 110 "basic.recover" from Client, content false, answers None;
+static BASIC_RECOVER: Row =
+    method!(60 110 "basic.recover" from Client, content false, answers None, wants Always;
     field Bit "requeue");
 
 static BASIC_RECOVER_OK: Row =
@@ -255,23 +294,26 @@ static BASIC_RECOVER_OK: Row =
 static BASIC_NACK: Row = method!(60 120 "basic.nack" from Both, content false, answers None;
     field LongLong "delivery-tag", field Bit "multiple", field Bit "requeue");
 
-static TX_SELECT: Row = method!(90 10 "tx.select" from Client, content false, answers None;);
+static TX_SELECT: Row =
+    method!(90 10 "tx.select" from Client, content false, answers None, wants Always;);
 
 static TX_SELECT_OK: Row =
     method!(90 11 "tx.select-ok" from Server, content false, answers Some(Kind::TxSelect););
 
-static TX_COMMIT: Row = method!(90 20 "tx.commit" from Client, content false, answers None;);
+static TX_COMMIT: Row =
+    method!(90 20 "tx.commit" from Client, content false, answers None, wants Always;);
 
 static TX_COMMIT_OK: Row =
     method!(90 21 "tx.commit-ok" from Server, content false, answers Some(Kind::TxCommit););
 
-static TX_ROLLBACK: Row = method!(90 30 "tx.rollback" from Client, content false, answers None;);
+static TX_ROLLBACK: Row =
+    method!(90 30 "tx.rollback" from Client, content false, answers None, wants Always;);
 
 static TX_ROLLBACK_OK: Row =
     method!(90 31 "tx.rollback-ok" from Server, content false, answers Some(Kind::TxRollback););
 
 static CONFIRM_SELECT: Row =
-    method!(85 10 "confirm.select" from Client, content false, answers None;
+    method!(85 10 "confirm.select" from Client, content false, answers None, wants UnlessNoWait(0);
     field Bit "no-wait");
 
 static CONFIRM_SELECT_OK: Row =

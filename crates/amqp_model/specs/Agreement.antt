@@ -25,12 +25,17 @@ end_in role client_config server_config history = end_of (config_of role client_
 
 -- of two limits the smaller, on channels and on the size of a frame
 abbrev pub smaller_limits : Config Client → Config Server → Agreed
-smaller_limits client_config server_config = record { channel_max = min client_config.channel_max server_config.channel_max; frame_max = min client_config.frame_max server_config.frame_max }
+smaller_limits client_config server_config =
+    record {
+      channel_max = min client_config.channel_max server_config.channel_max;
+      frame_max = min client_config.frame_max server_config.frame_max;
+    }
 
 -- whatever an end has agreed to is the smaller of the two ends' limits, so both agree to the same
 abbrev pub AgreesOnSmaller : Role → Config Client → Config Server → (mine theirs : History) → Agreed → Type 0
 AgreesOnSmaller role client_config server_config mine theirs agreed =
-    PairWrites role client_config server_config mine theirs → (end_in role client_config server_config mine).agreed ≡ Some agreed → agreed ≡ smaller_limits client_config server_config
+    PairWrites role client_config server_config mine theirs → (end_in role client_config server_config mine).agreed ≡ Some agreed
+    → agreed ≡ smaller_limits client_config server_config
 
 -- and an end that is past its handshake has agreed to it
 abbrev pub AgreesPastHandshake : Role → Config Client → Config Server → (mine theirs : History) → Type 0
@@ -47,7 +52,8 @@ pub record GoesOnWith (role : Role) (client_config : Config Client) (server_conf
 -- an end goes on with whatever comes next on channel 0
 abbrev pub GoesOnAtZero : Role → Config Client → Config Server → (mine theirs : History) → Frame → Type 0
 GoesOnAtZero role client_config server_config mine theirs frame =
-    PairWrites role client_config server_config mine theirs → ComesNext theirs mine frame → frame.channel ≡ 0 → GoesOnWith role client_config server_config mine frame
+    PairWrites role client_config server_config mine theirs → ComesNext theirs mine frame → frame.channel ≡ 0
+    → GoesOnWith role client_config server_config mine frame
 
 -- where a frame of another channel comes next, the end is Running, or has put connection.close
 abbrev pub RunsWhereNextIsAbove : Role → Config Client → Config Server → (mine theirs : History) → Frame → Type 0
@@ -58,4 +64,5 @@ RunsWhereNextIsAbove role client_config server_config mine theirs frame =
 -- an end that is closed has taken all that the other put, on every channel
 abbrev pub ClosedHasTakenAll : Role → Config Client → Config Server → (mine theirs : History) → (channel : ℕ) → Type 0
 ClosedHasTakenAll role client_config server_config mine theirs channel =
-    PairWrites role client_config server_config mine theirs → (end_in role client_config server_config mine).phase ≡ Closed → on channel (frames_put theirs) ≡ on channel (frames_taken mine)
+    PairWrites role client_config server_config mine theirs → (end_in role client_config server_config mine).phase ≡ Closed
+    → on channel (frames_put theirs) ≡ on channel (frames_taken mine)

@@ -14,7 +14,8 @@ state_in phase channel = state_of channel
 
 -- the state of a channel; that of 0, and of a number above the agreed maximum, is Free
 abbrev pub channel_state : End → (number : ℕ) → State
-channel_state end number = cond ((number == 0) || nat_lt (channel_max end.agreed) number) State.Free (state_in end.phase (end.channels number))
+channel_state end number =
+    cond ((number == 0) || nat_lt (channel_max end.agreed) number) State.Free (state_in end.phase (end.channels number))
 
 abbrev pub kept_by : Channel → List ℕ
 kept_by (Open life) = kept life.content

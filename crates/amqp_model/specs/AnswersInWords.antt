@@ -18,7 +18,8 @@ use Rattle.amqp_model.specs.EndLaws.{notes_on}
 -- while the connection is not closed, the state of a channel up to the agreed maximum is that of its notes
 abbrev pub StateIsOfNotes : (role : Role) → Config role → End → History → (n : ℕ) → Type 0
 StateIsOfNotes role config end history n =
-    StandsFor role config false end history → takes_octets end.phase ≡ true → suc n ≤ channel_max end.agreed → channel_state end (suc n) ≡ state role (notes_on (suc n) history)
+    StandsFor role config false end history → takes_octets end.phase ≡ true → suc n ≤ channel_max end.agreed
+    → channel_state end (suc n) ≡ state role (notes_on (suc n) history)
 
 -- once it is closed every channel is Free
 abbrev pub ClosedIsFree : End → (n : ℕ) → Type 0
@@ -31,13 +32,15 @@ taken_on channel history = payloads_taken (entries_on channel history)
 -- while the connection is Running, of the content under way on an Open channel the octets of its body parts are counted
 abbrev pub GatheredIsUnderWay : (role : Role) → Config role → End → History → (n : ℕ) → Life → (since : List Payload) → Type 0
 GatheredIsUnderWay role config end history n life since =
-    StandsFor role config false end history → end.phase ≡ Running → end.channels (suc n) ≡ Open life → UnderWay (taken_on (suc n) history) since
+    StandsFor role config false end history → end.phase ≡ Running → end.channels (suc n) ≡ Open life
+    → UnderWay (taken_on (suc n) history) since
     → gathered end (suc n) ≡ length (body_octets since)
 
 -- where none is under way there are none
 abbrev pub NoneIsGathered : (role : Role) → Config role → End → History → (n : ℕ) → Life → Type 0
 NoneIsGathered role config end history n life =
-    StandsFor role config false end history → end.phase ≡ Running → end.channels (suc n) ≡ Open life → Gathers (taken_on (suc n) history) Nothing → gathered end (suc n) ≡ 0
+    StandsFor role config false end history → end.phase ≡ Running → end.channels (suc n) ≡ Open life
+    → Gathers (taken_on (suc n) history) Nothing → gathered end (suc n) ≡ 0
 
 -- and none on a channel that is not Open, or where the connection is not Running
 abbrev pub OnlyOpenGathers : End → (n : ℕ) → Type 0

@@ -73,7 +73,8 @@ LongAndShort =
 -- After channel 2: a content of no octets on channel 1, five octets written, and tx.select on channel 2. The frame
 -- that is begun stays at the start.
 abbrev pub begun_and_put : Output
-begun_and_put = after_put (select 2) (after_writing 5 (after_put (header 1 0 0) (after_put (publish 1) (record { ahead = []; last = 2; row = [] }))))
+begun_and_put =
+    after_put (select 2) (after_writing 5 (after_put (header 1 0 0) (after_put (publish 1) (record { ahead = []; last = 2; row = [] }))))
 
 abbrev pub BegunAndPut : Type 0
 BegunAndPut =

@@ -17,7 +17,8 @@ NoFewerStepsLead = (n from to : ℕ) → IsChannel from → 0 < to → IsChannel
 
 -- the fewest steps lead to the lowest channel above LAST, or else to the lowest
 abbrev pub LowestAboveComesFirst : Type 0
-LowestAboveComesFirst = (last a b : ℕ) → IsChannel last → 0 < a → IsChannel a → 0 < b → IsChannel b → (steps last a ≤ steps last b) ↔ ComesNoLater last a b
+LowestAboveComesFirst =
+    (last a b : ℕ) → IsChannel last → 0 < a → IsChannel a → 0 < b → IsChannel b → (steps last a ≤ steps last b) ↔ ComesNoLater last a b
 
 -- a row is arranged exactly when it follows the rules
 abbrev pub ArrangedByRules : Type 0
@@ -25,7 +26,9 @@ ArrangedByRules = (last : ℕ) (row : List Frame) → IsChannel last → All Has
 
 -- for the frames that wait there is exactly one row
 abbrev pub OneRow : Type 0
-OneRow = (last : ℕ) (waiting row other : List Frame) → IsChannel last → All HasChannel waiting → Arranges last waiting row → Arranges last waiting other → row ≡ other
+OneRow =
+    (last : ℕ) (waiting row other : List Frame) → IsChannel last → All HasChannel waiting → Arranges last waiting row
+    → Arranges last waiting other → row ≡ other
 
 -- and it is the one that the puts make
 abbrev pub PutsMakeRow : Type 0
@@ -35,7 +38,8 @@ PutsMakeRow = (last : ℕ) (waiting : List Frame) → IsChannel last → All Has
 abbrev pub PutArranges : Type 0
 PutArranges =
     (last : ℕ) (f : Frame) (waiting row : List Frame)
-    → IsChannel last → HasChannel f → All HasChannel waiting → Arranges last waiting row → Arranges last (waiting ++ f ∷ []) (placed last f row)
+    → IsChannel last → HasChannel f → All HasChannel waiting → Arranges last waiting row
+    → Arranges last (waiting ++ f ∷ []) (placed last f row)
 
 -- a put moves no other frame
 abbrev pub PutMovesNone : Type 0
@@ -44,7 +48,8 @@ PutMovesNone = (last : ℕ) (f : Frame) (row : List Frame) → IsArranged last r
 -- each channel above 0 has its frames as before, and after them the new one
 abbrev pub PutExtendsChannels : Type 0
 PutExtendsChannels =
-    (last : ℕ) (f : Frame) (row : List Frame) (channel : ℕ) → IsArranged last row → 0 < channel → on channel (placed last f row) ≡ on channel row ++ on channel (f ∷ [])
+    (last : ℕ) (f : Frame) (row : List Frame) (channel : ℕ) → IsArranged last row → 0 < channel
+    → on channel (placed last f row) ≡ on channel row ++ on channel (f ∷ [])
 
 -- connection.close and close-ok are put after every frame that waits
 abbrev pub LeavingIsPutLast : Type 0

@@ -24,7 +24,9 @@ pub record FollowsRules (last : ℕ) (row : List Frame) : Type 0 where
   pub in_parts : row ≡ queued PlainFrames row ++ (above_0 row ++ queued LeavingFrames row)
   -- where the channel d follows the channel c, LAST being the first of all, no channel that counting up from c + 1
   -- meets before d stands after
-  pub in_turn : (before after : List ℕ) (c d e : ℕ) → last ∷ channels_of (above_0 row) ≡ before ++ c ∷ d ∷ after → Contains after e → steps c d ≤ steps c e
+  pub in_turn :
+      (before after : List ℕ) (c d e : ℕ) → last ∷ channels_of (above_0 row) ≡ before ++ c ∷ d ∷ after → Contains after e
+      → steps c d ≤ steps c e
 
 -- A channel is met no later than the other: it is the lowest above LAST, or else, where none is above, the lowest.
 abbrev pub ComesNoLater : (last channel other : ℕ) → Type 0

@@ -181,13 +181,16 @@ has_request life = nat_lt 0 (length life.requests)
 
 -- a client's request, while one waits
 abbrev pub reply_pending : Role → End → Ask → Option Refusal
-reply_pending Client end (Send channel message) = when (is_request (method_of message) && in_life (life_of (end.channels channel)) has_request) ReplyPending
+reply_pending Client end (Send channel message) =
+    when (is_request (method_of message) && in_life (life_of (end.channels channel)) has_request) ReplyPending
 reply_pending role end ask = None
 
 -- a server's reply that does not answer the oldest request kept, or where none is
 abbrev pub no_such_request : Role → End → Ask → Option Refusal
 no_such_request Server end (Send channel message) =
-    when (is_reply (method_of message).kind && in_life (life_of (end.channels channel)) (λ life. not (answers_first (method_of message).kind life.requests))) NoSuchRequest
+    when
+    (is_reply (method_of message).kind && in_life (life_of (end.channels channel)) (λ life. not (answers_first (method_of message).kind life.requests)))
+    NoSuchRequest
 no_such_request role end ask = None
 
 -- the first refusal that applies
@@ -211,7 +214,8 @@ refusal role end ask =
 -- the frame of a payload that an end writes
 abbrev pub payload_frame : (channel : ℕ) → Payload → Frame
 payload_frame channel (contents.Calls method) = method_frame channel method
-payload_frame channel (contents.Header size properties) = record { kind = FrameKind.Header; channel = channel; payload = plain_header (record { body_size = size; properties = properties }) }
+payload_frame channel (contents.Header size properties) =
+    record { kind = FrameKind.Header; channel = channel; payload = plain_header (record { body_size = size; properties = properties }) }
 payload_frame channel (contents.Body octets) = record { kind = FrameKind.Body; channel = channel; payload = octets }
 payload_frame channel Unread = record { kind = FrameKind.Heartbeat; channel = channel; payload = [] }
 

@@ -57,7 +57,8 @@ AskStaysWithin role config end ask frames =
 
 -- so are those of every end that stands for a lawful history
 abbrev pub StandsWithin : (role : Role) → Config role → End → History → Type 0
-StandsWithin role config end history = WritesReadBack role config → Lawful role config false history → StandsFor role config false end history → EndIsWithin role config end
+StandsWithin role config end history =
+    WritesReadBack role config → Lawful role config false history → StandsFor role config false end history → EndIsWithin role config end
 
 -- what is kept of a body, as it is answered, is less than the greatest body, or nothing
 abbrev pub GatheredIsWithin : (role : Role) → Config role → End → (n : ℕ) → Type 0

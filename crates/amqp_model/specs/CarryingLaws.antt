@@ -45,7 +45,8 @@ pub record Carries (role : Role) (limit : ℕ) (mine theirs : History) (put fed 
 -- on each channel, the frames that the end took are a prefix of those that the other put
 abbrev pub TakesPrefixOnEach : Role → (limit : ℕ) → (mine theirs : History) → (put fed unfinished rest : List ℕ) → Type 0
 TakesPrefixOnEach role limit mine theirs put fed unfinished rest =
-    Carries role limit mine theirs put fed unfinished rest → (channel : ℕ) → IsPrefixOf (on channel (frames_taken mine)) (on channel (frames_put theirs))
+    Carries role limit mine theirs put fed unfinished rest → (channel : ℕ)
+    → IsPrefixOf (on channel (frames_taken mine)) (on channel (frames_put theirs))
 
 -- a frame that the rest completes comes next
 abbrev pub CompletedComesNext : Role → (limit : ℕ) → (mine theirs : History) → (put fed unfinished rest : List ℕ) → Type 0

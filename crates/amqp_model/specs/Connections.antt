@@ -15,22 +15,38 @@ pub data ConnectionNote : Type 0 where
 -- the notes of one channel, the newest first like the connection's
 abbrev pub notes_of : ℕ → List ConnectionNote → List Note
 notes_of channel [] = []
-notes_of channel (PutOn other kind frame ∷ before) = cond (other == channel) (Put kind frame ∷ notes_of channel before) (notes_of channel before)
-notes_of channel (TookOn other kind frame ∷ before) = cond (other == channel) (Took kind frame ∷ notes_of channel before) (notes_of channel before)
+notes_of channel (PutOn other kind frame ∷ before) =
+    cond (other == channel) (Put kind frame ∷ notes_of channel before) (notes_of channel before)
+notes_of channel (TookOn other kind frame ∷ before) =
+    cond (other == channel) (Took kind frame ∷ notes_of channel before) (notes_of channel before)
 notes_of channel (LeavingAll ∷ before) = Leaving ∷ notes_of channel before
 
 -- one act of an end: an act on one of its channels, or connection.close for all of them
 pub data ConnectionActs (role : Role) (theirs : List ConnectionNote) : List ConnectionNote → List ConnectionNote → Type 0 where
-  asks_on : {mine : List ConnectionNote} (channel : ℕ) (kind : Kind) (frame : Frame) → may_put role (notes_of channel mine) kind ≡ true → ConnectionActs role theirs mine (PutOn channel kind frame ∷ mine)
+  asks_on :
+      {mine : List ConnectionNote} (channel : ℕ) (kind : Kind) (frame : Frame) → may_put role (notes_of channel mine) kind ≡ true
+      → ConnectionActs role theirs mine (PutOn channel kind frame ∷ mine)
   leaves_all : {mine : List ConnectionNote} → ConnectionActs role theirs mine (LeavingAll ∷ mine)
-  takes_on : {mine : List ConnectionNote} (channel : ℕ) (kind : Kind) (frame : Frame) (event : Event) → IsNext (notes_of channel theirs) (notes_of channel mine) (Carry kind frame) → verdict role (notes_of channel mine) kind ≡ GoesOn event None → ConnectionActs role theirs mine (TookOn channel kind frame ∷ mine)
-  replies_on : {mine : List ConnectionNote} (channel : ℕ) (kind : Kind) (frame : Frame) (event : Event) (reply : Kind) (answer : Frame) → IsNext (notes_of channel theirs) (notes_of channel mine) (Carry kind frame) → verdict role (notes_of channel mine) kind ≡ GoesOn event (Some reply) → ConnectionActs role theirs mine (PutOn channel reply answer ∷ TookOn channel kind frame ∷ mine)
+  takes_on :
+      {mine : List ConnectionNote} (channel : ℕ) (kind : Kind) (frame : Frame) (event : Event)
+      → IsNext (notes_of channel theirs) (notes_of channel mine) (Carry kind frame)
+      → verdict role (notes_of channel mine) kind ≡ GoesOn event None
+      → ConnectionActs role theirs mine (TookOn channel kind frame ∷ mine)
+  replies_on :
+      {mine : List ConnectionNote} (channel : ℕ) (kind : Kind) (frame : Frame) (event : Event) (reply : Kind) (answer : Frame)
+      → IsNext (notes_of channel theirs) (notes_of channel mine) (Carry kind frame)
+      → verdict role (notes_of channel mine) kind ≡ GoesOn event (Some reply)
+      → ConnectionActs role theirs mine (PutOn channel reply answer ∷ TookOn channel kind frame ∷ mine)
 
 -- the notes of the client and of the server after any acts of the two, in any order
 pub data ConnectionRun : (client server : List ConnectionNote) → Type 0 where
   nothing : ConnectionRun [] []
-  client_does : {client server after : List ConnectionNote} → ConnectionRun client server → ConnectionActs Client server client after → ConnectionRun after server
-  server_does : {client server after : List ConnectionNote} → ConnectionRun client server → ConnectionActs Server client server after → ConnectionRun client after
+  client_does :
+      {client server after : List ConnectionNote} → ConnectionRun client server → ConnectionActs Client server client after
+      → ConnectionRun after server
+  server_does :
+      {client server after : List ConnectionNote} → ConnectionRun client server → ConnectionActs Server client server after
+      → ConnectionRun client after
 
 -- The client opens two channels, and the server takes the second open first.
 abbrev pub overtaken_client : (ℕ → Frame) → List ConnectionNote

@@ -15,7 +15,8 @@ IsAtMostOneContent payloads = (one other : Content) → IsContent one payloads �
 
 -- payloads that are a content are no prefix of another
 abbrev pub NoContentAtStart : List Payload → Type 0
-NoContentAtStart payloads = (one other : Content) (next : Payload) (later : List Payload) → IsContent one payloads → IsContent other (payloads ++ next ∷ later) → ⊥
+NoContentAtStart payloads =
+    (one other : Content) (next : Payload) (later : List Payload) → IsContent one payloads → IsContent other (payloads ++ next ∷ later) → ⊥
 
 -- the frame of a body part
 abbrev body_frame : (channel : ℕ) → (octets : List ℕ) → Frame
@@ -36,11 +37,15 @@ CutFits = (max : ℕ) (content : Content) → 8 < max → All (BodyFits max) (cu
 
 -- no payloads of the content whose body parts fit are fewer
 abbrev pub CutIsShortest : Type 0
-CutIsShortest = (max : ℕ) (content : Content) (payloads : List Payload) → 8 < max → IsContent content payloads → All (BodyFits max) payloads → length (cut max content) ≤ length payloads
+CutIsShortest =
+    (max : ℕ) (content : Content) (payloads : List Payload) → 8 < max → IsContent content payloads → All (BodyFits max) payloads
+    → length (cut max content) ≤ length payloads
 
 -- the body part at a place holds the octets from there on that fit
 abbrev pub PartsInPlace : Type 0
-PartsInPlace = (room : ℕ) (octets : List ℕ) (place : ℕ) → place < length (pieces room octets) → slice_get (pieces room octets) place ≡ Some (take room (drop (place * room) octets))
+PartsInPlace =
+    (room : ℕ) (octets : List ℕ) (place : ℕ) → place < length (pieces room octets)
+    → slice_get (pieces room octets) place ≡ Some (take room (drop (place * room) octets))
 
 -- the lengths of the body parts
 abbrev pub body_lengths : List Payload → List ℕ
@@ -58,7 +63,9 @@ OneUnderWay taken = (since others : List Payload) → UnderWay taken since → U
 
 -- whatever goes on with what is under way goes on with what is due
 abbrev pub GoesOnAsDue : (taken since : List Payload) → Type 0
-GoesOnAsDue taken since = (content : Content) (next : Payload) (later : List Payload) → UnderWay taken since → IsContent content (reverse since ++ next ∷ later) → IsDue (due since) next
+GoesOnAsDue taken since =
+    (content : Content) (next : Payload) (later : List Payload) → UnderWay taken since → IsContent content (reverse since ++ next ∷ later)
+    → IsDue (due since) next
 
 -- the machine keeps what is under way: a state says it all, and it is the state for it
 abbrev pub KeepsUnderWay : (taken : List Payload) → Gathering → Type 0
@@ -106,7 +113,8 @@ ItemsOfPrefix prefix whole = IsPrefixOf prefix whole → IsPrefixOf (items prefi
 
 -- one more payload adds the item that it ends, if it ends one
 abbrev pub OneMoreEncoded : (prefix : List Payload) → Payload → Type 0
-OneMoreEncoded prefix payload = items (prefix ++ payload ∷ []) ≡ items prefix ++ option_to_list (item_ended (gathering (reverse prefix)) payload)
+OneMoreEncoded prefix payload =
+    items (prefix ++ payload ∷ []) ≡ items prefix ++ option_to_list (item_ended (gathering (reverse prefix)) payload)
 
 -- where nothing is under way, what comes after is encoded as if nothing had come before
 abbrev pub EncodedAfresh : (prefix later : List Payload) → Type 0
@@ -115,11 +123,14 @@ EncodedAfresh prefix later = Gathers (reverse prefix) Nothing → items (prefix 
 -- A method that carries no content stands by itself: what is encoded before it, the item that it is, what is encoded
 -- after it. So the items of a life are those of its own payloads.
 abbrev pub MethodStandsAlone : (prefix : List Payload) → Method → (later : List Payload) → Type 0
-MethodStandsAlone prefix method later = carries_content method ≡ false → items (prefix ++ Calls method ∷ later) ≡ (items prefix ++ option_to_list (item_of method (sort_of method))) ++ items later
+MethodStandsAlone prefix method later =
+    carries_content method ≡ false
+    → items (prefix ++ Calls method ∷ later) ≡ (items prefix ++ option_to_list (item_of method (sort_of method))) ++ items later
 
 -- a content's payloads add just that content, whatever stands before them
 abbrev pub ContentEncodedAfter : (prefix payloads : List Payload) → Content → Type 0
-ContentEncodedAfter prefix payloads content = IsContent content payloads → items (prefix ++ payloads) ≡ items prefix ++ WholeContent content ∷ []
+ContentEncodedAfter prefix payloads content =
+    IsContent content payloads → items (prefix ++ payloads) ≡ items prefix ++ WholeContent content ∷ []
 
 -- what is under way has added nothing yet
 abbrev pub UnfinishedEncodesNothing : (taken since : List Payload) → Type 0
@@ -131,7 +142,9 @@ content_of method properties body = record { method = method; properties = prope
 
 -- a content of no octets is whole with its header
 abbrev pub IsToldAtHeader : Type 0
-IsToldAtHeader = (method : Method) (properties : Properties) (before : List Payload) → carries_content method ≡ true → step (gathering (Calls method ∷ before)) (Header 0 properties) ≡ Completes (content_of method properties [])
+IsToldAtHeader =
+    (method : Method) (properties : Properties) (before : List Payload) → carries_content method ≡ true
+    → step (gathering (Calls method ∷ before)) (Header 0 properties) ≡ Completes (content_of method properties [])
 
 -- the content `hi` is whole with its last part, and not with an empty one before
 abbrev pub IsToldAtLastPart : Type 0

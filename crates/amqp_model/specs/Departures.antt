@@ -48,7 +48,8 @@ pub record LeavesAfter (earlier later before after : List Frame) (queue : Queue)
 
 -- after a connection.close or close-ok nothing but these was put
 abbrev pub LeavesLast : List Frame → Type 0
-LeavesLast frames = (before after : List Frame) (f : Frame) → frames ≡ before ++ f ∷ after → is_leaving f ≡ true → All (λ g. is_leaving g ≡ true) after
+LeavesLast frames =
+    (before after : List Frame) (f : Frame) → frames ≡ before ++ f ∷ after → is_leaving f ≡ true → All (λ g. is_leaving g ≡ true) after
 
 -- All octets of an end, written or not, are what it began with and then the frames that it put, each channel's in
 -- order, and no frame of a channel above 0 after a connection.close or close-ok.
@@ -57,4 +58,6 @@ pub record PutAs (opening octets : List ℕ) (put : List Frame) : Type 0 where
   pub octets_are : octets ≡ opening ++ stream departing
   pub fit : AllFit departing
   pub each_channel : (channel : ℕ) → on channel departing ≡ on channel put
-  pub closes_last : (before after : List Frame) (f : Frame) → departing ≡ before ++ f ∷ after → is_leaving f ≡ true → (channel : ℕ) → 0 < channel → on channel after ≡ []
+  pub closes_last :
+      (before after : List Frame) (f : Frame) → departing ≡ before ++ f ∷ after → is_leaving f ≡ true → (channel : ℕ) → 0 < channel
+      → on channel after ≡ []

@@ -80,7 +80,9 @@ pub data AgreesWithLives (role : Role) (number : ℕ) (channel : Channel) (readi
   agrees : (event : lives.Event) (owed : Option Kind) (told : Option Event)
       → LivesSay role channel reading (lives.GoesOn event owed) → verdict ≡ Proceeds told (map (on_channel number) (reply_to owed))
       → AgreesWithLives role number channel reading verdict
-  refuses : LivesSay role channel reading (lives.GoesOn lives.Acted None) → verdict ≡ RefusesContent → AgreesWithLives role number channel reading verdict
+  refuses :
+      LivesSay role channel reading (lives.GoesOn lives.Acted None) → verdict ≡ RefusesContent
+      → AgreesWithLives role number channel reading verdict
 
 -- the connection is closed, or the end has put connection.close or has failed
 abbrev pub is_over : Phase → Bool
@@ -202,10 +204,12 @@ FailedIsRead role config end next history =
 -- What is read off a lawful history stands for it.
 abbrev pub LawfulStands : (role : Role) → Config role → (failed : Bool) → History → Type 0
 LawfulStands role config failed history =
-    WritesReadBack role config → Lawful role config failed history → StandsFor role config failed (end_from role config failed history) history
+    WritesReadBack role config → Lawful role config failed history
+    → StandsFor role config failed (end_from role config failed history) history
 
 -- an end that stands for a lawful history goes on to stand for it with each step
-abbrev pub StepFollows : (role : Role) → Config role → End → (before : History) → (taken : Option Frame) → (failed : Bool) → (after : History) → Type 0
+abbrev pub StepFollows :
+    (role : Role) → Config role → End → (before : History) → (taken : Option Frame) → (failed : Bool) → (after : History) → Type 0
 StepFollows role config end before taken failed after =
     WritesReadBack role config → StandsFor role config false end before → Goes role config before taken failed after
     → (next : End) × StandsFor role config failed next after

@@ -12,7 +12,8 @@ use Rattle.amqp_model.specs.FrameVerdict.{Facts, verdict_on, methods_put}
 
 -- what a verdict on a frame of this channel rests on
 abbrev pub facts_at : {role : Role} → Config role → End → (number : ℕ) → Facts role
-facts_at config end number = record { config = config; phase = end.phase; agreed = end.agreed; number = number; channel = end.channels number }
+facts_at config end number =
+    record { config = config; phase = end.phase; agreed = end.agreed; number = number; channel = end.channels number }
 
 -- the verdict of an end on a frame
 abbrev pub end_verdict : {role : Role} → Config role → End → Frame → FrameVerdict

@@ -76,11 +76,13 @@ unless_over endpoint None feeding = feeding
 
 -- an octet is taken, and nothing is whole yet
 abbrev pub goes_on_with : Endpoint → (octets : List ℕ) → Feeding
-goes_on_with endpoint octets = record { endpoint = record { end = endpoint.end; unfinished = octets; output = endpoint.output }; taken = 1; outcome = Unfinished }
+goes_on_with endpoint octets =
+    record { endpoint = record { end = endpoint.end; unfinished = octets; output = endpoint.output }; taken = 1; outcome = Unfinished }
 
 -- an octet is taken by which this comes, with these frames put
 abbrev pub comes_to : Endpoint → End → (put : List Frame) → Outcome → Feeding
-comes_to endpoint end put outcome = record { endpoint = record { end = end; unfinished = []; output = after_puts put endpoint.output }; taken = 1; outcome = outcome }
+comes_to endpoint end put outcome =
+    record { endpoint = record { end = end; unfinished = []; output = after_puts put endpoint.output }; taken = 1; outcome = outcome }
 
 -- the end has not read yet what stands before the frames: a server awaits the protocol header
 abbrev pub awaits_opening : Role → Phase → Bool
@@ -95,7 +97,9 @@ greeting Server config = on_zero (start config) ∷ []
 -- octets of the protocol header: at one that differs the end has that header to write, and fails
 abbrev pub after_opening : (role : Role) → Config role → Endpoint → (octets : List ℕ) → Comparison → Feeding
 after_opening role config endpoint octets Prefix = goes_on_with endpoint octets
-after_opening role config endpoint octets Same = comes_to endpoint (end_after_owed role config (greeting role config) endpoint.end) (map frame_of (greeting role config)) (Finished (Some Quiet))
+after_opening role config endpoint octets Same =
+    comes_to endpoint (end_after_owed role config (greeting role config) endpoint.end) (map frame_of (greeting role config))
+    (Finished (Some Quiet))
 after_opening role config endpoint octets Differs =
     record {
       endpoint = record { end = failed_by (Faults WrongProtocolHeader) endpoint.end; unfinished = []; output = output_of PROTOCOL_HEADER };
@@ -121,9 +125,12 @@ owed_at_fault config end kind = methods_put (facts_at config end 0) (Faults (fau
 abbrev pub after_judged : (role : Role) → Config role → Endpoint → (octets : List ℕ) → Judgement → Feeding
 after_judged role config endpoint octets Begun = goes_on_with endpoint octets
 after_judged role config endpoint octets (Whole frame) =
-    comes_to endpoint (end_after_taken role config endpoint.end (reading frame) frame) (end_puts config endpoint.end frame) (outcome_of (facts_at config endpoint.end frame.channel) (end_verdict config endpoint.end frame))
+    comes_to endpoint (end_after_taken role config endpoint.end (reading frame) frame) (end_puts config endpoint.end frame)
+    (outcome_of (facts_at config endpoint.end frame.channel) (end_verdict config endpoint.end frame))
 after_judged role config endpoint octets (Wrong kind) =
-    comes_to endpoint (failed_by (Faults (fault_told kind)) (end_after_owed role config (owed_at_fault config endpoint.end kind) endpoint.end)) (map frame_of (owed_at_fault config endpoint.end kind)) (Found (fault_told kind))
+    comes_to endpoint
+    (failed_by (Faults (fault_told kind)) (end_after_owed role config (owed_at_fault config endpoint.end kind) endpoint.end))
+    (map frame_of (owed_at_fault config endpoint.end kind)) (Found (fault_told kind))
 
 -- the octets that are not whole yet, with one more
 abbrev pub after_octets : (role : Role) → Config role → Endpoint → (octets : List ℕ) → (awaits : Bool) → Feeding
@@ -133,7 +140,8 @@ after_octets role config endpoint octets false = after_judged role config endpoi
 -- the next octet
 abbrev pub after_octet : (role : Role) → Config role → Endpoint → (octet : ℕ) → Feeding
 after_octet role config endpoint octet =
-    unless_over endpoint (refusal_in endpoint.end.phase) (after_octets role config endpoint (endpoint.unfinished ++ octet ∷ []) (awaits_opening role endpoint.end.phase))
+    unless_over endpoint (refusal_in endpoint.end.phase)
+    (after_octets role config endpoint (endpoint.unfinished ++ octet ∷ []) (awaits_opening role endpoint.end.phase))
 
 -- the octets after the first are fed where nothing came of that one
 abbrev pub fed_after : (first : Feeding) → Outcome → (later : Feeding) → Feeding
@@ -142,16 +150,23 @@ fed_after first outcome later = first
 
 -- a piece, octet by octet, up to where something comes
 abbrev pub after_feed : (role : Role) → Config role → Endpoint → (piece : List ℕ) → Feeding
-after_feed role config endpoint [] = unless_over endpoint (refusal_in endpoint.end.phase) (record { endpoint = endpoint; taken = 0; outcome = Unfinished })
+after_feed role config endpoint [] =
+    unless_over endpoint (refusal_in endpoint.end.phase) (record { endpoint = endpoint; taken = 0; outcome = Unfinished })
 after_feed role config endpoint (octet ∷ later) =
-    fed_after (after_octet role config endpoint octet) (after_octet role config endpoint octet).outcome (after_feed role config (after_octet role config endpoint octet).endpoint later)
+    fed_after (after_octet role config endpoint octet) (after_octet role config endpoint octet).outcome
+    (after_feed role config (after_octet role config endpoint octet).endpoint later)
 
 -- What asks and writes make of it.
 
 -- what an ask makes of it by its answer: a refusal changes nothing, and frames are put
 abbrev pub after_answer : (role : Role) → Config role → Endpoint → AskVerdict → Endpoint
 after_answer role config endpoint (Refused refusal) = endpoint
-after_answer role config endpoint (Puts frames) = record { end = end_after_put role config frames endpoint.end; unfinished = endpoint.unfinished; output = after_puts frames endpoint.output }
+after_answer role config endpoint (Puts frames) =
+    record {
+      end = end_after_put role config frames endpoint.end;
+      unfinished = endpoint.unfinished;
+      output = after_puts frames endpoint.output;
+    }
 
 -- an ask
 abbrev pub after_ask : (role : Role) → Config role → Endpoint → Ask → Endpoint

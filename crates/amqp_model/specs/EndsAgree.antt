@@ -21,5 +21,6 @@ LivesAgree role client_config server_config mine theirs n =
 abbrev pub NoContentFromPaused : Role → Config Client → Config Server → (mine theirs : History) → (n : ℕ) → Type 0
 NoContentFromPaused role client_config server_config mine theirs n =
     PairWrites role client_config server_config mine theirs
-    → (later before : History) (frame : Frame) → mine ≡ later ++ Took frame ∷ before → frame.channel ≡ suc n → is_content (kind_of (reading frame)) ≡ true
+    → (later before : History) (frame : Frame) → mine ≡ later ++ Took frame ∷ before → frame.channel ≡ suc n
+    → is_content (kind_of (reading frame)) ≡ true
     → PausesOther role (notes_on (suc n) before) → ⊥

@@ -32,7 +32,8 @@ pub record StandTogether (role : Role) (client_config : Config Client) (server_c
 -- two new ends do
 abbrev pub NewStandTogether : Role → Config Client → Config Server → Type 0
 NewStandTogether role client_config server_config =
-    ConfigWrites client_config → ConfigWrites server_config → StandTogether role client_config server_config (new_endpoint role) (new_endpoint (other_end role))
+    ConfigWrites client_config → ConfigWrites server_config
+    → StandTogether role client_config server_config (new_endpoint role) (new_endpoint (other_end role))
 
 -- and so they do seen from the other end
 abbrev pub StandTogetherTurned : Role → Config Client → Config Server → (mine theirs : Endpoint) → Type 0
@@ -47,11 +48,13 @@ pub record CarriesOn (role : Role) (client_config : Config Client) (server_confi
 
 abbrev pub CarryStandsTogether : Role → Config Client → Config Server → (mine theirs : Endpoint) → (piece rest : List ℕ) → Type 0
 CarryStandsTogether role client_config server_config mine theirs piece rest =
-    StandTogether role client_config server_config mine theirs → output_octets theirs.output ≡ piece ++ rest → piece ≢ [] → All IsOctet piece
+    StandTogether role client_config server_config mine theirs → output_octets theirs.output ≡ piece ++ rest → piece ≢ []
+    → All IsOctet piece
     → CarriesOn role client_config server_config theirs (after_feed role (config_of role client_config server_config) mine piece)
 
 -- an ask is accepted
 abbrev pub AskStandsTogether : Role → Config Client → Config Server → (mine theirs : Endpoint) → Ask → List Frame → Type 0
 AskStandsTogether role client_config server_config mine theirs ask frames =
-    StandTogether role client_config server_config mine theirs → AskReadsBack ask → is_made ask ≡ true → ask_verdict role mine.end ask ≡ Puts frames
+    StandTogether role client_config server_config mine theirs → AskReadsBack ask → is_made ask ≡ true
+    → ask_verdict role mine.end ask ≡ Puts frames
     → StandTogether role client_config server_config (after_ask role (config_of role client_config server_config) mine ask) theirs

@@ -29,7 +29,8 @@ pub record HeaderFits (header : Header) : Type 0 where
 
 -- each table and each string of a hello fits its field
 abbrev pub HelloFits : {role : Role} → Hello role → Type 0
-HelloFits (OfClient properties mechanism response locale virtual_host) = TableFits properties × FitsShort mechanism × FitsLong response × FitsShort locale × FitsShort virtual_host
+HelloFits (OfClient properties mechanism response locale virtual_host) =
+    TableFits properties × FitsShort mechanism × FitsLong response × FitsShort locale × FitsShort virtual_host
 HelloFits (OfServer properties mechanisms locales) = TableFits properties × FitsLong mechanisms × FitsLong locales
 
 -- the method that has an end's properties: the client's start-ok, the server's start

@@ -30,7 +30,8 @@ HeaderReadsBack header = HeaderFits header → header_at (plain_header header) �
 
 -- a configuration that has no fault fits its fields, where its numbers and its hello do
 abbrev pub FaultlessConfigFits : (role : Role) → Config role → Type 0
-FaultlessConfigFits role config = config_fault role config ≡ None → config.channel_max < 2 ^ 16 → config.max_body < 2 ^ 64 → HelloFits config.hello → ConfigFits config
+FaultlessConfigFits role config =
+    config_fault role config ≡ None → config.channel_max < 2 ^ 16 → config.max_body < 2 ^ 64 → HelloFits config.hello → ConfigFits config
 
 -- and one that fits has none
 abbrev pub FittingConfigIsFaultless : (role : Role) → Config role → Type 0
@@ -55,7 +56,9 @@ CloseReadsBack role facts = AllReadBack (methods_put facts (Faults (Peer FrameEr
 -- each frame of a message that reads back says the payload that it was made of
 abbrev pub FramesSayPayloads : (max channel : ℕ) → Message → Type 0
 FramesSayPayloads max channel message =
-    AskReadsBack (Send channel message) → map (λ (frame : Frame). payload_of (reading_of frame)) (map (payload_frame channel) (message_payloads max message)) ≡ message_payloads max message
+    AskReadsBack (Send channel message)
+    → map (λ (frame : Frame). payload_of (reading_of frame)) (map (payload_frame channel) (message_payloads max message))
+    ≡ message_payloads max message
 
 -- so all that an end of such a configuration writes of itself reads back
 abbrev pub AllReadsBack : (role : Role) → Config role → Type 0
@@ -67,7 +70,8 @@ StartFits config = ConfigWrites config → Fits (method_frame 0 (start config))
 
 -- the frames of the methods that a verdict puts fit their fields
 abbrev pub OwedFit : (role : Role) → Facts role → Reading → Type 0
-OwedFit role facts reading = ConfigWrites facts.config → facts.number < 2 ^ 16 → AllFit (map frame_of (methods_put facts (verdict_on facts reading)))
+OwedFit role facts reading =
+    ConfigWrites facts.config → facts.number < 2 ^ 16 → AllFit (map frame_of (methods_put facts (verdict_on facts reading)))
 
 -- the frame of the close that an end puts where a frame is above the limit fits its fields
 abbrev pub CloseFits : (role : Role) → Facts role → Type 0
@@ -83,7 +87,8 @@ AllWithin limit frames = AllByRecursion (λ frame. frame_length frame ≤ limit)
 
 -- the frames of the methods that a verdict puts have at most 4096 octets, which every end takes
 abbrev pub OwedAreShort : (role : Role) → Facts role → Reading → Type 0
-OwedAreShort role facts reading = ConfigWrites facts.config → AllWithin FRAME_MIN (map frame_of (methods_put facts (verdict_on facts reading)))
+OwedAreShort role facts reading =
+    ConfigWrites facts.config → AllWithin FRAME_MIN (map frame_of (methods_put facts (verdict_on facts reading)))
 
 -- the frame of the close that an end puts where a frame is above the limit has at most 4096 octets
 abbrev pub CloseIsShort : (role : Role) → Facts role → Type 0
@@ -91,15 +96,18 @@ CloseIsShort role facts = AllWithin FRAME_MIN (map frame_of (methods_put facts (
 
 -- the frames that an accepted ask puts are no longer than was agreed
 abbrev pub AskedAreWithin : Role → End → Ask → List Frame → Type 0
-AskedAreWithin role end ask frames = AskReadsBack ask → FRAME_MIN ≤ frame_max end.agreed → ask_verdict role end ask ≡ Puts frames → AllWithin (frame_max end.agreed) frames
+AskedAreWithin role end ask frames =
+    AskReadsBack ask → FRAME_MIN ≤ frame_max end.agreed → ask_verdict role end ask ≡ Puts frames → AllWithin (frame_max end.agreed) frames
 
 -- what was agreed in a lawful history is within the limits
 abbrev pub AgreedIsWithin : (role : Role) → Config role → (failed : Bool) → History → Type 0
-AgreedIsWithin role config failed history = ConfigWrites config → Lawful role config failed history → IfAgreedFits (end_from role config failed history).agreed
+AgreedIsWithin role config failed history =
+    ConfigWrites config → Lawful role config failed history → IfAgreedFits (end_from role config failed history).agreed
 
 -- it stays so by each frame that an end takes
 abbrev pub AgreedStaysWithin : (role : Role) → Config role → End → Frame → Type 0
-AgreedStaysWithin role config end frame = ConfigWrites config → IfAgreedFits end.agreed → IfAgreedFits (end_after_taken role config end (reading_of frame) frame).agreed
+AgreedStaysWithin role config end frame =
+    ConfigWrites config → IfAgreedFits end.agreed → IfAgreedFits (end_after_taken role config end (reading_of frame) frame).agreed
 
 -- and no ask changes it
 abbrev pub AskKeepsAgreed : (role : Role) → Config role → End → Ask → List Frame → Type 0

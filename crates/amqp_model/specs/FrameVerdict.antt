@@ -97,7 +97,8 @@ awaits_in channel = false
 
 -- the frame is of this kind to its channel
 abbrev pub lives_verdict : {role : Role} → Facts role → Reading → Kind → FrameVerdict
-lives_verdict {role} facts reading kind = as_lives facts.number reading (verdict_at role (state_of facts.channel) (awaits_in facts.channel) kind)
+lives_verdict {role} facts reading kind =
+    as_lives facts.number reading (verdict_at role (state_of facts.channel) (awaits_in facts.channel) kind)
 
 -- The end has put channel.close on the channel: it answers a close that crosses its own, and close-ok frees the
 -- number. All else it drops, also what does not parse.
@@ -135,7 +136,8 @@ is_awaited AwaitsOpenOk kind = same_kind kind kinds.ConnectionOpenOk
 abbrev pub on_awaited : (role : Role) → Config role → Option Agreed → channels.HandshakeStep → Method → FrameVerdict
 on_awaited Client config agreed AwaitsStart method = Proceeds (Some Quiet) (on_zero (start_ok config) ∷ [])
 on_awaited Client config agreed AwaitsTune method =
-    cond (tunes_too_small method) (fault FrameError) (Proceeds (Some Quiet) (on_zero (tune_ok (settled config method)) ∷ on_zero (connection_open config) ∷ []))
+    cond (tunes_too_small method) (fault FrameError)
+    (Proceeds (Some Quiet) (on_zero (tune_ok (settled config method)) ∷ on_zero (connection_open config) ∷ []))
 on_awaited Client config agreed AwaitsOpenOk method = Proceeds (negotiated agreed) []
 on_awaited Server config agreed AwaitsStartOk method = Proceeds (Some Quiet) (on_zero (tune config) ∷ [])
 on_awaited Server config agreed AwaitsTuneOk method = cond (in_range config (agreed_in method)) (Proceeds (Some Quiet) []) (Faults Fatal)
@@ -150,7 +152,8 @@ in_step role config agreed step method =
     (cond (is_awaited step method.kind) (on_awaited role config agreed step method) (fault CommandInvalid)))
 
 abbrev pub in_handshake : {role : Role} → Facts role → channels.HandshakeStep → Reading → FrameVerdict
-in_handshake {role} facts step (Calls method) = cond (facts.number == 0) (in_step role facts.config facts.agreed step method) (fault CommandInvalid)
+in_handshake {role} facts step (Calls method) =
+    cond (facts.number == 0) (in_step role facts.config facts.agreed step method) (fault CommandInvalid)
 in_handshake facts step reading = fault CommandInvalid
 
 -- Until the handshake is over nothing else is taken.
@@ -177,7 +180,8 @@ after_part number (Breaks misfit) = fault UnexpectedFrame
 abbrev pub on_part : {role : Role} → Facts role → Gathering → Reading → FrameVerdict
 on_part facts (HeaderDue method) MalformedHeader = fault SyntaxError
 on_part facts (HeaderDue method) (HeaderOf size properties) =
-    cond (nat_lt facts.config.max_body size) RefusesContent (after_part facts.number (step (HeaderDue method) (payload_of (HeaderOf size properties))))
+    cond (nat_lt facts.config.max_body size) RefusesContent
+    (after_part facts.number (step (HeaderDue method) (payload_of (HeaderOf size properties))))
 on_part facts kept reading = after_part facts.number (step kept (payload_of reading))
 
 abbrev pub part_on : {role : Role} → Facts role → Channel → Reading → FrameVerdict
@@ -204,7 +208,8 @@ on_connection role method =
     (cond (is_client role && same_kind method.kind kinds.ConnectionUnblocked) (Proceeds (Some Unblocked) []) (fault CommandInvalid))))
 
 abbrev pub when_connection : Role → (number : ℕ) → Method → Option FrameVerdict
-when_connection role number method = cond (class_of method.kind == 10) (Some (cond (number == 0) (on_connection role method) (fault CommandInvalid))) None
+when_connection role number method =
+    cond (class_of method.kind == 10) (Some (cond (number == 0) (on_connection role method) (fault CommandInvalid))) None
 
 -- A method that the other end may not send.
 abbrev pub when_misdirected : Role → Method → Option FrameVerdict
@@ -225,8 +230,10 @@ answers_first kind (request ∷ later) = answers kind request
 
 -- Replies are matched: a client takes no reply but to the request that waits, a server keeps so many requests.
 abbrev pub on_matched : Role → (number : ℕ) → List MethodKind → Method → FrameVerdict
-on_matched Client number requests method = cond (is_reply method.kind && not (answers_first method.kind requests)) (fault CommandInvalid) (on_message number method)
-on_matched Server number requests method = cond (is_request method && nat_le MOST_REQUESTS (length requests)) (fault ResourceError) (on_message number method)
+on_matched Client number requests method =
+    cond (is_reply method.kind && not (answers_first method.kind requests)) (fault CommandInvalid) (on_message number method)
+on_matched Server number requests method =
+    cond (is_request method && nat_le MOST_REQUESTS (length requests)) (fault ResourceError) (on_message number method)
 
 -- With no content under way, a method of the class channel does what the lives of a channel say; the others are
 -- messages.
@@ -251,7 +258,8 @@ by_state facts channel method = lives_verdict facts (Calls method) (kind_of (Cal
 -- a method on a connection that is Running
 abbrev pub on_method : {role : Role} → Facts role → Method → FrameVerdict
 on_method {role} facts method =
-    first_of (when_connection role facts.number method ∷ when_misdirected role method ∷ when_no_channel facts ∷ []) (by_state facts facts.channel method)
+    first_of (when_connection role facts.number method ∷ when_misdirected role method ∷ when_no_channel facts ∷ [])
+    (by_state facts facts.channel method)
 
 -- what no earlier rule has taken is a method
 abbrev pub on_rest : {role : Role} → Facts role → Reading → FrameVerdict

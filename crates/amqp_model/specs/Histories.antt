@@ -34,7 +34,8 @@ closes_connection frame = (frame.channel == 0) && is_call kinds.ConnectionClose 
 
 -- what a channel sees of an entry
 abbrev pub seen_on : (channel : ℕ) → Entry → List ChannelEntry
-seen_on channel (Put frame) = cond (frame.channel == channel) (PutHere (reading frame) frame ∷ []) (cond (closes_connection frame) (LeftHere ∷ []) [])
+seen_on channel (Put frame) =
+    cond (frame.channel == channel) (PutHere (reading frame) frame ∷ []) (cond (closes_connection frame) (LeftHere ∷ []) [])
 seen_on channel (Took frame) = cond (frame.channel == channel) (TookHere (reading frame) frame ∷ []) []
 
 -- the entries of one channel

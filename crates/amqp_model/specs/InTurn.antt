@@ -66,12 +66,14 @@ life_here role channel history = lives role (before_leaving (notes_on channel hi
 -- in each life the n-th reply answers the n-th request
 abbrev pub AnswersInTurn : (role : Role) → Config role → History → (n life : ℕ) → Type 0
 AnswersInTurn role config history n life =
-    WritesReadBack role config → Lawful role config false history → InTurn (replies_at role (suc n) life history) (requests_at role (suc n) life history)
+    WritesReadBack role config → Lawful role config false history
+    → InTurn (replies_at role (suc n) life history) (requests_at role (suc n) life history)
 
 -- a client has sent at most one request more than it has replies
 abbrev pub AsksOneAtATime : Config Client → History → (n life : ℕ) → Type 0
 AsksOneAtATime config history n life =
-    WritesReadBack Client config → Lawful Client config false history → length (requests_at Client (suc n) life history) ≤ suc (length (replies_at Client (suc n) life history))
+    WritesReadBack Client config → Lawful Client config false history
+    → length (requests_at Client (suc n) life history) ≤ suc (length (replies_at Client (suc n) life history))
 
 -- an Open channel keeps the requests of its life that have no reply, in order
 abbrev pub KeepsUnanswered : (role : Role) → Config role → End → History → (n : ℕ) → Life → Type 0
@@ -83,7 +85,8 @@ KeepsUnanswered role config end history n life =
 abbrev pub DueIsFirst : (role : Role) → Config role → End → History → (n : ℕ) → Life → Type 0
 DueIsFirst role config end history n life =
     WritesReadBack role config → Lawful role config false history → StandsFor role config false end history
-    → end.channels (suc n) ≡ Open life → takes_octets end.phase ≡ true → reply_due end (suc n) ≡ first_of (unanswered_at role (suc n) (life_here role (suc n) history) history)
+    → end.channels (suc n) ≡ Open life → takes_octets end.phase ≡ true
+    → reply_due end (suc n) ≡ first_of (unanswered_at role (suc n) (life_here role (suc n) history) history)
 
 -- Of two ends: the replies that the server sent, and those of them that the client acted on, answer in turn the requests
 -- that the client sent, and those of them that the server acted on.
@@ -94,4 +97,5 @@ pub record AllInTurn (channel life : ℕ) (client server : History) : Type 0 whe
   pub acted_acted : InTurn (replies_in (items_acted Client channel life client)) (requests_in (items_acted Server channel life server))
 
 abbrev pub PairAnswersInTurn : Config Client → Config Server → (client server : History) → (n life : ℕ) → Type 0
-PairAnswersInTurn client_config server_config client server n life = PairAt Client client_config server_config client server → AllInTurn (suc n) life client server
+PairAnswersInTurn client_config server_config client server n life =
+    PairAt Client client_config server_config client server → AllInTurn (suc n) life client server

@@ -26,8 +26,12 @@ EndsItem taken (FlowOkItem active) = (method : Method) × CallsLast taken method
 -- the items that payloads encode, in order: at each payload the item that it ends, if it ends one
 pub data Encodes : (taken : List Payload) → List Item → Type 0 where
   nothing : Encodes [] []
-  with_item : {payload : Payload} {before : List Payload} {items : List Item} (item : Item) → Encodes before items → EndsItem (payload ∷ before) item → Encodes (payload ∷ before) (items ++ item ∷ [])
-  without : {payload : Payload} {before : List Payload} {items : List Item} → Encodes before items → ((item : Item) → EndsItem (payload ∷ before) item → ⊥) → Encodes (payload ∷ before) items
+  with_item :
+      {payload : Payload} {before : List Payload} {items : List Item} (item : Item) → Encodes before items → EndsItem (payload ∷ before) item
+      → Encodes (payload ∷ before) (items ++ item ∷ [])
+  without :
+      {payload : Payload} {before : List Payload} {items : List Item} → Encodes before items
+      → ((item : Item) → EndsItem (payload ∷ before) item → ⊥) → Encodes (payload ∷ before) items
 
 -- the item that a method is by itself
 abbrev pub item_of : Method → Sort → Option Item

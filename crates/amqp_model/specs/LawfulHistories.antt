@@ -27,21 +27,37 @@ end_of {role} config history = end_from role config false history
 
 -- One step of an end that has not failed: its history before, the frame that it takes if it takes one, whether it has
 -- failed then, and its history after.
-pub data Goes : (role : Role) → Config role → (before : History) → (taken : Option Frame) → (failed : Bool) → (after : History) → Type 0 where
+pub data Goes :
+    (role : Role) → Config role → (before : History) → (taken : Option Frame) → (failed : Bool) → (after : History) → Type 0 where
   -- a server took the whole protocol header, and puts start
   greets : {config : Config Server} → Goes Server config [] None false (Put (method_frame 0 (start config)) ∷ [])
   -- it takes a frame, and goes on
-  takes : {role : Role} {config : Config role} {before : History} (frame : Frame) → CanTake (end_of config before) frame → goes_on (end_verdict config (end_of config before) frame) ≡ true → Goes role config before (Some frame) false (then_taken config (end_of config before) frame before)
+  takes :
+      {role : Role} {config : Config role} {before : History} (frame : Frame) → CanTake (end_of config before) frame
+      → goes_on (end_verdict config (end_of config before) frame) ≡ true
+      → Goes role config before (Some frame) false (then_taken config (end_of config before) frame before)
   -- it takes a frame, and finds fault with it
-  faults : {role : Role} {config : Config role} {before : History} (frame : Frame) → CanTake (end_of config before) frame → goes_on (end_verdict config (end_of config before) frame) ≡ false → Goes role config before (Some frame) true (then_taken config (end_of config before) frame before)
+  faults :
+      {role : Role} {config : Config role} {before : History} (frame : Frame) → CanTake (end_of config before) frame
+      → goes_on (end_verdict config (end_of config before) frame) ≡ false
+      → Goes role config before (Some frame) true (then_taken config (end_of config before) frame before)
   -- octets show a frame above the limit: it is not taken, and the connection is closed
-  meets_too_large : {role : Role} {config : Config role} {before : History} → takes_frames (end_of config before).phase ≡ true → Goes role config before None true (then_put (too_large_puts config (end_of config before)) before)
+  meets_too_large :
+      {role : Role} {config : Config role} {before : History} → takes_frames (end_of config before).phase ≡ true
+      → Goes role config before None true (then_put (too_large_puts config (end_of config before)) before)
   -- octets that can't be answered, or out of memory: nothing is put
-  fails : {role : Role} {config : Config role} {before : History} → takes_octets (end_of config before).phase ≡ true → Goes role config before None true before
+  fails :
+      {role : Role} {config : Config role} {before : History} → takes_octets (end_of config before).phase ≡ true
+      → Goes role config before None true before
   -- an application asks what can be made and written, and the end accepts
-  asks : {role : Role} {config : Config role} {before : History} (ask : Ask) (frames : List Frame) → is_made ask ≡ true → AskReadsBack ask → ask_verdict role (end_of config before) ask ≡ Puts frames → Goes role config before None false (then_put frames before)
+  asks :
+      {role : Role} {config : Config role} {before : History} (ask : Ask) (frames : List Frame) → is_made ask ≡ true → AskReadsBack ask
+      → ask_verdict role (end_of config before) ask ≡ Puts frames → Goes role config before None false (then_put frames before)
 
 -- A lawful history of an end, and whether it has failed: any steps, one after another.
 pub data Lawful (role : Role) (config : Config role) : (failed : Bool) → History → Type 0 where
   begun : Lawful role config false []
-  goes : {before after : History} {taken : Option Frame} {failed : Bool} → Lawful role config false before → Goes role config before taken failed after → Lawful role config failed after
+  goes :
+      {before after : History} {taken : Option Frame} {failed : Bool} → Lawful role config false before
+      → Goes role config before taken failed after
+      → Lawful role config failed after

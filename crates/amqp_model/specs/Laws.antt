@@ -12,7 +12,9 @@ use Rattle.amqp_model.specs.Runs.{IsNext}
 
 -- the i-th note that an end took has the life of the i-th note that the other put
 abbrev pub SidesAgree : Role → (mine theirs : List Note) → Type 0
-SidesAgree role mine theirs = (i life : ℕ) → slice_get (map life_of (takes role mine)) i ≡ Some life → slice_get (map life_of (puts (other_end role) theirs)) i ≡ Some life
+SidesAgree role mine theirs =
+    (i life : ℕ) → slice_get (map life_of (takes role mine)) i ≡ Some life
+    → slice_get (map life_of (puts (other_end role) theirs)) i ≡ Some life
 
 -- the verdict on a frame of this kind, if it comes next, is no fault
 abbrev pub GoesOnWith : Role → List Note → Kind → Type 0
@@ -46,11 +48,14 @@ pub record EndedByPeer (role : Role) (life : ℕ) (history : List Note) : Type 0
 
 -- all that is in flight to a live end is of its own life
 abbrev pub OnItsWayIsOfItsLife : Role → (mine theirs : List Note) → Type 0
-OnItsWayIsOfItsLife role mine theirs = (rest : List NoteInLife) → IsLive role mine → IsOnItsWay role mine theirs rest → All (λ entry. life_of entry ≡ lives role mine) rest
+OnItsWayIsOfItsLife role mine theirs =
+    (rest : List NoteInLife) → IsLive role mine → IsOnItsWay role mine theirs rest → All (λ entry. life_of entry ≡ lives role mine) rest
 
 -- what the other sent in the life of a live end is what the end acted on in it, and then the messages in flight
 abbrev pub SentIsActedOnOrOnItsWay : Role → (mine theirs : List Note) → Type 0
-SentIsActedOnOrOnItsWay role mine theirs = (rest : List Carried) → IsLive role mine → put_by theirs ≡ taken_by mine ++ rest → sent (other_end role) (lives role mine) theirs ≡ acted role (lives role mine) mine ++ message_frames rest
+SentIsActedOnOrOnItsWay role mine theirs =
+    (rest : List Carried) → IsLive role mine → put_by theirs ≡ taken_by mine ++ rest
+    → sent (other_end role) (lives role mine) theirs ≡ acted role (lives role mine) mine ++ message_frames rest
 
 -- all that the other sent in a life that its close ended was acted on
 abbrev pub AllActedOnAtClose : Role → (mine theirs : List Note) → Type 0
@@ -59,22 +64,32 @@ AllActedOnAtClose role mine theirs = (life : ℕ) → EndedByPeer role life mine
 -- All that the other sent in the life of a live end was acted on, where the end has taken all that the other put. So
 -- it is as the end takes the other's connection.close, which stands after every frame put before it.
 abbrev pub AllActedOnAtConnectionClose : Role → (mine theirs : List Note) → Type 0
-AllActedOnAtConnectionClose role mine theirs = IsLive role mine → put_by theirs ≡ taken_by mine → acted role (lives role mine) mine ≡ sent (other_end role) (lives role mine) theirs
+AllActedOnAtConnectionClose role mine theirs =
+    IsLive role mine → put_by theirs ≡ taken_by mine → acted role (lives role mine) mine ≡ sent (other_end role) (lives role mine) theirs
 
 -- a content that an end takes comes at no moment at which the end has paused the other: none from where it took
 -- flow-ok with active 0 in a life until it puts flow with active 1
 abbrev pub TakesNoContentPaused : Role → (mine theirs : List Note) → Type 0
-TakesNoContentPaused role mine theirs = (later : List Note) (kind : Kind) (frame : Frame) (before : List Note) → mine ≡ later ++ Took kind frame ∷ before → is_content kind ≡ true → pauses_other role before ≡ false
+TakesNoContentPaused role mine theirs =
+    (later : List Note) (kind : Kind) (frame : Frame) (before : List Note) → mine ≡ later ++ Took kind frame ∷ before
+    → is_content kind ≡ true
+    → pauses_other role before ≡ false
 
 -- the same in plain words: there was no flow-ok with active 0 taken after which came no opening note and no flow
 -- with active 1 put
 abbrev pub NoPauseBeforeContent : Role → (mine theirs : List Note) → Type 0
-NoPauseBeforeContent role mine theirs = (later : List Note) (kind : Kind) (frame : Frame) (before : List Note) → mine ≡ later ++ Took kind frame ∷ before → is_content kind ≡ true → PausesOther role before → ⊥
+NoPauseBeforeContent role mine theirs =
+    (later : List Note) (kind : Kind) (frame : Frame) (before : List Note) → mine ≡ later ++ Took kind frame ∷ before
+    → is_content kind ≡ true
+    → PausesOther role before → ⊥
 
 -- from where the end puts close in a life, it acts on nothing of that life
 abbrev pub ActsOnNothingAfterItsClose : Role → (mine : List Note) → Type 0
-ActsOnNothingAfterItsClose role mine = (later : List Note) (frame : Frame) (before : List Note) → mine ≡ later ++ Put Close frame ∷ before → acted role (lives role before) mine ≡ acted role (lives role before) before
+ActsOnNothingAfterItsClose role mine =
+    (later : List Note) (frame : Frame) (before : List Note) → mine ≡ later ++ Put Close frame ∷ before
+    → acted role (lives role before) mine ≡ acted role (lives role before) before
 
 -- from where the end puts connection.close, it acts on nothing
 abbrev pub ActsOnNothingAfterLeaving : Role → (mine : List Note) → Type 0
-ActsOnNothingAfterLeaving role mine = (life : ℕ) (later before : List Note) → mine ≡ later ++ Leaving ∷ before → acted role life mine ≡ acted role life before
+ActsOnNothingAfterLeaving role mine =
+    (life : ℕ) (later before : List Note) → mine ≡ later ++ Leaving ∷ before → acted role life mine ≡ acted role life before

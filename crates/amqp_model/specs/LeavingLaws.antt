@@ -11,10 +11,12 @@ use Rattle.amqp_model.specs.Octets.{frames_put}
 
 -- an end puts nothing but connection.close and close-ok after one of these
 abbrev pub ClosesArePutLast : (role : Role) → Config role → (failed : Bool) → History → Type 0
-ClosesArePutLast role config failed history = WritesReadBack role config → Lawful role config failed history → LeavesLast (frames_put history)
+ClosesArePutLast role config failed history =
+    WritesReadBack role config → Lawful role config failed history → LeavesLast (frames_put history)
 
 -- So its octets, written or not, are what it began with and then its frames, each channel's in order, and no frame of a
 -- channel above 0 after a close.
 abbrev pub OctetsArePutAs : (role : Role) → Config role → (failed : Bool) → History → (opening written : List ℕ) → Output → Type 0
 OctetsArePutAs role config failed history opening written output =
-    WritesReadBack role config → Lawful role config failed history → IsOutputOf opening (frames_put history) written output → PutAs opening (written ++ output_octets output) (frames_put history)
+    WritesReadBack role config → Lawful role config failed history → IsOutputOf opening (frames_put history) written output
+    → PutAs opening (written ++ output_octets output) (frames_put history)

@@ -58,7 +58,12 @@ requests_after role entry kept requests = with_asked (asked_by role entry) (drop
 
 abbrev pub life_after : Role → ChannelEntry → Life → Life
 life_after role entry life =
-    record { content = content_after entry life.content; paused = paused_after entry life.paused; awaits = awaits_after entry life.awaits; requests = requests_after role entry life.content life.requests }
+    record {
+      content = content_after entry life.content;
+      paused = paused_after entry life.paused;
+      awaits = awaits_after entry life.awaits;
+      requests = requests_after role entry life.content life.requests;
+    }
 
 -- What an entry leaves of a channel's record, by what the frame is to the channel.
 
@@ -127,8 +132,10 @@ after_start_put step = step
 
 -- the client's handshake goes on with start and tune, the server's with start-ok and tune-ok
 abbrev pub step_taken : Role → Reading → HandshakeStep → HandshakeStep
-step_taken Client reading step = cond (is_call kinds.ConnectionTune reading) AwaitsOpenOk (cond (is_call kinds.ConnectionStart reading) (after_start step) step)
-step_taken Server reading step = cond (is_call kinds.ConnectionTuneOk reading) AwaitsOpen (cond (is_call kinds.ConnectionStartOk reading) (after_start_ok step) step)
+step_taken Client reading step =
+    cond (is_call kinds.ConnectionTune reading) AwaitsOpenOk (cond (is_call kinds.ConnectionStart reading) (after_start step) step)
+step_taken Server reading step =
+    cond (is_call kinds.ConnectionTuneOk reading) AwaitsOpen (cond (is_call kinds.ConnectionStartOk reading) (after_start_ok step) step)
 
 abbrev pub step_put : Role → Reading → HandshakeStep → HandshakeStep
 step_put Client reading step = step
@@ -147,13 +154,16 @@ abbrev is_any_close : Reading → Bool
 is_any_close reading = is_call kinds.ConnectionClose reading || is_call kinds.ConnectionCloseOk reading
 
 abbrev pub phase_taken : Role → Reading → Phase → Phase
-phase_taken role reading (Handshake step) = cond (is_any_close reading) Closed (cond (taken_ends_handshake role reading) Running (Handshake (step_taken role reading step)))
+phase_taken role reading (Handshake step) =
+    cond (is_any_close reading) Closed (cond (taken_ends_handshake role reading) Running (Handshake (step_taken role reading step)))
 phase_taken role reading Running = cond (is_any_close reading) Closed Running
 phase_taken role reading Phase.Closing = cond (is_call kinds.ConnectionCloseOk reading) Closed Phase.Closing
 phase_taken role reading phase = phase
 
 abbrev pub phase_put : Role → Reading → Phase → Phase
-phase_put role reading (Handshake step) = cond (is_call kinds.ConnectionClose reading) Phase.Closing (cond (put_ends_handshake role reading) Running (Handshake (step_put role reading step)))
+phase_put role reading (Handshake step) =
+    cond (is_call kinds.ConnectionClose reading) Phase.Closing
+    (cond (put_ends_handshake role reading) Running (Handshake (step_put role reading step)))
 phase_put role reading Running = cond (is_call kinds.ConnectionClose reading) Phase.Closing Running
 phase_put role reading phase = phase
 
@@ -164,8 +174,10 @@ phase_after role LeftHere phase = phase
 
 -- a client settles with the tune-ok that it puts, a server with the one that it awaits
 abbrev pub agreed_after : (role : Role) → Config role → Phase → ChannelEntry → Option Agreed → Option Agreed
-agreed_after Client config phase (PutHere (Calls method) frame) agreed = cond (same_kind method.kind kinds.ConnectionTuneOk) (Some (agreed_in method)) agreed
-agreed_after Server config phase (TookHere (Calls method) frame) agreed = cond (same_kind method.kind kinds.ConnectionTuneOk && awaits_tune_ok phase) (accepted config (agreed_in method)) agreed
+agreed_after Client config phase (PutHere (Calls method) frame) agreed =
+    cond (same_kind method.kind kinds.ConnectionTuneOk) (Some (agreed_in method)) agreed
+agreed_after Server config phase (TookHere (Calls method) frame) agreed =
+    cond (same_kind method.kind kinds.ConnectionTuneOk && awaits_tune_ok phase) (accepted config (agreed_in method)) agreed
 agreed_after role config phase entry agreed = agreed
 
 -- once the end has put connection.close, no channel changes
@@ -178,19 +190,30 @@ set_channel number channel channels other = cond (other == number) channel (chan
 
 -- what an entry on this channel leaves of what an end keeps
 abbrev pub end_after : (role : Role) → Config role → (number : ℕ) → ChannelEntry → End → End
-end_after role config zero entry end = record { phase = phase_after role entry end.phase; agreed = agreed_after role config end.phase entry end.agreed; channels = end.channels }
+end_after role config zero entry end =
+    record {
+      phase = phase_after role entry end.phase;
+      agreed = agreed_after role config end.phase entry end.agreed;
+      channels = end.channels;
+    }
 end_after role config (suc n) entry end =
-    record { phase = end.phase; agreed = end.agreed; channels = set_channel (suc n) (unless_leaving end.phase (end.channels (suc n)) (channel_after role entry (end.channels (suc n)))) end.channels }
+    record {
+      phase = end.phase;
+      agreed = end.agreed;
+      channels = set_channel (suc n) (unless_leaving end.phase (end.channels (suc n)) (channel_after role entry (end.channels (suc n)))) end.channels;
+    }
 
 -- the methods that a verdict owes are put, each as an entry of its channel
 abbrev pub end_after_owed : (role : Role) → Config role → List Owed → End → End
 end_after_owed role config [] end = end
-end_after_owed role config (owed ∷ later) end = end_after_owed role config later (end_after role config owed.channel (PutHere (Calls owed.method) (frame_of owed)) end)
+end_after_owed role config (owed ∷ later) end =
+    end_after_owed role config later (end_after role config owed.channel (PutHere (Calls owed.method) (frame_of owed)) end)
 
 -- the frames of an accepted ask are put, each as an entry of its channel
 abbrev pub end_after_put : (role : Role) → Config role → List Frame → End → End
 end_after_put role config [] end = end
-end_after_put role config (frame ∷ later) end = end_after_put role config later (end_after role config frame.channel (PutHere (reading_of frame) frame) end)
+end_after_put role config (frame ∷ later) end =
+    end_after_put role config later (end_after role config frame.channel (PutHere (reading_of frame) frame) end)
 
 -- an end that has failed keeps what was agreed
 abbrev pub as_failed : End → End
@@ -212,7 +235,8 @@ end_after_taken role config end reading frame =
 
 -- Octets show a frame above the limit: the end closes the connection, and has failed.
 abbrev pub end_after_too_large : (role : Role) → Config role → End → End
-end_after_too_large role config end = as_failed (end_after_owed role config (methods_put (facts_at config end 0) (Faults (Peer FrameError))) end)
+end_after_too_large role config end =
+    as_failed (end_after_owed role config (methods_put (facts_at config end 0) (Faults (Peer FrameError))) end)
 
 -- A new end, and a server that has put start.
 abbrev first_step : Role → HandshakeStep

@@ -13,7 +13,8 @@ use Rattle.amqp_method.specs.declared.faults.MethodFaultKind.TheVariants as faul
 use Rattle.amqp_method.specs.declared.kinds.Kind.{Kind}
 pub use Rattle.amqp_method.specs.Kinds.{class_of, id_of, same_kind, sends}
 pub use Rattle.amqp_method.specs.Places.{argument_at, bit_at, number_at, octets_at}
-pub use Rattle.amqp_method.specs.Requests.{Wanted, Always, Never, UnlessNoWait, wants, is_wanted, is_request, answered, is_reply, answers}
+pub use Rattle.amqp_method.specs.Methods.{Wanted, Always, Never, UnlessNoWait}
+pub use Rattle.amqp_method.specs.Requests.{wants, is_wanted, is_request, answered, is_reply, answers}
 pub use Rattle.amqp_method.specs.Sorts.{Sort, BeginsContent, OpensOrCloses, Plain, AsksFlow, AnswersFlow, sort_by, sort_of, begins_content, carries_content}
 
 -- a method with its arguments

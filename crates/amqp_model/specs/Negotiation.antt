@@ -35,14 +35,19 @@ frame_limit None = FRAME_MIN
 frame_limit (Some agreed) = agreed.frame_max
 
 abbrev start_by : Hello Server → Method
-start_by (OfServer properties mechanisms locales) = record { kind = kinds.ConnectionStart; args = octet 0 ∷ octet 9 ∷ table properties ∷ long_string mechanisms ∷ long_string locales ∷ [] }
+start_by (OfServer properties mechanisms locales) =
+    record { kind = kinds.ConnectionStart; args = octet 0 ∷ octet 9 ∷ table properties ∷ long_string mechanisms ∷ long_string locales ∷ [] }
 
 -- version 0, 9, and the server's hello
 abbrev pub start : Config Server → Method
 start config = start_by config.hello
 
 abbrev start_ok_by : Hello Client → Method
-start_ok_by (OfClient properties mechanism response locale virtual_host) = record { kind = kinds.ConnectionStartOk; args = table properties ∷ short_string mechanism ∷ long_string response ∷ short_string locale ∷ [] }
+start_ok_by (OfClient properties mechanism response locale virtual_host) =
+    record {
+      kind = kinds.ConnectionStartOk;
+      args = table properties ∷ short_string mechanism ∷ long_string response ∷ short_string locale ∷ [];
+    }
 
 abbrev pub start_ok : Config Client → Method
 start_ok config = start_ok_by config.hello
@@ -57,7 +62,8 @@ smaller own others = cond (others == 0) own (min own others)
 
 -- what the client settles on a tune
 abbrev pub settled : Config Client → Method → Agreed
-settled config method = record { channel_max = smaller config.channel_max (number_at 0 method); frame_max = smaller config.frame_max (number_at 1 method) }
+settled config method =
+    record { channel_max = smaller config.channel_max (number_at 0 method); frame_max = smaller config.frame_max (number_at 1 method) }
 
 -- a tune with a frame size that is given, and too small
 abbrev pub tunes_too_small : Method → Bool
@@ -73,10 +79,12 @@ agreed_in method = record { channel_max = number_at 0 method; frame_max = number
 -- the server takes a tune-ok within its own limits
 abbrev pub in_range : Config Server → Agreed → Bool
 in_range config agreed =
-    nat_lt 0 agreed.channel_max && nat_le agreed.channel_max config.channel_max && nat_le FRAME_MIN agreed.frame_max && nat_le agreed.frame_max config.frame_max
+    nat_lt 0 agreed.channel_max && nat_le agreed.channel_max config.channel_max && nat_le FRAME_MIN agreed.frame_max
+    && nat_le agreed.frame_max config.frame_max
 
 abbrev open_by : Hello Client → Method
-open_by (OfClient properties mechanism response locale virtual_host) = record { kind = kinds.ConnectionOpen; args = short_string virtual_host ∷ [] }
+open_by (OfClient properties mechanism response locale virtual_host) =
+    record { kind = kinds.ConnectionOpen; args = short_string virtual_host ∷ [] }
 
 abbrev pub connection_open : Config Client → Method
 connection_open config = open_by config.hello

@@ -22,7 +22,8 @@ abbrev pub NextIsMatched : Role → Config Client → Config Server → (mine th
 NextIsMatched role client_config server_config mine theirs frame =
     PairWrites role client_config server_config mine theirs → ComesNext theirs mine frame
     → (end_in role client_config server_config mine).phase ≡ Running
-    → (n : ℕ) (life : Life) (method : Method) → frame.channel ≡ suc n → reading frame ≡ Calls method → (end_in role client_config server_config mine).channels (suc n) ≡ Open life
+    → (n : ℕ) (life : Life) (method : Method) → frame.channel ≡ suc n → reading frame ≡ Calls method
+    → (end_in role client_config server_config mine).channels (suc n) ≡ Open life
     → IsMatched role life.requests method
 
 -- an end takes the frame, and goes on with it
@@ -33,4 +34,5 @@ pub record TakesWithoutFault (role : Role) (client_config : Config Client) (serv
 -- so it does with whatever comes next
 abbrev pub TakesWhatComesNext : Role → Config Client → Config Server → (mine theirs : History) → Frame → Type 0
 TakesWhatComesNext role client_config server_config mine theirs frame =
-    PairWrites role client_config server_config mine theirs → ComesNext theirs mine frame → TakesWithoutFault role client_config server_config mine frame
+    PairWrites role client_config server_config mine theirs → ComesNext theirs mine frame
+    → TakesWithoutFault role client_config server_config mine frame

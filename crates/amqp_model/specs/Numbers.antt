@@ -15,4 +15,5 @@ NoneAbove end = (n : ℕ) → channel_max end.agreed < n → end.channels n ≡ 
 
 -- so it is of every end that stands for a lawful history
 abbrev pub StandsNumbered : (role : Role) → Config role → End → History → Type 0
-StandsNumbered role config end history = WritesReadBack role config → Lawful role config false history → StandsFor role config false end history → NoneAbove end
+StandsNumbered role config end history =
+    WritesReadBack role config → Lawful role config false history → StandsFor role config false end history → NoneAbove end

@@ -52,7 +52,8 @@ IsJudgedWell limit xs (Wrong kind) = TellsLast limit xs kind
 abbrev pub JudgedIsSaid : Type 0
 JudgedIsSaid =
     (limit : ℕ) (prefix : List ℕ) (octet : ℕ)
-    → All IsOctet (prefix ++ octet ∷ []) → IsRest limit prefix → IsJudgedWell limit (prefix ++ octet ∷ []) (judged limit (prefix ++ octet ∷ []))
+    → All IsOctet (prefix ++ octet ∷ []) → IsRest limit prefix
+    → IsJudgedWell limit (prefix ++ octet ∷ []) (judged limit (prefix ++ octet ∷ []))
 
 -- there is exactly one thing that octets can be judged to be
 abbrev pub OneIsSaid : Type 0
@@ -96,11 +97,13 @@ nothing_taken endpoint fault = record { endpoint = endpoint; taken = 0; outcome 
 
 -- an end that is closed takes nothing, and says so
 abbrev pub FeedStaysClosed : (role : Role) → Config role → Endpoint → (piece : List ℕ) → Type 0
-FeedStaysClosed role config endpoint piece = endpoint.end.phase ≡ Closed → after_feed role config endpoint piece ≡ nothing_taken endpoint AlreadyClosed
+FeedStaysClosed role config endpoint piece =
+    endpoint.end.phase ≡ Closed → after_feed role config endpoint piece ≡ nothing_taken endpoint AlreadyClosed
 
 -- and so does one that has failed
 abbrev pub FeedStaysFailed : (role : Role) → Config role → Endpoint → (piece : List ℕ) → Type 0
-FeedStaysFailed role config endpoint piece = endpoint.end.phase ≡ Failed → after_feed role config endpoint piece ≡ nothing_taken endpoint AlreadyFailed
+FeedStaysFailed role config endpoint piece =
+    endpoint.end.phase ≡ Failed → after_feed role config endpoint piece ≡ nothing_taken endpoint AlreadyFailed
 
 -- What an end stands for.
 
@@ -137,10 +140,12 @@ with_taken_of piece new octets = octets ++ take new.taken piece
 
 -- what the feeding leaves stands for such a history
 abbrev pub StandsThen : (role : Role) → Config role → History → (fed written piece : List ℕ) → Feeding → Type 0
-StandsThen role config history fed written piece new = EndpointStandsFor role config new.endpoint history (with_taken_of piece new fed) written
+StandsThen role config history fed written piece new =
+    EndpointStandsFor role config new.endpoint history (with_taken_of piece new fed) written
 
 -- it has failed with such a history, by the limit on frames that held before
-abbrev pub HasFailedThen : (role : Role) → Config role → Endpoint → (opening : List ℕ) → History → (fed written piece : List ℕ) → Feeding → Type 0
+abbrev pub HasFailedThen :
+    (role : Role) → Config role → Endpoint → (opening : List ℕ) → History → (fed written piece : List ℕ) → Feeding → Type 0
 HasFailedThen role config old opening history fed written piece new =
     HasFailed role config (frame_limit old.end.agreed) opening history (with_taken_of piece new fed) written new.endpoint
 
@@ -159,7 +164,8 @@ event_of_frame config end frame = event_told (facts_at config end frame.channel)
 -- What comes of a piece that is fed: the history that follows, and what the end stands for then, with the octets taken.
 pub data Follows (role : Role) (config : Config role) (old : Endpoint) (history : History) (fed written piece : List ℕ) (new : Feeding) : Type 0 where
   -- nothing is whole yet, and the history is what it was
-  waits : new.outcome ≡ Unfinished → StandsThen role config history fed written piece new → Follows role config old history fed written piece new
+  waits :
+      new.outcome ≡ Unfinished → StandsThen role config history fed written piece new → Follows role config old history fed written piece new
   -- the protocol header is whole, and start is put
   greets : awaits_opening role old.end.phase ≡ true → history ≡ [] → new.outcome ≡ Finished (Some Quiet)
       → StandsThen role config (then_put (map frame_of (greeting role config)) history) fed written piece new
@@ -175,7 +181,8 @@ pub data Follows (role : Role) (config : Config role) (old : Endpoint) (history 
       → HasFailedThen role config old (opening_written role) (then_taken config old.end frame history) fed written piece new
       → Follows role config old history fed written piece new
   -- the octets that are no whole frame show a fault
-  tells : (kind : FrameFaultKind) → takes_frames old.end.phase ≡ true → ShowsFault old piece new kind → new.outcome ≡ Found (fault_told kind)
+  tells :
+      (kind : FrameFaultKind) → takes_frames old.end.phase ≡ true → ShowsFault old piece new kind → new.outcome ≡ Found (fault_told kind)
       → HasFailedThen role config old (opening_written role) (then_put (map frame_of (owed_at_fault config old.end kind)) history) fed written piece new
       → Follows role config old history fed written piece new
   -- an octet is not the protocol header's, and nothing was put yet
@@ -220,7 +227,8 @@ WroteFollows role config endpoint history fed written n =
     → EndpointStandsFor role config (after_wrote n endpoint) history fed (written ++ take n (output_octets endpoint.output))
 
 -- the same of an end that has failed, whose close is still to be written
-abbrev pub FailedWrites : (role : Role) → Config role → (limit : ℕ) → (opening : List ℕ) → History → (fed written : List ℕ) → Endpoint → (n : ℕ) → Type 0
+abbrev pub FailedWrites :
+    (role : Role) → Config role → (limit : ℕ) → (opening : List ℕ) → History → (fed written : List ℕ) → Endpoint → (n : ℕ) → Type 0
 FailedWrites role config limit opening history fed written endpoint n =
     HasFailed role config limit opening history fed written endpoint → n ≤ length (output_octets endpoint.output)
     → HasFailed role config limit opening history fed (written ++ take n (output_octets endpoint.output)) (after_wrote n endpoint)

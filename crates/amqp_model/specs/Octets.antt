@@ -39,12 +39,25 @@ has_opened Server (entry ∷ before) = true
 -- What was fed to an end that has not failed, and the octets of it that are no whole frame yet, nor the whole opening. An
 -- end that is closed takes no octet more.
 pub data FedAs (role : Role) (limit : ℕ) (history : History) (fed unfinished : List ℕ) : Type 0 where
-  in_opening : (missing : List ℕ) → missing ≢ [] → opening_read role ≡ fed ++ missing → history ≡ [] → unfinished ≡ fed → FedAs role limit history fed unfinished
-  in_frames : has_opened role history ≡ true → fed ≡ opening_read role ++ (stream (frames_taken history) ++ unfinished) → AllFit (frames_taken history) → IsRest limit unfinished → FedAs role limit history fed unfinished
+  in_opening :
+      (missing : List ℕ) → missing ≢ [] → opening_read role ≡ fed ++ missing → history ≡ [] → unfinished ≡ fed
+      → FedAs role limit history fed unfinished
+  in_frames :
+      has_opened role history ≡ true → fed ≡ opening_read role ++ (stream (frames_taken history) ++ unfinished)
+      → AllFit (frames_taken history)
+      → IsRest limit unfinished → FedAs role limit history fed unfinished
 
 -- What was fed to an end up to the octet that showed a fault: an octet that is not the opening's, the last octet of the frame
 -- that it took last, or an octet by which the rest shows a fault.
 pub data FailedAt (role : Role) (limit : ℕ) (history : History) (fed : List ℕ) : Type 0 where
-  off_opening : (prefix later : List ℕ) (octet wanted : ℕ) → opening_read role ≡ prefix ++ wanted ∷ later → fed ≡ prefix ++ octet ∷ [] → octet ≢ wanted → history ≡ [] → FailedAt role limit history fed
-  at_frame : (earlier : List Frame) (last : Frame) → frames_taken history ≡ earlier ++ last ∷ [] → has_opened role history ≡ true → fed ≡ opening_read role ++ stream (frames_taken history) → AllFit (frames_taken history) → FailedAt role limit history fed
-  in_rest : (rest : List ℕ) (place : ℕ) (kind : FrameFaultKind) → has_opened role history ≡ true → fed ≡ opening_read role ++ (stream (frames_taken history) ++ rest) → AllFit (frames_taken history) → length rest ≡ place + 1 → TellsFirst limit rest kind place → FailedAt role limit history fed
+  off_opening :
+      (prefix later : List ℕ) (octet wanted : ℕ) → opening_read role ≡ prefix ++ wanted ∷ later → fed ≡ prefix ++ octet ∷ []
+      → octet ≢ wanted
+      → history ≡ [] → FailedAt role limit history fed
+  at_frame :
+      (earlier : List Frame) (last : Frame) → frames_taken history ≡ earlier ++ last ∷ [] → has_opened role history ≡ true
+      → fed ≡ opening_read role ++ stream (frames_taken history) → AllFit (frames_taken history) → FailedAt role limit history fed
+  in_rest :
+      (rest : List ℕ) (place : ℕ) (kind : FrameFaultKind) → has_opened role history ≡ true
+      → fed ≡ opening_read role ++ (stream (frames_taken history) ++ rest) → AllFit (frames_taken history) → length rest ≡ place + 1
+      → TellsFirst limit rest kind place → FailedAt role limit history fed

@@ -31,7 +31,8 @@ pub record IsFedNext (role : Role) (client_config : Config Client) (server_confi
   pub some : piece ≢ []
 
 -- it finds no fault
-abbrev pub FindsNoFaultWithOctets : Role → Config Client → Config Server → (mine theirs : History) → Endpoint → (fed written piece later : List ℕ) → Type 0
+abbrev pub FindsNoFaultWithOctets :
+    Role → Config Client → Config Server → (mine theirs : History) → Endpoint → (fed written piece later : List ℕ) → Type 0
 FindsNoFaultWithOctets role client_config server_config mine theirs endpoint fed written piece later =
     IsFedNext role client_config server_config mine theirs endpoint fed written piece later
     → (fault : Fault) → (after_feed role (config_of role client_config server_config) endpoint piece).outcome ≢ Found fault
@@ -42,13 +43,15 @@ pub record FeedsOn (role : Role) (client_config : Config Client) (server_config 
   pub pair : PairOf role client_config server_config after theirs
   pub stands : EndpointStandsFor role (config_of role client_config server_config) new.endpoint after (fed ++ take new.taken piece) written
 
-abbrev pub FeedStaysPair : Role → Config Client → Config Server → (mine theirs : History) → Endpoint → (fed written piece later : List ℕ) → Type 0
+abbrev pub FeedStaysPair :
+    Role → Config Client → Config Server → (mine theirs : History) → Endpoint → (fed written piece later : List ℕ) → Type 0
 FeedStaysPair role client_config server_config mine theirs endpoint fed written piece later =
     IsFedNext role client_config server_config mine theirs endpoint fed written piece later
     → FeedsOn role client_config server_config theirs fed written piece (after_feed role (config_of role client_config server_config) endpoint piece)
 
 -- no octet waits for an end that is closed: it has none unfinished, and was fed all that the other put
-abbrev pub NothingWaitsForClosed : Role → Config Client → Config Server → (mine theirs : History) → (limit : ℕ) → (put fed unfinished rest : List ℕ) → Type 0
+abbrev pub NothingWaitsForClosed :
+    Role → Config Client → Config Server → (mine theirs : History) → (limit : ℕ) → (put fed unfinished rest : List ℕ) → Type 0
 NothingWaitsForClosed role client_config server_config mine theirs limit put fed unfinished rest =
     PairWrites role client_config server_config mine theirs → Carries role limit mine theirs put fed unfinished rest
     → (end_in role client_config server_config mine).phase ≡ Closed → (unfinished ≡ []) × (rest ≡ [])
@@ -68,7 +71,8 @@ OctetsInFlightAreFrames role limit mine theirs put fed unfinished rest =
 
 -- the items that the other sent in the life of a live end are those that the frames acted on and then the messages among the
 -- waiting frames encode, read one after the other
-abbrev pub ItemsSentAreActedOnOrWaiting : Role → Config Client → Config Server → (mine theirs : History) → (unfinished rest : List ℕ) → (n : ℕ) → Type 0
+abbrev pub ItemsSentAreActedOnOrWaiting :
+    Role → Config Client → Config Server → (mine theirs : History) → (unfinished rest : List ℕ) → (n : ℕ) → Type 0
 ItemsSentAreActedOnOrWaiting role client_config server_config mine theirs unfinished rest n =
     PairWrites role client_config server_config mine theirs → (flight : InFlight mine theirs unfinished rest)
     → IsLive role (notes_on (suc n) mine)

@@ -21,7 +21,13 @@ use Rattle.amqp_model.specs.Pairs.{Pair}
 use Rattle.amqp_model.specs.Sent.{items_acted}
 
 abbrev pub example_client : Config Client
-example_client = record { frame_max = 131072; channel_max = 3; max_body = 1000; hello = OfClient no_pairs (codes "PLAIN") [] (codes "en_US") (codes "/") }
+example_client =
+    record {
+      frame_max = 131072;
+      channel_max = 3;
+      max_body = 1000;
+      hello = OfClient no_pairs (codes "PLAIN") [] (codes "en_US") (codes "/");
+    }
 
 abbrev pub example_server : Config Server
 example_server = record { frame_max = 4096; channel_max = 2047; max_body = 1000; hello = OfServer no_pairs (codes "PLAIN") (codes "en_US") }
@@ -62,7 +68,11 @@ abbrev publish : Method
 publish = record { kind = kinds.BasicPublish; args = short_string [] ∷ short_string (codes "q") ∷ bit false ∷ bit false ∷ [] }
 
 abbrev deliver : Method
-deliver = record { kind = kinds.BasicDeliver; args = short_string (codes "t") ∷ long_long 1 ∷ bit false ∷ short_string [] ∷ short_string (codes "q") ∷ [] }
+deliver =
+    record {
+      kind = kinds.BasicDeliver;
+      args = short_string (codes "t") ∷ long_long 1 ∷ bit false ∷ short_string [] ∷ short_string (codes "q") ∷ [];
+    }
 
 -- the content that the client sends, and the one that the server does
 abbrev pub published : Content

@@ -29,10 +29,12 @@ AllComeNext theirs mine (Some frame) = ComesNext theirs mine frame
 pub data Pair (client_config : Config Client) (server_config : Config Server) : (client server : History) → Type 0 where
   both_begin : Pair client_config server_config [] []
   client_goes : {client server after : History} {taken : Option Frame}
-      → Pair client_config server_config client server → AllComeNext server client taken → Goes Client client_config client taken false after
+      → Pair client_config server_config client server → AllComeNext server client taken
+      → Goes Client client_config client taken false after
       → Pair client_config server_config after server
   server_goes : {client server after : History} {taken : Option Frame}
-      → Pair client_config server_config client server → AllComeNext client server taken → Goes Server server_config server taken false after
+      → Pair client_config server_config client server → AllComeNext client server taken
+      → Goes Server server_config server taken false after
       → Pair client_config server_config client after
 
 -- the same, as one of the two ends sees it
@@ -56,7 +58,8 @@ abbrev pub NewEndsPair : Role → Config Client → Config Server → Type 0
 NewEndsPair role client_config server_config = PairOf role client_config server_config [] []
 
 -- and a pair stays one with each step of an end, where a frame that it takes comes next
-abbrev pub StepStaysPair : (role : Role) → Config Client → Config Server → (mine theirs : History) → Option Frame → (after : History) → Type 0
+abbrev pub StepStaysPair :
+    (role : Role) → Config Client → Config Server → (mine theirs : History) → Option Frame → (after : History) → Type 0
 StepStaysPair role client_config server_config mine theirs taken after =
     PairOf role client_config server_config mine theirs → AllComeNext theirs mine taken
     → Goes role (config_of role client_config server_config) mine taken false after

@@ -45,14 +45,17 @@ NewHolds role = HoldsUnfinished role (new_endpoint role)
 
 -- what an end holds that stands for a history is such
 abbrev pub StandsHolds : (role : Role) → Config role → Endpoint → History → (fed written : List ℕ) → Type 0
-StandsHolds role config endpoint history fed written = EndpointStandsFor role config endpoint history fed written → HoldsUnfinished role endpoint
+StandsHolds role config endpoint history fed written =
+    EndpointStandsFor role config endpoint history fed written → HoldsUnfinished role endpoint
 
 -- and so is what it holds after a piece, an ask and a write
 abbrev pub FeedHolds : (role : Role) → Config role → Endpoint → (piece : List ℕ) → Type 0
-FeedHolds role config endpoint piece = HoldsUnfinished role endpoint → All IsOctet piece → HoldsUnfinished role (after_feed role config endpoint piece).endpoint
+FeedHolds role config endpoint piece =
+    HoldsUnfinished role endpoint → All IsOctet piece → HoldsUnfinished role (after_feed role config endpoint piece).endpoint
 
 abbrev pub AskHolds : (role : Role) → Config role → Endpoint → Ask → Type 0
-AskHolds role config endpoint ask = HoldsUnfinished role endpoint → AskReadsBack ask → HoldsUnfinished role (after_ask role config endpoint ask)
+AskHolds role config endpoint ask =
+    HoldsUnfinished role endpoint → AskReadsBack ask → HoldsUnfinished role (after_ask role config endpoint ask)
 
 abbrev pub WroteHolds : (role : Role) → Endpoint → (n : ℕ) → Type 0
 WroteHolds role endpoint n = HoldsUnfinished role endpoint → HoldsUnfinished role (after_wrote n endpoint)
@@ -79,12 +82,14 @@ pub record IsFedBy (role : Role) (endpoint : Endpoint) (stream : Stream) (piece 
 abbrev pub FeedGivesFrame : (role : Role) → Config role → Endpoint → Stream → (piece : List ℕ) → (taken : ℕ) → Frame → Type 0
 FeedGivesFrame role config endpoint stream piece taken frame =
     IsFedBy role endpoint stream piece → taken ≤ length piece → Completes stream (take taken piece) frame
-    → after_feed role config endpoint piece ≡ with_taken taken (after_judged role config endpoint (endpoint.unfinished ++ take taken piece) (Whole frame))
+    → after_feed role config endpoint piece
+    ≡ with_taken taken (after_judged role config endpoint (endpoint.unfinished ++ take taken piece) (Whole frame))
 
 -- the unfinished octets and the piece are still no frame, and show no fault: all of the piece is taken, and nothing comes
 abbrev pub FeedWaits : (role : Role) → Config role → Endpoint → Stream → (piece : List ℕ) → (taken : ℕ) → Type 0
 FeedWaits role config endpoint stream piece taken =
-    IsFedBy role endpoint stream piece → Waits stream piece taken → after_feed role config endpoint piece ≡ with_taken taken (goes_on_with endpoint (endpoint.unfinished ++ piece))
+    IsFedBy role endpoint stream piece → Waits stream piece taken
+    → after_feed role config endpoint piece ≡ with_taken taken (goes_on_with endpoint (endpoint.unfinished ++ piece))
 
 -- An octet of the piece shows a fault, so many octets after the piece's first: it is the last that is taken. The place at
 -- which the splitter reports the fault is that of this octet.
@@ -92,11 +97,14 @@ pub record FaultFed (role : Role) (config : Config role) (endpoint : Endpoint) (
   pub before : ℕ
   pub within : before < length piece
   pub at_is : at ≡ place_after stream.taken before
-  pub fed : after_feed role config endpoint piece ≡ with_taken (suc before) (after_judged role config endpoint (endpoint.unfinished ++ take (suc before) piece) (Wrong kind))
+  pub fed :
+      after_feed role config endpoint piece
+      ≡ with_taken (suc before) (after_judged role config endpoint (endpoint.unfinished ++ take (suc before) piece) (Wrong kind))
 
 abbrev pub FeedFindsFault : (role : Role) → Config role → Endpoint → Stream → (piece : List ℕ) → FrameFaultKind → (at : ℕ) → Type 0
 FeedFindsFault role config endpoint stream piece kind at =
-    IsFedBy role endpoint stream piece → kind ≢ OutOfMemory → FirstFault stream piece kind at → FaultFed role config endpoint stream piece kind at
+    IsFedBy role endpoint stream piece → kind ≢ OutOfMemory → FirstFault stream piece kind at
+    → FaultFed role config endpoint stream piece kind at
 
 -- A piece, where a server awaits the protocol header.
 
@@ -111,7 +119,8 @@ abbrev pub FeedEndsOpening : (role : Role) → Config role → Endpoint → (pie
 FeedEndsOpening role config endpoint piece taken =
     awaits_opening role endpoint.end.phase ≡ true → HoldsUnfinished role endpoint
     → taken ≤ length piece → endpoint.unfinished ++ take taken piece ≡ opening_read role
-    → after_feed role config endpoint piece ≡ with_taken taken (after_opening role config endpoint (endpoint.unfinished ++ take taken piece) Same)
+    → after_feed role config endpoint piece
+    ≡ with_taken taken (after_opening role config endpoint (endpoint.unfinished ++ take taken piece) Same)
 
 -- they begin it up to an octet of the piece that differs
 abbrev pub FeedLeavesOpening : (role : Role) → Config role → Endpoint → (piece : List ℕ) → (before : ℕ) → Type 0
@@ -119,4 +128,5 @@ FeedLeavesOpening role config endpoint piece before =
     awaits_opening role endpoint.end.phase ≡ true
     → before < length piece → IsProperPrefixOf (endpoint.unfinished ++ take before piece) (opening_read role)
     → slice_index piece before ≢ slice_index (opening_read role) (length endpoint.unfinished + before)
-    → after_feed role config endpoint piece ≡ with_taken (suc before) (after_opening role config endpoint (endpoint.unfinished ++ take (suc before) piece) Differs)
+    → after_feed role config endpoint piece
+    ≡ with_taken (suc before) (after_opening role config endpoint (endpoint.unfinished ++ take (suc before) piece) Differs)

@@ -43,6 +43,8 @@ GreetingReadsBack Server config = ReadsBack (start config)
 -- What an end of this configuration writes of itself reads back: what its verdicts put, and a server's start. It does
 -- where the configuration fits its fields, which is a law.
 pub record WritesReadBack (role : Role) (config : Config role) : Type 0 where
-  pub owed : (end : End) (number : ℕ) (reading : Reading) → AllReadBack (methods_put (facts_at config end number) (verdict_on (facts_at config end number) reading))
+  pub owed :
+      (end : End) (number : ℕ) (reading : Reading)
+      → AllReadBack (methods_put (facts_at config end number) (verdict_on (facts_at config end number) reading))
   pub too_large : (end : End) → AllReadBack (methods_put (facts_at config end 0) (Faults (Peer FrameError)))
   pub greeting : GreetingReadsBack role config

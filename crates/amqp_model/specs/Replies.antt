@@ -52,13 +52,15 @@ answered_by role entry kept = 0
 abbrev pub requested : Role → List ChannelEntry → List MethodKind
 requested role [] = []
 requested role (entry ∷ before) =
-    cond (is_opening role (note_of entry) (notes before)) [] (cond (counts (note_of entry) (notes before)) (requested role before ++ asked_by role entry) (requested role before))
+    cond (is_opening role (note_of entry) (notes before)) []
+    (cond (counts (note_of entry) (notes before)) (requested role before ++ asked_by role entry) (requested role before))
 
 -- how many replies there were in the life
 abbrev pub replied : Role → List ChannelEntry → ℕ
 replied role [] = 0
 replied role (entry ∷ before) =
-    cond (is_opening role (note_of entry) (notes before)) 0 (cond (counts (note_of entry) (notes before)) (replied role before + answered_by role entry (under_way before)) (replied role before))
+    cond (is_opening role (note_of entry) (notes before)) 0
+    (cond (counts (note_of entry) (notes before)) (replied role before + answered_by role entry (under_way before)) (replied role before))
 
 -- the requests of the life without a reply, the oldest first
 abbrev pub unreplied : Role → List ChannelEntry → List MethodKind

@@ -31,7 +31,8 @@ out_of_memory endpoint = record { end = as_failed endpoint.end; unfinished = end
 -- it stood for its history, and takes octets
 abbrev pub RunsOut : (role : Role) → Config role → Endpoint → History → (fed written : List ℕ) → Type 0
 RunsOut role config endpoint history fed written =
-    EndpointStandsFor role config endpoint history fed written → takes_octets endpoint.end.phase ≡ true → RanOut role config (out_of_memory endpoint) history fed written
+    EndpointStandsFor role config endpoint history fed written → takes_octets endpoint.end.phase ≡ true
+    → RanOut role config (out_of_memory endpoint) history fed written
 
 -- it still writes what it has put
 abbrev pub RanOutWrites : (role : Role) → Config role → Endpoint → History → (fed written : List ℕ) → (n : ℕ) → Type 0
@@ -42,4 +43,5 @@ RanOutWrites role config endpoint history fed written n =
 -- and takes no octet more
 abbrev pub RanOutStays : (role : Role) → Config role → Endpoint → History → (fed written piece : List ℕ) → Type 0
 RanOutStays role config endpoint history fed written piece =
-    RanOut role config endpoint history fed written → after_feed role config endpoint piece ≡ record { endpoint = endpoint; taken = 0; outcome = Found AlreadyFailed }
+    RanOut role config endpoint history fed written
+    → after_feed role config endpoint piece ≡ record { endpoint = endpoint; taken = 0; outcome = Found AlreadyFailed }

@@ -19,7 +19,8 @@ may_ask role _ awaits paused kind = false
 
 -- the end may put such a frame next; after its connection.close it puts none
 abbrev pub may_put : Role → List Note → Kind → Bool
-may_put role history kind = not (has_left history) && may_ask role (state role history) (awaits_flow_ok role history) (is_paused role history) kind
+may_put role history kind =
+    not (has_left history) && may_ask role (state role history) (awaits_flow_ok role history) (is_paused role history) kind
 
 -- the next note in flight to an end: what the other put is what this end took, then this note, then the rest
 abbrev pub IsNext : (theirs mine : List Note) → Carried → Type 0
@@ -31,8 +32,12 @@ IsNext theirs mine next = (later : List Carried) × (put_by theirs ≡ taken_by 
 pub data Acts (role : Role) (theirs : List Note) : List Note → List Note → Type 0 where
   asks : {mine : List Note} (kind : Kind) (frame : Frame) → may_put role mine kind ≡ true → Acts role theirs mine (Put kind frame ∷ mine)
   leaves : {mine : List Note} → Acts role theirs mine (Leaving ∷ mine)
-  takes : {mine : List Note} (kind : Kind) (frame : Frame) (event : Event) → IsNext theirs mine (Carry kind frame) → verdict role mine kind ≡ GoesOn event None → Acts role theirs mine (Took kind frame ∷ mine)
-  replies : {mine : List Note} (kind : Kind) (frame : Frame) (event : Event) (reply : Kind) (answer : Frame) → IsNext theirs mine (Carry kind frame) → verdict role mine kind ≡ GoesOn event (Some reply) → Acts role theirs mine (Put reply answer ∷ Took kind frame ∷ mine)
+  takes :
+      {mine : List Note} (kind : Kind) (frame : Frame) (event : Event) → IsNext theirs mine (Carry kind frame)
+      → verdict role mine kind ≡ GoesOn event None → Acts role theirs mine (Took kind frame ∷ mine)
+  replies :
+      {mine : List Note} (kind : Kind) (frame : Frame) (event : Event) (reply : Kind) (answer : Frame) → IsNext theirs mine (Carry kind frame)
+      → verdict role mine kind ≡ GoesOn event (Some reply) → Acts role theirs mine (Put reply answer ∷ Took kind frame ∷ mine)
 
 -- the notes of the client and of the server after any acts of the two, in any order
 pub data Run : (client server : List Note) → Type 0 where

@@ -59,7 +59,8 @@ other_notes Client w = w.server
 other_notes Server w = w.client
 
 abbrev pub after : World → Step → World
-after w (Ask role kind frame) = cond (may_put role (notes_at role w) kind) (stepped role (Put kind frame ∷ notes_at role w) w) (refused_step w)
+after w (Ask role kind frame) =
+    cond (may_put role (notes_at role w) kind) (stepped role (Put kind frame ∷ notes_at role w) w) (refused_step w)
 after w (Take role notes) = stepped role (take_many notes role (other_notes role w) (notes_at role w)) w
 after w (Leave role) = stepped role (Leaving ∷ notes_at role w) w
 
@@ -109,19 +110,25 @@ pub record CrossingCloses (f : ℕ → Frame) : Type 0 where
   pub lives_of_server : lives Server (crossing_closes f).server ≡ 2
   pub client_is : state Client (crossing_closes f).client ≡ State.Open
   pub server_is : state Server (crossing_closes f).server ≡ State.Open
-  pub client_took : verdicts Client (crossing_closes f).client ≡ GoesOn Opened None ∷ GoesOn Quiet (Some CloseOk) ∷ GoesOn ClosedByUs None ∷ GoesOn Opened None ∷ []
-  pub server_took : verdicts Server (crossing_closes f).server ≡ GoesOn Opened (Some OpenOk) ∷ GoesOn Quiet (Some CloseOk) ∷ GoesOn ClosedByUs None ∷ GoesOn Opened (Some OpenOk) ∷ []
+  pub client_took :
+      verdicts Client (crossing_closes f).client
+      ≡ GoesOn Opened None ∷ GoesOn Quiet (Some CloseOk) ∷ GoesOn ClosedByUs None ∷ GoesOn Opened None ∷ []
+  pub server_took :
+      verdicts Server (crossing_closes f).server
+      ≡ GoesOn Opened (Some OpenOk) ∷ GoesOn Quiet (Some CloseOk) ∷ GoesOn ClosedByUs None ∷ GoesOn Opened (Some OpenOk) ∷ []
   pub to_server : (life : ℕ) → (sent Client life (crossing_closes f).client ≡ []) × (acted Server life (crossing_closes f).server ≡ [])
   pub to_client : (life : ℕ) → (sent Server life (crossing_closes f).server ≡ []) × (acted Client life (crossing_closes f).client ≡ [])
 
 -- The server closes; the client's close-ok and its next open are taken one after the other.
 abbrev pub closed_and_reopened : (ℕ → Frame) → World
-closed_and_reopened f = replay (on_open_channel (f 1) (Ask Server Close (f 4) ∷ Take Client ALL ∷ Ask Client Open (f 6) ∷ Take Server ALL ∷ []))
+closed_and_reopened f =
+    replay (on_open_channel (f 1) (Ask Server Close (f 4) ∷ Take Client ALL ∷ Ask Client Open (f 6) ∷ Take Server ALL ∷ []))
 
 pub record ClosedAndReopened (f : ℕ → Frame) : Type 0 where
   pub refused : (closed_and_reopened f).refused ≡ []
   pub client_took : verdicts Client (closed_and_reopened f).client ≡ GoesOn Opened None ∷ GoesOn ClosedByPeer (Some CloseOk) ∷ []
-  pub server_took : verdicts Server (closed_and_reopened f).server ≡ GoesOn Opened (Some OpenOk) ∷ GoesOn ClosedByUs None ∷ GoesOn Opened (Some OpenOk) ∷ []
+  pub server_took :
+      verdicts Server (closed_and_reopened f).server ≡ GoesOn Opened (Some OpenOk) ∷ GoesOn ClosedByUs None ∷ GoesOn Opened (Some OpenOk) ∷ []
 
 -- The server closes right after its open-ok, before the client has taken that; the client opens again.
 abbrev pub closed_at_once : (ℕ → Frame) → World
@@ -197,8 +204,11 @@ paused_server f =
 
 pub record PausedServer (f : ℕ → Frame) : Type 0 where
   pub refused : (paused_server f).refused ≡ 5 ∷ 7 ∷ []
-  pub server_took : verdicts Server (paused_server f).server ≡ GoesOn Opened (Some OpenOk) ∷ GoesOn (FlowAsked false) (Some (FlowOk false)) ∷ []
-  pub client_took : verdicts Client (paused_server f).client ≡ GoesOn Opened None ∷ GoesOn (FlowAnswered false) None ∷ GoesOn Acted None ∷ GoesOn Acted None ∷ []
+  pub server_took :
+      verdicts Server (paused_server f).server ≡ GoesOn Opened (Some OpenOk) ∷ GoesOn (FlowAsked false) (Some (FlowOk false)) ∷ []
+  pub client_took :
+      verdicts Client (paused_server f).client
+      ≡ GoesOn Opened None ∷ GoesOn (FlowAnswered false) None ∷ GoesOn Acted None ∷ GoesOn Acted None ∷ []
   pub sent_to_server : sent Client 1 (paused_server f).client ≡ f 4 ∷ []
   pub acted_by_server : acted Server 1 (paused_server f).server ≡ f 4 ∷ []
   pub sent_to_client : sent Server 1 (paused_server f).server ≡ f 4 ∷ f 8 ∷ f 9 ∷ []
@@ -222,7 +232,9 @@ restarted_server f =
 
 pub record RestartedServer (f : ℕ → Frame) : Type 0 where
   pub refused : (restarted_server f).refused ≡ 8 ∷ []
-  pub client_took : verdicts Client (restarted_server f).client ≡ GoesOn Opened None ∷ GoesOn (FlowAnswered false) None ∷ GoesOn (FlowAnswered true) None ∷ GoesOn Acted None ∷ []
+  pub client_took :
+      verdicts Client (restarted_server f).client
+      ≡ GoesOn Opened None ∷ GoesOn (FlowAnswered false) None ∷ GoesOn (FlowAnswered true) None ∷ GoesOn Acted None ∷ []
   pub acted_by_client : acted Client 1 (restarted_server f).client ≡ f 4 ∷ f 7 ∷ f 10 ∷ []
   pub client_holds : pauses_other Client (restarted_server f).client ≡ false
   pub server_is : is_paused Server (restarted_server f).server ≡ false
@@ -232,7 +244,8 @@ abbrev pub message_then_close : (ℕ → Frame) → World
 message_then_close f = replay (on_open_channel (f 1) (Ask Server (Other false) (f 4) ∷ Ask Server Close (f 5) ∷ Take Client ALL ∷ []))
 
 pub record MessageThenClose (f : ℕ → Frame) : Type 0 where
-  pub client_took : verdicts Client (message_then_close f).client ≡ GoesOn Opened None ∷ GoesOn Acted None ∷ GoesOn ClosedByPeer (Some CloseOk) ∷ []
+  pub client_took :
+      verdicts Client (message_then_close f).client ≡ GoesOn Opened None ∷ GoesOn Acted None ∷ GoesOn ClosedByPeer (Some CloseOk) ∷ []
   pub sent_to_client : sent Server 1 (message_then_close f).server ≡ f 4 ∷ []
   pub acted_by_client : acted Client 1 (message_then_close f).client ≡ f 4 ∷ []
 
@@ -249,11 +262,14 @@ pub record DroppedClient (f : ℕ → Frame) : Type 0 where
 
 -- The server puts connection.close while a message is in flight to it: it drops that, and answers no close.
 abbrev pub server_leaves : (ℕ → Frame) → World
-server_leaves f = replay (on_open_channel (f 1) (Ask Client (Other false) (f 4) ∷ Leave Server ∷ Ask Client Close (f 6) ∷ Take Server ALL ∷ Ask Server Close (f 8) ∷ []))
+server_leaves f =
+    replay
+    (on_open_channel (f 1) (Ask Client (Other false) (f 4) ∷ Leave Server ∷ Ask Client Close (f 6) ∷ Take Server ALL ∷ Ask Server Close (f 8) ∷ []))
 
 pub record ServerLeaves (f : ℕ → Frame) : Type 0 where
   pub refused : (server_leaves f).refused ≡ 8 ∷ []
-  pub server_took : verdicts Server (server_leaves f).server ≡ GoesOn Opened (Some OpenOk) ∷ GoesOn Discarded None ∷ GoesOn Discarded None ∷ []
+  pub server_took :
+      verdicts Server (server_leaves f).server ≡ GoesOn Opened (Some OpenOk) ∷ GoesOn Discarded None ∷ GoesOn Discarded None ∷ []
   pub sent_to_server : sent Client 1 (server_leaves f).client ≡ f 4 ∷ []
   pub acted_by_server : acted Server 1 (server_leaves f).server ≡ []
   pub server_is : state Server (server_leaves f).server ≡ State.Open

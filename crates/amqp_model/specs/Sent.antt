@@ -45,7 +45,8 @@ pub record Telling : Type 0 where
 -- the item that a frame ends after the earlier ones of its channel and its life, if it ends one
 abbrev pub ended_by : (channel life : ℕ) → (earlier : List Frame) → Frame → List Telling
 ended_by channel life earlier frame =
-    map (λ item. record { channel = channel; life = life; item = item }) (option_to_list (item_ended (gathering (reverse (map payload_in earlier))) (payload_in frame)))
+    map (λ item. record { channel = channel; life = life; item = item })
+    (option_to_list (item_ended (gathering (reverse (map payload_in earlier))) (payload_in frame)))
 
 -- the item that a frame taken in this life ends
 abbrev ended_by_taken : Role → (channel life : ℕ) → Frame → (before : History) → List Telling
@@ -58,7 +59,9 @@ ended_by_put role channel life frame before = ended_by channel life (sent role l
 -- the item that a frame taken on a channel above 0 ends, where the end acts on it
 abbrev pub told_at : Role → (channel : ℕ) → Frame → (before : History) → List Telling
 told_at role zero frame before = []
-told_at role (suc n) frame before = cond (acts_next role (notes_on (suc n) before)) (ended_by_taken role (suc n) (life_on role (suc n) (Took frame ∷ before)) frame before) []
+told_at role (suc n) frame before =
+    cond (acts_next role (notes_on (suc n) before)) (ended_by_taken role (suc n) (life_on role (suc n) (Took frame ∷ before)) frame before)
+    []
 
 -- the item that a frame put on a channel above 0 ends
 abbrev pub said_at : Role → (channel : ℕ) → Frame → (before : History) → List Telling
@@ -73,7 +76,8 @@ goes_on_with role config frame before = goes_on (end_verdict config (end_from ro
 -- fault with is none
 abbrev pub told : (role : Role) → Config role → History → List Telling
 told role config [] = []
-told role config (Took frame ∷ before) = told role config before ++ cond (goes_on_with role config frame before) (told_at role frame.channel frame before) []
+told role config (Took frame ∷ before) =
+    told role config before ++ cond (goes_on_with role config frame before) (told_at role frame.channel frame before) []
 told role config (Put frame ∷ before) = told role config before
 
 -- all the items that the end sent, in the order of their last frames
@@ -84,4 +88,5 @@ said role (Took frame ∷ before) = said role before
 
 -- the items of one channel and life, in order
 abbrev pub items_of : (channel life : ℕ) → List Telling → List Item
-items_of channel life tellings = map (λ telling. telling.item) (filter (λ telling. (telling.channel == channel) && (telling.life == life)) tellings)
+items_of channel life tellings =
+    map (λ telling. telling.item) (filter (λ telling. (telling.channel == channel) && (telling.life == life)) tellings)

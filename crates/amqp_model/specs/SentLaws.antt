@@ -17,12 +17,14 @@ use Rattle.amqp_model.specs.Sent.{items_in, items_sent, items_acted, life_on, to
 
 -- in each life, the items that an end acted on are a prefix of those that the other sent
 abbrev pub ActsOnPrefixOfItems : Role → (channel : ℕ) → (mine theirs : History) → Type 0
-ActsOnPrefixOfItems role channel mine theirs = (life : ℕ) → IsPrefixOf (items_acted role channel life mine) (items_sent (other_end role) channel life theirs)
+ActsOnPrefixOfItems role channel mine theirs =
+    (life : ℕ) → IsPrefixOf (items_acted role channel life mine) (items_sent (other_end role) channel life theirs)
 
 -- all the items that the other sent in a life that its close ended were acted on
 abbrev pub AllItemsActedOnAtClose : Role → (channel : ℕ) → (mine theirs : History) → Type 0
 AllItemsActedOnAtClose role channel mine theirs =
-    (life : ℕ) → EndedByPeer role life (notes_on channel mine) → items_acted role channel life mine ≡ items_sent (other_end role) channel life theirs
+    (life : ℕ) → EndedByPeer role life (notes_on channel mine)
+    → items_acted role channel life mine ≡ items_sent (other_end role) channel life theirs
 
 -- all the items that the other sent in the life of a live end were acted on, where the other's connection.close comes next
 abbrev pub AllItemsActedOnAtConnectionClose : Role → (channel : ℕ) → (mine theirs : History) → Type 0
@@ -46,7 +48,8 @@ pub record EndedByConnectionClose (role : Role) (channel life : ℕ) (history : 
 -- all the items that the other sent in such a life were acted on
 abbrev pub AllItemsActedOnOfEnded : Role → (channel : ℕ) → (mine theirs : History) → Type 0
 AllItemsActedOnOfEnded role channel mine theirs =
-    (life : ℕ) → EndedByConnectionClose role channel life mine → items_acted role channel life mine ≡ items_sent (other_end role) channel life theirs
+    (life : ℕ) → EndedByConnectionClose role channel life mine
+    → items_acted role channel life mine ≡ items_sent (other_end role) channel life theirs
 
 -- the items that the other sent in the life of a live end are those that the frames acted on and then the messages on
 -- their way encode, read one after the other
@@ -55,7 +58,8 @@ ItemsSentAreActedOnOrInFlight role channel mine theirs =
     (rest : List Carried)
     → IsLive role (notes_on channel mine)
     → put_by (notes_on channel theirs) ≡ taken_by (notes_on channel mine) ++ rest
-    → items_sent (other_end role) channel (life_on role channel mine) theirs ≡ items_in (acted role (life_on role channel mine) (notes_on channel mine) ++ message_frames rest)
+    → items_sent (other_end role) channel (life_on role channel mine) theirs
+    ≡ items_in (acted role (life_on role channel mine) (notes_on channel mine) ++ message_frames rest)
 
 -- the end sent nothing, and acted on nothing, before the first life of a channel
 abbrev pub NoItemsBeforeFirstLife : Role → (channel : ℕ) → History → Type 0
@@ -69,7 +73,8 @@ TellsWhatIsActedOn role config channel history =
 -- a frame that the end finds fault with tells nothing
 abbrev pub FaultTellsNothing : (role : Role) → Config role → History → Frame → Type 0
 FaultTellsNothing role config history frame =
-    goes_on (end_verdict config (end_from role config false history) frame) ≡ false → told role config (then_taken config (end_from role config false history) frame history) ≡ told role config history
+    goes_on (end_verdict config (end_from role config false history) frame) ≡ false
+    → told role config (then_taken config (end_from role config false history) frame history) ≡ told role config history
 
 -- the items said on a channel in a life are those that the end sent in it
 abbrev pub SaysWhatIsSent : Role → (channel : ℕ) → History → Type 0
@@ -77,4 +82,5 @@ SaysWhatIsSent role channel history = (life : ℕ) → items_of channel life (sa
 
 -- nothing is told or said of channel 0
 abbrev pub NothingOfChannel0 : (role : Role) → Config role → History → Type 0
-NothingOfChannel0 role config history = (life : ℕ) → (items_of 0 life (told role config history) ≡ []) × (items_of 0 life (said role history) ≡ [])
+NothingOfChannel0 role config history =
+    (life : ℕ) → (items_of 0 life (told role config history) ≡ []) × (items_of 0 life (said role history) ≡ [])

@@ -69,4 +69,5 @@ HasLeft history = (later : List Note) × (before : List Note) × (history ≡ la
 -- the notes up to the first connection.close that the end put, all of them where it put none
 pub data IsBeforeLeaving (history : List Note) : List Note → Type 0 where
   never_left : (HasLeft history → ⊥) → IsBeforeLeaving history history
-  left_once : {notes : List Note} (later : List Note) → history ≡ later ++ Leaving ∷ notes → (HasLeft notes → ⊥) → IsBeforeLeaving history notes
+  left_once :
+      {notes : List Note} (later : List Note) → history ≡ later ++ Leaving ∷ notes → (HasLeft notes → ⊥) → IsBeforeLeaving history notes

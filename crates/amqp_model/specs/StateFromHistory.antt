@@ -31,7 +31,8 @@ has_taken kind (_ ∷ before) = has_taken kind before
 -- the end took connection.close, and had not put one before
 abbrev pub closed_by_peer : List ChannelEntry → Bool
 closed_by_peer [] = false
-closed_by_peer (TookHere reading frame ∷ before) = (is_call kinds.ConnectionClose reading && not (has_put kinds.ConnectionClose before)) || closed_by_peer before
+closed_by_peer (TookHere reading frame ∷ before) =
+    (is_call kinds.ConnectionClose reading && not (has_put kinds.ConnectionClose before)) || closed_by_peer before
 closed_by_peer (_ ∷ before) = closed_by_peer before
 
 -- the other end closed the connection, or answered this end's close
@@ -45,7 +46,8 @@ is_negotiated Server entries = has_put kinds.ConnectionOpenOk entries
 
 -- the next step of the handshake, by what has been done of it
 abbrev pub step_from : Role → List ChannelEntry → HandshakeStep
-step_from Client entries = cond (has_taken kinds.ConnectionTune entries) AwaitsOpenOk (cond (has_taken kinds.ConnectionStart entries) AwaitsTune AwaitsStart)
+step_from Client entries =
+    cond (has_taken kinds.ConnectionTune entries) AwaitsOpenOk (cond (has_taken kinds.ConnectionStart entries) AwaitsTune AwaitsStart)
 step_from Server entries =
     cond (has_taken kinds.ConnectionTuneOk entries) AwaitsOpen
     (cond (has_taken kinds.ConnectionStartOk entries) AwaitsTuneOk (cond (has_put kinds.ConnectionStart entries) AwaitsStartOk AwaitsProtocolHeader))
@@ -67,16 +69,24 @@ awaits_tune_ok phase = false
 -- what the tune-ok says that the client put, or that the server awaited, took and accepted
 abbrev pub agreed_from : (role : Role) → Config role → List ChannelEntry → Option Agreed
 agreed_from role config [] = None
-agreed_from Client config (PutHere (Calls method) frame ∷ before) = cond (same_kind method.kind kinds.ConnectionTuneOk) (Some (agreed_in method)) (agreed_from Client config before)
+agreed_from Client config (PutHere (Calls method) frame ∷ before) =
+    cond (same_kind method.kind kinds.ConnectionTuneOk) (Some (agreed_in method)) (agreed_from Client config before)
 agreed_from Server config (TookHere (Calls method) frame ∷ before) =
-    cond (same_kind method.kind kinds.ConnectionTuneOk && awaits_tune_ok (phase_from Server false before)) (accepted config (agreed_in method)) (agreed_from Server config before)
+    cond (same_kind method.kind kinds.ConnectionTuneOk && awaits_tune_ok (phase_from Server false before))
+    (accepted config (agreed_in method)) (agreed_from Server config before)
 agreed_from role config (_ ∷ before) = agreed_from role config before
 
 -- The channels above 0.
 
 -- what stands beside the state of an Open channel
 abbrev pub life_from : Role → List ChannelEntry → Life
-life_from role entries = record { content = under_way entries; paused = is_paused role (notes entries); awaits = awaits_flow_ok role (notes entries); requests = unreplied role entries }
+life_from role entries =
+    record {
+      content = under_way entries;
+      paused = is_paused role (notes entries);
+      awaits = awaits_flow_ok role (notes entries);
+      requests = unreplied role entries;
+    }
 
 abbrev pub channel_in : State → Life → Channel
 channel_in State.Free life = Free
@@ -99,4 +109,8 @@ channel_at role history (suc n) = channel_from role (entries_on (suc n) history)
 
 abbrev pub end_from : (role : Role) → Config role → (failed : Bool) → History → End
 end_from role config failed history =
-    record { phase = phase_from role failed (entries_on 0 history); agreed = agreed_from role config (entries_on 0 history); channels = channel_at role history }
+    record {
+      phase = phase_from role failed (entries_on 0 history);
+      agreed = agreed_from role config (entries_on 0 history);
+      channels = channel_at role history;
+    }

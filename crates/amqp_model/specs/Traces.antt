@@ -43,7 +43,8 @@ word_of (Kind.Other begins_content) = Other
 
 -- the note of a frame
 abbrev pub noted : Direction → Frame → Noted
-noted direction frame = record { channel = frame.channel; direction = direction; word = cond (frame.channel == 0) Other (word_of (kind_of (reading frame))) }
+noted direction frame =
+    record { channel = frame.channel; direction = direction; word = cond (frame.channel == 0) Other (word_of (kind_of (reading frame))) }
 
 -- the frame calls the method that the word names; an Other calls none of these
 abbrev pub is_word_of : Word → Reading → Bool
@@ -85,7 +86,8 @@ TracePuts frames history = trace (then_put frames history) ≡ trace history ++ 
 -- a frame that is taken is noted, and then those that it makes the end put
 abbrev pub TraceTakes : (role : Role) → Config role → History → Frame → Type 0
 TraceTakes role config history frame =
-    trace (then_taken config (end_of config history) frame history) ≡ trace history ++ noted IsTaken frame ∷ map (noted IsPut) (end_puts config (end_of config history) frame)
+    trace (then_taken config (end_of config history) frame history)
+    ≡ trace history ++ noted IsTaken frame ∷ map (noted IsPut) (end_puts config (end_of config history) frame)
 
 -- the item that an event tells: a message, a flow or a flow-ok
 abbrev pub item_told : Event → Option Item
@@ -127,7 +129,9 @@ telling_above (suc n) life item = telling_at (suc n) life item
 -- one method.
 abbrev pub SaysMethod : Role → (channel : ℕ) → Method → History → Type 0
 SaysMethod role channel method history =
-    ReadsBack method → said role (Put (method_frame channel method) ∷ history) ≡ said role history ++ telling_above channel (life_on role channel history) (item_of method (sort_of method))
+    ReadsBack method
+    → said role (Put (method_frame channel method) ∷ history) ≡ said role history
+    ++ telling_above channel (life_on role channel history) (item_of method (sort_of method))
 
 -- the item of a message
 abbrev pub item_of_message : Message → Item
@@ -138,8 +142,10 @@ item_of_message (Whole content) = WholeContent content
 abbrev pub SaysMessage : (role : Role) → Config role → History → (channel : ℕ) → Message → List Frame → Type 0
 SaysMessage role config history channel message frames =
     WritesReadBack role config → Lawful role config false history
-    → is_made (Send channel message) ≡ true → AskReadsBack (Send channel message) → ask_verdict role (end_of config history) (Send channel message) ≡ Puts frames
-    → said role (then_put frames history) ≡ said role history ++ telling_at channel (life_on role channel history) (Some (item_of_message message))
+    → is_made (Send channel message) ≡ true → AskReadsBack (Send channel message)
+    → ask_verdict role (end_of config history) (Send channel message) ≡ Puts frames
+    → said role (then_put frames history)
+    ≡ said role history ++ telling_at channel (life_on role channel history) (Some (item_of_message message))
 
 -- What an ask says: a message that is sent says itself, and a flow that is asked its flow, each on its channel in the life
 -- that the channel has then. All other asks say nothing.

@@ -65,4 +65,5 @@ verdict_at role State.Open awaits kind = when_open role awaits kind
 
 -- the verdict on the next note: an end that has put connection.close drops whatever comes on a channel
 abbrev pub verdict : Role → List Note → Kind → Verdict
-verdict role history kind = cond (has_left history) (GoesOn Discarded None) (verdict_at role (state role history) (awaits_flow_ok role history) kind)
+verdict role history kind =
+    cond (has_left history) (GoesOn Discarded None) (verdict_at role (state role history) (awaits_flow_ok role history) kind)

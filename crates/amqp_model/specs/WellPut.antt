@@ -17,7 +17,9 @@ use Rattle.amqp_model.specs.Agreement.{PairWrites, smaller_limits}
 -- What the frame says: a method that its sender may send, of class 10, connection, on channel 0 and nowhere else; or, above
 -- channel 0, a content header or a part of a body. Each parses.
 pub data SaysWell (role : Role) (channel : ℕ) : Reading → Type 0 where
-  calls : (method : Method) → sends (is_client role) method.kind ≡ true → (class_of method.kind == 10) ≡ (channel == 0) → SaysWell role channel (Calls method)
+  calls :
+      (method : Method) → sends (is_client role) method.kind ≡ true → (class_of method.kind == 10) ≡ (channel == 0)
+      → SaysWell role channel (Calls method)
   heads : (size : ℕ) (properties : Properties) → channel ≢ 0 → SaysWell role channel (HeaderOf size properties)
   fills : (octets : List ℕ) → channel ≢ 0 → SaysWell role channel (BodyOf octets)
 
@@ -32,9 +34,11 @@ pub record IsWellPut (role : Role) (limits : Agreed) (frame : Frame) : Type 0 wh
 -- so is each frame that an end of a pair puts
 abbrev pub PutsWell : Role → Config Client → Config Server → (mine theirs : History) → Type 0
 PutsWell role client_config server_config mine theirs =
-    PairWrites role client_config server_config mine theirs → AllByRecursion (λ frame. IsWellPut role (smaller_limits client_config server_config) frame) (frames_put mine)
+    PairWrites role client_config server_config mine theirs
+    → AllByRecursion (λ frame. IsWellPut role (smaller_limits client_config server_config) frame) (frames_put mine)
 
 -- and each that comes next to it
 abbrev pub NextIsWellPut : Role → Config Client → Config Server → (mine theirs : History) → Frame → Type 0
 NextIsWellPut role client_config server_config mine theirs frame =
-    PairWrites role client_config server_config mine theirs → ComesNext theirs mine frame → IsWellPut (other_end role) (smaller_limits client_config server_config) frame
+    PairWrites role client_config server_config mine theirs → ComesNext theirs mine frame
+    → IsWellPut (other_end role) (smaller_limits client_config server_config) frame

@@ -38,7 +38,8 @@ EachFitsNext prefix payload later = AreWholeMessages (prefix ++ payload ∷ late
 -- what an end puts on a channel in a life is whole messages
 abbrev pub PutsWholeMessages : (role : Role) → Config role → (failed : Bool) → History → (n life : ℕ) → Type 0
 PutsWholeMessages role config failed history n life =
-    WritesReadBack role config → Lawful role config failed history → AreWholeMessages (map payload_in (sent role life (notes_on (suc n) history)))
+    WritesReadBack role config → Lawful role config failed history
+    → AreWholeMessages (map payload_in (sent role life (notes_on (suc n) history)))
 
 -- a message that comes next to a Running end, on a channel that it has Open, fits after the content that it keeps
 abbrev pub FitsWhatIsKept : Role → Config Client → Config Server → (mine theirs : History) → (n : ℕ) → Frame → Type 0

@@ -80,4 +80,6 @@ mutual
 -- The fault of octets no prefix of which encodes a table. The octets pass the input only at the outer count.
 pub data FirstFault (octets : List ℕ) (fault : ValueFault) : Type 0 where
   ends : PassesCounted octets → fault ≡ fault_at 0 Ends → FirstFault octets fault
-  inside : (field body after : List ℕ) → octets ≡ field ++ after → EncodesLongString body field → FaultInPairs 31 4 body fault → FirstFault octets fault
+  inside :
+      (field body after : List ℕ) → octets ≡ field ++ after → EncodesLongString body field → FaultInPairs 31 4 body fault
+      → FirstFault octets fault
