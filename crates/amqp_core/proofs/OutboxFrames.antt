@@ -6,21 +6,16 @@ use Rattle.std.proofs.Math.Seq.{take-append-add, drop-append-add}
 use Rattle.byteorder.specs.Endian.{big_bytes}
 use Rattle.amqp_frame.specs.declared.frames.FrameKind.{FrameKind}
 use Rattle.amqp_frame.specs.declared.frames.FrameKind.TheVariants.{Method, Header, Body, Heartbeat}
-use Rattle.amqp_frame.specs.Frame.{Frame, octets, type_octet, END}
+use Rattle.amqp_frame.specs.Frame.{Frame, header, octets, type_octet, END}
 use Rattle.amqp_model.specs.Arrangement.{is_leaving, is_method, names_leaving}
-use Rattle.amqp_core.specs.OutboxFrames.{ended}
+use Rattle.amqp_frame.specs.Writing.{FinishesFrame}
 use Rattle.amqp_core.specs.OutboxSlots.{slot_of}
 use Rattle.amqp_core.proofs.OutboxRows.{length-octets}
 
--- a frame that was begun, and of which the payload was appended, is whole once it is ended
-pub ended-is : (f : Frame) (old octets_then : List ℕ) (at : ℕ) → at ≡ length old → octets_then ≡ (old ++ (type_octet f.kind ∷ (big_bytes 2 f.channel ++ big_bytes 4 0))) ++ f.payload → ended at octets_then ≡ old ++ octets f
-unfolding octets
-ended-is f old octets_then at e g =
-    let header = type_octet f.kind ∷ (big_bytes 2 f.channel ++ big_bytes 4 0) in
-    let a : octets_then ≡ old ++ (header ++ f.payload) = g ∙ append_assoc old header f.payload in
-    let b : take (at + 3) octets_then ≡ old ++ (type_octet f.kind ∷ big_bytes 2 f.channel) = ap₂ (λ n xs. take (n + 3) xs) e a ∙ take-append-add old (header ++ f.payload) 3 in
-    let c : drop (at + 7) octets_then ≡ f.payload = ap₂ (λ n xs. drop (n + 7) xs) e a ∙ drop-append-add old (header ++ f.payload) 7 in
-    ap₂ (λ xs ys. xs ++ (big_bytes 4 (length ys) ++ (ys ++ END ∷ []))) b c ∙ append_assoc old (type_octet f.kind ∷ big_bytes 2 f.channel) (big_bytes 4 (length f.payload) ++ (f.payload ++ END ∷ []))
+-- a frame that was begun, and of which the payload was appended, is whole once it is finished
+pub finished-is : (f : Frame) (old mid new : List ℕ) (at : ℕ) → at ≡ length old → mid ≡ (old ++ header f.kind f.channel 0) ++ f.payload
+    → FinishesFrame at mid new → new ≡ old ++ octets f
+finished-is f old mid new at e g finishes = finishes old f (sym e) (g ∙ append_assoc old (header f.kind f.channel 0) f.payload)
 
 -- the payload of a whole frame
 pub payload-is : (f : Frame) (frame : List ℕ) → frame ≡ octets f → take (length frame - 1 - 7) (drop 7 frame) ≡ f.payload

@@ -18,7 +18,3 @@ HeaderReadsBack header = header_at (plain_header header) ≡ Some header
 -- the frame of a part of a body
 abbrev pub body_frame : (channel : ℕ) → List ℕ → Frame
 body_frame channel part = payload_frame channel (Body part)
-
--- octets with a frame that was begun at a place, once it is ended: its size is patched in, and its end octet appended
-abbrev pub ended : (at : ℕ) → List ℕ → List ℕ
-ended at octets = take (at + 3) octets ++ (big_bytes 4 (length (drop (at + 7) octets)) ++ (drop (at + 7) octets ++ END ∷ []))

@@ -10,6 +10,7 @@ mod channel;
 mod channels;
 mod codes;
 mod config;
+mod display;
 mod end;
 mod endpoint;
 mod events;

@@ -1,7 +1,7 @@
-//! Frames, appended to octets: a payload is written in its place, and its size is patched into the hole before it.
-ghost use Rattle.std.specs.Prelude.{◌≡◌, ◌≢◌, ◌+◌, ◌^◌, ◌<◌, ◌≤◌, [], ◌∷◌, ◌++◌, length, take, drop, IfErr, OnOk, OnErr, Err};
-ghost use Rattle.byteorder.specs.Endian.{big_bytes};
-ghost use Rattle.amqp_frame.specs.Frame.{Frame, octets as encoded, type_octet};
+//! Frames, appended to octets: a payload is written in its place, between the start of its frame and the end octet.
+ghost use Rattle.std.specs.Prelude.{◌≡◌, ◌≢◌, ◌+◌, ◌-◌, ◌^◌, ◌<◌, ◌≤◌, [], ◌∷◌, ◌++◌, length, take, drop, IfErr, OnOk, OnErr, Err};
+ghost use Rattle.amqp_frame.specs.Frame.{Frame, header, octets as encoded};
+ghost use Rattle.amqp_frame.specs.Writing.{FinishesFrame};
 ghost use Rattle.amqp_method.specs.Faults as method_faults;
 ghost use Rattle.amqp_method.specs.HeaderView.{header_view};
 ghost use Rattle.amqp_method.specs.MethodView.{method_view};
@@ -10,22 +10,18 @@ ghost use Rattle.amqp_model.specs.Arrangement.{names_leaving};
 ghost use Rattle.amqp_model.specs.Closes.{method_frame};
 ghost use Rattle.amqp_model.specs.Methods.{ReadsBack};
 ghost use Rattle.amqp_core.specs.OutboxFaults.{out_of_memory, too_long};
-ghost use Rattle.amqp_core.specs.OutboxFrames.{ended, header_frame, body_frame, HeaderReadsBack};
+ghost use Rattle.amqp_core.specs.OutboxFrames.{header_frame, body_frame, HeaderReadsBack};
 ghost use Rattle.amqp_core.specs.OutboxSlots.{slot_of};
 
 use crate::faults::OutOfMemory;
 use crate::slots::Slot;
-use amqp_frame::FrameKind;
+use amqp_frame::{FrameKind, begin_frame, finish_frame};
 use amqp_method::{Header, Method, MethodFault, MethodFaultKind, write_header, write_method};
-use byteorder::{BigEndian, ByteOrder};
 use std::alloc::{AllocError, AllocFailed};
 use thiserror::Error;
 
 /// How many octets stand before a payload: the type, the channel and the payload's size.
 const HEADER_LENGTH: usize = 7;
-
-/// The octet that ends a frame.
-const FRAME_END: u8 = 0xce;
 
 /// Why a frame can't be staged.
 #[derive(Clone, Copy, PartialEq, Eq, Debug, Error)]
@@ -62,46 +58,33 @@ impl<T: Drop> From<AllocFailed<T>> for StageFault {
 }
 
 /// Begins a frame: its type and its channel, and a hole for the payload's size.
-fn begin_frame(octets: &mut Vec<u8>, kind: FrameKind, channel: u16) -> Result<(), StageFault>
-    ensures ok { OnOk result (octets.new.items ≡ octets.old.items ++ type_octet kind ∷ (big_bytes 2 channel ++ big_bytes 4 0)) }
+fn start_frame(octets: &mut Vec<u8>, kind: FrameKind, channel: u16) -> Result<(), StageFault>
+    ensures ok { OnOk result (octets.new.items ≡ octets.old.items ++ header kind channel 0) }
     ensures err { IfErr result (λ e. e ≡ out_of_memory) }
     ensures same { OnErr result (octets.new.items ≡ octets.old.items) }
 {
-    let mut header = [kind.octet(), 0, 0, 0, 0, 0, 0];
-    BigEndian::write_u16(&mut header[1..], channel);
-    octets.extend_from_slice(&header)?;
+    let Ok(_) = begin_frame(kind, channel, octets) else {
+        return Err(StageFault::OutOfMemory);
+    };
     Ok(())
-}
-
-/// Patches the size of a payload that stands last into the hole before it.
-fn patch_size(octets: &mut Vec<u8>, at: usize, size: u32)
-    requires { at + 7 ≤ length octets.old.items }
-    ensures { octets.new.items ≡ take (at + 3) octets.old.items ++ (big_bytes 4 size ++ drop (at + 7) octets.old.items) }
-{
-    let mut field = [0; 4];
-    BigEndian::write_u32(&mut field, size);
-    let hole = &mut octets.as_mut_slice()[at + 3..at + 7];
-    hole.copy_from_slice(&field);
 }
 
 /// Ends the frame that was begun at a place. A frame that can't be ended is taken back.
 fn end_frame(octets: &mut Vec<u8>, at: usize) -> Result<(), StageFault>
     requires { at + 7 ≤ length octets.old.items }
-    ensures ok { OnOk result (octets.new.items ≡ ended at octets.old.items) }
-    ensures fits { OnOk result (length (drop (at + 7) octets.old.items) < 2 ^ 32) }
-    ensures too_long { result ≡ Err too_long → 2 ^ 32 ≤ length (drop (at + 7) octets.old.items) }
+    ensures ok { OnOk result (FinishesFrame at octets.old.items octets.new.items) }
+    ensures fits { OnOk result (length octets.old.items - (at + 7) < 2 ^ 32) }
+    ensures too_long { result ≡ Err too_long → 2 ^ 32 ≤ length octets.old.items - (at + 7) }
     ensures back { OnErr result (octets.new.items ≡ take at octets.old.items) }
 {
-    let size = octets.len() - at - HEADER_LENGTH;
-    if size > u32::MAX as usize {
+    if octets.len() - at - HEADER_LENGTH > u32::MAX as usize {
         octets.truncate(at);
         return Err(StageFault::TooLong);
     }
-    patch_size(octets, at, size as u32);
-    if octets.push(FRAME_END).is_err() {
+    let Ok(()) = finish_frame(at, octets) else {
         octets.truncate(at);
         return Err(StageFault::OutOfMemory);
-    }
+    };
     Ok(())
 }
 
@@ -129,7 +112,7 @@ pub(crate) fn append_method(
 {
     amqp_method::encoded_is_read();
     let at = octets.len();
-    begin_frame(octets, FrameKind::Method, channel)?;
+    start_frame(octets, FrameKind::Method, channel)?;
     match write_method(method, octets) {
         Ok(()) => end_frame(octets, at),
         Err(fault) => {
@@ -153,7 +136,7 @@ pub(crate) fn append_header(
 {
     amqp_method::encoded_is_read();
     let at = octets.len();
-    begin_frame(octets, FrameKind::Header, channel)?;
+    start_frame(octets, FrameKind::Header, channel)?;
     match write_header(header, octets) {
         Ok(()) => end_frame(octets, at),
         Err(fault) => {
@@ -171,7 +154,7 @@ pub(crate) fn append_body(octets: &mut Vec<u8>, channel: u16, part: &[u8]) -> Re
     ensures same { OnErr result (octets.new.items ≡ octets.old.items) }
 {
     let at = octets.len();
-    begin_frame(octets, FrameKind::Body, channel)?;
+    start_frame(octets, FrameKind::Body, channel)?;
     let Ok(()) = octets.extend_from_slice(part) else {
         octets.truncate(at);
         return Err(StageFault::OutOfMemory);

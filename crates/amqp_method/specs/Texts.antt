@@ -1,9 +1,10 @@
 -- The printed texts of methods and content headers.
-use Rattle.std.specs.Prelude.{ℕ, List, [], ◌∷◌, ◌++◌, drop, map, Bool, true, false, Option, Some, None, codes}
+use Rattle.std.specs.Prelude.{ℕ, List, [], ◌∷◌, ◌++◌, drop, length, map, Bool, true, false, Option, Some, None, codes}
 use Rattle.std.specs.Fmt.{decimal}
-use Rattle.amqp_value.specs.Text.{quoted, text_of_table}
+use Rattle.amqp_value.specs.Text.{hexadecimal, quoted, text_of_table}
 use Rattle.amqp_method.specs.Arguments.{Argument, bit, octet, short, long, long_long, short_string, long_string, table, Call}
 use Rattle.amqp_method.specs.Kinds.{fields_of}
+use Rattle.amqp_method.specs.Messages.{Letter}
 use Rattle.amqp_method.specs.Methods.{FieldRow, row}
 use Rattle.amqp_method.specs.Plain.{left_by}
 use Rattle.amqp_method.specs.Properties.{PropertyRow, property_rows, ContentHeader}
@@ -74,3 +75,18 @@ parted false text = text
 -- the properties that are there, as a header's text has them, parted by spaces
 abbrev pub text_of_properties : List (Option Argument) → List ℕ
 text_of_properties properties = parted true (properties_text property_names properties)
+
+-- a body in hexadecimal, `-` where it has no octets
+abbrev pub body_text : List ℕ → List ℕ
+body_text [] = codes "-"
+body_text (x ∷ octets) = hexadecimal (x ∷ octets)
+
+-- the two lines of a content, each after a line feed
+abbrev pub content_text : Option (List (Option Argument)) → (body : List ℕ) → List ℕ
+content_text None body = []
+content_text (Some properties) body =
+    codes "\n  " ++ (text_of_header (record { body_size = length body; properties = properties }) ++ (codes "\n  body " ++ body_text body))
+
+-- the method, and below it the header and the body of a content
+abbrev pub text_of_message : Letter → List ℕ
+text_of_message message = text_of_method message.call ++ content_text message.properties message.body

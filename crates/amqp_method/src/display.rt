@@ -1,14 +1,16 @@
-//! Headers and properties in a format string.
+//! Headers, properties and messages in a format string.
 ghost use Rattle.std.specs.Prelude.{◌≡◌, ◌≤◌, ◌&&◌, length, is_none, Some};
 ghost use Rattle.std.specs.Fmt.{WritesOnOk};
 ghost use Rattle.amqp_method.specs.HeaderView.{header_view, properties_view};
+ghost use Rattle.amqp_method.specs.MessageView.{message_view};
 ghost use Rattle.amqp_method.specs.Lent.{value_view, lent_view, lent_views};
-ghost use Rattle.amqp_method.specs.Texts.{argument_text, space_text, parted, property_names, property_text, properties_text, text_of_properties, text_of_header};
+ghost use Rattle.amqp_method.specs.Texts.{argument_text, space_text, parted, property_names, property_text, properties_text, text_of_properties, text_of_header, body_text, content_text, text_of_message};
 
 use crate::headers::{Header, Properties};
+use crate::messages::Message;
 use crate::properties::{Lent, lent_properties};
 use crate::texts::property_name;
-use amqp_value::write_quoted;
+use amqp_value::{write_hexadecimal, write_quoted};
 use std::fmt;
 
 fn write_lent<W: fmt::Write>(f: &mut fmt::Formatter<W>, value: Lent) -> fmt::Result
@@ -74,15 +76,25 @@ fn write_properties<W: fmt::Write>(
     Ok(())
 }
 
+/// The text of a header.
+fn write_header<W: fmt::Write>(
+    f: &mut fmt::Formatter<W>,
+    body_size: u64,
+    properties: &Properties,
+) -> fmt::Result
+    ensures { WritesOnOk W.write_str_gives f.old result (text_of_header (record { body_size = body_size; properties = properties_view properties.now })) f.new }
+{
+    write!(f, "header size={body_size}")?;
+    write_properties(f, false, &lent_properties(properties))
+}
+
 /// Prints what [`header_text`](crate::header_text) gives. A field table takes memory for its text, where it has its own;
 /// nothing else does.
 impl fmt::Display for Header {
     ghost output = { λ h. Some (text_of_header (header_view h)) };
 
     fn fmt<W: fmt::Write>(&self, f: &mut fmt::Formatter<W>) -> fmt::Result {
-        let body_size = self.body_size;
-        write!(f, "header size={body_size}")?;
-        write_properties(f, false, &lent_properties(&self.properties))
+        write_header(f, self.body_size, &self.properties)
     }
 }
 
@@ -92,5 +104,44 @@ impl fmt::Display for Properties {
 
     fn fmt<W: fmt::Write>(&self, f: &mut fmt::Formatter<W>) -> fmt::Result {
         write_properties(f, true, &lent_properties(self))
+    }
+}
+
+/// A body, `-` where it has no octets.
+fn write_body<W: fmt::Write>(f: &mut fmt::Formatter<W>, body: &[u8]) -> fmt::Result
+    ensures { WritesOnOk W.write_str_gives f.old result (body_text body.now) f.new }
+{
+    if body.is_empty() {
+        return f.write_str("-");
+    }
+    write_hexadecimal(f, body)
+}
+
+/// The lines of a content.
+fn write_content<W: fmt::Write>(
+    f: &mut fmt::Formatter<W>,
+    properties: &Properties,
+    body: &[u8],
+) -> fmt::Result
+    ensures { WritesOnOk W.write_str_gives f.old result (content_text (Some (properties_view properties.now)) body.now) f.new }
+{
+    f.write_str("\n  ")?;
+    write_header(f, body.len() as u64, properties)?;
+    f.write_str("\n  body ")?;
+    write_body(f, body)
+}
+
+/// Prints the method, and below it, where a content follows, a line with its header and one with its body in hexadecimal, each
+/// after two spaces. The method's text takes memory where its arguments do, as [`Method`](crate::Method)'s does.
+impl fmt::Display for Message {
+    ghost output = { λ m. Some (text_of_message (message_view m)) };
+
+    fn fmt<W: fmt::Write>(&self, f: &mut fmt::Formatter<W>) -> fmt::Result {
+        let method = self.method();
+        write!(f, "{method}")?;
+        let Some((properties, body)) = self.content_parts() else {
+            return Ok(());
+        };
+        write_content(f, properties, body)
     }
 }

@@ -9,6 +9,14 @@ use Rattle.amqp_value.specs.Values.{Scalar, boolean, short_short_int, short_shor
 abbrev pub hex_digit : ℕ → ℕ
 hex_digit n = if nat_lt n 10 then 48 + n else 87 + n
 
+-- two digits
+abbrev pub octet_digits : ℕ → List ℕ
+octet_digits octet = hex_digit (octet / 16) ∷ hex_digit (octet % 16) ∷ []
+
+-- two digits for each octet
+abbrev pub hexadecimal : List ℕ → List ℕ
+hexadecimal octets = flat_map octet_digits octets
+
 -- printable ASCII but the quote and the backslash as it is, and else `\x` and two digits
 abbrev pub quoted_octet : ℕ → List ℕ
 quoted_octet octet =

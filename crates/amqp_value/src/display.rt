@@ -3,7 +3,7 @@
 ghost use Rattle.std.specs.Prelude.{◌≤◌, ◌/◌, ◌%◌, [], ◌∷◌, ◌++◌, length, codes, Some};
 ghost use Rattle.std.specs.Fmt.{WritesOnOk, decimal, signed_decimal};
 ghost use Rattle.hex.specs.Hex.{encode_lower};
-ghost use Rattle.amqp_value.specs.Text.{hex_digit as digit_text, quoted_octet, quoted, truth_text, value_text};
+ghost use Rattle.amqp_value.specs.Text.{octet_digits, hexadecimal, quoted_octet, quoted, truth_text, value_text};
 ghost use Rattle.amqp_value.specs.View.{view};
 
 use crate::text::{hex_digit, text_of};
@@ -11,13 +11,29 @@ use crate::values::Value;
 use std::alloc::Global;
 use std::{fmt, str};
 
-/// An octet that isn't printed as its character.
-fn write_escape<W: fmt::Write>(f: &mut fmt::Formatter<W>, octet: u8) -> fmt::Result
-    ensures { WritesOnOk W.write_str_gives f.old result (codes "\\x" ++ (digit_text (octet / 16) ∷ digit_text (octet % 16) ∷ [])) f.new }
+fn write_octet<W: fmt::Write>(f: &mut fmt::Formatter<W>, octet: u8) -> fmt::Result
+    ensures { WritesOnOk W.write_str_gives f.old result (octet_digits octet) f.new }
 {
-    f.write_str("\\x")?;
     f.write_char(hex_digit(octet / 16))?;
     f.write_char(hex_digit(octet % 16))
+}
+
+/// Writes octets in hexadecimal, two digits each, lower case, without memory of its own.
+pub fn write_hexadecimal<W: fmt::Write>(f: &mut fmt::Formatter<W>, octets: &[u8]) -> fmt::Result
+    ensures { WritesOnOk W.write_str_gives f.old result (hexadecimal octets.now) f.new }
+{
+    for octet in octets {
+        write_octet(f, *octet)?;
+    }
+    Ok(())
+}
+
+/// An octet that isn't printed as its character.
+fn write_escape<W: fmt::Write>(f: &mut fmt::Formatter<W>, octet: u8) -> fmt::Result
+    ensures { WritesOnOk W.write_str_gives f.old result (codes "\\x" ++ octet_digits octet) f.new }
+{
+    f.write_str("\\x")?;
+    write_octet(f, octet)
 }
 
 fn write_quoted_octet<W: fmt::Write>(f: &mut fmt::Formatter<W>, octet: u8) -> fmt::Result

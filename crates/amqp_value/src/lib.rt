@@ -15,7 +15,7 @@ mod text;
 mod values;
 mod write;
 
-pub use display::write_quoted;
+pub use display::{write_hexadecimal, write_quoted};
 pub use fault::{OutOfMemory, ValueFault, ValueFaultKind};
 pub use laws::{one_table, one_value};
 pub use read::read_table;

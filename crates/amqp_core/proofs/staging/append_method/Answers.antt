@@ -3,7 +3,7 @@ use Rattle.std.proofs.lemmas.Result.{on_ok_weaker}
 use Rattle.amqp_method.specs.MethodView.{method_view}
 use Rattle.amqp_model.specs.Methods.{plain_method}
 use Rattle.amqp_model.specs.Closes.{method_frame}
-use Rattle.amqp_core.proofs.OutboxFrames.{ended-is}
+use Rattle.amqp_core.proofs.OutboxFrames.{finished-is}
 use Rattle.amqp_core.proofs.ReadLemmas.{method_reads_back}
 use Rattle.amqp_core.proofs.staging.append_method.Goals as goal
 
@@ -12,7 +12,7 @@ unfolding plain_method
 returns-in-Ok-clause-ok c =
     let payload = plain_method (method_view c.args.method.now) in
     on_ok_weaker c.end_frame.result
-    (λ e. e ∙ ended-is (method_frame c.args.channel (method_view c.args.method.now)) c.args.octets.now.items _ c.len-at.result (omega arith) (c.in-Ok.ensures.ok ∙ ap (λ xs. xs ++ payload) c.in_ok-begin_frame.ensures.ok))
+    (finished-is (method_frame c.args.channel (method_view c.args.method.now)) c.args.octets.now.items _ _ c.len-at.result (omega arith) (c.in-Ok.ensures.ok ∙ ap (λ xs. xs ++ payload) c.in_ok-start_frame.ensures.ok))
     c.end_frame.ensures.ok
 
 pub returns-in-Ok-clause-reads_back : goal.returns-in-Ok-clause-reads_back
