@@ -4,6 +4,7 @@ ghost use Rattle.amqp_method.specs.MessageView.{message_view};
 ghost use Rattle.amqp_model.specs.Answers.{channel_state, gathered, reply_due};
 ghost use Rattle.amqp_model.specs.Asks as asks;
 ghost use Rattle.amqp_model.specs.Asks.{lowest_free};
+ghost use Rattle.amqp_model.specs.Bounds.{OthersAreFree};
 ghost use Rattle.amqp_model.specs.EndVerdict.{takes_octets};
 ghost use Rattle.amqp_model.specs.Endpoint.{after_feed, after_wrote, new_endpoint};
 ghost use Rattle.amqp_model.specs.Fitting.{config_fault};
@@ -15,6 +16,7 @@ ghost use Rattle.amqp_core.specs.Answering.{ran_out};
 ghost use Rattle.amqp_core.specs.AskView.{ask_view};
 ghost use Rattle.amqp_core.specs.Asked.{number_taken};
 ghost use Rattle.amqp_core.specs.Asking.{AcceptsAsk, RefusesAsk};
+ghost use Rattle.amqp_core.specs.Bounded.{IsBounded};
 ghost use Rattle.amqp_core.specs.Configs.{settings_of};
 ghost use Rattle.amqp_core.specs.EndpointView.{role_at};
 ghost use Rattle.std.proofs.Props.{props};
@@ -143,8 +145,11 @@ impl<R: Role> End<R> {
 
     /// The state of a channel. Channel 0 and the numbers above the agreed maximum are Free.
     pub fn channel_state(&self, channel: u16) -> ChannelState
-        ensures { state_view result ≡ channel_state (endpoint_of self.now).end channel }
+        ensures state { state_view result ≡ channel_state (endpoint_of self.now).end channel }
+        // So no more channels than were agreed are other than Free.
+        ensures others { OthersAreFree (endpoint_of self.now).end channel }
     {
+        bounds::answers_are_bounded();
         self.inner.core.channel_state(channel)
     }
 
@@ -168,7 +173,9 @@ impl<R: Role> End<R> {
     /// The request that is to be answered next on a channel: at a client the one that waits for its reply, at a server the
     /// oldest that it took.
     pub fn reply_due(&self, channel: u16) -> Option<Kind>
-        ensures { result ≡ reply_due (endpoint_of self.now).end channel }
+        ensures request { result ≡ reply_due (endpoint_of self.now).end channel }
+        // Of each channel at most 1,024 requests are kept, and one at a client.
+        ensures most { IsBounded (role_played self.now) (config_at self.now) (endpoint_of self.now).end }
     {
         self.inner.core.reply_due(channel)
     }

@@ -1,4 +1,5 @@
-//! Laws of the two roles, over definitions alone. Who needs one calls the function and has its clauses.
+//! Laws, over definitions alone: those of `amqp_model`, and of the two roles. Who needs one calls the function and has its
+//! clauses.
 ghost use Rattle.std.specs.Prelude.{ℕ, List};
 ghost use Rattle.amqp_frame.specs.declared.frames.FrameKind.{FrameKind};
 ghost use Rattle.amqp_model.specs.Channels.{Channel};
@@ -11,6 +12,11 @@ ghost use Rattle.amqp_core.specs.declared.verdict.Verdict.{Verdict};
 ghost use Rattle.amqp_model.specs.Methods.{MethodKind};
 ghost use Rattle.amqp_model.specs.Notes.{Role};
 ghost use Rattle.amqp_core.specs.Roles.{SentIsTaken, role_of};
+
+pub use amqp_model::{
+    agreement, answers, arrangement, bounds, contents, fitting, lives, octets, one_end, pieces,
+    replies, traces, two_ends, verdicts,
+};
 
 /// What one role may put is what the other may take.
 pub fn sent_is_taken()
