@@ -1,12 +1,10 @@
 -- How the octets of a frame come about, and its slot.
-use Rattle.std.proofs.Common.{◌≡◌, ℕ, ◌+◌, ◌-◌, Bool, true, false, ◌&&◌, ◌==◌, List, [], ◌∷◌, ◌++◌, length, take, drop, refl, sym, ap, ap₂, ◌∙◌, arith, append_assoc, ne_eqb, ◌⊎◌, inl, inr}
+use Rattle.std.proofs.Common.{◌≡◌, ℕ, ◌-◌, Bool, true, false, ◌&&◌, ◌==◌, List, [], ◌∷◌, ◌++◌, length, take, drop, refl, sym, ap, ap₂, ◌∙◌, arith, append_assoc, ne_eqb, ◌⊎◌, inl, inr}
 use Rattle.std.proofs.lemmas.Bool.{and_left}
 use Rattle.std.proofs.lemmas.List.{take_at}
-use Rattle.std.proofs.Math.Seq.{take-append-add, drop-append-add}
-use Rattle.byteorder.specs.Endian.{big_bytes}
 use Rattle.amqp_frame.specs.declared.frames.FrameKind.{FrameKind}
 use Rattle.amqp_frame.specs.declared.frames.FrameKind.TheVariants.{Method, Header, Body, Heartbeat}
-use Rattle.amqp_frame.specs.Frame.{Frame, header, octets, type_octet, END}
+use Rattle.amqp_frame.specs.Frame.{Frame, header, octets, END}
 use Rattle.amqp_model.specs.Arrangement.{is_leaving, is_method, names_leaving}
 use Rattle.amqp_frame.specs.Writing.{FinishesFrame}
 use Rattle.amqp_core.specs.OutboxSlots.{slot_of}

@@ -1,5 +1,5 @@
 -- The text of an event: a line, and two more for the header and the body of a content.
-use Rattle.std.specs.Prelude.{ℕ, List, ◌++◌, Bool, true, false, Option, Some, None, codes}
+use Rattle.std.specs.Prelude.{ℕ, List, ◌++◌, Bool, Option, Some, None, codes}
 use Rattle.std.specs.Fmt.{decimal}
 use Rattle.amqp_value.specs.Text.{quoted}
 use Rattle.amqp_method.specs.MessageView.{message_view}

@@ -1,7 +1,6 @@
 -- The frames that an outbox is handed, and how their octets come about.
-use Rattle.std.specs.Prelude.{◌≡◌, ℕ, ◌+◌, List, [], ◌∷◌, ◌++◌, length, take, drop, Some}
-use Rattle.byteorder.specs.Endian.{big_bytes}
-use Rattle.amqp_frame.specs.Frame.{Frame, END}
+use Rattle.std.specs.Prelude.{◌≡◌, ℕ, List, Some}
+use Rattle.amqp_frame.specs.Frame.{Frame}
 use Rattle.amqp_method.specs.Properties.{ContentHeader}
 use Rattle.amqp_model.specs.Asks.{payload_frame}
 use Rattle.amqp_model.specs.Contents.{Header, Body}
