@@ -1,5 +1,5 @@
 -- What an ask makes of an end, and what holds of it then.
-use Rattle.std.proofs.Common.{◌≡◌, Bool, true, false, not, ℕ, List, ◌∷◌, Option, Some, None, refl, sym, ap, ◌∙◌, subst, arith}
+use Rattle.std.proofs.Common.{◌≡◌, Bool, true, false, not, ℕ, List, ◌∷◌, Option, Some, None, Result, Ok, Err, IfErr, refl, sym, ap, ◌∙◌, subst, arith}
 use Rattle.std.proofs.Math.Logic.{∥∥₁_map}
 use Rattle.std.proofs.lemmas.Bool.{true≢false, false≢true}
 use Rattle.amqp_frame.specs.Stream.{Stream}
@@ -23,6 +23,7 @@ use Rattle.amqp_core.specs.Asked.{IsAccepted, IsRefused}
 use Rattle.amqp_core.specs.Asking.{AcceptsAsk, RefusesAsk}
 use Rattle.amqp_core.specs.Bounded.{IsBounded}
 use Rattle.amqp_core.specs.CoreView.{core_end}
+use Rattle.amqp_core.specs.Faults.{refusal_view}
 use Rattle.amqp_core.specs.EndpointView.{FieldsFit, IsSound, endpoint_view, is_opened, role_at}
 use Rattle.amqp_core.specs.OutboxView.{Outgoing}
 use Rattle.amqp_core.specs.Settings.{config_view, role_for}
@@ -45,7 +46,7 @@ running_only Closing later e = absurd (true≢false (ap some_there e))
 running_only Closed later e = absurd (true≢false (ap some_there e))
 running_only Failed later e = absurd (true≢false (ap some_there e))
 
-is_running_then : (role : Role) (end : End) (ask : Ask) → refusal role end ask ≡ None → end.phase ≡ Running
+pub is_running_then : (role : Role) (end : End) (ask : Ask) → refusal role end ask ≡ None → end.phase ≡ Running
 is_running_then role end ask e = running_only end.phase _ e
 
 not_awaited : (role : Role) (phase : Phase) → phase ≡ Running → awaits_opening role phase ≡ false
@@ -136,3 +137,8 @@ refused_sound ask fault old new sound settings splitter heard is refuses_it =
     (subst (λ (e : End). FieldsFit (role_at old) e old.heard old.splitter) (sym is.end_same) sound.fields)))
     (subst (λ (e : model.Endpoint). HoldsUnfinished (role_at old) e) (sym refuses_it.same) sound.holds)
     (subst (λ (e : End). IsBounded (role_at old) (config_view old.core.settings) e) (sym is.end_same) sound.bounded)
+
+-- An ask that is refused before anything is done.
+pub refused_at_once : {A : Type 0} (role : Role) (ask : Ask) (result : Result A AskFault) (endpoint : model.Endpoint) → IfErr result (λ fault. refusal_view fault ≡ refusal role endpoint.end ask) → IfErr result (λ fault. RefusesAsk role ask fault endpoint endpoint)
+refused_at_once role ask (Ok value) endpoint refused = tt
+refused_at_once role ask (Err fault) endpoint refused = record { refused = refused; same = refl }

@@ -1,5 +1,5 @@
 -- Octets of the protocol header: what comes of each comparison, and what holds of the end then.
-use Rattle.std.proofs.Common.{◌≡◌, ◌≢◌, inr, ◌+◌, ◌-◌, ◌<◌, ◌≤◌, true, get_or, ℕ, List, [], ◌++◌, map, length, take, drop, slice_index, Some, None, Result, Ok, Err, refl, ap, sym, ◌∙◌, subst, arith}
+use Rattle.std.proofs.Common.{◌≡◌, ◌≢◌, inr, ◌+◌, ◌-◌, ◌<◌, ◌≤◌, true, get_or, ℕ, suc, List, [], ◌++◌, map, length, take, drop, slice_index, Some, None, Result, Ok, Err, refl, ap, sym, ◌∙◌, subst, arith}
 use Rattle.std.proofs.Math.Seq.{take-length}
 use Rattle.std.proofs.lemmas.Bool.{false≢true}
 use Rattle.std.proofs.lemmas.List.{append-nil, length-drop, length-take-le, take-append-drop}
@@ -7,14 +7,14 @@ use Rattle.amqp_frame.specs.Stream.{Stream}
 use Rattle.amqp_model.specs.Channels.{Channel, End, Phase, Handshake, AwaitsStartOk, Running, Closing, Closed, Failed}
 use Rattle.amqp_model.specs.Closes.{frame_of}
 use Rattle.amqp_model.specs.Endpoint as model
-use Rattle.amqp_model.specs.Endpoint.{Feeding, after_feed, awaits_opening, greeting, output_of}
+use Rattle.amqp_model.specs.Endpoint.{Differs, Feeding, after_feed, after_opening, awaits_opening, greeting, output_of}
 use Rattle.amqp_model.specs.EndVerdict.{takes_octets}
 use Rattle.amqp_model.specs.Machine.{as_failed, end_after_owed}
 use Rattle.amqp_model.specs.Negotiation.{Config, PROTOCOL_HEADER, frame_limit}
 use Rattle.amqp_model.specs.Notes.{Role, Client, Server}
 use Rattle.amqp_model.specs.Octets.{opening_read}
 use Rattle.amqp_model.specs.Outputs.{Output, after_puts}
-use Rattle.amqp_model.specs.Pieces.{IsProperPrefixOf, HoldsUnfinished, FeedBeginsOpening, FeedEndsOpening, FeedHolds, FeedLeavesOpening}
+use Rattle.amqp_model.specs.Pieces.{IsProperPrefixOf, HoldsUnfinished, FeedBeginsOpening, FeedEndsOpening, FeedHolds, FeedLeavesOpening, with_taken}
 use Rattle.amqp_core.specs.Answering.{ran_out}
 use Rattle.amqp_core.specs.EndpointView.{FieldsFit, unfinished_of}
 use Rattle.amqp_core.specs.Feeding.{IsFed}
@@ -50,7 +50,7 @@ pub begun : (role : Role) (phase : Phase) (count : ℕ) (octets : List ℕ) → 
 begun role phase count octets awaits h e =
     (drop count PROTOCOL_HEADER, some_left count h, opening_is role phase awaits ∙ (sym (take-append-drop count PROTOCOL_HEADER) ∙ ap (λ (xs : List ℕ). xs ++ drop count PROTOCOL_HEADER) (sym e)))
 
-same_end : (one other : End) → one ≡ other → SameEnd one other
+pub same_end : (one other : End) → one ≡ other → SameEnd one other
 same_end one other e = subst (SameEnd one) e (record { phase = refl; agreed = refl; no_channel = refl; channels = λ running. refl })
 
 -- The rest of the header came.
@@ -80,6 +80,19 @@ part_fed role config end heard count pending piece output law awaits none all wi
     (record { answer = refl; taken = all; left = record { end = same_end end end refl; unfinished = is ∙ sym (heard_is (heard + count) pending none); output = refl } })
 
 -- An octet differs.
+
+differs_so : (role : Role) (config : Config role) (end : End) (heard count : ℕ) (pending piece : List ℕ) (output : Output) →
+    let old : model.Endpoint = record { end = end; unfinished = unfinished_of heard pending; output = output } in
+    FeedLeavesOpening role config old piece count → awaits_opening role end.phase ≡ true → pending ≡ [] → heard < 8 → count < length piece → heard + count < 8 → take heard PROTOCOL_HEADER ++ take count piece ≡ take (heard + count) PROTOCOL_HEADER
+    → slice_index piece count ≢ slice_index PROTOCOL_HEADER (heard + count)
+    → after_feed role config old piece ≡ with_taken (suc count) (after_opening role config old (unfinished_of heard pending ++ take (suc count) piece) Differs)
+differs_so role config end heard count pending piece output law awaits none heard_within within room same differs =
+    let is : unfinished_of heard pending ++ take count piece ≡ take (heard + count) PROTOCOL_HEADER = ap (λ (xs : List ℕ). xs ++ take count piece) (heard_is heard pending none) ∙ same in
+    let many : length (unfinished_of heard pending) ≡ heard = ap (λ (xs : List ℕ). length xs) (heard_is heard pending none) ∙ length-take-le heard PROTOCOL_HEADER (omega (arith, heard_within)) in
+    let there : slice_index piece count ≢ slice_index (opening_read role) (length (unfinished_of heard pending) + count) =
+    λ e. differs (e ∙ (ap (λ (xs : List ℕ). slice_index xs (length (unfinished_of heard pending) + count)) (opening_is role end.phase awaits) ∙ ap (λ n. slice_index PROTOCOL_HEADER (n + count)) many)) in
+    law awaits within (begun role end.phase (heard + count) (unfinished_of heard pending ++ take count piece) awaits room is) there
+
 pub other_fed : (role : Role) (config : Config role) (end new : End) (heard count : ℕ) (pending piece : List ℕ) (output put : Output) →
     let old : model.Endpoint = record { end = end; unfinished = unfinished_of heard pending; output = output } in
     FeedLeavesOpening role config old piece count → awaits_opening role end.phase ≡ true → pending ≡ [] → heard < 8 → count < length piece → heard + count < 8 → take heard PROTOCOL_HEADER ++ take count piece ≡ take (heard + count) PROTOCOL_HEADER
@@ -87,12 +100,16 @@ pub other_fed : (role : Role) (config : Config role) (end new : End) (heard coun
     → IsFed (Err core.Fatal) old (after_feed role config old piece) (record { end = new; unfinished = unfinished_of 0 pending; output = put })
 other_fed role config end new heard count pending piece output put law awaits none heard_within within room same differs ends puts =
     let old : model.Endpoint = record { end = end; unfinished = unfinished_of heard pending; output = output } in
-    let is : unfinished_of heard pending ++ take count piece ≡ take (heard + count) PROTOCOL_HEADER = ap (λ (xs : List ℕ). xs ++ take count piece) (heard_is heard pending none) ∙ same in
-    let many : length (unfinished_of heard pending) ≡ heard = ap (λ (xs : List ℕ). length xs) (heard_is heard pending none) ∙ length-take-le heard PROTOCOL_HEADER (omega (arith, heard_within)) in
-    let there : slice_index piece count ≢ slice_index (opening_read role) (length (unfinished_of heard pending) + count) =
-    λ e. differs (e ∙ (ap (λ (xs : List ℕ). slice_index xs (length (unfinished_of heard pending) + count)) (opening_is role end.phase awaits) ∙ ap (λ n. slice_index PROTOCOL_HEADER (n + count)) many)) in
-    subst (λ (f : Feeding). IsFed (Err core.Fatal) old f (record { end = new; unfinished = unfinished_of 0 pending; output = put })) (sym (law awaits within (begun role end.phase (heard + count) (unfinished_of heard pending ++ take count piece) awaits room is) there))
+    subst (λ (f : Feeding). IsFed (Err core.Fatal) old f (record { end = new; unfinished = unfinished_of 0 pending; output = put })) (sym (differs_so role config end heard count pending piece output law awaits none heard_within within room same differs))
     (record { answer = inr refl; taken = tt; left = record { end = same_end _ new (sym ends); unfinished = sym none; output = sym puts } })
+
+-- so many octets were taken then
+pub other_taken : (role : Role) (config : Config role) (end : End) (heard count : ℕ) (pending piece : List ℕ) (output : Output) →
+    let old : model.Endpoint = record { end = end; unfinished = unfinished_of heard pending; output = output } in
+    FeedLeavesOpening role config old piece count → awaits_opening role end.phase ≡ true → pending ≡ [] → heard < 8 → count < length piece → heard + count < 8 → take heard PROTOCOL_HEADER ++ take count piece ≡ take (heard + count) PROTOCOL_HEADER
+    → slice_index piece count ≢ slice_index PROTOCOL_HEADER (heard + count) → (after_feed role config old piece).taken ≡ count + 1
+other_taken role config end heard count pending piece output law awaits none heard_within within room same differs =
+    ap (λ (f : Feeding). f.taken) (differs_so role config end heard count pending piece output law awaits none heard_within within room same differs) ∙ omega arith
 
 -- What is unfinished then.
 pub piece_holds : (role : Role) (config : Config role) (old new : model.Endpoint) (piece : List ℕ) (result : Result Taken CoreFault) → FeedHolds role config old piece → HoldsUnfinished role old → ((i : ℕ) → get_or piece i 0 < 256) → IsFed result old (after_feed role config old piece) new → HoldsUnfinished role new

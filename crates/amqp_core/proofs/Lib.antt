@@ -41,3 +41,15 @@ pub mod FreeLemmas
 pub mod RefusalLemmas
 pub mod PieceLemmas
 pub mod AskLemmas
+pub mod AccountLemmas
+pub mod GrowthLemmas
+pub mod LifeCountLemmas
+pub mod TraceLemmas
+pub mod StandingLemmas
+pub mod FeedTrace
+pub mod LedgerLemmas
+pub mod FollowTrace
+pub mod AskNotingLemmas
+pub mod AskTrace
+pub mod TracedLemmas
+pub mod TakenLemmas

@@ -87,7 +87,7 @@ no_and : (a : Bool) → (a && false) ≡ true → ⊥
 no_and true h = cc
 no_and false h = cc
 
-other_kind : (role : Role) (kind : MethodKind) (active : Bool) → is_sendable role kind ≡ true → IsOther (kind_of_method kind active)
+pub other_kind : (role : Role) (kind : MethodKind) (active : Bool) → is_sendable role kind ≡ true → IsOther (kind_of_method kind active)
 other_kind role kinds.ChannelOpen active h = absurd (no_and (sends (is_client role) kinds.ChannelOpen && true) h)
 other_kind role kinds.ChannelOpenOk active h = absurd (no_and (sends (is_client role) kinds.ChannelOpenOk && true) h)
 other_kind role kinds.ChannelClose active h = absurd (no_and (sends (is_client role) kinds.ChannelClose && true) h)

@@ -45,3 +45,16 @@ pub mod Refusals
 pub mod Asking
 pub mod Dropping
 pub mod Owing
+pub mod NoteView
+pub mod AccountView
+pub mod Growth
+pub mod LifeCounts
+pub mod CountView
+pub mod Noting
+pub mod AskNoting
+pub mod Tracing
+pub mod Overs
+pub mod CountsLives
+pub mod LedgerView
+pub mod TracedFields
+pub mod TracedView

@@ -1,5 +1,5 @@
 //! A frame is taken, and what the end owes is put: both, or, out of memory, nothing.
-ghost use Rattle.std.specs.Prelude.{◌≡◌, cond, true, false, [], map, IsOk, OnOk, OnErr};
+ghost use Rattle.std.specs.Prelude.{◌≡◌, cond, true, false, [], map, Some, None, IsOk, OnOk, OnErr};
 ghost use Rattle.amqp_model.specs.Channels.{End, Free};
 ghost use Rattle.amqp_model.specs.Closes.{frame_of};
 ghost use Rattle.amqp_model.specs.EndVerdict.{end_puts, end_verdict, facts_at, takes_frames};
@@ -7,6 +7,10 @@ ghost use Rattle.amqp_model.specs.Endpoint.{Found, fault_told, outcome_of, owed_
 ghost use Rattle.amqp_model.specs.Machine.{as_failed, end_after_taken};
 ghost use Rattle.amqp_model.specs.Outputs.{after_puts};
 ghost use Rattle.amqp_model.specs.Readings.{reading};
+ghost use Rattle.amqp_model.specs.FrameVerdict.{methods_put};
+ghost use Rattle.amqp_model.specs.Traces.{IsTaken, noted};
+ghost use Rattle.amqp_core.specs.AccountView.{item_in_outcome, note_there};
+ghost use Rattle.amqp_core.specs.NoteView.{item_there};
 ghost use Rattle.amqp_core.specs.Answering.{Answers, EndsAs, PutsAs, Reports, is_out_of_memory, ran_out, stopped};
 ghost use Rattle.amqp_core.specs.CoreView.{core_end, fault_of, frame_at, told_view};
 ghost use Rattle.amqp_core.specs.Dropping.{IsDropped};
@@ -17,6 +21,7 @@ ghost use Rattle.amqp_core.specs.OwedView.{owed_view};
 ghost use Rattle.amqp_core.specs.Settings.{config_view, role_for};
 ghost use Rattle.amqp_core.specs.Stages.{agreed_at, phase_at};
 
+use crate::account::Account;
 use crate::codes::CloseCode;
 use crate::events::Event;
 use crate::faults::{CoreFault, OutOfMemory};
@@ -90,32 +95,58 @@ impl Core {
         kind: FrameKind,
         number: u16,
         payload: &[u8],
+        account: &mut Account,
     ) -> Result<Option<Event>, CoreFault>
         requires taking { takes_frames (phase_at self.old.stage) ≡ true }
         requires staged { outbox.old.staged ≡ [] }
+        requires none { account.old.item ≡ None }
         ensures said { Answers result (outcome_of (facts_at (config_view self.old.settings) (core_end self.old) number) (end_verdict (config_view self.old.settings) (core_end self.old) (frame_at number kind payload.now))) }
         ensures end { EndsAs result (core_end self.old) (end_after_taken (role_for self.old.settings) (config_view self.old.settings) (core_end self.old) (reading (frame_at number kind payload.now)) (frame_at number kind payload.now)) (core_end self.new) }
         ensures output { PutsAs result outbox.old.output (after_puts (end_puts (config_view self.old.settings) (core_end self.old) (frame_at number kind payload.now)) outbox.old.output) outbox.new }
-        ensures alone { IsDropped (phase_at self.old.stage) ((core_end self.old).channels number) number kind payload.now → IsOk result }
+        ensures alone { account.old.wanted ≡ false → IsDropped (phase_at self.old.stage) ((core_end self.old).channels number) number kind payload.now → IsOk result }
+        ensures octets { account.new.octets ≡ account.old.octets }
+        ensures took { account.old.wanted ≡ true → ran_out result ≡ false → note_there account.new.took ≡ Some (noted IsTaken (frame_at number kind payload.now)) }
+        ensures item { account.old.wanted ≡ true → ran_out result ≡ false → item_there account.new.item ≡ item_in_outcome (outcome_of (facts_at (config_view self.old.settings) (core_end self.old) number) (end_verdict (config_view self.old.settings) (core_end self.old) (frame_at number kind payload.now))) }
+        ensures owed { ran_out result ≡ false → owed_view self.old.settings account.new.owed ≡ methods_put (facts_at (config_view self.old.settings) (core_end self.old) number) (end_verdict (config_view self.old.settings) (core_end self.old) (frame_at number kind payload.now)) }
         ensures settings { self.new.settings ≡ self.old.settings }
     {
         let before = self.stage;
+        let Ok(()) = account.take_note(self.alloc, kind, number, payload) else {
+            self.fail_at(before);
+            return Err(CoreFault::OutOfMemory);
+        };
         let Ok(outcome) = self.take(kind, number, payload) else {
             self.fail_at(before);
             return Err(CoreFault::OutOfMemory);
         };
         let Outcome { told, owed } = outcome;
+        let Ok(()) = account.keep_item(&told) else {
+            drop(told);
+            self.fail_at(before);
+            return Err(CoreFault::OutOfMemory);
+        };
         let Ok(()) = put_owed(self.alloc, &self.settings, owed, outbox) else {
             drop(told);
             self.fail_at(before);
             return Err(CoreFault::OutOfMemory);
         };
+        account.owed = owed;
         report(told)
     }
+
     /// Octets are no frame: one above the limit is answered with a close of the connection, and to the others there is no
     /// answer.
-    pub(crate) fn stop(&mut self, outbox: &mut Outbox, kind: FrameFaultKind) -> CoreFault
+    pub(crate) fn stop(
+        &mut self,
+        outbox: &mut Outbox,
+        kind: FrameFaultKind,
+        account: &mut Account,
+    ) -> CoreFault
         requires { outbox.old.staged ≡ [] }
+        ensures octets { account.new.octets ≡ account.old.octets }
+        ensures took { account.new.took ≡ account.old.took }
+        ensures item { account.new.item ≡ account.old.item }
+        ensures owed { is_out_of_memory result ≡ false → owed_view self.old.settings account.new.owed ≡ owed_at_fault (config_view self.old.settings) (core_end self.old) kind }
         ensures said { Reports result (Found (fault_told kind)) }
         ensures memory { kind ≡ FrameFaultKind.OutOfMemory → is_out_of_memory result ≡ true }
         ensures end { SameEnd (cond (is_out_of_memory result) (as_failed (core_end self.old)) (stopped (role_for self.old.settings) (config_view self.old.settings) (core_end self.old) kind)) (core_end self.new) }
@@ -135,6 +166,7 @@ impl Core {
         let Ok(()) = put_owed(self.alloc, &self.settings, owed, outbox) else {
             return CoreFault::OutOfMemory;
         };
+        account.owed = owed;
         fault.reported()
     }
 }

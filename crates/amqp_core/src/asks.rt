@@ -1,5 +1,8 @@
 //! What an application asks of an end.
-ghost use Rattle.std.specs.Prelude.{◌≡◌, IfOk};
+ghost use Rattle.std.specs.Prelude.{◌≡◌, ◌<◌, IfOk};
+ghost use Rattle.amqp_method.specs.MessageView.{message_view};
+ghost use Rattle.amqp_core.specs.AskNoting.{count_asked, frames_of_message};
+ghost use Rattle.amqp_core.specs.Messages.{message_of};
 ghost use Rattle.amqp_core.specs.AskView.{ask_view, lent_view};
 
 use crate::faults::OutOfMemory;
@@ -36,6 +39,41 @@ pub(crate) enum LentAsk<'a> {
     Close(u16, &'a ShortStr),
     Blocked(&'a ShortStr),
     Unblocked,
+}
+
+/// How many octets of a frame stand around its payload.
+const AROUND_PAYLOAD: usize = 8;
+
+/// How many frames a message is put in, none of them longer than so many octets.
+fn frames_of(message: &Message, frame_max: u32) -> usize
+    requires { 8 < frame_max }
+    ensures { result ≡ frames_of_message frame_max (message_of (message_view message.now)) }
+{
+    match message.content_parts() {
+        Some((_, body)) => {
+            let room = frame_max as usize - AROUND_PAYLOAD;
+            2 + (body.len() + room - 1) / room
+        }
+        None => 1,
+    }
+}
+
+impl LentAsk<'_> {
+    /// How many frames the ask is put in, none of them longer than so many octets.
+    pub(crate) fn frames(self, frame_max: u32) -> usize
+        requires { 8 < frame_max }
+        ensures { result ≡ count_asked frame_max (lent_view self.entry) }
+    {
+        match self {
+            LentAsk::Send(_, message) => frames_of(message, frame_max),
+            LentAsk::Open
+            | LentAsk::Flow(_, _)
+            | LentAsk::CloseChannel(_, _, _)
+            | LentAsk::Close(_, _)
+            | LentAsk::Blocked(_)
+            | LentAsk::Unblocked => 1,
+        }
+    }
 }
 
 impl Ask {

@@ -214,7 +214,7 @@ impl Channels {
     }
 
     /// The lowest number that is free, up to the greatest.
-    fn first_free(&self, most: u16) -> Option<u16>
+    pub(crate) fn first_free(&self, most: u16) -> Option<u16>
         ensures lowest { result ≡ first_free (channels_view self.now) most 1 }
         ensures above { IfSome result (λ number. (0 < number) × NoneFreeBelow self.now.used number) }
         ensures free { IfSome result (λ number. is_free (channels_view self.now number) ≡ true) }

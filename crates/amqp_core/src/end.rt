@@ -1,18 +1,21 @@
 //! One end of a connection, a client or a server.
-ghost use Rattle.std.specs.Prelude.{ℕ, List, ◌≡◌, ◌≢◌, ◌<◌, ◌≤◌, true, [], length, IsOk, IfOk, IfErr, OnOk, Some, None};
+ghost use Rattle.std.specs.Prelude.{ℕ, List, ◌≡◌, ◌≢◌, ◌<◌, ◌≤◌, true, false, [], length, IsOk, IfOk, IfErr, OnOk, MatchOption, Some, None};
 ghost use Rattle.amqp_method.specs.MessageView.{message_view};
 ghost use Rattle.amqp_model.specs.Answers.{channel_state, gathered, reply_due};
 ghost use Rattle.amqp_model.specs.Asks as asks;
-ghost use Rattle.amqp_model.specs.Asks.{lowest_free};
+ghost use Rattle.amqp_model.specs.Asks.{lowest_free, refusal};
 ghost use Rattle.amqp_model.specs.Bounds.{OthersAreFree};
 ghost use Rattle.amqp_model.specs.EndVerdict.{takes_octets};
 ghost use Rattle.amqp_model.specs.Endpoint.{after_feed, after_wrote, new_endpoint};
 ghost use Rattle.amqp_model.specs.Fitting.{config_fault};
 ghost use Rattle.amqp_model.specs.Histories.{History};
+ghost use Rattle.amqp_model.specs.Negotiation as negotiation;
 ghost use Rattle.amqp_model.specs.Negotiation.{frame_limit};
 ghost use Rattle.amqp_model.specs.OctetLaws.{EndpointStandsFor};
 ghost use Rattle.amqp_model.specs.Outputs.{output_octets};
+ghost use Rattle.amqp_core.specs.AccountView.{IsFresh};
 ghost use Rattle.amqp_core.specs.Answering.{ran_out};
+ghost use Rattle.amqp_core.specs.AskNoting.{IsChannelOf, IsSizeOf};
 ghost use Rattle.amqp_core.specs.AskView.{ask_view};
 ghost use Rattle.amqp_core.specs.Asked.{number_taken};
 ghost use Rattle.amqp_core.specs.Asking.{AcceptsAsk, RefusesAsk};
@@ -28,16 +31,19 @@ ghost use Rattle.amqp_core.specs.Following.{GoesOn};
 ghost use Rattle.amqp_core.specs.EventView.{agreed_there};
 ghost use Rattle.amqp_core.specs.Messages.{message_of};
 ghost use Rattle.amqp_core.specs.Settings.{config_view, role_for};
+ghost use Rattle.amqp_core.specs.Roles.{role_of};
 ghost use Rattle.amqp_core.specs.Stages.{phase_name};
 ghost use Rattle.amqp_core.specs.StateView.{state_view};
 
+use crate::account::Account;
+use crate::allowing::Place;
 use crate::asks::{Ask, LentAsk};
 use crate::config::Config;
 use crate::endpoint::Endpoint;
 use crate::events::{Agreed, Taken};
 use crate::faults::{AskFault, ConfigFault, CoreFault};
 use crate::queries::ChannelState;
-use crate::roles::Role;
+use crate::roles::{Role, Side};
 use crate::stage::Phase;
 use amqp_method::{Kind, Message};
 use amqp_model::{bounds, octets, one_end, traces};
@@ -72,7 +78,11 @@ pub struct End<R: Role> {
 }
 
 impl<R: Role> End<R> {
+    ghost use Rattle.amqp_core.specs.AccountView.{IsAccount, came_by};
     ghost use Rattle.amqp_core.specs.EndView.{config_at, endpoint_of, role_played, settings_at};
+    ghost use Rattle.amqp_core.specs.Feeding.{SameEndpoint, ran_out_of};
+    ghost use Rattle.amqp_core.specs.Growth.{GrowsLittle};
+    ghost use Rattle.amqp_core.specs.Overs.{IsOver};
 
     /// An end as it begins. A client has the protocol header to write, a server nothing.
     pub fn new(alloc: Global, config: Config<R>) -> Result<End<R>, ConfigFault>
@@ -107,10 +117,65 @@ impl<R: Role> End<R> {
             → ∥ GoesOn (role_played self.old) (config_at self.old) (ran_out result) (endpoint_of self.old) history fed written piece.now (after_feed (role_played self.old) (config_at self.old) (endpoint_of self.old) piece.now) (endpoint_of self.new) ∥₁ }
         ensures settings { settings_at self.new ≡ settings_at self.old }
     {
+        let mut account = Account::new(false);
+        self.advance(piece, &mut account)
+    }
+
+    /// Takes octets as [`End::feed`] does, with an account of what came of them.
+    pub(crate) fn advance(
+        &mut self,
+        piece: &[u8],
+        account: &mut Account,
+    ) -> Result<Taken, CoreFault>
+        requires { IsFresh account.old }
+        ensures fed { IsFed result (endpoint_of self.old) (after_feed (role_played self.old) (config_at self.old) (endpoint_of self.old) piece.now) (endpoint_of self.new) }
+        ensures within { IfOk result (λ taken. taken.octets ≤ length piece.now) }
+        ensures progress { IfOk result (λ taken. piece.now ≢ [] → 0 < taken.octets) }
+        ensures in_place { account.old.wanted ≡ false → DropsInPlace (role_played self.old) (endpoint_of self.old) piece.now → IsOk result }
+        ensures history { (history : History) (fed written : List ℕ) → EndpointStandsFor (role_played self.old) (config_at self.old) (endpoint_of self.old) history fed written
+            → ∥ GoesOn (role_played self.old) (config_at self.old) (ran_out result) (endpoint_of self.old) history fed written piece.now (after_feed (role_played self.old) (config_at self.old) (endpoint_of self.old) piece.now) (endpoint_of self.new) ∥₁ }
+        ensures memory { ran_out result ≡ true → takes_octets (endpoint_of self.old).end.phase ≡ true }
+        ensures account { account.old.wanted ≡ true → takes_octets (endpoint_of self.old).end.phase ≡ true → ran_out result ≡ false → IsAccount (role_played self.old) (config_at self.old) (endpoint_of self.old) piece.now (after_feed (role_played self.old) (config_at self.old) (endpoint_of self.old) piece.now) account.new.octets (came_by (settings_at self.old) account.new) }
+        ensures grows { GrowsLittle (endpoint_of self.old).output (endpoint_of self.new).output }
+        ensures settings { settings_at self.new ≡ settings_at self.old }
+    {
         octets::octets_follow();
         one_end::failed_follows();
         traces::memory_runs_out();
-        self.inner.feed(piece)
+        self.inner.feed(piece, account)
+    }
+
+    /// Out of memory: the end has failed, and what it has put can still be sent.
+    pub(crate) fn run_out(&mut self)
+        requires { takes_octets (endpoint_of self.old).end.phase ≡ true }
+        ensures left { SameEndpoint (ran_out_of (endpoint_of self.old)) (endpoint_of self.new) }
+        ensures settings { settings_at self.new ≡ settings_at self.old }
+    {
+        self.inner.run_out();
+    }
+
+    /// Which of the two ends it is.
+    pub(crate) fn side(&self) -> Side
+        ensures { role_of result ≡ role_played self.now }
+    {
+        self.inner.core.settings.hello.side()
+    }
+
+    pub(crate) fn allocator(&self) -> Global {
+        self.inner.core.alloc
+    }
+
+    /// The fault that a feed answers of an end that is closed, or has failed.
+    pub(crate) fn over(&self) -> Option<CoreFault>
+        ensures { MatchOption result (takes_octets (endpoint_of self.now).end.phase ≡ true) (IsOver (endpoint_of self.now).end.phase) }
+    {
+        if self.inner.core.stage.is_closed() {
+            return Some(CoreFault::Closed);
+        }
+        if self.inner.core.stage.is_failed() {
+            return Some(CoreFault::Failed);
+        }
+        None
     }
 
     /// The octets to send next. They stay until [`End::wrote`] says that they were sent.
@@ -189,6 +254,17 @@ impl<R: Role> End<R> {
         ensures settings { settings_at self.new ≡ settings_at self.old }
     {
         self.inner.ask(ask.lent())
+    }
+
+    /// Where the frames of an ask go, or why it is refused.
+    pub(crate) fn allow(&self, ask: &Ask) -> Result<Place, AskFault>
+        ensures allowed { OnOk result (refusal (role_played self.now) (endpoint_of self.now).end (ask_view ask.now) ≡ None) }
+        ensures refused { IfErr result (λ fault. RefusesAsk (role_played self.now) (ask_view ask.now) fault (endpoint_of self.now) (endpoint_of self.now)) }
+        ensures channel { IfOk result (λ place. IsChannelOf (endpoint_of self.now).end (ask_view ask.now) place.channel) }
+        ensures size { IfOk result (λ place. IsSizeOf (endpoint_of self.now).end.agreed place.frame_max) }
+        ensures least { IfOk result (λ place. negotiation.FRAME_MIN ≤ place.frame_max) }
+    {
+        self.inner.allow(ask.lent())
     }
 
     /// Opens the lowest channel that is free, which it answers. Only a client opens channels.

@@ -2,35 +2,42 @@
 //!
 //! A server compares the first octets with the protocol header. All others go to the splitter, which lends each frame from
 //! the piece where it lies whole in it; the frame is taken while it is lent, so a body is copied once.
-ghost use Rattle.std.specs.Prelude.{◌≡◌, ◌≢◌, ◌<◌, ◌≤◌, length, true, [], IsOk, IfOk, IfErr, OnOk};
+ghost use Rattle.std.specs.Prelude.{◌≡◌, ◌≢◌, ◌+◌, ◌<◌, ◌≤◌, length, true, false, [], None, IsOk, IfOk, IfErr, OnOk};
 ghost use Rattle.amqp_model.specs.Endpoint.{after_feed, after_wrote, awaits_opening, new_endpoint};
 ghost use Rattle.amqp_model.specs.EndVerdict.{takes_octets};
+ghost use Rattle.amqp_model.specs.Asks.{refusal};
+ghost use Rattle.amqp_model.specs.Negotiation as negotiation;
 ghost use Rattle.amqp_model.specs.Negotiation.{frame_limit};
 ghost use Rattle.amqp_model.specs.Fitting.{ConfigWrites, IfAgreedFits};
 ghost use Rattle.amqp_model.specs.Octets.{opening_written};
 ghost use Rattle.amqp_model.specs.Outputs.{output_octets};
 ghost use Rattle.amqp_model.specs.Pieces.{reads_frames};
+ghost use Rattle.amqp_core.specs.AccountView.{IsFresh};
+ghost use Rattle.amqp_core.specs.AskNoting.{IsChannelOf, IsSizeOf};
 ghost use Rattle.amqp_core.specs.AskView.{lent_view};
 ghost use Rattle.amqp_core.specs.Asked.{number_taken};
 ghost use Rattle.amqp_core.specs.Asking.{AcceptsAsk, RefusesAsk};
 ghost use Rattle.amqp_core.specs.Answering.{ran_out};
 ghost use Rattle.amqp_core.specs.Dropping.{DropsInPlace};
-ghost use Rattle.amqp_core.specs.Feeding.{IsFed, in_piece};
+ghost use Rattle.amqp_core.specs.Feeding.{IsFed, SameEndpoint, in_piece, ran_out_of};
 ghost use Rattle.amqp_core.specs.OutboxView.{begins_with};
 ghost use Rattle.amqp_core.specs.Roles.{role_of};
 ghost use Rattle.amqp_core.specs.Settings.{config_view, role_for};
 ghost use Rattle.amqp_core.specs.Stages.{agreed_at, phase_at};
 
+use crate::account::Account;
+use crate::allowing::Place;
 use crate::asks::LentAsk;
 use crate::events::{Event, Taken};
 use crate::faults::{AskFault, CoreFault, OutOfMemory};
 use crate::one_end::Core;
 use crate::opening::going_on;
 use crate::outbox::Outbox;
+use crate::owed::Owed;
 use crate::roles::Side;
 use crate::settings::Settings;
 use crate::stage::Stage;
-use amqp_frame::{PROTOCOL_HEADER, Splitter, one_frame_at_start};
+use amqp_frame::{PROTOCOL_HEADER, Splitter, faults_are_judged, one_frame_at_start};
 use amqp_model::{bounds, fitting, octets, pieces};
 use std::alloc::Global;
 
@@ -85,24 +92,31 @@ fn begun(alloc: Global, side: Side) -> Result<Outbox, OutOfMemory>
 }
 
 impl Endpoint {
+    ghost use Rattle.amqp_core.specs.AccountView.{IsAccount, came_by};
     ghost use Rattle.amqp_core.specs.EndpointView.{endpoint_view, role_at, IsSound};
+    ghost use Rattle.amqp_core.specs.Growth.{GrowsLittle};
 
     /// Octets of the protocol header, at a server that awaits it.
-    fn hear(&mut self, piece: &[u8]) -> Result<Taken, CoreFault>
+    fn hear(&mut self, piece: &[u8], account: &mut Account) -> Result<Taken, CoreFault>
         requires sound { IsSound self.old }
+        requires fresh { IsFresh account.old }
         requires awaits { awaits_opening (role_at self.old) (phase_at self.old.core.stage) ≡ true }
         ensures fed { IsFed result (endpoint_view self.old) (after_feed (role_at self.old) (config_view self.old.core.settings) (endpoint_view self.old) piece.now) (endpoint_view self.new) }
+        ensures account { account.old.wanted ≡ true → ran_out result ≡ false → IsAccount (role_at self.old) (config_view self.old.core.settings) (endpoint_view self.old) piece.now (after_feed (role_at self.old) (config_view self.old.core.settings) (endpoint_view self.old) piece.now) account.new.octets (came_by self.old.core.settings account.new) }
+        ensures grows { GrowsLittle (endpoint_view self.old).output (endpoint_view self.new).output }
         ensures sound { IsSound self.new }
         ensures settings { self.new.core.settings ≡ self.old.core.settings }
     {
         pieces::pieces_are_compared();
         pieces::unfinished_is_held();
         let same = going_on(self.heard, piece);
+        account.octets = same;
         if self.heard + same == PROTOCOL_HEADER.len() {
             self.heard = 0;
             let Ok(()) = self.core.greet(&mut self.outbox) else {
                 return Err(CoreFault::OutOfMemory);
             };
+            account.owed = Owed::Start;
             return Ok(Taken {
                 octets: same,
                 event: Some(Event::Quiet),
@@ -115,6 +129,7 @@ impl Endpoint {
                 event: None,
             });
         }
+        account.octets = same + 1;
         self.heard = 0;
         self.core.fail();
         let Ok(()) = self.outbox.begin_with(&PROTOCOL_HEADER) else {
@@ -124,12 +139,15 @@ impl Endpoint {
     }
 
     /// Octets of frames.
-    fn read(&mut self, piece: &[u8]) -> Result<Taken, CoreFault>
+    fn read(&mut self, piece: &[u8], account: &mut Account) -> Result<Taken, CoreFault>
         requires sound { IsSound self.old }
+        requires fresh { IsFresh account.old }
         requires reads { reads_frames (role_at self.old) (phase_at self.old.core.stage) ≡ true }
         ensures fed { IsFed result (endpoint_view self.old) (after_feed (role_at self.old) (config_view self.old.core.settings) (endpoint_view self.old) piece.now) (endpoint_view self.new) }
         // A frame that is dropped takes no memory, where it lies whole in the piece.
-        ensures in_place { DropsInPlace (role_at self.old) (endpoint_view self.old) piece.now → IsOk result }
+        ensures in_place { account.old.wanted ≡ false → DropsInPlace (role_at self.old) (endpoint_view self.old) piece.now → IsOk result }
+        ensures account { account.old.wanted ≡ true → ran_out result ≡ false → IsAccount (role_at self.old) (config_view self.old.core.settings) (endpoint_view self.old) piece.now (after_feed (role_at self.old) (config_view self.old.core.settings) (endpoint_view self.old) piece.now) account.new.octets (came_by self.old.core.settings account.new) }
+        ensures grows { GrowsLittle (endpoint_view self.old).output (endpoint_view self.new).output }
         ensures sound { IsSound self.new }
         ensures settings { self.new.core.settings ≡ self.old.core.settings }
     {
@@ -138,22 +156,33 @@ impl Endpoint {
         fitting::agreed_is_within();
         bounds::ends_are_bounded();
         one_frame_at_start();
+        octets::judged_is_said();
+        faults_are_judged();
+        fitting::frames_are_within();
         match self.splitter.feed_ref(piece) {
             Ok(fed) => {
                 let octets = fed.taken;
+                account.octets = octets;
                 let Some(frame) = fed.frame else {
                     return Ok(Taken {
                         octets,
                         event: None,
                     });
                 };
-                let answer = self
-                    .core
-                    .answer(&mut self.outbox, frame.kind, frame.channel, frame.payload);
+                let answer = self.core.answer(
+                    &mut self.outbox,
+                    frame.kind,
+                    frame.channel,
+                    frame.payload,
+                    account,
+                );
                 tune(&mut self.splitter, self.core.stage);
                 after_octets(octets, answer)
             }
-            Err(fault) => Err(self.core.stop(&mut self.outbox, fault.kind)),
+            Err(fault) => {
+                account.octets = self.splitter.taken_to_fault();
+                Err(self.core.stop(&mut self.outbox, fault.kind, account))
+            }
         }
     }
 
@@ -176,14 +205,17 @@ impl Endpoint {
     }
 
     /// Takes octets up to the end of the next frame, or of the protocol header at a server that awaits it.
-    pub(crate) fn feed(&mut self, piece: &[u8]) -> Result<Taken, CoreFault>
-        requires { IsSound self.old }
+    pub(crate) fn feed(&mut self, piece: &[u8], account: &mut Account) -> Result<Taken, CoreFault>
+        requires sound { IsSound self.old }
+        requires fresh { IsFresh account.old }
         ensures fed { IsFed result (endpoint_view self.old) (after_feed (role_at self.old) (config_view self.old.core.settings) (endpoint_view self.old) piece.now) (endpoint_view self.new) }
         ensures memory { ran_out result ≡ true → takes_octets (phase_at self.old.core.stage) ≡ true }
         // A frame that is dropped takes no memory, where it lies whole in the piece.
-        ensures in_place { DropsInPlace (role_at self.old) (endpoint_view self.old) piece.now → IsOk result }
+        ensures in_place { account.old.wanted ≡ false → DropsInPlace (role_at self.old) (endpoint_view self.old) piece.now → IsOk result }
         ensures within { IfOk result (λ taken. taken.octets ≤ length piece.now) }
         ensures progress { IfOk result (λ taken. piece.now ≢ [] → 0 < taken.octets) }
+        ensures account { account.old.wanted ≡ true → takes_octets (phase_at self.old.core.stage) ≡ true → ran_out result ≡ false → IsAccount (role_at self.old) (config_view self.old.core.settings) (endpoint_view self.old) piece.now (after_feed (role_at self.old) (config_view self.old.core.settings) (endpoint_view self.old) piece.now) account.new.octets (came_by self.old.core.settings account.new) }
+        ensures grows { GrowsLittle (endpoint_view self.old).output (endpoint_view self.new).output }
         ensures sound { IsSound self.new }
         ensures settings { self.new.core.settings ≡ self.old.core.settings }
     {
@@ -195,9 +227,21 @@ impl Endpoint {
             return Err(CoreFault::Failed);
         }
         if self.awaits_header() {
-            return self.hear(piece);
+            return self.hear(piece, account);
         }
-        self.read(piece)
+        self.read(piece, account)
+    }
+
+    /// Out of memory: the end has failed, and keeps no unfinished octets.
+    pub(crate) fn run_out(&mut self)
+        requires sound { IsSound self.old }
+        ensures left { SameEndpoint (ran_out_of (endpoint_view self.old)) (endpoint_view self.new) }
+        ensures sound { IsSound self.new }
+        ensures settings { self.new.core.settings ≡ self.old.core.settings }
+    {
+        self.core.fail();
+        self.heard = 0;
+        self.splitter = Splitter::new(self.core.alloc, FRAME_MIN);
     }
 
     /// Whether the protocol header is awaited.
@@ -238,6 +282,18 @@ impl Endpoint {
         ensures below { takes_octets (phase_at self.now.core.stage) ≡ true → result < frame_limit (agreed_at self.now.core.stage) }
     {
         self.heard + self.splitter.pending()
+    }
+
+    /// Where the frames of an ask go, or why it is refused.
+    pub(crate) fn allow(&self, ask: LentAsk<'_>) -> Result<Place, AskFault>
+        requires { IsSound self.now }
+        ensures allowed { OnOk result (refusal (role_at self.now) (endpoint_view self.now).end (lent_view ask.entry) ≡ None) }
+        ensures refused { IfErr result (λ fault. RefusesAsk (role_at self.now) (lent_view ask.entry) fault (endpoint_view self.now) (endpoint_view self.now)) }
+        ensures channel { IfOk result (λ place. IsChannelOf (endpoint_view self.now).end (lent_view ask.entry) place.channel) }
+        ensures size { IfOk result (λ place. IsSizeOf (endpoint_view self.now).end.agreed place.frame_max) }
+        ensures least { IfOk result (λ place. negotiation.FRAME_MIN ≤ place.frame_max) }
+    {
+        self.core.allow(ask)
     }
 
     /// What an application asks: it is refused, or its frames are put. The answer is the channel that an open takes.

@@ -2,6 +2,8 @@
 //! applications ask. No socket is touched and no thread started.
 #![tactic(auto)]
 
+mod account;
+mod allowing;
 mod answering;
 mod asking;
 mod asks;
@@ -19,7 +21,10 @@ mod gathering;
 mod greeting;
 mod handshake;
 pub mod laws;
+mod ledger;
 mod life;
+mod lives;
+mod notes;
 mod one_end;
 mod opening;
 mod outbox;
@@ -35,6 +40,9 @@ mod slots;
 mod stage;
 mod staging;
 mod taking;
+mod tellings;
+mod traced;
+mod tracing;
 mod verdict;
 mod words;
 
@@ -44,7 +52,10 @@ pub use crate::config::Config;
 pub use crate::end::End;
 pub use crate::events::{Agreed, Event, Reason, Taken};
 pub use crate::faults::{AskFault, ConfigFault, CoreFault, OutOfMemory};
+pub use crate::notes::{Direction, Note, Word};
 pub use crate::queries::ChannelState;
 pub use crate::roles::{Client, Role, Server, Side};
 pub use crate::settings::{ClientHello, Hello, ServerHello};
 pub use crate::stage::Phase;
+pub use crate::tellings::{Item, Telling};
+pub use crate::traced::Traced;

@@ -7,9 +7,11 @@ use Rattle.amqp_core.specs.CoreView.{core_end}
 use Rattle.amqp_core.specs.EndpointView.{endpoint_view, role_at}
 use Rattle.amqp_core.specs.OutboxView.{Outgoing}
 use Rattle.amqp_core.specs.Settings.{config_view}
+use Rattle.amqp_core.proofs.AccountLemmas.{account_of_other, account_of_part, came_fresh}
+use Rattle.amqp_core.proofs.GrowthLemmas.{greeting_grows}
 use Rattle.amqp_core.proofs.BoundLemmas.{bounded_failed, bounded_same}
 use Rattle.amqp_core.proofs.FeedLemmas.{sound_with, fields_failed}
-use Rattle.amqp_core.proofs.HearLemmas.{awaits_octets, whole_fed, part_fed, other_fed, piece_holds, fields_part, fields_greeted}
+use Rattle.amqp_core.proofs.HearLemmas.{awaits_octets, whole_fed, part_fed, other_fed, other_taken, piece_holds, fields_part, fields_greeted}
 use Rattle.amqp_core.proofs.OpeningLemmas.{greets, nothing_agreed}
 use Rattle.amqp_core.proofs.endpoint.Endpoint.hear.Goals as goal
 
@@ -60,3 +62,23 @@ returns-clause-sound c =
     (fields_failed (role_at old) (core_end c.fail.new.self) 0 old.splitter (sym (ap (λ (e : End). e.phase) c.fail.ensures.end)) (subst IfAgreedFits (sym (ap (λ (e : End). e.agreed) c.fail.ensures.end)) c.requires.sound.fields.agreed) refl)
     (piece_holds (role_at old) (config_view old.core.settings) (endpoint_view old) _ c.args.piece.now _ (c.unfinished_is_held.ensures.feed (role_at old) (config_view old.core.settings) (endpoint_view old) c.args.piece.now) c.requires.sound.holds (λ i. omega (arith, c.type_inv.piece i)) (returns-clause-fed c))
     (bounded_failed (role_at old) (config_view old.core.settings) (core_end c.fail.new.self) (sym (ap (λ (e : End). e.phase) c.fail.ensures.end)))
+
+pub returns-then-self-same-eq8-clause-grows : goal.returns-then-self-same-eq8-clause-grows
+returns-then-self-same-eq8-clause-grows c =
+    let old = c.args.self.now in
+    greeting_grows (role_at old) (config_view old.core.settings) old.outbox.output c.greet.new.outbox c.requires.sound.writes c.in-Ok.ensures.output
+
+pub returns-then-same-piece-clause-account : goal.returns-then-same-piece-clause-account
+returns-then-same-piece-clause-account c = λ wanted ran.
+    let old = c.args.self.now in
+    account_of_part (role_at old) (config_view old.core.settings) (endpoint_view old) _ c.args.piece.now c.going_on-same.result _ _ c.requires.awaits (returns-then-same-piece-clause-fed c) refl (came_fresh old.core.settings c.args.account.now c.requires.fresh)
+
+pub returns-clause-account : goal.returns-clause-account
+returns-clause-account c = λ wanted ran.
+    let old = c.args.self.now in
+    let within : c.going_on-same.result < length c.args.piece.now = omega (arith, c.going_on-same.ensures.within, c.if-same-piece.false) in
+    let room : old.heard + c.going_on-same.result < 8 = omega (arith, c.going_on-same.ensures.room, c.if-self-same-eq8.false) in
+    account_of_other (role_at old) (config_view old.core.settings) (endpoint_view old) _ c.args.piece.now _ _ c.requires.awaits (returns-clause-fed c)
+    (sym (other_taken (role_at old) (config_view old.core.settings) (core_end old.core) old.heard c.going_on-same.result old.splitter.pending c.args.piece.now old.outbox.output
+    (c.pieces_are_compared.ensures.leaves (role_at old) (config_view old.core.settings) (endpoint_view old) c.args.piece.now c.going_on-same.result) c.requires.awaits (c.requires.sound.fields.opening c.requires.awaits) c.requires.sound.fields.within within room c.going_on-same.ensures.same (c.going_on-same.ensures.differs within room)))
+    (came_fresh old.core.settings c.args.account.now c.requires.fresh)

@@ -1,16 +1,22 @@
 -- Each answer of the splitter is a law on pieces.
-use Rattle.std.proofs.Common.{◌≡◌, [], ◌++◌, take, IfSome, IfNone, IsOk, sym, ap, ◌∙◌, subst, arith}
+use Rattle.std.proofs.Common.{◌≡◌, ◌<◌, ◌^◌, false, [], ◌++◌, refl, take, IfSome, IfNone, IsOk, sym, ap, ◌∙◌, subst, arith}
 use Rattle.std.proofs.lemmas.Bool.{false≢true}
 use Rattle.amqp_frame.specs.Frame.{lent}
-use Rattle.amqp_frame.specs.Splitter.{Completes, Waits, place_after}
+use Rattle.amqp_frame.specs.Splitter.{Completes, Waits, after_feed_ref, place_after}
 use Rattle.amqp_frame.specs.Stream.{Stream}
 use Rattle.amqp_model.specs.Endpoint.{after_feed}
+use Rattle.amqp_model.specs.EndVerdict.{facts_at}
+use Rattle.amqp_model.specs.Readings.{reading}
+use Rattle.amqp_core.specs.AccountView.{note_there}
 use Rattle.amqp_core.specs.Answering.{is_out_of_memory, ran_out}
 use Rattle.amqp_core.specs.CoreView.{core_end}
 use Rattle.amqp_core.specs.EndpointView.{endpoint_view, role_at, unfinished_of}
 use Rattle.amqp_core.specs.Feeding.{IsFed}
+use Rattle.amqp_core.specs.NoteView.{item_there}
 use Rattle.amqp_core.specs.OutboxView.{Outgoing}
 use Rattle.amqp_core.specs.Settings.{config_view}
+use Rattle.amqp_core.proofs.AccountLemmas.{account_of_frame, account_of_rest, account_of_stop, came_fresh, ran_in_piece, rest_of, whole_of}
+use Rattle.amqp_core.proofs.GrowthLemmas.{frame_grows, stop_grows}
 use Rattle.amqp_core.proofs.BoundLemmas.{bounded_failed, bounded_frame}
 use Rattle.amqp_core.proofs.DropLemmas.{none_pending, frame_there, given_dropped}
 use Rattle.amqp_core.proofs.FeedLemmas.{sound_with, reads, takes, fed_by, frame_fed, rest_fed, fault_fed, first_fault, stop_leaves, fed_holds, after_rest, after_frame, after_stop, fields_rest, fields_frame, fields_failed, frame_leaves, rest_unfinished, none_unfinished}
@@ -96,15 +102,59 @@ returns-in-Err-clause-sound c =
     (bounded_failed (role_at old) (config_view old.core.settings) (core_end c.stop.new.self) left.0)
 
 pub returns-in-Some-clause-in_place : goal.returns-in-Some-clause-in_place
-returns-in-Some-clause-in_place c = λ drops.
+returns-in-Some-clause-in_place c = λ unwanted drops.
     let old = c.args.self.now in
     let completes : Completes old.splitter (take c.in-Ok.fed.taken c.args.piece.now) (lent c.in-Some.frame) = subst (λ o. IfSome o (λ f. Completes old.splitter (take c.in-Ok.fed.taken c.args.piece.now) (lent f))) c.in-Some.is c.in-Ok.ensures.frame in
     let none = none_pending (role_at old) (core_end old.core) old.heard old.splitter old.outbox.output c.args.piece.now c.requires.sound.fields drops in
-    c.after_octets.ensures.ok (c.answer-answer.ensures.alone (given_dropped (role_at old) (endpoint_view old) old.splitter c.args.piece.now c.in-Ok.fed.taken (lent c.in-Some.frame) c.one_frame_at_start.ensures drops none completes))
+    c.after_octets.ensures.ok (c.answer-answer.ensures.alone unwanted (given_dropped (role_at old) (endpoint_view old) old.splitter c.args.piece.now c.in-Ok.fed.taken (lent c.in-Some.frame) c.one_frame_at_start.ensures drops none completes))
 
 pub returns-in-Err-clause-in_place : goal.returns-in-Err-clause-in_place
-returns-in-Err-clause-in_place c = λ drops.
+returns-in-Err-clause-in_place c = λ unwanted drops.
     let old = c.args.self.now in
     let none = none_pending (role_at old) (core_end old.core) old.heard old.splitter old.outbox.output c.args.piece.now c.requires.sound.fields drops in
     let running = (c.requires.sound.fields.ready (reads (role_at old) (core_end old.core).phase c.requires.reads).octets).running in
     absurd (false≢true (subst (λ r. IsOk r) c.in-Err.is (c.feed_ref.ensures.in_place running none (frame_there (role_at old) (core_end old.core) old.heard old.splitter old.outbox.output c.args.piece.now c.requires.sound.fields drops))))
+
+pub returns-in_default-clause-account : goal.returns-in_default-clause-account
+returns-in_default-clause-account c = λ wanted ran.
+    let old = c.args.self.now in
+    let by = fed_by (role_at old) (core_end old.core) old.heard old.splitter old.outbox.output c.args.piece.now c.requires.reads c.requires.sound.fields c.requires.sound.holds (λ i. omega (arith, c.type_inv.piece i)) in
+    let waits : Waits old.splitter c.args.piece.now c.in-Ok.fed.taken = subst (λ o. IfNone o (Waits old.splitter c.args.piece.now c.in-Ok.fed.taken)) c.in_default.is c.in-Ok.ensures.rest in
+    account_of_rest (role_at old) (config_view old.core.settings) (endpoint_view old) c.args.piece.now _ c.in-Ok.fed.taken _ _ c.judged_is_said.ensures.one c.requires.reads
+    (c.pieces_are_split.ensures.rest (role_at old) (config_view old.core.settings) (endpoint_view old) old.splitter c.args.piece.now c.in-Ok.fed.taken by waits) waits.all
+    (rest_of old.splitter (endpoint_view old) c.args.piece.now c.in-Ok.fed.taken by.splits waits) refl (came_fresh old.core.settings c.args.account.now c.requires.fresh)
+
+pub returns-in-Some-clause-account : goal.returns-in-Some-clause-account
+returns-in-Some-clause-account c = λ wanted ran.
+    let old = c.args.self.now in
+    let by = fed_by (role_at old) (core_end old.core) old.heard old.splitter old.outbox.output c.args.piece.now c.requires.reads c.requires.sound.fields c.requires.sound.holds (λ i. omega (arith, c.type_inv.piece i)) in
+    let completes : Completes old.splitter (take c.in-Ok.fed.taken c.args.piece.now) (lent c.in-Some.frame) = subst (λ o. IfSome o (λ f. Completes old.splitter (take c.in-Ok.fed.taken c.args.piece.now) (lent f))) c.in-Some.is c.in-Ok.ensures.frame in
+    let lasts : ran_out c.answer-answer.result ≡ false = sym (ran_in_piece c.in-Ok.fed.taken c.answer-answer.result) ∙ (sym (ap (λ r. ran_out r) c.after_octets.ensures.piece) ∙ ran) in
+    account_of_frame (role_at old) (config_view old.core.settings) (endpoint_view old) c.args.piece.now _ c.in-Ok.fed.taken _ (lent c.in-Some.frame) _ c.judged_is_said.ensures.one c.requires.reads
+    (c.pieces_are_split.ensures.frame (role_at old) (config_view old.core.settings) (endpoint_view old) old.splitter c.args.piece.now c.in-Ok.fed.taken (lent c.in-Some.frame) by c.in-Ok.ensures.within completes)
+    (whole_of old.splitter (endpoint_view old) (take c.in-Ok.fed.taken c.args.piece.now) (lent c.in-Some.frame) by.splits completes) c.answer-answer.ensures.octets
+    (λ i. record { took = c.answer-answer.ensures.took wanted lasts i; item = c.answer-answer.ensures.item wanted lasts i; owed = c.answer-answer.ensures.owed lasts i })
+
+pub returns-in-Some-clause-grows : goal.returns-in-Some-clause-grows
+returns-in-Some-clause-grows c =
+    let old = c.args.self.now in
+    frame_grows old.core.settings (core_end old.core) (lent c.in-Some.frame) c.answer-answer.result c.answer-answer.new.account.owed old.outbox.output c.answer-answer.new.outbox c.requires.sound.writes
+    (c.frames_are_within.ensures.verdict (role_at old) (facts_at (config_view old.core.settings) (core_end old.core) (lent c.in-Some.frame).channel) (reading (lent c.in-Some.frame))) c.answer-answer.ensures.owed c.answer-answer.ensures.output
+
+pub returns-in-Err-clause-account : goal.returns-in-Err-clause-account
+returns-in-Err-clause-account c = λ wanted ran.
+    let old = c.args.self.now in
+    let r = reads (role_at old) (core_end old.core).phase c.requires.reads in
+    let by = fed_by (role_at old) (core_end old.core) old.heard old.splitter old.outbox.output c.args.piece.now c.requires.reads c.requires.sound.fields c.requires.sound.holds (λ i. omega (arith, c.type_inv.piece i)) in
+    let short : c.stop.new.account.octets < 2 ^ 64 = omega (arith, c.stop.ensures.octets, c.taken_to_fault-account.type_inv) in
+    let after = ap (λ (s : Stream). s.taken_to_fault) (c.feed_ref.follows.holds-at-none ∙ ap (after_feed_ref old.splitter c.args.piece.now) c.in-Err.is) in
+    account_of_stop (role_at old) (config_view old.core.settings) (endpoint_view old) old.splitter c.args.piece.now c.in-Err.fault.kind c.in-Err.fault.at _ _ c.judged_is_said.ensures.one
+    (c.pieces_are_split.ensures.fault (role_at old) (config_view old.core.settings) (endpoint_view old) (record old.splitter { taken = 0 }) c.args.piece.now) c.faults_are_judged.ensures.judged by short (λ e. false≢true (sym ran ∙ c.stop.ensures.memory e))
+    (first_fault old.splitter c.args.piece.now c.in-Err.fault (c.requires.sound.fields.ready r.octets).running c.in-Err.ensures.fault) (c.stop.ensures.octets ∙ (c.taken_to_fault-account.ensures ∙ after))
+    (λ i. record { took = (ap note_there c.stop.ensures.took ∙ ap note_there c.requires.fresh.took) i; item = (ap item_there c.stop.ensures.item ∙ ap item_there c.requires.fresh.item) i; owed = c.stop.ensures.owed ran i })
+
+pub returns-in-Err-clause-grows : goal.returns-in-Err-clause-grows
+returns-in-Err-clause-grows c =
+    let old = c.args.self.now in
+    stop_grows old.core.settings (core_end old.core) c.in-Err.fault.kind c.stop.result c.stop.new.account.owed old.outbox.output c.stop.new.outbox
+    (c.frames_are_within.ensures.too_large (role_at old) (facts_at (config_view old.core.settings) (core_end old.core) 0)) c.stop.ensures.owed c.stop.ensures.output

@@ -1,13 +1,15 @@
 -- What holds of the end holds of its endpoint.
-use Rattle.std.proofs.Common.{arith}
+use Rattle.std.proofs.Common.{ap, ◌∙◌, arith}
 use Rattle.amqp_core.specs.EndView.{config_at, endpoint_of, role_played}
 use Rattle.amqp_core.specs.EndpointView.{endpoint_view}
 use Rattle.amqp_core.proofs.FollowLemmas.{piece_goes_on}
-use Rattle.amqp_core.proofs.KeptLemmas.{kept_sound}
-use Rattle.amqp_core.proofs.end.End.feed.Goals as goal
+use Rattle.amqp_core.specs.Settings.{role_for}
+use Rattle.amqp_core.specs.declared.settings.Settings.{Settings}
+use Rattle.amqp_core.proofs.KeptLemmas.{kept_sound, sound_kept}
+use Rattle.amqp_core.proofs.end.End.advance.Goals as goal
 
-pub feed-requires : goal.feed-requires
-feed-requires g c = kept_sound c.args.self.now.inner c.args.self.now.kept
+pub feed-requires-clause-sound : goal.feed-requires-clause-sound
+feed-requires-clause-sound g c = kept_sound c.args.self.now.inner c.args.self.now.kept
 
 pub returns-clause-history : goal.returns-clause-history
 returns-clause-history g c = λ history fed written stands.
@@ -17,3 +19,9 @@ returns-clause-history g c = λ history fed written stands.
     (c.memory_runs_out.ensures.stands (role_played old) (config_at old) (endpoint_of old) history fed written)
     (c.octets_follow.ensures.feed (role_played old) (config_at old) (endpoint_of old) history fed written c.args.piece.now)
     (λ i. omega (arith, c.type_inv.piece i)) old.kept.writes c.feed.ensures.memory c.feed.ensures.fed stands
+
+pub invariant_of-self : goal.invariant_of-self
+invariant_of-self g c = record {
+  kept = sound_kept c.feed.new.self c.feed.ensures.sound;
+  plays = ap (λ (s : Settings). role_for s) c.feed.ensures.settings ∙ c.args.self.now.plays;
+}

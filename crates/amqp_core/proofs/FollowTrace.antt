@@ -1,0 +1,167 @@
+-- What follows a piece is a trace of the history that follows.
+use Rattle.std.proofs.Common.{◌≡◌, inl, inr, true, false, not, ℕ, List, [], ◌∷◌, ◌++◌, map, take, Option, Some, None, option_to_list, refl, ap, sym, ◌∙◌, subst}
+use Rattle.std.proofs.lemmas.Bool.{false≢true, true≢false}
+use Rattle.std.proofs.lemmas.List.{append-nil, append_assoc}
+use Rattle.amqp_frame.specs.declared.faults.FrameFaultKind.{FrameFaultKind}
+use Rattle.amqp_frame.specs.declared.faults.FrameFaultKind.TheVariants as kinds
+use Rattle.amqp_model.specs.Channels.{End, Phase, Closed}
+use Rattle.amqp_model.specs.Closes as closes
+use Rattle.amqp_model.specs.Closes.{AllReadBack, frame_of}
+use Rattle.amqp_model.specs.EndLaws.{VerdictOfHistory}
+use Rattle.amqp_model.specs.EndVerdict.{end_puts, end_verdict, facts_at, goes_on}
+use Rattle.amqp_model.specs.Endpoint.{Feeding, awaits_opening, greeting, owed_at_fault, outcome_of}
+use Rattle.amqp_model.specs.Frame.{Frame}
+use Rattle.amqp_model.specs.FrameVerdict.{methods_put}
+use Rattle.amqp_model.specs.Histories.{Took, History}
+use Rattle.amqp_model.specs.Items.{Item}
+use Rattle.amqp_model.specs.LawfulHistories.{then_put, then_taken}
+use Rattle.amqp_model.specs.Methods.{Method}
+use Rattle.amqp_model.specs.Negotiation.{Config}
+use Rattle.amqp_model.specs.Notes.{Role, Client, Server}
+use Rattle.amqp_model.specs.OctetLaws as octets
+use Rattle.amqp_model.specs.OctetLaws.{EndpointStandsFor, HasFailed, Follows}
+use Rattle.amqp_model.specs.Octets.{has_opened}
+use Rattle.amqp_model.specs.ReadingBack.{WritesReadBack, GreetingReadsBack}
+use Rattle.amqp_model.specs.Readings.{reading}
+use Rattle.amqp_model.specs.Sent.{life_on, told}
+use Rattle.amqp_model.specs.Traces.{IsTaken, Noted, noted, PutsTellNothing, SaysMethod, TellsEvent, TracePuts, telling_at}
+use Rattle.amqp_core.specs.AccountView.{Came, IsAccount, item_in_outcome, puts_alone, came_of_frame}
+use Rattle.amqp_core.specs.Noting.{lives_in, notes_owed, said_by_owed, told_by}
+use Rattle.amqp_core.specs.OwedView.{owed_view}
+use Rattle.amqp_core.specs.Settings.{config_view, role_for}
+use Rattle.amqp_core.specs.Tracing as tracing
+use Rattle.amqp_core.specs.Tracing.{Kept, IsTraceOf, Stands, OpensWith, Grows, TraceGrows}
+use Rattle.amqp_core.specs.declared.owed.Owed.{Owed}
+use Rattle.amqp_core.specs.declared.settings.Settings.{Settings}
+use Rattle.amqp_core.proofs.FeedTrace.{Lists, frame-listed, puts-listed}
+use Rattle.amqp_core.proofs.TraceLemmas.{told-goes, told-stops}
+
+-- the laws of traces, of an end with these settings
+pub record TraceLaws (role : Role) (config : Config role) : Type 0 where
+  pub puts : (frames : List Frame) (history : History) → TracePuts frames history
+  pub tells : (history : History) (frame : Frame) → TellsEvent role config history frame
+  pub puts_tell : (frames : List Frame) (history : History) → PutsTellNothing role config frames history
+  pub says : (channel : ℕ) (method : Method) (history : History) → SaysMethod role channel method history
+  pub verdict : (end : End) (history : History) (frame : Frame) → VerdictOfHistory role config false end history frame
+  pub writes : WritesReadBack role config
+
+-- how the lists have grown by what came
+pub record ListsGrow (role : Role) (old new : Kept) (took : Option Noted) (item : Option Item) (owed : Owed) : Type 0 where
+  pub notes : new.notes ≡ old.notes ++ (option_to_list took ++ notes_owed role owed)
+  pub told : new.told ≡ old.told ++ told_by (lives_in role old.notes) took item
+  pub said : new.said ≡ old.said ++ said_by_owed (lives_in role (old.notes ++ option_to_list took)) owed
+
+greeting_back : (role : Role) (config : Config role) → GreetingReadsBack role config → AllReadBack (greeting role config)
+greeting_back Client config back = tt
+greeting_back Server config back = (back, tt)
+
+fault_back : (role : Role) (config : Config role) (end : End) (kind : FrameFaultKind) → WritesReadBack role config → AllReadBack (owed_at_fault config end kind)
+fault_back role config end kinds.UnknownType writes = tt
+fault_back role config end kinds.TooLarge writes = writes.too_large end
+fault_back role config end kinds.BadEnd writes = tt
+fault_back role config end kinds.OutOfMemory writes = tt
+fault_back role config end kinds.Failed writes = tt
+
+-- methods were put, and no frame was taken
+alone : (settings : Settings) (old new : Kept) (took : Option Noted) (item : Option Item) (owed : Owed) (put : List closes.Owed) (history : History)
+    → TraceLaws (role_for settings) (config_view settings) → ListsGrow (role_for settings) old new took item owed
+    → ◌≡◌ {A = Came} (record { took = took; item = item; owed = owed_view settings owed }) (puts_alone put) → AllReadBack put
+    → IsTraceOf (role_for settings) (config_view settings) old history
+    → Lists (role_for settings) (config_view settings) new.notes new.told new.said (then_put (map frame_of put) history)
+alone settings old new took item owed put history laws grow came back traced =
+    let role = role_for settings in
+    let none : took ≡ None = ap (λ (c : Came). c.took) came in
+    let notes : new.notes ≡ old.notes ++ notes_owed role owed = grow.notes ∙ ap (λ (t : Option Noted). old.notes ++ (option_to_list t ++ notes_owed role owed)) none in
+    let tells : new.told ≡ old.told = grow.told ∙ (ap (λ (t : Option Noted). old.told ++ told_by (lives_in role old.notes) t item) none ∙ append-nil old.told) in
+    let says : new.said ≡ old.said ++ said_by_owed (lives_in role old.notes) owed =
+    grow.said ∙ (ap (λ (t : Option Noted). old.said ++ said_by_owed (lives_in role (old.notes ++ option_to_list t)) owed) none ∙ ap (λ ns. old.said ++ said_by_owed (lives_in role ns) owed) (append-nil old.notes)) in
+    let lists = puts-listed settings owed put history old.notes new.notes old.told old.said new.said laws.puts laws.puts_tell laws.says (ap (λ (c : Came). c.owed) came) back (record { noted = traced.noted; told = traced.told; said = traced.said }) notes says in
+    record { noted = lists.noted; told = tells ∙ lists.told; said = lists.said }
+
+-- a frame was taken
+with_frame : (settings : Settings) (old new : Kept) (end : End) (frame : Frame) (took : Option Noted) (item : Option Item) (owed : Owed) (history : History)
+    → TraceLaws (role_for settings) (config_view settings) → ListsGrow (role_for settings) old new took item owed
+    → ◌≡◌ {A = Came} (record { took = took; item = item; owed = owed_view settings owed }) (came_of_frame (config_view settings) end frame)
+    → told (role_for settings) (config_view settings) (then_taken (config_view settings) end frame history)
+    ≡ told (role_for settings) (config_view settings) history ++ telling_at frame.channel (life_on (role_for settings) frame.channel history) (item_in_outcome (outcome_of (facts_at (config_view settings) end frame.channel) (end_verdict (config_view settings) end frame)))
+    → IsTraceOf (role_for settings) (config_view settings) old history
+    → Lists (role_for settings) (config_view settings) new.notes new.told new.said (then_taken (config_view settings) end frame history)
+with_frame settings old new end frame took item owed history laws grow came law traced =
+    let role = role_for settings in
+    let config = config_view settings in
+    let this : Noted = noted IsTaken frame in
+    let tells_item = item_in_outcome (outcome_of (facts_at config end frame.channel) (end_verdict config end frame)) in
+    let took_is : took ≡ Some this = ap (λ (c : Came). c.took) came in
+    let item_is : item ≡ tells_item = ap (λ (c : Came). c.item) came in
+    let notes : new.notes ≡ (old.notes ++ this ∷ []) ++ notes_owed role owed =
+    grow.notes ∙ (ap (λ (t : Option Noted). old.notes ++ (option_to_list t ++ notes_owed role owed)) took_is ∙ sym (append_assoc old.notes (this ∷ []) (notes_owed role owed))) in
+    let tells : new.told ≡ old.told ++ told_by (lives_in role old.notes) (Some this) tells_item =
+    grow.told ∙ (ap (λ (t : Option Noted). old.told ++ told_by (lives_in role old.notes) t item) took_is ∙ ap (λ (i : Option Item). old.told ++ told_by (lives_in role old.notes) (Some this) i) item_is) in
+    let says : new.said ≡ old.said ++ said_by_owed (lives_in role (old.notes ++ this ∷ [])) owed =
+    grow.said ∙ ap (λ (t : Option Noted). old.said ++ said_by_owed (lives_in role (old.notes ++ option_to_list t)) owed) took_is in
+    let here : told role config (Took frame ∷ history) ≡ told role config history ++ telling_at frame.channel (life_on role frame.channel history) tells_item = sym (laws.puts_tell (end_puts config end frame) (Took frame ∷ history)) ∙ law in
+    let first = frame-listed settings frame tells_item history old.notes old.told old.said here (record { noted = traced.noted; told = traced.told; said = traced.said }) in
+    let lists = puts-listed settings owed (methods_put (facts_at config end frame.channel) (end_verdict config end frame)) (Took frame ∷ history) (old.notes ++ this ∷ []) new.notes (old.told ++ told_by (lives_in role old.notes) (Some this) tells_item) old.said new.said
+    laws.puts laws.puts_tell laws.says (ap (λ (c : Came). c.owed) came) (laws.writes.owed end frame.channel (reading frame)) first notes says in
+    record { noted = lists.noted; told = tells ∙ lists.told; said = lists.said }
+
+-- the standing, where the octets are those fed and written
+pub stood : (role : Role) (config : Config role) (new : Kept) (history : History) (fed written : List ℕ) → new.fed ≡ fed → new.written ≡ written → EndpointStandsFor role config new.endpoint history fed written → Stands role config new history
+stood role config new history fed written f w stands = tracing.stands
+    (subst (λ xs. EndpointStandsFor role config new.endpoint history xs new.written) (sym f) (subst (λ ys. EndpointStandsFor role config new.endpoint history fed ys) (sym w) stands))
+
+fell : (role : Role) (config : Config role) (limit : ℕ) (opening : List ℕ) (new : Kept) (history : History) (fed written : List ℕ) → OpensWith role history opening → new.fed ≡ fed → new.written ≡ written → HasFailed role config limit opening history fed written new.endpoint → Stands role config new history
+fell role config limit opening new history fed written opens f w failed = tracing.failed limit opening opens
+    (subst (λ xs. HasFailed role config limit opening history xs new.written new.endpoint) (sym f) (subst (λ ys. HasFailed role config limit opening history fed ys new.endpoint) (sym w) failed))
+
+traced_by : (role : Role) (config : Config role) (new : Kept) (after : History) → Lists role config new.notes new.told new.said after → Stands role config new after → IsTraceOf role config new after
+traced_by role config new after lists standing = record { noted = lists.noted; told = lists.told; said = lists.said; stands = standing }
+
+-- nothing was put where the protocol header is awaited
+none_put : (role : Role) (history : History) (phase : Phase) → awaits_opening role phase ≡ true → awaits_opening role phase ≡ not (has_opened role history) → history ≡ []
+none_put Client history phase awaits opens = absurd (false≢true awaits)
+none_put Server [] phase awaits opens = refl
+none_put Server (entry ∷ before) phase awaits opens = absurd (true≢false (sym awaits ∙ opens))
+
+-- A piece that didn't run out of memory.
+pub follow-trace : (settings : Settings) (old new : Kept) (piece : List ℕ) (fed : Feeding) (count : ℕ) (took : Option Noted) (item : Option Item) (owed : Owed) (history : History)
+    → TraceLaws (role_for settings) (config_view settings) → ListsGrow (role_for settings) old new took item owed
+    → IsAccount (role_for settings) (config_view settings) old.endpoint piece fed count (record { took = took; item = item; owed = owed_view settings owed })
+    → new.fed ≡ old.fed ++ take fed.taken piece → new.written ≡ old.written
+    → IsTraceOf (role_for settings) (config_view settings) old history
+    → EndpointStandsFor (role_for settings) (config_view settings) old.endpoint history old.fed old.written
+    → ((closed : old.endpoint.end.phase ≡ Closed) → ⊥)
+    → Follows (role_for settings) (config_view settings) old.endpoint history old.fed old.written piece (record { endpoint = new.endpoint; taken = fed.taken; outcome = fed.outcome })
+    → TraceGrows (role_for settings) (config_view settings) old.endpoint piece fed history new
+follow-trace settings old new piece fed count took item owed history laws grow account f w traced stands not_closed (octets.waits outcome stands_then) =
+    let role = role_for settings in
+    let lists = alone settings old new took item owed [] history laws grow (account.waits outcome) tt traced in
+    record { after = history; grows = tracing.waits outcome; trace = traced_by role (config_view settings) new history lists (stood role (config_view settings) new history _ _ f w stands_then) }
+follow-trace settings old new piece fed count took item owed history laws grow account f w traced stands not_closed (octets.greets awaits none outcome stands_then) =
+    let role = role_for settings in
+    let config = config_view settings in
+    let lists = alone settings old new took item owed (greeting role config) history laws grow (account.greets awaits outcome) (greeting_back role config laws.writes.greeting) traced in
+    record { after = then_put (map frame_of (greeting role config)) history; grows = tracing.greets awaits none outcome; trace = traced_by role config new _ lists (stood role config new _ _ _ f w stands_then) }
+follow-trace settings old new piece fed count took item owed history laws grow account f w traced stands not_closed (octets.takes frame phase whole on outcome stands_then) =
+    let role = role_for settings in
+    let config = config_view settings in
+    let law = told-goes role config old.endpoint.end history frame (laws.verdict old.endpoint.end history frame) (laws.tells history frame) laws.puts_tell laws.writes stands.lawful stands.stands on in
+    let lists = with_frame settings old new old.endpoint.end frame took item owed history laws grow (account.takes frame phase whole) law traced in
+    record { after = then_taken config old.endpoint.end frame history; grows = tracing.takes frame phase whole on outcome; trace = traced_by role config new _ lists (stood role config new _ _ _ f w stands_then) }
+follow-trace settings old new piece fed count took item owed history laws grow account f w traced stands not_closed (octets.faults frame fault phase whole verdict outcome failed) =
+    let role = role_for settings in
+    let config = config_view settings in
+    let law = told-stops role config old.endpoint.end history frame (laws.verdict old.endpoint.end history frame) laws.puts_tell stands.stands (ap goes_on verdict) in
+    let lists = with_frame settings old new old.endpoint.end frame took item owed history laws grow (account.takes frame phase whole) law traced in
+    record { after = then_taken config old.endpoint.end frame history; grows = tracing.faults frame fault phase whole verdict outcome; trace = traced_by role config new _ lists (fell role config _ _ new _ _ _ (inl refl) f w failed) }
+follow-trace settings old new piece fed count took item owed history laws grow account f w traced stands not_closed (octets.tells kind phase shows outcome failed) =
+    let role = role_for settings in
+    let config = config_view settings in
+    let lists = alone settings old new took item owed (owed_at_fault config old.endpoint.end kind) history laws grow (account.tells kind phase shows) (fault_back role config old.endpoint.end kind laws.writes) traced in
+    record { after = then_put (map frame_of (owed_at_fault config old.endpoint.end kind)) history; grows = tracing.tells kind phase shows outcome; trace = traced_by role config new _ lists (fell role config _ _ new _ _ _ (inl refl) f w failed) }
+follow-trace settings old new piece fed count took item owed history laws grow account f w traced stands not_closed (octets.differs awaits outcome failed) =
+    let role = role_for settings in
+    let config = config_view settings in
+    let lists = alone settings old new took item owed [] history laws grow (account.differs awaits outcome) tt traced in
+    record { after = history; grows = tracing.differs awaits outcome; trace = traced_by role config new history lists (fell role config _ _ new history _ _ (inr (refl, none_put role history old.endpoint.end.phase awaits stands.opens)) f w failed) }
+follow-trace settings old new piece fed count took item owed history laws grow account f w traced stands not_closed (octets.refuses closed is) = absurd (not_closed closed)

@@ -1,0 +1,72 @@
+-- The lists go on with what came of the piece, or, out of memory, stay as they are.
+use Rattle.std.proofs.Common.{◌≡◌, ◌+◌, ◌≤◌, length, vec_len, vec_capacity, refl, ap, sym, ◌∙◌, subst, arith}
+use Rattle.amqp_model.specs.Endpoint.{after_feed}
+use Rattle.amqp_model.specs.Outputs.{Output, output_octets}
+use Rattle.amqp_core.specs.Answering.{ran_out}
+use Rattle.amqp_core.specs.EndView.{config_at, endpoint_of, role_played, settings_at}
+use Rattle.amqp_core.specs.Roles.{role_of}
+use Rattle.amqp_core.specs.Settings.{role_for}
+use Rattle.amqp_core.specs.TracedFields.{kept_of}
+use Rattle.amqp_core.specs.declared.settings.Settings.{Settings}
+use Rattle.amqp_core.proofs.TracedLemmas.{not-err, over-feed, traced-out, traced-same, traces-kept, traces-on, traces-same}
+use Rattle.amqp_core.proofs.traced.Traced.feed.Goals as goal
+
+pub returns-in-Some-clause-fed : goal.returns-in-Some-clause-fed
+returns-in-Some-clause-fed g c = (over-feed (role_played c.args.self.now.end) (config_at c.args.self.now.end) (kept_of c.args.self.now.end c.args.self.now.ledger) c.args.piece.now c.in-Some.fault c.in-Some.ensures).is_fed
+
+pub returns-in-Some-clause-octets : goal.returns-in-Some-clause-octets
+returns-in-Some-clause-octets g c = (over-feed (role_played c.args.self.now.end) (config_at c.args.self.now.end) (kept_of c.args.self.now.end c.args.self.now.ledger) c.args.piece.now c.in-Some.fault c.in-Some.ensures).octets
+
+pub returns-in-Some-clause-history : goal.returns-in-Some-clause-history
+returns-in-Some-clause-history g c = (over-feed (role_played c.args.self.now.end) (config_at c.args.self.now.end) (kept_of c.args.self.now.end c.args.self.now.ledger) c.args.piece.now c.in-Some.fault c.in-Some.ensures).history
+
+-- there was no room
+pub returns-then-is_err-clause-history : goal.returns-then-is_err-clause-history
+returns-then-is_err-clause-history g c = λ history traced.
+    let end = c.args.self.now.end in
+    let role = role_played end in
+    let config = config_at end in
+    let old = kept_of end c.args.self.now.ledger in
+    let new = kept_of c.run_out.new.self c.make_room-room.new.ledger in
+    let lists = c.make_room-room.ensures.same in
+    ∣ (traced-out role config old new history (λ one next. c.failed_follows.ensures.read role config one next history)
+    (c.memory_runs_out.ensures.stands role config (endpoint_of end) history old.fed old.written) c.in_default.ensures c.run_out.ensures.left
+    (record { notes = lists.notes; told = lists.told; said = lists.said; fed = lists.fed; written = lists.written }) traced) ∣₁
+
+pub invariant_of-self : goal.invariant_of-self
+invariant_of-self g c =
+    let self = c.args.self.now in
+    let end = self.end in
+    let role = role_played end in
+    let config = config_at end in
+    let old = kept_of end self.ledger in
+    let new = kept_of c.run_out.new.self c.make_room-room.new.ledger in
+    let lists = c.make_room-room.ensures.same in
+    let output : length (output_octets (endpoint_of end).output) ≡ length (output_octets (endpoint_of c.run_out.new.self).output) = ap (λ (o : Output). length (output_octets o)) c.run_out.ensures.left.output in
+    record {
+      plays = ap role_of c.make_room-room.ensures.side ∙ (self.plays ∙ sym (ap (λ (s : Settings). role_for s) c.run_out.ensures.settings));
+      room = omega (arith, output, c.make_room-room.ensures.kept, c.make_room-room.ensures.capacity, self.room);
+      traces = traces-kept (settings_at end) (settings_at c.run_out.new.self) new c.run_out.ensures.settings
+          (traces-same role config old new (λ history traced. (traced-out role config old new history (λ one next. c.failed_follows.ensures.read role config one next history)
+          (c.memory_runs_out.ensures.stands role config (endpoint_of end) history old.fed old.written) c.in_default.ensures c.run_out.ensures.left
+          (record { notes = lists.notes; told = lists.told; said = lists.said; fed = lists.fed; written = lists.written }) traced)) self.traces);
+    }
+
+pub invariant_of-self-2 : goal.invariant_of-self-2
+invariant_of-self-2 g c =
+    let self = c.args.self.now in
+    let end = self.end in
+    let role = role_played end in
+    let config = config_at end in
+    let old = kept_of end self.ledger in
+    let ready = kept_of end c.make_room-room.new.ledger in
+    let new = kept_of c.take.new.end c.take.new.ledger in
+    let lists = c.make_room-room.ensures.same in
+    let fits = not-err c.make_room-room.result (sym c.is_err.ensures.value ∙ c.if-is_err.false) c.make_room-room.ensures.written in
+    record {
+      plays = ap role_of (c.take.ensures.side ∙ c.make_room-room.ensures.side) ∙ (self.plays ∙ sym (ap (λ (s : Settings). role_for s) c.take.ensures.settings));
+      room = subst (λ w. vec_len w + length (output_octets (endpoint_of c.take.new.end).output) ≤ vec_capacity w) (sym c.take.ensures.written) (omega (arith, fits, c.take.ensures.grows));
+      traces = traces-kept (settings_at end) (settings_at c.take.new.end) new c.take.ensures.settings
+          (traces-on role config (ran_out c.take.result) ready new c.args.piece.now (after_feed role config (endpoint_of end) c.args.piece.now)
+          (traces-same role config old ready (λ history traced. traced-same role config old ready history refl lists traced) self.traces) c.take.ensures.history);
+    }

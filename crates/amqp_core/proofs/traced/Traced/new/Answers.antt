@@ -1,0 +1,30 @@
+-- A new end is the trace of nothing.
+use Rattle.std.proofs.Common.{[], length, ap, ◌∙◌, arith}
+use Rattle.amqp_core.specs.EndView.{config_at, role_played}
+use Rattle.amqp_core.specs.Roles.{role_of}
+use Rattle.amqp_core.specs.TracedFields.{kept_of}
+use Rattle.amqp_core.proofs.TracedLemmas.{traced-new}
+use Rattle.amqp_core.proofs.traced.Traced.new.Goals as goal
+
+pub invariant_of-result : goal.invariant_of-result
+invariant_of-result g c =
+    let end = c.args.end in
+    let ledger = c.reserve.new.self in
+    let written = ap length c.output.ensures in
+    record {
+      plays = ap role_of (c.reserve.ensures.side ∙ c.new-ledger.ensures.side) ∙ c.side.ensures;
+      room = omega (arith, c.in_ok-reserve.ensures.written, written);
+      traces = ∣ (
+        [],
+        traced-new (role_played end) (config_at end) (kept_of end ledger) (c.octets_follow.ensures.new (role_played end) (config_at end)) c.requires
+            (c.reserve.ensures.notes_same ∙ c.new-ledger.ensures.notes) (c.reserve.ensures.told_same ∙ c.new-ledger.ensures.told) (c.reserve.ensures.said_same ∙ c.new-ledger.ensures.said)
+            (c.reserve.ensures.fed_same ∙ c.new-ledger.ensures.fed) (c.reserve.ensures.written_same ∙ c.new-ledger.ensures.written),
+      ) ∣₁;
+    }
+
+pub returns-clause-trace : goal.returns-clause-trace
+returns-clause-trace g c =
+    let end = c.args.end in
+    traced-new (role_played end) (config_at end) (kept_of end c.reserve.new.self) (c.octets_follow.ensures.new (role_played end) (config_at end)) c.requires
+    (c.reserve.ensures.notes_same ∙ c.new-ledger.ensures.notes) (c.reserve.ensures.told_same ∙ c.new-ledger.ensures.told) (c.reserve.ensures.said_same ∙ c.new-ledger.ensures.said)
+    (c.reserve.ensures.fed_same ∙ c.new-ledger.ensures.fed) (c.reserve.ensures.written_same ∙ c.new-ledger.ensures.written)

@@ -1,0 +1,86 @@
+//! What came of a piece beside the answer to it, for an end that is kept with its history.
+ghost use Rattle.std.specs.Prelude.{◌≡◌, true, false, OnOk, IsOk, Some, None};
+ghost use Rattle.amqp_model.specs.Traces.{IsTaken, noted};
+ghost use Rattle.amqp_core.specs.CoreView.{frame_at};
+
+use crate::events::Event;
+use crate::faults::OutOfMemory;
+use crate::notes::Note;
+use crate::one_end::Fault;
+use crate::owed::Owed;
+use crate::tellings::Item;
+use amqp_frame::FrameKind;
+use std::alloc::Global;
+
+/// What came of a piece. The note of its frame and a copy of what the frame told are made only where they are wanted, since
+/// both may take memory.
+#[derive(Debug, Drop)]
+pub(crate) struct Account {
+    pub(crate) wanted: bool,
+    /// how many octets were taken, also where a fault was found
+    pub(crate) octets: usize,
+    /// the note of the frame that was taken, if one was
+    pub(crate) took: Option<Note>,
+    /// the item that the frame told, if it told one
+    pub(crate) item: Option<Item>,
+    /// what was put in reply
+    pub(crate) owed: Owed,
+}
+
+impl Account {
+    ghost use Rattle.amqp_core.specs.AccountView.{IsFresh, TellsItem, note_there};
+
+    /// Nothing came yet.
+    pub(crate) fn new(wanted: bool) -> Account
+        ensures fresh { IsFresh result }
+        ensures wanted { result.wanted ≡ wanted }
+    {
+        Account {
+            wanted,
+            octets: 0,
+            took: None,
+            item: None,
+            owed: Owed::Nothing,
+        }
+    }
+
+    /// A frame is taken.
+    pub(crate) fn take_note(
+        &mut self,
+        alloc: Global,
+        kind: FrameKind,
+        channel: u16,
+        payload: &[u8],
+    ) -> Result<(), OutOfMemory>
+        ensures took { self.old.wanted ≡ true → OnOk result (note_there self.new.took ≡ Some (noted IsTaken (frame_at channel kind payload.now))) }
+        ensures unwanted { self.old.wanted ≡ false → IsOk result }
+        ensures wanted { self.new.wanted ≡ self.old.wanted }
+        ensures octets { self.new.octets ≡ self.old.octets }
+        ensures item { self.new.item ≡ self.old.item }
+    {
+        if self.wanted {
+            let note = Note::taken(alloc, kind, channel, payload)?;
+            self.took = Some(note);
+        }
+        Ok(())
+    }
+
+    /// A frame came to this, as the application is told.
+    pub(crate) fn keep_item(
+        &mut self,
+        told: &Result<Option<Event>, Fault>,
+    ) -> Result<(), OutOfMemory>
+        requires { self.old.item ≡ None }
+        ensures item { self.old.wanted ≡ true → OnOk result (TellsItem told.now self.new) }
+        ensures unwanted { self.old.wanted ≡ false → IsOk result }
+        ensures octets { self.new.octets ≡ self.old.octets }
+        ensures took { self.new.took ≡ self.old.took }
+    {
+        if self.wanted {
+            if let Ok(event) = told {
+                self.item = Item::of_event(event)?;
+            }
+        }
+        Ok(())
+    }
+}

@@ -1,0 +1,86 @@
+//! What an end told its application, and what it said to the other end: items, each in a life of its channel.
+ghost use Rattle.std.specs.Prelude.{◌≡◌, IfOk};
+ghost use Rattle.amqp_model.specs.Traces.{item_in_event};
+ghost use Rattle.amqp_core.specs.AskNoting.{item_asked};
+ghost use Rattle.amqp_core.specs.AskView.{lent_view};
+ghost use Rattle.amqp_core.specs.EventView.{event_there};
+ghost use Rattle.amqp_core.specs.NoteView.{item_there, item_view};
+
+use crate::asks::LentAsk;
+use crate::events::Event;
+use crate::faults::OutOfMemory;
+use amqp_method::Message;
+
+/// What an application sends or is told on a channel.
+#[derive(PartialEq, Eq, Debug, Drop)]
+pub enum Item {
+    /// A method without content, or a whole content.
+    Message(Message),
+    Flow(bool),
+    FlowOk(bool),
+}
+
+/// An item with its channel, and with the life of the channel that it belongs to, counted from 1.
+#[derive(PartialEq, Eq, Debug, Drop)]
+pub struct Telling {
+    pub channel: u16,
+    pub life: u64,
+    pub item: Item,
+}
+
+/// An equal message.
+fn copied(message: &Message) -> Result<Item, OutOfMemory>
+    ensures { IfOk result (λ item. item_view item ≡ item_view (Item.Message message.now)) }
+{
+    let Ok(message) = message.copy() else {
+        return Err(OutOfMemory);
+    };
+    Ok(Item::Message(message))
+}
+
+impl Item {
+    /// An equal item.
+    pub fn copy(&self) -> Result<Item, OutOfMemory>
+        ensures { IfOk result (λ item. item_view item ≡ item_view self.now) }
+    {
+        match self {
+            Item::Message(message) => copied(message),
+            Item::Flow(active) => Ok(Item::Flow(*active)),
+            Item::FlowOk(active) => Ok(Item::FlowOk(*active)),
+        }
+    }
+
+    /// The item that an ask says, if it says one.
+    pub(crate) fn of_ask(ask: LentAsk<'_>) -> Result<Option<Item>, OutOfMemory>
+        ensures { IfOk result (λ item. item_there item ≡ item_asked (lent_view ask.entry)) }
+    {
+        match ask {
+            LentAsk::Send(_, message) => {
+                let item = copied(message)?;
+                Ok(Some(item))
+            }
+            LentAsk::Flow(_, active) => Ok(Some(Item::Flow(active))),
+            LentAsk::Open
+            | LentAsk::CloseChannel(_, _, _)
+            | LentAsk::Close(_, _)
+            | LentAsk::Blocked(_)
+            | LentAsk::Unblocked => Ok(None),
+        }
+    }
+
+    /// The item that an event tells, if it tells one.
+    pub(crate) fn of_event(event: &Option<Event>) -> Result<Option<Item>, OutOfMemory>
+        ensures { IfOk result (λ item. item_there item ≡ item_in_event (event_there event.now)) }
+    {
+        match event {
+            Some(Event::Told(_, message)) => {
+                let item = copied(message)?;
+                Ok(Some(item))
+            }
+            Some(Event::Flow(_, active)) => Ok(Some(Item::Flow(*active))),
+            Some(Event::FlowOk(_, active)) => Ok(Some(Item::FlowOk(*active))),
+            Some(_) => Ok(None),
+            None => Ok(None),
+        }
+    }
+}

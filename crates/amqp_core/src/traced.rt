@@ -1,0 +1,225 @@
+//! An end of a connection that is kept with its history.
+ghost use Rattle.std.specs.Prelude.{◌≡◌, ◌+◌, ◌≤◌, ℕ, List, [], ◌++◌, length, map, take as first, vec_len, vec_capacity, IfOk, IfErr, OnOk, OnErr};
+ghost use Rattle.amqp_model.specs.Answers.{channel_state, gathered, reply_due};
+ghost use Rattle.amqp_model.specs.Asks.{frames_asked};
+ghost use Rattle.amqp_model.specs.Endpoint.{after_feed, after_wrote, new_endpoint};
+ghost use Rattle.amqp_model.specs.Histories.{History};
+ghost use Rattle.amqp_model.specs.LawfulHistories.{then_put};
+ghost use Rattle.amqp_model.specs.Outputs.{output_octets};
+ghost use Rattle.amqp_core.specs.Answering.{ran_out};
+ghost use Rattle.amqp_core.specs.AskView.{ask_view};
+ghost use Rattle.amqp_core.specs.Asked.{number_taken};
+ghost use Rattle.amqp_core.specs.Asking.{AcceptsAsk, RefusesAsk};
+ghost use Rattle.amqp_core.specs.EndView as ends;
+ghost use Rattle.amqp_core.specs.EventView.{agreed_there};
+ghost use Rattle.amqp_core.specs.Feeding.{IsFed};
+ghost use Rattle.amqp_core.specs.LedgerView.{HasRoom};
+ghost use Rattle.amqp_core.specs.NoteView.{note_view, telling_view};
+ghost use Rattle.amqp_core.specs.Roles.{role_of};
+ghost use Rattle.amqp_core.specs.Stages.{phase_name};
+ghost use Rattle.amqp_core.specs.StateView.{state_view};
+ghost use Rattle.amqp_core.specs.TracedFields.{kept_of};
+ghost use Rattle.amqp_core.specs.Tracing.{IsTraceOf, FedGrows, SameLists, TraceGoesOn};
+
+use crate::asks::Ask;
+use crate::end::End;
+use crate::events::{Agreed, Taken};
+use crate::faults::{AskFault, CoreFault, OutOfMemory};
+use crate::ledger::Ledger;
+use crate::notes::Note;
+use crate::queries::ChannelState;
+use crate::roles::Role;
+use crate::stage::Phase;
+use crate::tellings::Telling;
+use crate::tracing::{make_room, put, room_for_ask, take};
+use amqp_method::Kind;
+use amqp_model::{arrangement, octets, one_end, traces};
+
+/// An end of a connection, kept with its history: a note of each frame that it put and took, the items that it told and said,
+/// and all octets that it was fed and that it wrote.
+#[derive(Drop)]
+pub struct Traced<R: Role> {
+    end: End<R>,
+    ledger: Ledger,
+    ghost plays: { role_of ledger.side ≡ ends.role_played end },
+    ghost room: { vec_len ledger.written + length (output_octets (ends.endpoint_of end).output) ≤ vec_capacity ledger.written },
+    pub ghost traces: { ∥ ((history : History) × IsTraceOf (ends.role_played end) (ends.config_at end) (kept_of end ledger) history) ∥₁ },
+}
+
+/// How many octets a piece lets the output grow by, at most: two frames of 4096.
+const MOST_PUT: usize = 8192;
+
+/// How many frames a piece makes an end note, at most: one that it takes, and two that it puts.
+const MOST_NOTED: usize = 3;
+
+impl<R: Role> Traced<R> {
+    ghost use Rattle.amqp_core.specs.TracedView.{config_at, role_played, settings_at, traced_of};
+
+    /// An end with its history, as it begins.
+    pub fn new(end: End<R>) -> Result<Traced<R>, OutOfMemory>
+        requires { ends.endpoint_of end ≡ new_endpoint (ends.role_played end) }
+        ensures endpoint { IfOk result (λ traced. (traced_of traced).endpoint ≡ ends.endpoint_of end) }
+        ensures trace { IfOk result (λ traced. IsTraceOf (role_played traced) (config_at traced) (traced_of traced) []) }
+        ensures settings { IfOk result (λ traced. settings_at traced ≡ ends.settings_at end) }
+    {
+        octets::octets_follow();
+        let mut ledger = Ledger::new(end.allocator(), end.side());
+        ledger.reserve(0, 0, end.output().len())?;
+        Ok(Traced { end, ledger })
+    }
+
+    /// Takes octets as [`End::feed`] does. Out of memory, the end has failed, and what is kept of its history is as it was.
+    pub fn feed(&mut self, piece: &[u8]) -> Result<Taken, CoreFault>
+        ensures fed { IsFed result (traced_of self.old).endpoint (after_feed (role_played self.old) (config_at self.old) (traced_of self.old).endpoint piece.now) (traced_of self.new).endpoint }
+        ensures octets { FedGrows (ran_out result) piece.now (after_feed (role_played self.old) (config_at self.old) (traced_of self.old).endpoint piece.now) (traced_of self.old) (traced_of self.new) }
+        ensures history { (history : History) → IsTraceOf (role_played self.old) (config_at self.old) (traced_of self.old) history
+            → ∥ TraceGoesOn (role_played self.old) (config_at self.old) (ran_out result) (traced_of self.old).endpoint piece.now (after_feed (role_played self.old) (config_at self.old) (traced_of self.old).endpoint piece.now) history (traced_of self.new) ∥₁ }
+        ensures settings { settings_at self.new ≡ settings_at self.old }
+    {
+        one_end::failed_follows();
+        traces::memory_runs_out();
+        if let Some(fault) = self.end.over() {
+            return Err(fault);
+        }
+        let room = make_room(
+            &self.end,
+            &mut self.ledger,
+            MOST_NOTED,
+            piece.len(),
+            MOST_PUT,
+        );
+        if room.is_err() {
+            self.end.run_out();
+            return Err(CoreFault::OutOfMemory);
+        }
+        take(&mut self.end, &mut self.ledger, piece)
+    }
+
+    /// Does what an application asks, as [`End::ask`] does. Out of memory, nothing has changed.
+    pub fn ask(&mut self, ask: &Ask) -> Result<Option<u16>, AskFault>
+        ensures accepted { OnOk result (AcceptsAsk (role_played self.old) (config_at self.old) (ask_view ask.now) (traced_of self.old).endpoint (traced_of self.new).endpoint) }
+        ensures refused { IfErr result (λ fault. RefusesAsk (role_played self.old) (ask_view ask.now) fault (traced_of self.old).endpoint (traced_of self.new).endpoint) }
+        ensures number { IfOk result (λ number. number ≡ number_taken (traced_of self.old).endpoint.end (ask_view ask.now)) }
+        ensures history { OnOk result ((history : History) → IsTraceOf (role_played self.old) (config_at self.old) (traced_of self.old) history
+            → ∥ IsTraceOf (role_played self.old) (config_at self.old) (traced_of self.new) (then_put (frames_asked (traced_of self.old).endpoint.end (ask_view ask.now)) history) ∥₁) }
+        ensures same { OnErr result (SameLists (traced_of self.old) (traced_of self.new)) }
+        ensures fed { (traced_of self.new).fed ≡ (traced_of self.old).fed }
+        ensures written { (traced_of self.new).written ≡ (traced_of self.old).written }
+        ensures settings { settings_at self.new ≡ settings_at self.old }
+    {
+        let place = self.end.allow(ask)?;
+        let Ok(item) = room_for_ask(&self.end, &mut self.ledger, ask, place) else {
+            return Err(AskFault::OutOfMemory);
+        };
+        put(&mut self.end, &mut self.ledger, ask, place, item)
+    }
+
+    /// The octets to send next.
+    pub fn output(&self) -> &[u8]
+        ensures { result.now ≡ output_octets (traced_of self.now).endpoint.output }
+    {
+        self.end.output()
+    }
+
+    /// So many octets of the output were sent.
+    pub fn wrote(&mut self, octets: usize)
+        requires { octets ≤ length (output_octets (traced_of self.old).endpoint.output) }
+        ensures endpoint { (traced_of self.new).endpoint ≡ after_wrote octets (traced_of self.old).endpoint }
+        ensures written { (traced_of self.new).written ≡ (traced_of self.old).written ++ first octets (output_octets (traced_of self.old).endpoint.output) }
+        ensures fed { (traced_of self.new).fed ≡ (traced_of self.old).fed }
+        ensures history { (history : History) → IsTraceOf (role_played self.old) (config_at self.old) (traced_of self.old) history → IsTraceOf (role_played self.new) (config_at self.new) (traced_of self.new) history }
+        ensures settings { settings_at self.new ≡ settings_at self.old }
+    {
+        octets::octets_follow();
+        traces::memory_runs_out();
+        arrangement::write_keeps_arranged();
+        self.ledger.write(&self.end.output()[..octets]);
+        self.end.wrote(octets);
+    }
+
+    /// How far the connection is.
+    pub fn phase(&self) -> Phase
+        ensures { result ≡ phase_name (traced_of self.now).endpoint.end.phase }
+    {
+        self.end.phase()
+    }
+
+    /// What tune-ok settled.
+    pub fn agreed(&self) -> Option<Agreed>
+        ensures { agreed_there result ≡ (traced_of self.now).endpoint.end.agreed }
+    {
+        self.end.agreed()
+    }
+
+    /// The state of a channel.
+    pub fn channel_state(&self, channel: u16) -> ChannelState
+        ensures { state_view result ≡ channel_state (traced_of self.now).endpoint.end channel }
+    {
+        self.end.channel_state(channel)
+    }
+
+    /// How many octets were taken of a frame that isn't whole yet, or of the protocol header.
+    pub fn pending(&self) -> usize
+        ensures { result ≡ length (traced_of self.now).endpoint.unfinished }
+    {
+        self.end.pending()
+    }
+
+    /// How many octets are kept of the body of a content that isn't whole yet.
+    pub fn gathered(&self, channel: u16) -> usize
+        ensures { result ≡ gathered (traced_of self.now).endpoint.end channel }
+    {
+        self.end.gathered(channel)
+    }
+
+    /// The request that is to be answered next on a channel.
+    pub fn reply_due(&self, channel: u16) -> Option<Kind>
+        ensures { result ≡ reply_due (traced_of self.now).endpoint.end channel }
+    {
+        self.end.reply_due(channel)
+    }
+
+    /// A note of each frame that was put or taken, in order.
+    pub fn notes(&self) -> &[Note]
+        ensures { map note_view result.now ≡ (traced_of self.now).notes }
+    {
+        self.ledger.notes.as_slice()
+    }
+
+    /// The items that this end acted on, in the order of their last frames.
+    pub fn told(&self) -> &[Telling]
+        ensures { map telling_view result.now ≡ (traced_of self.now).told }
+    {
+        self.ledger.told.as_slice()
+    }
+
+    /// The items that this end sent, in the order of their last frames.
+    pub fn said(&self) -> &[Telling]
+        ensures { map telling_view result.now ≡ (traced_of self.now).said }
+    {
+        self.ledger.said.as_slice()
+    }
+
+    /// The octets that the end was fed; at a fault up to the one that shows it.
+    pub fn fed(&self) -> &[u8]
+        ensures { result.now ≡ (traced_of self.now).fed }
+    {
+        self.ledger.fed.as_slice()
+    }
+
+    /// The octets of the output that were sent.
+    pub fn written(&self) -> &[u8]
+        ensures { result.now ≡ (traced_of self.now).written }
+    {
+        self.ledger.written.as_slice()
+    }
+
+    /// All octets that the end has put: those that were sent, and then the output.
+    pub fn put(&self) -> Result<Vec<u8>, OutOfMemory>
+        ensures { IfOk result (λ put. put.items ≡ (traced_of self.now).written ++ output_octets (traced_of self.now).endpoint.output) }
+    {
+        let mut put = Vec::from_slice(self.end.allocator(), &self.ledger.written)?;
+        put.extend_from_slice(self.end.output())?;
+        Ok(put)
+    }
+}

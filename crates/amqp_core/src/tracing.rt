@@ -1,0 +1,176 @@
+//! What an end does, and what is kept of it beside the end: both, or, out of memory, neither.
+ghost use Rattle.std.specs.Prelude.{◌≡◌, ◌+◌, ◌*◌, ◌<◌, ◌≤◌, ℕ, true, false, length, vec_len, vec_capacity, IfOk, IfErr, OnOk, OnErr};
+ghost use Rattle.amqp_model.specs.Asks.{frames_asked, refusal};
+ghost use Rattle.amqp_model.specs.Endpoint.{after_feed};
+ghost use Rattle.amqp_model.specs.EndVerdict.{takes_octets};
+ghost use Rattle.amqp_model.specs.Histories.{History};
+ghost use Rattle.amqp_model.specs.LawfulHistories.{then_put};
+ghost use Rattle.amqp_model.specs.Outputs.{output_octets};
+ghost use Rattle.amqp_core.specs.Answering.{ran_out};
+ghost use Rattle.amqp_core.specs.AskNoting.{GrowsByFrames, IsChannelOf, IsSizeOf, count_asked, item_asked};
+ghost use Rattle.amqp_core.specs.AskView.{ask_view};
+ghost use Rattle.amqp_core.specs.Asked.{number_taken};
+ghost use Rattle.amqp_core.specs.Asking.{AcceptsAsk, RefusesAsk};
+ghost use Rattle.amqp_core.specs.EndView.{config_at, endpoint_of, role_played, settings_at};
+ghost use Rattle.amqp_core.specs.Feeding.{IsFed};
+ghost use Rattle.amqp_core.specs.Growth.{GrowsLittle};
+ghost use Rattle.amqp_core.specs.LedgerView.{HasRoom};
+ghost use Rattle.amqp_core.specs.NoteView.{item_there};
+ghost use Rattle.amqp_core.specs.Roles.{role_of};
+ghost use Rattle.amqp_core.specs.TracedFields.{kept_of};
+ghost use Rattle.amqp_core.specs.Tracing.{FedGrows, IsTraceOf, SameLists, TraceGoesOn};
+ghost use Rattle.amqp_model.specs.Negotiation as negotiation;
+
+use crate::account::Account;
+use crate::allowing::Place;
+use crate::asks::Ask;
+use crate::end::End;
+use crate::events::Taken;
+use crate::faults::{AskFault, CoreFault, OutOfMemory};
+use crate::ledger::Ledger;
+use crate::roles::Role;
+use crate::tellings::Item;
+use amqp_model::{fitting, octets, one_end, traces};
+
+/// Makes room for so many frames, so many octets that are fed, and as many that are written as the output has and may get.
+pub(crate) fn make_room<R: Role>(
+    end: &End<R>,
+    ledger: &mut Ledger,
+    frames: usize,
+    fed: usize,
+    grows: usize,
+) -> Result<(), OutOfMemory>
+    ensures room { OnOk result (HasRoom ledger.new frames fed) }
+    ensures written { OnOk result (vec_len ledger.new.written + (length (output_octets (endpoint_of end.now).output) + grows) ≤ vec_capacity ledger.new.written) }
+    ensures kept { vec_len ledger.new.written ≡ vec_len ledger.old.written }
+    ensures capacity { vec_capacity ledger.old.written ≤ vec_capacity ledger.new.written }
+    ensures same { SameLists (kept_of end.now ledger.old) (kept_of end.now ledger.new) }
+    ensures side { ledger.new.side ≡ ledger.old.side }
+{
+    let Some(written) = end.output().len().checked_add(grows) else {
+        return Err(OutOfMemory);
+    };
+    ledger.reserve(frames, fed, written)
+}
+
+fn is_out_of_memory(answer: &Result<Taken, CoreFault>) -> bool
+    ensures { result ≡ ran_out answer.now }
+{
+    match answer {
+        Err(CoreFault::OutOfMemory) => true,
+        Err(CoreFault::Peer(_) | CoreFault::Fatal | CoreFault::Failed | CoreFault::Closed) => false,
+        Ok(_) => false,
+    }
+}
+
+/// Takes octets, for which there is room.
+pub(crate) fn take<R: Role>(
+    end: &mut End<R>,
+    ledger: &mut Ledger,
+    piece: &[u8],
+) -> Result<Taken, CoreFault>
+    requires room { HasRoom ledger.old 3 (length piece.now) }
+    requires takes { takes_octets (endpoint_of end.old).end.phase ≡ true }
+    requires plays { role_of ledger.old.side ≡ role_played end.old }
+    ensures fed { IsFed result (endpoint_of end.old) (after_feed (role_played end.old) (config_at end.old) (endpoint_of end.old) piece.now) (endpoint_of end.new) }
+    ensures octets { FedGrows (ran_out result) piece.now (after_feed (role_played end.old) (config_at end.old) (endpoint_of end.old) piece.now) (kept_of end.old ledger.old) (kept_of end.new ledger.new) }
+    ensures history { (history : History) → IsTraceOf (role_played end.old) (config_at end.old) (kept_of end.old ledger.old) history
+        → ∥ TraceGoesOn (role_played end.old) (config_at end.old) (ran_out result) (endpoint_of end.old) piece.now (after_feed (role_played end.old) (config_at end.old) (endpoint_of end.old) piece.now) history (kept_of end.new ledger.new) ∥₁ }
+    ensures grows { GrowsLittle (endpoint_of end.old).output (endpoint_of end.new).output }
+    ensures written { ledger.new.written ≡ ledger.old.written }
+    ensures settings { settings_at end.new ≡ settings_at end.old }
+    ensures side { ledger.new.side ≡ ledger.old.side }
+{
+    octets::octets_follow();
+    one_end::failed_follows();
+    one_end::verdict_is_of_history();
+    traces::memory_runs_out();
+    traces::frames_are_noted();
+    traces::events_are_told();
+    traces::messages_are_said();
+    fitting::owed_read_back();
+    let mut account = Account::new(true);
+    let answer = end.advance(piece, &mut account);
+    if is_out_of_memory(&answer) {
+        drop(account);
+        return answer;
+    }
+    let octets = account.octets;
+    ledger.enter(&piece[..octets], account);
+    answer
+}
+
+/// Makes room for an ask that isn't refused, and answers the item that it says.
+pub(crate) fn room_for_ask<R: Role>(
+    end: &End<R>,
+    ledger: &mut Ledger,
+    ask: &Ask,
+    place: Place,
+) -> Result<Option<Item>, OutOfMemory>
+    requires { 8 < place.frame_max }
+    ensures item { IfOk result (λ item. item_there item ≡ item_asked (ask_view ask.now)) }
+    ensures room { OnOk result (HasRoom ledger.new (count_asked place.frame_max (ask_view ask.now)) 0) }
+    ensures written { OnOk result (vec_len ledger.new.written + (length (output_octets (endpoint_of end.now).output) + count_asked place.frame_max (ask_view ask.now) * place.frame_max) ≤ vec_capacity ledger.new.written) }
+    ensures kept { vec_len ledger.new.written ≡ vec_len ledger.old.written }
+    ensures capacity { vec_capacity ledger.old.written ≤ vec_capacity ledger.new.written }
+    ensures same { SameLists (kept_of end.now ledger.old) (kept_of end.now ledger.new) }
+    ensures side { ledger.new.side ≡ ledger.old.side }
+{
+    let item = Item::of_ask(ask.lent())?;
+    let frames = ask.lent().frames(place.frame_max);
+    let Some(grows) = frames.checked_mul(place.frame_max as usize) else {
+        drop(item);
+        return Err(OutOfMemory);
+    };
+    match make_room(end, ledger, frames, 0, grows) {
+        Ok(()) => Ok(item),
+        Err(OutOfMemory) => {
+            drop(item);
+            Err(OutOfMemory)
+        }
+    }
+}
+
+/// Does what is asked, for which there is room, and which says this item.
+pub(crate) fn put<R: Role>(
+    end: &mut End<R>,
+    ledger: &mut Ledger,
+    ask: &Ask,
+    place: Place,
+    item: Option<Item>,
+) -> Result<Option<u16>, AskFault>
+    requires room { HasRoom ledger.old (count_asked place.frame_max (ask_view ask.now)) 0 }
+    requires item { item_there item ≡ item_asked (ask_view ask.now) }
+    requires place { IsChannelOf (endpoint_of end.old).end (ask_view ask.now) place.channel }
+    requires size { IsSizeOf (endpoint_of end.old).end.agreed place.frame_max }
+    requires least { negotiation.FRAME_MIN ≤ place.frame_max }
+    requires plays { role_of ledger.old.side ≡ role_played end.old }
+    ensures accepted { OnOk result (AcceptsAsk (role_played end.old) (config_at end.old) (ask_view ask.now) (endpoint_of end.old) (endpoint_of end.new)) }
+    ensures refused { IfErr result (λ fault. RefusesAsk (role_played end.old) (ask_view ask.now) fault (endpoint_of end.old) (endpoint_of end.new)) }
+    ensures number { IfOk result (λ number. number ≡ number_taken (endpoint_of end.old).end (ask_view ask.now)) }
+    ensures history { OnOk result ((history : History) → IsTraceOf (role_played end.old) (config_at end.old) (kept_of end.old ledger.old) history
+        → ∥ IsTraceOf (role_played end.old) (config_at end.old) (kept_of end.new ledger.new) (then_put (frames_asked (endpoint_of end.old).end (ask_view ask.now)) history) ∥₁) }
+    ensures same { OnErr result (SameLists (kept_of end.old ledger.old) (kept_of end.new ledger.new)) }
+    ensures grows { OnOk result (GrowsByFrames (count_asked place.frame_max (ask_view ask.now)) place.frame_max (endpoint_of end.old).output (endpoint_of end.new).output) }
+    ensures fed { ledger.new.fed ≡ ledger.old.fed }
+    ensures written { ledger.new.written ≡ ledger.old.written }
+    ensures settings { settings_at end.new ≡ settings_at end.old }
+    ensures side { ledger.new.side ≡ ledger.old.side }
+{
+    one_end::ask_is_of_history();
+    traces::frames_are_noted();
+    traces::events_are_told();
+    traces::messages_are_said();
+    fitting::owed_read_back();
+    fitting::frames_are_within();
+    match end.ask(ask) {
+        Ok(number) => {
+            ledger.put(ask.lent(), place, item);
+            Ok(number)
+        }
+        Err(fault) => {
+            drop(item);
+            Err(fault)
+        }
+    }
+}
