@@ -1,4 +1,3 @@
 pub mod StreamLemmas
-pub mod ProgressLemmas
 pub mod FeedingLemmas
 pub mod TurnLemmas

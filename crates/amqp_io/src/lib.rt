@@ -15,8 +15,6 @@ mod script;
 mod session;
 mod socket;
 mod stream;
-#[cfg(test)]
-mod tests;
 mod unfed;
 mod writing;
 

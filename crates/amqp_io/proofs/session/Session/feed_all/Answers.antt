@@ -2,24 +2,17 @@
 use Rattle.std.proofs.Common.{◌≡◌, ◌<◌, length, ◌++◌, option_to_list, ◌∙◌, ap, refl, arith}
 use Rattle.std.proofs.lemmas.List.{length-drop}
 use Rattle.std.proofs.lemmas.Bool.Decides.{nat_tests}
-use Rattle.amqp_core.specs.EndView.{config_at, endpoint_of, role_played, settings_at}
+use Rattle.amqp_core.specs.EndView.{endpoint_of, settings_at}
 use Rattle.amqp_io.specs.Intakes.{not_yet}
 use Rattle.amqp_io.specs.SessionView.{intake_of, settings_in}
 use Rattle.amqp_io.proofs.FeedingLemmas.{feeds_as, fed_further}
-use Rattle.amqp_io.proofs.ProgressLemmas.{fed_some, fed_within}
 use Rattle.amqp_io.proofs.session.Session.feed_all.Goals as goal
 
 pub loop-self-init : goal.loop-self-init
 loop-self-init g c = record { fed = not_yet; settings = refl; stream = refl }
 
 pub fed-requires : goal.fed-requires
-fed-requires g c =
-    let end = c.loop-self.self.end in
-    let old = endpoint_of end in
-    let new = endpoint_of c.feed.new.self in
-    let taken = c.in-Ok-feed.taken in
-    let within = fed_within (role_played end) (config_at end) old new c.octets.result.now taken c.in-Ok-feed.ensures.fed in
-    omega (arith, ap length c.octets.ensures)
+fed-requires g c = omega (arith, c.in-Ok-feed.ensures.within, ap length c.octets.ensures)
 
 pub returns-in-Err-clause-fed : goal.returns-in-Err-clause-fed
 returns-in-Err-clause-fed g c =
@@ -40,14 +33,11 @@ returns-in-Err-clause-fed g c =
 
 pub loop-self-smaller : goal.loop-self-smaller
 loop-self-smaller g c =
-    let end = c.loop-self.self.end in
     let unfed = c.loop-self.self.unfed in
-    let old = endpoint_of end in
-    let new = endpoint_of c.feed.new.self in
     let taken = c.in-Ok-feed.taken in
     let some : 0 < length unfed = grind (arith, nat_tests) in
     let same : length c.octets.result.now ≡ length unfed = ap length c.octets.ensures in
-    let progress : 0 < taken.octets = fed_some (role_played end) (config_at end) old new c.octets.result.now taken (omega arith) c.in-Ok-feed.ensures.fed in
+    let progress : 0 < taken.octets = c.in-Ok-feed.ensures.progress (λ none. absurd (omega (arith, ap length none))) in
     omega (arith, length-drop taken.octets unfed, ap length c.fed.ensures)
 
 pub loop-self-preserved : goal.loop-self-preserved
