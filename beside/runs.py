@@ -1,9 +1,17 @@
-"""Runs the program over a table of inputs, and compares what it prints, where, and its status."""
+"""Runs the program over a table of inputs, and compares what it prints, where, and its status: runs.py PROGRAM SHIM, where SHIM
+is the library that refuses a request for memory (memory/refuse.c)."""
 
+import os
+import pty
+import signal
+import socket
+import struct
 import subprocess
 import sys
+import tempfile
+import threading
 
-PROGRAM = sys.argv[1]
+PROGRAM, SHIM = sys.argv[1:3]
 differences = []
 
 
@@ -47,6 +55,8 @@ BEATEN = ["0 heartbeat 0 -"]
 def streams():
     shows("nothing", "", [], 0)
     shows("one frame", OPEN, OPENED, 0)
+    shows("one frame, parted by spaces", "01 0001 00000005 0014000a00 ce", OPENED, 0)
+    shows("a heartbeat", HEARTBEAT, BEATEN, 0)
     shows("a thousand frames", OPEN * 1000, OPENED * 1000, 0)
     shows("a thousand lines", (OPEN + "\n") * 1000, OPENED * 1000, 0)
     shows("four kinds", OPEN + HEARTBEAT + frame(3, 65535, "00ff") + frame(2, 256, "003c" + "00" * 12), [*OPENED, *BEATEN, "65535 body 2 00ff", "256 header 14 003c000000000000000000000000", "  header size=0"], 0)
@@ -61,10 +71,16 @@ def streams():
     shows("unknown type last", OPEN + OPEN + "09", [*OPENED, *OPENED, "fault 1 at 26"], 1)
     shows("too large first", "010001ffffffff", ["fault 2 at 6"], 1)
     shows("too large after a frame", OPEN + "010001ffffffff" + OPEN, [*OPENED, "fault 2 at 19"], 1)
+    shows("an unknown type alone", "04", ["fault 1 at 0"], 1)
+    shows("an unknown type after a frame", OPEN + "09", [*OPENED, "fault 1 at 13"], 1)
+    shows("a wrong end alone", OPEN[:-2] + "cd", ["fault 3 at 12"], 1)
     shows("wrong end first", OPEN[:-2] + "cd" + OPEN, ["fault 3 at 12"], 1)
     shows("wrong end in the middle", OPEN + OPEN[:-2] + "cd" + OPEN, [*OPENED, "fault 3 at 25"], 1)
     shows("wrong end last", OPEN + OPEN[:-2] + "cd", [*OPENED, "fault 3 at 25"], 1)
     shows("a rest first", "01", ["rest 1"], 1)
+    shows("a frame but its end", OPEN[:-2], ["rest 12"], 1)
+    shows("an empty body but its end", "030000000000ce", ["rest 7"], 1)
+    shows("the highest channel, and a rest", "02ffff0000000100ce03000000000001", ["65535 header 1 00", "  fault 2.1 at 0", "rest 7"], 1)
     shows("a rest after a frame", OPEN + OPEN[:-2], [*OPENED, "rest 12"], 1)
     shows("a rest after a payload fault", TRAILING + "0100", [*TRAILED, "rest 2"], 1)
     shows("the protocol header", "414d515000000901", ["fault 1 at 0"], 1)
@@ -131,6 +147,8 @@ def hexadecimal():
     shows("upper case, spaces and line ends", b"08000000000000CE\n\n\t08 00\r\n00 00000000 ce\r\n", BEATEN + BEATEN, 0)
     shows("an octet in two words", "0 8000000000000ce", BEATEN, 0)
     shows("an octet on two lines", "080\n00000000000ce", ["line 1: not hex"], 1)
+    shows("half an octet on the second line", "01\n0g\n", ["line 2: not hex"], 1)
+    shows("no digit behind what is no frame", "04\n\n-\n", ["line 3: not hex"], 1)
     shows("no digit on the first line", "0g\n" + OPEN, ["line 1: not hex"], 1)
     shows("no digit in the middle", OPEN + "\n0g\n" + OPEN, ["line 2: not hex"], 1)
     shows("no digit on the last line", OPEN + "\n" + OPEN + "\n-", ["line 3: not hex"], 1)
@@ -149,6 +167,7 @@ OPEN_OK = frame(1, 0, "000a002900")
 HANDSHAKE = HEADER + START_OK + TUNE_OK + OPEN_HOST + OPEN
 SHAKEN = ["quiet", f"> {START}", "quiet", f"> {TUNE}", "quiet", "negotiated 2047 131072", f"> {OPEN_OK}", "opened 1", "> 010001000000080014000b00000000ce"]
 PUBLISH = frame(1, 1, "003c0028000000017100")
+CLOSE_OK = frame(1, 1, "00140029")
 CONTENT = [PUBLISH, HEARTBEAT, frame(2, 1, "003c000000000000000000020000"), frame(1, 2, "0014000a00"), frame(3, 1, "6869")]
 OPENED_SECOND = ["opened 2", "> 010002000000080014000b00000000ce"]
 TOLD = ['told 1 basic.publish exchange="" routing-key="q" mandatory=0 immediate=0', "  header size=2", "  body 6869"]
@@ -165,6 +184,8 @@ def servers():
     checks("a content", ["server"], HANDSHAKE + "".join(CONTENT), [*SHAKEN, "quiet", *OPENED_SECOND, *TOLD], 0)
     checks("a content refused", ["server", "--max-body", "1"], HANDSHAKE + "".join(CONTENT), [*SHAKEN, "quiet", *TOO_LARGE, *OPENED_SECOND, "discarded 1"], 0)
     checks("no channel agreed", ["server"], HEADER + START_OK + frame(1, 0, "000a001f0000000200000000"), ["quiet", f"> {START}", "quiet", f"> {TUNE}", "fault fatal"], 1)
+    checks("a type that is none in place of a frame", ["server"], HEADER + "04", ["quiet", f"> {START}", "fault fatal"], 1)
+    checks("a content refused, and its channel closed", ["server", "--max-body", "1"], HANDSHAKE + "".join(CONTENT) + CLOSE_OK, [*SHAKEN, "quiet", *TOO_LARGE, *OPENED_SECOND, "discarded 1", "channel-closed 1 by-us"], 0)
     checks("no digit", ["server"], HANDSHAKE + "\n0g", ["line 2: not hex"], 1)
     close = frame(1, 0, "000a003200c80362796500000000")
     closed = ['connection-closed 200 "bye"', "> 01000000000004000a0033ce"]
@@ -179,6 +200,62 @@ def servers():
     checks("ten thousand frames", ["server"], HANDSHAKE + HEARTBEAT * 10_000, [*SHAKEN, *["quiet"] * 10_000], 0)
 
 
+def closed_with(code, text):
+    """What a server prints that closes the connection for a fault: the fault, and its close."""
+    text = text.encode().hex()
+    return [f"fault peer {code}", f"> {frame(1, 0, f'000a0032{code:04x}{len(text) // 2:02x}{text}00000000')}"]
+
+
+FRAME_ERROR = closed_with(501, "frame-error")
+SYNTAX_ERROR = closed_with(502, "syntax-error")
+COMMAND_INVALID = closed_with(503, "command-invalid")
+CHANNEL_ERROR = closed_with(504, "channel-error")
+UNEXPECTED_FRAME = closed_with(505, "unexpected-frame")
+RESOURCE_ERROR = closed_with(506, "resource-error")
+NOT_IMPLEMENTED = closed_with(540, "not-implemented")
+
+
+def running_servers():
+    header = frame(2, 1, "003c000000000000000000020000")
+    select = frame(1, 1, "005a000a")
+    for what, frames, printed, status in (
+        ("a header without its method", [header], UNEXPECTED_FRAME, 1),
+        ("a content on a channel that isn't open", [frame(1, 2, "003c0028000000017100")], CHANNEL_ERROR, 1),
+        ("an open channel opened", [OPEN], CHANNEL_ERROR, 1),
+        ("a channel above the greatest", [frame(1, 2048, "0014000a00")], CHANNEL_ERROR, 1),
+        ("an answer that a server gives", [frame(1, 1, "0014000b00000000")], COMMAND_INVALID, 1),
+        ("an answer to no close", [CLOSE_OK], COMMAND_INVALID, 1),
+        ("a heartbeat on a channel", [frame(8, 1, "")], FRAME_ERROR, 1),
+        ("an octet too many in a method", [TRAILING], SYNTAX_ERROR, 1),
+        ("a method where a header is due", [PUBLISH, PUBLISH], UNEXPECTED_FRAME, 1),
+        ("a body longer than its header says", [PUBLISH, header, frame(3, 1, "686921")], FRAME_ERROR, 1),
+        ("a method that isn't there", [frame(1, 0, "000a0046")], NOT_IMPLEMENTED, 1),
+        ("a close in a content", [PUBLISH, frame(1, 1, "0014002800c80362796500000000")], ['channel-closed 1 200 "bye"', f"> {CLOSE_OK}"], 0),
+        ("a flow", [frame(1, 1, "0014001400")], ["flow 1 0", f"> {frame(1, 1, '0014001500')}"], 0),
+        ("a flow that goes on", [frame(1, 1, "0014001401")], ["flow 1 1", f"> {frame(1, 1, '0014001501')}"], 0),
+        ("a content without a body", [PUBLISH, frame(2, 1, "003c" + "00" * 12)], [TOLD[0], "  header size=0", "  body -"], 0),
+        ("a header with properties", [PUBLISH, frame(2, 1, "003c0000000000000000000290000a746578742f706c61696e02"), frame(3, 1, "6869")], [TOLD[0], '  header size=2 content-type="text/plain" delivery-mode=2', "  body 6869"], 0),
+        ("as many requests as are kept", [select] * 1024, ["told 1 tx.select"] * 1024, 0),
+        ("a request more than are kept", [select] * 1025, ["told 1 tx.select"] * 1024 + RESOURCE_ERROR, 1),
+    ):
+        checks(what, ["server"], HANDSHAKE + "".join(frames), [*SHAKEN, *printed], status)
+
+
+def prefixes():
+    """Each prefix of a handshake with a content: the lines of the frames that are whole, and how many octets are left."""
+    whole = HANDSHAKE + "".join(CONTENT)
+    # after so many octets a frame ends, or the protocol header, and these lines are printed
+    ends = ((8, SHAKEN[:2]), (52, SHAKEN[2:4]), (72, SHAKEN[4:5]), (88, SHAKEN[5:7]), (101, SHAKEN[7:]), (119, []), (127, ["quiet"]), (149, []), (162, OPENED_SECOND), (172, TOLD))
+    printed, last, lines = [], 0, dict(ends)
+    for octets in range(1, 173):
+        if octets in lines:
+            printed, last = [*printed, *lines[octets]], octets
+            checks(f"a prefix of {octets} octets", ["server"], whole[: 2 * octets], printed, 0)
+        else:
+            checks(f"a prefix of {octets} octets", ["server"], whole[: 2 * octets], [*printed, f"rest {octets - last}"], 1)
+    compare("the octets of the longest prefix", 172, len(whole) // 2)
+
+
 def clients():
     limits = ["--channel-max", "10", "--frame-max", "8192"]
     negotiated = [f"> {HEADER}", "quiet", f"> {START_OK}", "quiet", "> 0100000000000c000a001f000a000020000000ce01000000000008000a0028012f0000ce", "negotiated 10 8192"]
@@ -188,16 +265,46 @@ def clients():
     checks("a server that blocks", ["client", *limits], START + TUNE + OPEN_OK + frame(1, 0, "000a003c036c6f77"), [*negotiated, 'blocked "low"'], 0)
 
 
+    reason = frame(1, 0, "000a0032" + "0140" + "06" + "61202262220a" + "00000000")
+    checks("a close whose text is quoted", ["client", *limits], START + TUNE + OPEN_OK + reason, [*negotiated, 'connection-closed 320 "a \\x22b\\x22\\x0a"', f"> {frame(1, 0, '000a0033')}"], 0)
+    checks("a server that goes on", ["client", *limits], START + TUNE + OPEN_OK + frame(1, 0, "000a003c00") + frame(1, 0, "000a003d"), [*negotiated, 'blocked ""', "unblocked"], 0)
+
+
+def limits():
+    """The limits of the options, and those that hold without them, as the other end sees them."""
+    # a tune without limits: the client's own are agreed
+    tune = frame(1, 0, "000a001e0000000000000000")
+    for options, channel_max, frame_max in (
+        ([], 2047, 131_072),
+        (["--frame-max", "4096", "--channel-max", "1", "--max-body", "0"], 1, 4096),
+        (["--frame-max=1048576", "--channel-max=65535", "--max-body=1073741824"], 65_535, 1_048_576),
+    ):
+        ok = frame(1, 0, f"000a001f{channel_max:04x}{frame_max:08x}0000")
+        checks(f"a client with {options}", [*options, "client"], START + tune, [f"> {HEADER}", "quiet", f"> {START_OK}", "quiet", f"> {ok}{OPEN_HOST}"], 0)
+    for options, channel_max, frame_max, max_body in (
+        ([], 2047, 131_072, 16_777_216),
+        (["--frame-max", "4096", "--channel-max", "1", "--max-body", "0"], 1, 4096, 0),
+        (["--frame-max=1048576", "--channel-max=65535", "--max-body=1073741824"], 65_535, 1_048_576, 1_073_741_824),
+    ):
+        tune = frame(1, 0, f"000a001e{channel_max:04x}{frame_max:08x}0000")
+        ok = frame(1, 0, f"000a001f{channel_max:04x}{frame_max:08x}0000")
+        given = HEADER + START_OK + ok + OPEN_HOST + OPEN + PUBLISH
+        printed = ["quiet", f"> {START}", "quiet", f"> {tune}", "quiet", f"negotiated {channel_max} {frame_max}", f"> {OPEN_OK}", *SHAKEN[-2:]]
+        told = [TOLD[0], "  header size=0", "  body -"] if max_body == 0 else []
+        checks(f"the greatest body with {options}", ["server", *options], given + frame(2, 1, f"003c0000{max_body:016x}0000"), [*printed, *told], 0)
+        checks(f"a body above the greatest with {options}", ["server", *options], given + frame(2, 1, f"003c0000{max_body + 1:016x}0000"), [*printed, *TOO_LARGE], 0)
+
+
 def command_lines():
     ran = run(["--version"])
     compare("--version", (b"amqp 0.1.0\n", b"", 0), (ran.stdout, ran.stderr, ran.returncode))
-    for arguments in (["--help"], ["show", "--help"], ["check", "--help"]):
+    for arguments in (["--help"], *([name, "--help"] for name in ("show", "check", "serve", "publish", "loop"))):
         ran = run(arguments)
         compare(f"{arguments}", (b"", 0, True), (ran.stderr, ran.returncode, b"Usage: amqp" in ran.stdout))
-    for arguments in ([], ["shew"], ["show", "twice"], ["show", "--twice"], ["--twice"], ["check"], ["check", "server", "client"]):
+    for arguments in ([], ["shew"], ["show", "twice"], ["show", "--twice"], ["--twice"], ["show", "--frame-max", "4096"], ["check", "client", "--max-body", "-1"], ["check"], ["check", "server", "client"], ["serve"], ["publish"], ["publish", "127.0.0.1:1", "x"], ["loop", "1"]):
         ran = run(arguments)
         compare(f"{arguments}", (b"", 2, True), (ran.stdout, ran.returncode, b"Usage: amqp" in ran.stderr))
-    for arguments in (["broker"], ["client", "--frame-max", "4095"], ["client", "--channel-max", "0"], ["client", "--max-body", "1073741825"]):
+    for arguments in (["broker"], ["client", "--frame-max", "4095"], ["client", "--frame-max", "1048577"], ["client", "--channel-max", "0"], ["client", "--channel-max", "65536"], ["client", "--max-body", "1073741825"]):
         ran = run(["check", *arguments])
         compare(f"check {arguments}", (b"", 2, True), (ran.stdout, ran.returncode, ran.stderr.startswith(b"error: invalid value")))
 
@@ -221,7 +328,335 @@ def failing_streams():
         compare(f"nothing at a {side} to /dev/full", status, ran.returncode)
 
 
-for part in (streams, payloads, large, hexadecimal, servers, clients, command_lines, failing_streams):
+def loops():
+    for words, printed, status in (
+        (["2", "5"], "2 contents of 5 octets\n", 0),
+        (["0", "0"], "0 contents of 0 octets\n", 0),
+        (["1000", "0"], "1000 contents of 0 octets\n", 0),
+        (["100000", "0"], "100000 contents of 0 octets\n", 0),
+        (["300", "1000"], "300 contents of 1000 octets\n", 0),
+        (["2", "5", "--channel-max", "1"], "2 contents of 5 octets\n", 0),
+        (["0", "5", "--max-body", "1"], "0 contents of 5 octets\n", 0),
+        (["3", "70000", "--frame-max", "4096"], "3 contents of 70000 octets\n", 0),
+        (["2", "16777216"], "2 contents of 16777216 octets\n", 0),
+        (["1", "5", "--max-body", "1"], "fault short\n", 1),
+    ):
+        ran = run(["loop", *words])
+        compare(f"loop {words}", (printed.encode(), b"", status), (ran.stdout, ran.stderr, ran.returncode))
+    for words in (["100001", "0"], ["0", "16777217"], ["-1", "0"], ["x", "0"]):
+        ran = run(["loop", *words])
+        compare(f"loop {words}", (b"", 2), (ran.stdout, ran.returncode))
+
+
+def progress():
+    """How far a loop is stands on standard error where that is a terminal, and nowhere else."""
+    for words, said, printed in (
+        (["2", "5"], "\ramqp: 1 of 2 contents\ramqp: 2 of 2 contents\n", "2 contents of 5 octets\n"),
+        (["0", "0"], "", "0 contents of 0 octets\n"),
+        (["3", "70000", "--frame-max", "4096"], "\ramqp: 1 of 3 contents\ramqp: 2 of 3 contents\ramqp: 3 of 3 contents\n", "3 contents of 70000 octets\n"),
+        (["1", "5", "--max-body", "1"], "", "fault short\n"),
+    ):
+        ours, theirs = pty.openpty()
+        ran = subprocess.run([PROGRAM, "loop", *words], stdout=subprocess.PIPE, stderr=theirs, timeout=60, check=False)
+        os.close(theirs)
+        shown = b""
+        try:
+            while piece := os.read(ours, 65536):
+                shown += piece
+        except OSError:
+            pass
+        os.close(ours)
+        # the terminal ends a line with a carriage return too
+        compare(f"loop {words} on a terminal", (printed, said), (ran.stdout.decode(), shown.decode().replace("\r\n", "\n")))
+
+
+class Served:
+    """A run of `serve` on a port that the system chooses. What it prints goes to a file, so that it never waits for a reader."""
+
+    def __init__(self, *options):
+        self.printed = tempfile.TemporaryFile()
+        self.said = tempfile.TemporaryFile()
+        self.run = subprocess.Popen([PROGRAM, "serve", "127.0.0.1:0", *options], stdout=self.printed, stderr=self.said, stdin=subprocess.DEVNULL)
+        while self.run.poll() is None and not self.text(self.printed).endswith("\n"):
+            pass
+        self.address = self.text(self.printed).split()[1]
+
+    @staticmethod
+    def text(file):
+        return os.pread(file.fileno(), 1 << 30, 0).decode()
+
+    def connected(self):
+        host, port = self.address.rsplit(":", 1)
+        return socket.create_connection((host, int(port)), timeout=60)
+
+    def ended(self):
+        """What it printed after the address, its status, what it said, and the most memory that it had, in megabytes."""
+        _, status, usage = os.wait4(self.run.pid, 0)
+        self.run.returncode = os.waitstatus_to_exitcode(status)
+        return self.text(self.printed).splitlines()[1:], self.run.returncode, self.text(self.said), usage.ru_maxrss / 1024
+
+
+STARTED = ["quiet", "quiet", "quiet", "negotiated 2047 131072", "opened 1"]
+
+
+def served_clients():
+    served = Served()
+    ran = run(["publish", served.address, "", "q"], b"hi")
+    compare("publish to serve", (b"published 2\n", b"", 0), (ran.stdout, ran.stderr, ran.returncode))
+    printed, status, said, _ = served.ended()
+    wanted = [*STARTED, *TOLD, 'channel-closed 1 200 "reply-success"', 'connection-closed 200 "reply-success"']
+    compare("serve with publish", (wanted, 0, ""), (printed, status, said))
+    served = Served("--max-body", "1")
+    ran = run(["publish", served.address, "", "q"], b"hi")
+    # the close of the channel crosses the client's own
+    compare("publish of too much", (b"published 2\n", b"", 0), (ran.stdout, ran.stderr, ran.returncode))
+    printed, status, said, _ = served.ended()
+    # the body and the close of the channel come after the refusal
+    closed = ["discarded 1", "discarded 1", "quiet", "channel-closed 1 by-us", 'connection-closed 200 "reply-success"']
+    compare("serve with a content refused", ([*STARTED, *closed], 0, ""), (printed, status, said))
+
+
+class Scripted:
+    """A server that follows a script: octets of which it waits for as many, and what it writes then. At the end it reads until the client hangs up,
+    or hangs up itself."""
+
+    def __init__(self, script, hangs_up):
+        self.listener = socket.create_server(("127.0.0.1", 0))
+        self.address = "127.0.0.1:{}".format(self.listener.getsockname()[1])
+        self.script, self.hangs_up, self.came = script, hangs_up, ""
+        self.thread = threading.Thread(target=self.follow)
+        self.thread.start()
+
+    def follow(self):
+        peer, _ = self.listener.accept()
+        peer.settimeout(60)
+        wanted = 0
+        for awaited, answer in self.script:
+            wanted += len(awaited)
+            while len(self.came) < wanted:
+                piece = peer.recv(65536)
+                if not piece:
+                    return
+                self.came += piece.hex()
+            peer.sendall(bytes.fromhex(answer))
+        try:
+            while not self.hangs_up and (piece := peer.recv(65536)):
+                self.came += piece.hex()
+        except OSError as failure:
+            self.came += str(failure)
+        peer.close()
+
+    def ended(self):
+        self.thread.join()
+        self.listener.close()
+        return self.came
+
+
+CLOSE_CHANNEL = frame(1, 1, "0014002800c80d7265706c792d7375636365737300000000")
+CLOSE = frame(1, 0, "000a003200c80d7265706c792d7375636365737300000000")
+CLOSED = frame(1, 0, "000a0033")
+CHANNEL_OPENED = frame(1, 1, "0014000b00000000")
+HELLOS = [(HEADER, START), (START_OK, TUNE), (TUNE_OK + OPEN_HOST, OPEN_OK)]
+TWO_OCTETS = frame(2, 1, "003c000000000000000000020000") + frame(3, 1, "6869")
+MANDATORY = frame(1, 1, "003c0028000000017101") + TWO_OCTETS
+SELECT, SELECTED = frame(1, 1, "0055000a00"), frame(1, 1, "0055000b")
+CLOSES = [(CLOSE_CHANNEL, CLOSE_OK), (CLOSE, CLOSED)]
+
+
+def closing(content):
+    """What follows where the client closes the channel as soon as it has written the content."""
+    return [(content + CLOSE_CHANNEL, CLOSE_OK), (CLOSE, CLOSED)]
+
+
+def publishes(what, options, script, printed, status, said, words=("", "q"), hangs_up=False):
+    """`publish` to a server that follows the script writes what it waits for and nothing else, prints this line, says that of the
+    server on standard error, and ends with the status."""
+    server = Scripted([*HELLOS, *script], hangs_up)
+    ran = run(["publish", *options, server.address, *words], b"hi")
+    said = f"amqp: {server.address}: {said}\n" if said else ""
+    compare(what, (f"{printed}\n", said, status), (ran.stdout.decode(), ran.stderr.decode(), ran.returncode))
+    written = "".join(awaited for awaited, _ in [*HELLOS, *script])
+    compare(f"{what}, what is written", written, server.ended())
+
+
+def publishers():
+    content = PUBLISH + TWO_OCTETS
+    named = frame(1, 1, "003c00280000" + "0178" + "026b79" + "00") + TWO_OCTETS
+    publishes("a content", [], [(OPEN, CHANNEL_OPENED), *closing(content)], "published 2", 0, "")
+    publishes("a content to an exchange", [], [(OPEN, CHANNEL_OPENED), *closing(named)], "published 2", 0, "", words=("x", "ky"))
+    closes = CHANNEL_OPENED + frame(1, 1, "001400280194026e6f00000000")
+    publishes("a channel closed as soon as it is open", [], [(OPEN, closes), (CLOSE_OK, ""), (CLOSE, CLOSED)], "fault short", 1, 'the server closed the channel: 404 "no"')
+    off = frame(1, 0, "000a00320140036f666600000000")
+    publishes("a connection closed", [], [(OPEN, off), (CLOSED, "")], "fault short", 1, 'the server closed the connection: 320 "off"')
+    # the server says that it takes no contents, and then that it takes them again
+    paused = [(OPEN, CHANNEL_OPENED + frame(1, 1, "0014001400")), (frame(1, 1, "0014001500"), frame(1, 1, "0014001401")), *closing(frame(1, 1, "0014001501") + content)]
+    publishes("a server that pauses", [], paused, "published 2", 0, "the server takes no contents for now")
+    selects = [(OPEN, CHANNEL_OPENED), (SELECT, SELECTED)]
+    ack, nack = (frame(1, 1, f"003c00{kind}0000000000000001{'00'}") for kind in ("50", "78"))
+    publishes("a content confirmed", ["--confirm"], [*selects, (MANDATORY, ack), *CLOSES], "published 2", 0, "")
+    publishes("a content confirmed with those before", ["--confirm"], [*selects, (MANDATORY, frame(1, 1, "003c0050000000000000000001")), *CLOSES], "published 2", 0, "")
+    publishes("a content not taken", ["--confirm"], [*selects, (MANDATORY, nack), *CLOSES], "fault short", 1, "the server did not take the content")
+    returned = frame(1, 1, "003c00320138026e6f000171") + TWO_OCTETS
+    publishes("a content returned", ["--confirm"], [*selects, (MANDATORY, returned), *CLOSES], "fault short", 1, 'the server returned the content: 312 "no"')
+    publishes("a content returned, and then confirmed", ["--confirm"], [*selects, (MANDATORY, returned + ack), *CLOSES], "fault short", 1, 'the server returned the content: 312 "no"')
+    # the server hangs up before it confirms
+    publishes("a server that hangs up", ["--confirm"], [(OPEN, CHANNEL_OPENED), (SELECT, "")], "fault end-of-input", 1, "the other end hung up without a close", hangs_up=True)
+    publishes("a server that hangs up in a frame", [], [(OPEN, CHANNEL_OPENED[:10])], "fault end-of-input", 1, "the other end hung up inside a frame, of which 5 octets came", hangs_up=True)
+    publishes("a server that breaks the protocol", [], [(OPEN, frame(1, 1, "0014000a00")), ("".join(COMMAND_INVALID)[len("fault peer 503> "):], "")], "fault peer 503", 1, "what came is at fault: the other end broke the protocol: command-invalid")
+
+
+RESET = struct.pack("ii", 1, 0)
+
+
+def failing_connections():
+    shake = bytes.fromhex(HEADER)
+    # a client that resets the connection while the server reads
+    served = Served()
+    peer = served.connected()
+    name = "{}:{}".format(*peer.getsockname())
+    peer.sendall(shake)
+    compare("what a server writes first", START, peer.recv(65536).hex())
+    peer.setsockopt(socket.SOL_SOCKET, socket.SO_LINGER, RESET)
+    peer.close()
+    reset = "Connection reset by peer (os error 104)"
+    compare("a failing read", (["quiet", "fault read"], 1, f"amqp: {name}: the connection failed in a read: {reset}\n"), served.ended()[:3])
+    # one that does so before the server, which is stopped for that time, has written
+    served = Served()
+    peer = served.connected()
+    name = "{}:{}".format(*peer.getsockname())
+    os.kill(served.run.pid, signal.SIGSTOP)
+    os.waitpid(served.run.pid, os.WUNTRACED)
+    peer.sendall(shake)
+    peer.setsockopt(socket.SOL_SOCKET, socket.SO_LINGER, RESET)
+    peer.close()
+    os.kill(served.run.pid, signal.SIGCONT)
+    compare("a failing write", (["quiet", "fault write"], 1, f"amqp: {name}: the connection failed in a write: {reset}\n"), served.ended()[:3])
+    # what comes after the close is left alone
+    served = Served()
+    peer = served.connected()
+    peer.sendall(bytes.fromhex(HANDSHAKE + "".join(CONTENT) + CLOSE + "ffff"))
+    printed, status, said, _ = served.ended()
+    peer.close()
+    wanted = [*STARTED, "quiet", "opened 2", *TOLD, 'connection-closed 200 "reply-success"']
+    compare("octets after a close", (wanted, 0, ""), (printed, status, said))
+    # a fault is answered before the server hangs up
+    served = Served("--frame-max", "4096", "--channel-max", "1", "--max-body", "0")
+    peer = served.connected()
+    peer.sendall(shake + bytes.fromhex(START_OK))
+    came, wanted = "", START + frame(1, 0, "000a001e0001000010000000")
+    while len(came) < len(wanted):
+        came += peer.recv(65536).hex()
+    compare("the limits of a server", wanted, came)
+    peer.sendall(bytes.fromhex("01000000000ff9"))
+    came = ""
+    while piece := peer.recv(65536):
+        came += piece.hex()
+    compare("the answer to a frame too long", "> " + came, FRAME_ERROR[1])
+    name = "{}:{}".format(*peer.getsockname())
+    peer.close()
+    compare("a frame too long", (["quiet", "quiet", FRAME_ERROR[0]], 1, f"amqp: {name}: what came is at fault: the other end broke the protocol: frame-error\n"), served.ended()[:3])
+
+
+def no_connections():
+    for words, line, said in (
+        (["publish", "127.0.0.1:1", "x", "q"], "fault connect", "amqp: 127.0.0.1:1: can't connect: "),
+        (["publish", "nowhere", "x", "q"], "fault connect", "amqp: nowhere: can't connect: "),
+        (["serve", "nowhere"], "fault listen", "amqp: nowhere: can't listen: "),
+        (["serve", "127.0.0.1:65536"], "fault listen", "amqp: 127.0.0.1:65536: can't listen: "),
+    ):
+        ran = run(words)
+        compare(f"{words}", (f"{line}\n".encode(), 1, True), (ran.stdout, ran.returncode, ran.stderr.startswith(said.encode())))
+    taken = socket.create_server(("127.0.0.1", 0))
+    ran = run(["serve", f"127.0.0.1:{taken.getsockname()[1]}"])
+    compare("serve at a port that is taken", (b"fault listen\n", 1), (ran.stdout, ran.returncode))
+    taken.close()
+    for words in (["x" * 256, "q"], ["x", "q" * 256]):
+        ran = run(["publish", "127.0.0.1:1", *words])
+        compare("publish with a word too long", (b"", 2, True), (ran.stdout, ran.returncode, b"more than 255 octets" in ran.stderr))
+    ran = run(["publish", "127.0.0.1:1", "x" * 255, "q" * 255])
+    compare("publish with the longest words", (b"fault connect\n", 1), (ran.stdout, ran.returncode))
+    ran = subprocess.run(f"{PROGRAM} publish 127.0.0.1:1 x q <&-", shell=True, capture_output=True, timeout=60, check=False)
+    said = "amqp: 127.0.0.1:1: standard input can't be read: Bad file descriptor (os error 9)\n"
+    compare("standard input of publish closed", (b"fault read\n", said, 1), (ran.stdout, ran.stderr.decode(), ran.returncode))
+    for words in ("serve 127.0.0.1:0", "loop 0 0"):
+        ran = subprocess.run(f"{PROGRAM} {words} >/dev/full", shell=True, capture_output=True, timeout=60, check=False)
+        said = f"amqp: {words.split()[1] if 'serve' in words else '127.0.0.1:0'}: standard output can't be written: No space left on device (os error 28)\n"
+        compare(f"{words} to /dev/full", (said, 1), (ran.stderr.decode(), ran.returncode))
+
+
+def hostile(what, given, printed, said, most, options=()):
+    """`serve` ends with 1, these lines, this on standard error, and so many megabytes at most, whatever becomes of the octets."""
+    served = Served(*options)
+    peer = served.connected()
+    name = "{}:{}".format(*peer.getsockname())
+    try:
+        for piece in given:
+            peer.sendall(piece)
+        # it says that no more comes, and reads what it was sent: a socket that is closed with octets to read resets the connection
+        peer.shutdown(socket.SHUT_WR)
+        while peer.recv(65536):
+            pass
+    except OSError:
+        pass
+    peer.close()
+    lines, status, notes, memory = served.ended()
+    compare(what, (printed, 1, f"amqp: {name}: {said}\n"), (lines, status, notes))
+    if memory > most:
+        differences.append(f"{what}: {memory:.0f} MB, more than {most}")
+
+
+def hostile_peers():
+    hang_up = "the other end hung up without a close"
+    shake = bytes.fromhex(HANDSHAKE)
+    hostile("a peer that hangs up", [], ["fault end-of-input"], hang_up, 40)
+    hostile("a peer of another protocol", [b"GET / HTTP/1.1\r\n\r\n"], ["fault fatal"], "what came is at fault: the other end can't be answered", 40)
+    hostile("a peer that stops in a frame", [shake[:60]], ["quiet", "quiet", "fault end-of-input"], "the other end hung up inside a frame, of which 8 octets came", 40)
+    hostile("garbage after the handshake", [shake, b"\x77" * 1000], [*STARTED, "fault fatal"], "what came is at fault: the other end can't be answered", 40)
+    hostile("100 MB of garbage", [shake, *[b"\0" * 1_000_000] * 100], [*STARTED, "fault fatal"], "what came is at fault: the other end can't be answered", 40)
+    publish = bytes.fromhex(PUBLISH)
+    body = bytes.fromhex(frame(3, 1, "5a" * 131_064))
+    # a body of 100 MB, above the greatest that is taken: each of its frames is dropped
+    header = bytes.fromhex(frame(2, 1, f"003c0000{131_064 * 763:016x}0000"))
+    hostile("100 MB in one body", [shake, publish, header, *[body] * 763], [*STARTED, *["discarded 1"] * 764, "fault end-of-input"], hang_up, 40)
+    # 100 MB in seven bodies that are taken, of which one is kept at a time
+    header = bytes.fromhex(frame(2, 1, f"003c0000{131_064 * 114:016x}0000"))
+    told = [TOLD[0], f"  header size={131_064 * 114}", f"  body {'5a' * (131_064 * 114)}"]
+    hostile("100 MB in seven bodies", [shake, *[publish, header, *[body] * 114] * 7], [*STARTED, *told * 7, "fault end-of-input"], hang_up, 100)
+
+
+def refused(words, given, number):
+    """What a run prints, its status, and whether its request for memory of that number was refused."""
+    with tempfile.TemporaryFile() as told:
+        words = ["bash", "-c", f'exec 9<&{told.fileno()}; LD_PRELOAD="$1" REFUSED="$2" exec "${{@:3}}"', "-", SHIM, str(number), PROGRAM, *words]
+        ran = subprocess.run(words, input=given.encode(), capture_output=True, timeout=60, check=False, pass_fds=[told.fileno()])
+        return ran.stdout.decode(), ran.returncode, os.fstat(told.fileno()).st_size > 0
+
+
+def refusals():
+    """Each request for memory refused in turn: the lines of the whole answer, as far as they go, and then that memory ran out."""
+    table = frame(2, 1, "003c000000000000000000022000" + "0000000801615300000001" + "7a")
+    contents = HANDSHAKE + PUBLISH + table + frame(3, 1, "6869") + frame(1, 1, "0032000a00000171ea000000080161530000000161")
+    for words, given in (
+        (["check", "server"], contents),
+        (["check", "client"], START + TUNE + OPEN_OK + frame(1, 0, "000a003c036c6f77")),
+        (["loop", "2", "5"], ""),
+    ):
+        whole, wanted, _ = refused(words, given, 0)
+        compare(f"{words} with ample memory", 0, wanted)
+        number, reached = 1, True
+        while reached and number < 5000:
+            printed, status, reached = refused(words, given, number)
+            lines = printed.splitlines(keepends=True)
+            # what is refused while standard input is read is reported as a read that failed; without room for the output nothing is printed
+            short = not lines or lines[-1] in ("fault memory\n", "fault read\n") and whole.startswith("".join(lines[:-1]))
+            if (printed, status) != (whole, wanted) and not (short and status != 0):
+                differences.append(f"{words}, request {number} refused: status {status}, printed {printed[-300:]!r}")
+            number += 1
+        if number < 10 or number == 5000:
+            differences.append(f"{words}: {number} requests, so nothing was tried")
+
+
+for part in (streams, payloads, large, hexadecimal, servers, running_servers, prefixes, clients, limits, command_lines, failing_streams, loops, progress, served_clients, publishers, failing_connections, no_connections, hostile_peers, refusals):
     part()
 for difference in differences:
     print(difference)

@@ -1,7 +1,7 @@
 #!/usr/bin/env bash
 # Whole runs of the built program: input, arguments, standard output, standard error and status, against texts that are
-# known (runs.py); the same with each request for memory refused in turn (refused.py); and so a session for whose events there is
-# no room (events.py).
+# known, also with each request for memory refused in turn (runs.py, and refused.py of `show`); and so a session for whose events
+# there is no room (events.py).
 set -u
 cd "$(dirname "${BASH_SOURCE[0]}")/.." || exit 1
 
@@ -10,7 +10,7 @@ trap 'rm -rf "$place"' EXIT
 gcc -O2 -shared -fPIC -o "$place/refuse.so" beside/memory/refuse.c -ldl || exit 1
 beside/built_program || exit 1
 program=crates/amqp/out/amqp
-python3 beside/runs.py "$program" || exit 1
+python3 beside/runs.py "$program" "$place/refuse.so" || exit 1
 python3 beside/memory/refused.py "$program" "$place/refuse.so" || exit 1
 beside/built_tests amqp_io_tests || exit 1
 python3 beside/memory/events.py crates/amqp_io_tests/out/amqp_io_tests_tests "$place/refuse.so"

@@ -1,2 +1,4 @@
 pub mod HexadecimalLemmas
 pub mod ListingLemmas
+pub mod PrintingLemmas
+pub mod TallyLemmas

@@ -1,97 +1,27 @@
 //! The command line.
+use crate::help;
+use crate::looping::Load;
 use crate::options::{Limits, limits_of, with_limits};
+use crate::publishing::Destination;
 use amqp_core::Side;
-use clap::{Arg, ArgAction, ArgMatches, Command, Error};
+use amqp_value::ShortStr;
+use clap::error::ErrorKind;
+use clap::{Arg, ArgAction, ArgMatches, Command, Error, value_parser};
 use std::alloc::{AllocError, Global};
 
 /// What the command line asks for.
-#[derive(Clone, Copy, PartialEq, Eq, Debug)]
+#[derive(Drop)]
 pub enum Request {
     Show,
     /// Check what the other end of this side writes.
     Check(Side, Limits),
+    /// Serve one connection at this address.
+    Serve(String, Limits),
+    /// Publish to the server at this address.
+    Publish(String, Destination, Limits),
+    /// Send contents from a client to a server here.
+    Loop(Load, Limits),
 }
-
-const ABOUT: &str = "Reads AMQP 0-9-1 octets and says what they are";
-
-const SHOW_ABOUT: &str = "Lists the frames of octets read from standard input";
-
-const SHOW_DETAILS: &str = "\
-Reads hexadecimal from standard input, to its end: digits in either case, spaces and tabs anywhere, line ends between two
-octets. Prints a line for each frame:
-
-    CHANNEL KIND SIZE PAYLOAD
-
-with the kind `method`, `header`, `body` or `heartbeat`, the payload's size in octets and the payload in hexadecimal, `-`
-where it is empty. A frame has at most 1048576 octets. Below a method or header frame stands what its payload says: the
-method with its arguments, or the body's size with the properties, or, where it says nothing, `fault N at A`, with A the place
-in the payload:
-
-    1    no such method, or a header of another class than basic
-    2.1  a field passes the payload's end
-    2.2  a value in a field table has no known tag
-    2.3  an element of a field table passes the table's end
-    2.4  a field table nests deeper than 32
-    3    octets stand after the last field
-    4    a header's weight isn't 0
-    5    a header's flags go on
-
-Where the octets stop being frames it prints `fault N at A`, with A the place of the octet that tells it, counted from 0:
-
-    1  the frame's first octet is no frame type
-    2  the frame is too long
-    3  the frame's last octet isn't CE
-    4  out of memory
-
-and where they end inside a frame `rest N`, the number of octets that were left. A line that isn't hexadecimal of whole
-octets is answered with `line N: not hex` alone. Each fault, rest and such line ends with status 1; status 0 says that all was well.";
-
-const SHOW_EXAMPLE: &str = "\
-Example, a frame that opens channel 1:
-
-    $ echo 01 0001 00000005 0014000a00 ce | amqp show
-    1 method 5 0014000a00
-      channel.open";
-
-const CHECK_ABOUT: &str =
-    "Checks what the other end of a connection writes, read from standard input";
-
-const CHECK_DETAILS: &str = "\
-Plays a client or a server to which the other end writes the octets read from standard input, as hexadecimal in the form that
-`show` reads, and prints its events, one a line:
-
-    negotiated CHANNELMAX FRAMEMAX      the handshake is over
-    opened CHANNEL                      a channel is open
-    told CHANNEL METHOD                 a method came; for a content, once it is whole, two lines follow: `  header ..`
-                                        with its properties and `  body HEX`, `-` where it is empty
-    flow CHANNEL 0|1                    the other end wants no contents (0), or wants them again (1)
-    flow-ok CHANNEL 0|1                 the other end answered a flow
-    channel-closed CHANNEL BY           with `by-us`, or the code and the text of the other end's close
-    connection-closed BY                likewise
-    discarded CHANNEL                   a frame was dropped after a close, or a content was refused as too large
-    blocked TEXT                        the server takes no contents now, and why
-    unblocked                           the server takes contents again
-    quiet                               a step of the handshake, a heartbeat, or a close that crosses a close
-
-Texts are quoted. At first and after each event or fault it prints `> HEX` if the end has octets to write; they count as
-written. A fault ends the run:
-
-    fault peer CODE   the other end broke the protocol, and is answered with a close of the connection with this code
-    fault fatal       there is no answer to what came
-    fault closed      octets came after the frame that closed the connection
-    fault read        standard input can't be read
-    fault memory      out of memory
-
-Where the input ends inside a frame, or inside the protocol header, it prints `rest N`, the number of octets that were left. A
-line that isn't hexadecimal of whole octets is answered with `line N: not hex` alone, before anything is fed. Each fault, rest
-and such line ends with status 1; status 0 says that all was well, and status 2 that the command line can't be read.";
-
-const CHECK_EXAMPLE: &str = "\
-Example, the start of a connection as a server sees it:
-
-    $ echo 414d515000000901 | amqp check server
-    quiet
-    > 0100000000001c000a000a00090000000000000005504c41494e00000005656e5f5553ce";
 
 static SIDES: [&str; 2] = ["client", "server"];
 
@@ -99,23 +29,68 @@ static SIDES: [&str; 2] = ["client", "server"];
 ///
 /// An error carries the text to print, also where help or the version was asked for.
 pub fn request_of<'a>(alloc: Global, words: &'a [String]) -> Result<Request, Error> {
-    let show = Command::new(alloc, "show")
-        .about(SHOW_ABOUT)
-        .long_about(SHOW_DETAILS)
-        .after_long_help(SHOW_EXAMPLE);
-    let check = check_command(alloc)?;
+    let mut command = program(alloc)?;
+    let request = match command.try_get_matches_from_mut(words) {
+        Ok(matches) => request_in_owned(alloc, matches),
+        Err(error) => Err(error),
+    };
+    drop(command);
+    request
+}
+
+/// The request of the matches, which are let go.
+fn request_in_owned(alloc: Global, matches: ArgMatches) -> Result<Request, Error> {
+    let request = request_in(alloc, &matches);
+    drop(matches);
+    request
+}
+
+fn request_in(alloc: Global, matches: &ArgMatches) -> Result<Request, Error> {
+    if let Some(check) = matches.subcommand_matches("check") {
+        return Ok(Request::Check(side_of(check), limits_of(check)));
+    }
+    if let Some(serve) = matches.subcommand_matches("serve") {
+        let address = text_of(alloc, serve, "address")?;
+        return Ok(Request::Serve(address, limits_of(serve)));
+    }
+    if let Some(publish) = matches.subcommand_matches("publish") {
+        return publish_request(alloc, publish);
+    }
+    if let Some(over) = matches.subcommand_matches("loop") {
+        return Ok(Request::Loop(load_of(over), limits_of(over)));
+    }
+    Ok(Request::Show)
+}
+
+fn program<'a>(alloc: Global) -> Result<Command<'a>, AllocError> {
     let command = Command::new(alloc, "amqp")
         .version("0.1.0")
-        .about(ABOUT)
+        .about(help::ABOUT)
         .subcommand_required(true)
-        .arg_required_else_help(true)
-        .subcommand(show)?;
-    let command = command.subcommand(check)?;
-    let matches = command.try_get_matches_from(words)?;
-    match matches.subcommand_matches("check") {
-        Some(check) => Ok(Request::Check(side_of(check), limits_of(check))),
-        None => Ok(Request::Show),
+        .arg_required_else_help(true);
+    let command = command.subcommand(show_command(alloc))?;
+    let command = with_subcommand(command, check_command(alloc))?;
+    let command = with_subcommand(command, serve_command(alloc))?;
+    let command = with_subcommand(command, publish_command(alloc))?;
+    with_subcommand(command, loop_command(alloc))
+}
+
+/// The command with one below it, where there is memory for that.
+fn with_subcommand<'a>(
+    command: Command<'a>,
+    below: Result<Command<'a>, AllocError>,
+) -> Result<Command<'a>, AllocError> {
+    match below {
+        Ok(below) => command.subcommand(below),
+        Err(AllocError) => Err(AllocError),
     }
+}
+
+fn show_command<'a>(alloc: Global) -> Command<'a> {
+    Command::new(alloc, "show")
+        .about(help::SHOW_ABOUT)
+        .long_about(help::SHOW_DETAILS)
+        .after_long_help(help::SHOW_EXAMPLE)
 }
 
 fn check_command<'a>(alloc: Global) -> Result<Command<'a>, AllocError> {
@@ -126,11 +101,73 @@ fn check_command<'a>(alloc: Global) -> Result<Command<'a>, AllocError> {
         .value_parser(SIDES.as_slice())
         .help("The side that is played");
     let check = Command::new(alloc, "check")
-        .about(CHECK_ABOUT)
-        .long_about(CHECK_DETAILS)
-        .after_long_help(CHECK_EXAMPLE)
+        .about(help::CHECK_ABOUT)
+        .long_about(help::CHECK_DETAILS)
+        .after_long_help(help::CHECK_EXAMPLE)
         .arg(side)?;
     with_limits(alloc, check)
+}
+
+/// A word that has to be given.
+fn word<'a>(alloc: Global, id: &'a str, name: &'a str, text: &'a str) -> Arg<'a> {
+    Arg::new(alloc, id)
+        .required(true)
+        .action(ArgAction::Set)
+        .value_name(name)
+        .help(text)
+}
+
+fn serve_command<'a>(alloc: Global) -> Result<Command<'a>, AllocError> {
+    let address = word(alloc, "address", "ADDR", "Where to listen, as HOST:PORT");
+    let serve = Command::new(alloc, "serve")
+        .about(help::SERVE_ABOUT)
+        .long_about(help::SERVE_DETAILS)
+        .after_long_help(help::SERVE_EXAMPLE)
+        .arg(address)?;
+    with_limits(alloc, serve)
+}
+
+fn publish_command<'a>(alloc: Global) -> Result<Command<'a>, AllocError> {
+    let address = word(alloc, "address", "ADDR", "The server, as HOST:PORT");
+    let publish = Command::new(alloc, "publish")
+        .about(help::PUBLISH_ABOUT)
+        .long_about(help::PUBLISH_DETAILS)
+        .after_long_help(help::PUBLISH_EXAMPLE)
+        .arg(address)?;
+    let exchange = word(
+        alloc,
+        "exchange",
+        "EXCHANGE",
+        "The exchange, at most 255 octets",
+    );
+    let publish = publish.arg(exchange)?;
+    let key = word(alloc, "key", "KEY", "The routing key, at most 255 octets");
+    let publish = publish.arg(key)?;
+    let publish = publish.arg(confirm_option(alloc))?;
+    with_limits(alloc, publish)
+}
+
+fn confirm_option<'a>(alloc: Global) -> Arg<'a> {
+    Arg::new(alloc, "confirm")
+        .long("confirm")
+        .action(ArgAction::SetTrue)
+        .help("Wait until the server confirms that it took the content")
+}
+
+fn loop_command<'a>(alloc: Global) -> Result<Command<'a>, AllocError> {
+    let count = word(alloc, "count", "COUNT", "How many contents: 0 to 100000").value_parser(
+        value_parser!(u32).range(0..=100_000),
+    );
+    let command = Command::new(alloc, "loop")
+        .about(help::LOOP_ABOUT)
+        .long_about(help::LOOP_DETAILS)
+        .after_long_help(help::LOOP_EXAMPLE)
+        .arg(count)?;
+    let size = word(alloc, "size", "SIZE", "The octets of each: 0 to 16777216").value_parser(
+        value_parser!(u32).range(0..=16_777_216),
+    );
+    let command = command.arg(size)?;
+    with_limits(alloc, command)
 }
 
 /// The side that is named. No other words than its two are let through.
@@ -140,4 +177,63 @@ fn side_of(matches: &ArgMatches) -> Side {
     } else {
         Side::Server
     }
+}
+
+/// The word that was given.
+fn text_of(alloc: Global, matches: &ArgMatches, id: &str) -> Result<String, AllocError> {
+    String::from_str(alloc, matches.get_str(id).unwrap_or(""))
+}
+
+fn load_of(matches: &ArgMatches) -> Load {
+    let count = matches.get_one::<u32>("count");
+    let size = matches.get_one::<u32>("size");
+    Load {
+        count: count.unwrap_or(0),
+        size: size.unwrap_or(0),
+    }
+}
+
+fn publish_request(alloc: Global, matches: &ArgMatches) -> Result<Request, Error> {
+    let destination = destination_of(alloc, matches)?;
+    match text_of(alloc, matches, "address") {
+        Ok(address) => Ok(Request::Publish(address, destination, limits_of(matches))),
+        Err(AllocError) => Err(Error::from(AllocError)),
+    }
+}
+
+fn destination_of(alloc: Global, matches: &ArgMatches) -> Result<Destination, Error> {
+    let exchange = short_of(
+        alloc,
+        matches,
+        "exchange",
+        "EXCHANGE has more than 255 octets",
+    )?;
+    let key = short_of(alloc, matches, "key", "KEY has more than 255 octets")?;
+    Ok(Destination {
+        exchange,
+        key,
+        confirm: matches.get_flag("confirm"),
+    })
+}
+
+/// The word that was given, which is refused with this text where it is too long for a short string.
+fn short_of(
+    alloc: Global,
+    matches: &ArgMatches,
+    id: &str,
+    refusal: &str,
+) -> Result<ShortStr, Error> {
+    let word = matches.get_str(id).unwrap_or("");
+    match ShortStr::new(alloc, word.as_bytes()) {
+        Ok(text) => Ok(text),
+        Err(_) => Err(refused(alloc, refusal)?),
+    }
+}
+
+/// The error of a word that `publish` doesn't take.
+fn refused(alloc: Global, text: &str) -> Result<Error, AllocError> {
+    let mut command = publish_command(alloc)?.bin_name("amqp publish")?;
+    let error = command.error(ErrorKind::ValueValidation, text);
+    drop(command);
+    error
 }

@@ -1,127 +1,113 @@
-//! What an end reports, as lines of text.
-#[cfg(test)]
-mod tests;
+//! The text of an event, on its way to the output.
+ghost use Rattle.std.specs.Prelude.{◌≡◌, ◌++◌, [], codes, OnOk};
+ghost use Rattle.std.specs.String.{string_bytes};
+ghost use Rattle.std.specs.Io.KnownBytes.{Appends, append_known};
+ghost use Rattle.amqp_core.specs.EventTexts.{event_text};
 
-use crate::listing::payload_text;
-use amqp_core::{Agreed, CoreFault, Event, Reason};
-use amqp_method::{Header, Message, OutOfMemory, Properties, header_text, method_text};
-use amqp_value::put_quoted;
+use crate::printing::Stop;
+use amqp_core::Event;
 use std::alloc::Global;
+use std::fmt::{self, Write as _};
 use std::io::{self, Write};
 
-/// The line of an event. A content has two more, for its header and its body. No line feed stands at the end.
-pub fn event_text(alloc: Global, event: &Event) -> Result<String, OutOfMemory> {
-    match event {
-        Event::Negotiated(agreed) => negotiated_text(alloc, *agreed),
-        Event::Opened(channel) => channel_text(alloc, "opened", *channel),
-        Event::Told(channel, message) => told_text(alloc, *channel, message),
-        Event::Flow(channel, active) => flow_text(alloc, "flow", *channel, *active),
-        Event::FlowOk(channel, active) => flow_text(alloc, "flow-ok", *channel, *active),
-        Event::ChannelClosed(channel, reason) => channel_closed_text(alloc, *channel, reason),
-        Event::ConnectionClosed(reason) => connection_closed_text(alloc, reason),
-        Event::Discarded(channel) => channel_text(alloc, "discarded", *channel),
-        Event::Blocked(reason) => blocked_text(alloc, reason.as_bytes()),
-        Event::Unblocked => word_text(alloc, "unblocked"),
-        Event::Quiet => word_text(alloc, "quiet"),
+/// So many octets of text are written at once.
+const AT_ONCE: usize = 4096;
+
+/// The line of an event's text that is being written.
+#[derive(Clone, Copy)]
+enum Line {
+    Event,
+    Header,
+    Body,
+}
+
+impl Line {
+    /// The line after this piece of the text. A line feed begins the next.
+    fn after(self, piece: &str) -> Line {
+        if !piece.contains('\n') {
+            return self;
+        }
+        match self {
+            Line::Event => Line::Header,
+            Line::Header => Line::Body,
+            Line::Body => Line::Body,
+        }
     }
 }
 
-fn word_text(alloc: Global, word: &str) -> Result<String, OutOfMemory> {
-    let text = String::from_str(alloc, word)?;
-    Ok(text)
+/// Whether it is time to write what is held.
+fn is_due(line: Line, held: &String) -> bool {
+    match line {
+        Line::Event => false,
+        Line::Header => false,
+        Line::Body => held.len() >= AT_ONCE,
+    }
 }
 
-fn negotiated_text(alloc: Global, agreed: Agreed) -> Result<String, OutOfMemory> {
-    let channel_max = agreed.channel_max;
-    let frame_max = agreed.frame_max;
-    let text = format!(in alloc; "negotiated {channel_max} {frame_max}")?;
-    Ok(text)
+/// Writes what is held, and holds no more.
+fn write_held<W: Write>(held: &mut String, output: &mut W) -> io::Result<()>
+    ensures written { OnOk result (Appends (W.contents output.old) (W.contents output.new) (string_bytes held.old)) }
+    ensures held { string_bytes held.new ≡ [] }
+{
+    let written = output.write_all(held.as_bytes());
+    held.clear();
+    written
 }
 
-fn channel_text(alloc: Global, word: &str, channel: u16) -> Result<String, OutOfMemory> {
-    let text = format!(in alloc; "{word} {channel}")?;
-    Ok(text)
+/// An event's text on its way to the output. A method's text and that of a field table take memory: so the event's line and that
+/// of a content's header are held until both are whole, and are printed whole or not at all. The body's line, which may be
+/// long, is written as it comes.
+#[derive(Drop)]
+struct EventText<'a, W: Write> {
+    output: &'a mut W,
+    held: String,
+    line: Line,
+    /// why the output takes no more
+    failure: Option<io::Error>,
 }
 
-fn flow_text(alloc: Global, word: &str, channel: u16, active: bool) -> Result<String, OutOfMemory> {
-    let bit = u8::from(active);
-    let text = format!(in alloc; "{word} {channel} {bit}")?;
-    Ok(text)
-}
+impl<W: Write> fmt::Write for EventText<'_, W> {
+    ghost write_str_gives = { λ s bs t. (t.output.ghost_name ≡ s.output.ghost_name)
+        × Appends (append_known (W.contents s.output.now) (string_bytes s.held)) (append_known (W.contents t.output.now) (string_bytes t.held)) bs };
 
-fn blocked_text(alloc: Global, reason: &[u8]) -> Result<String, OutOfMemory> {
-    let mut text = String::from_str(alloc, "blocked ")?;
-    put_quoted(&mut text, reason)?;
-    Ok(text)
-}
-
-fn channel_closed_text(
-    alloc: Global,
-    channel: u16,
-    reason: &Option<Reason>,
-) -> Result<String, OutOfMemory> {
-    let closer = closer_text(alloc, reason)?;
-    let text = format!(in alloc; "channel-closed {channel} {closer}")?;
-    Ok(text)
-}
-
-fn connection_closed_text(alloc: Global, reason: &Option<Reason>) -> Result<String, OutOfMemory> {
-    let closer = closer_text(alloc, reason)?;
-    let text = format!(in alloc; "connection-closed {closer}")?;
-    Ok(text)
-}
-
-/// The other end's reason for a close, or `by-us`.
-fn closer_text(alloc: Global, reason: &Option<Reason>) -> Result<String, OutOfMemory> {
-    let Some(reason) = reason else {
-        return word_text(alloc, "by-us");
-    };
-    let code = reason.code;
-    let mut text = format!(in alloc; "{code} ")?;
-    put_quoted(&mut text, reason.text.as_bytes())?;
-    Ok(text)
-}
-
-fn told_text(alloc: Global, channel: u16, message: &Message) -> Result<String, OutOfMemory> {
-    let method = method_text(message.method())?;
-    let Some((properties, body)) = message.content_parts() else {
-        let text = format!(in alloc; "told {channel} {method}")?;
-        return Ok(text);
-    };
-    let content = content_text(alloc, properties, body)?;
-    let text = format!(in alloc; "told {channel} {method}\n{content}")?;
-    Ok(text)
-}
-
-/// The two lines of a content.
-fn content_text(
-    alloc: Global,
-    properties: &Properties,
-    body: &[u8],
-) -> Result<String, OutOfMemory> {
-    let properties = properties.copy()?;
-    let header = Header {
-        body_size: body.len() as u64,
-        properties,
-    };
-    let header = header_text(alloc, &header)?;
-    let Ok(octets) = payload_text(alloc, body) else {
-        return Err(OutOfMemory);
-    };
-    let text = format!(in alloc; "  {header}\n  body {octets}")?;
-    Ok(text)
-}
-
-/// Prints the line of a fault.
-pub fn print_fault<W: Write>(fault: CoreFault, output: &mut W) -> io::Result<()> {
-    match fault {
-        CoreFault::Peer(code) => {
-            let number = code.number();
-            writeln!(output, "fault peer {number}")
+    fn write_str(&mut self, piece: &str) -> fmt::Result {
+        self.line = self.line.after(piece);
+        let Ok(()) = self.held.push_str(piece) else {
+            return Err(fmt::Error);
+        };
+        if !is_due(self.line, &self.held) {
+            return Ok(());
         }
-        CoreFault::Fatal => writeln!(output, "fault fatal"),
-        CoreFault::OutOfMemory => writeln!(output, "fault memory"),
-        CoreFault::Failed => writeln!(output, "fault failed"),
-        CoreFault::Closed => writeln!(output, "fault closed"),
+        match write_held(&mut self.held, &mut *self.output) {
+            Ok(()) => Ok(()),
+            Err(failure) => {
+                self.failure = Some(failure);
+                Err(fmt::Error)
+            }
+        }
+    }
+}
+
+/// Prints the line of an event, and the two lines of a content.
+pub fn print_event<W: Write>(alloc: Global, event: &Event, output: &mut W) -> Result<(), Stop>
+    ensures { OnOk result (Appends (W.contents output.old) (W.contents output.new) (event_text event.now ++ codes "\n")) }
+{
+    let mut text = EventText {
+        output,
+        held: String::new(alloc),
+        line: Line::Event,
+        failure: None,
+    };
+    let written = writeln!(text, "{event}");
+    let EventText {
+        output,
+        mut held,
+        line: _,
+        failure,
+    } = text;
+    match (written, failure) {
+        (Ok(()), _) => Ok(write_held(&mut held, output)?),
+        (Err(_), Some(failure)) => Err(Stop::NotWritten(failure)),
+        (Err(_), None) => Err(Stop::OutOfMemory),
     }
 }

@@ -1,8 +1,9 @@
 //! What the program's ends say of themselves, and the limits that they are set up with.
 use crate::options::Limits;
+use crate::words::short;
 use amqp_core::{Client, ClientHello, Config, Server, ServerHello};
 use amqp_method::OutOfMemory;
-use amqp_value::{ShortStr, Table};
+use amqp_value::Table;
 use std::alloc::Global;
 
 /// The security mechanism of user names and passwords.
@@ -59,12 +60,4 @@ fn server_hello(alloc: Global) -> Result<ServerHello, OutOfMemory> {
         mechanisms,
         locales,
     })
-}
-
-/// A short string of one of the words above. None is longer than 255 octets.
-fn short(alloc: Global, octets: &[u8]) -> Result<ShortStr, OutOfMemory> {
-    let Ok(text) = ShortStr::new(alloc, octets) else {
-        return Err(OutOfMemory);
-    };
-    Ok(text)
 }

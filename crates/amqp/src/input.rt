@@ -1,14 +1,14 @@
-//! Hexadecimal from a reader, read whole.
+//! What a reader gives, read whole: octets, or hexadecimal.
 use crate::hexadecimal::{HexFault, octets_of};
 use std::alloc::Global;
 use std::io::{self, Read};
 use thiserror::Error;
 
 /// Why an input is no octets, as the line that says so.
-#[derive(Clone, Copy, PartialEq, Eq, Debug, Error)]
+#[derive(Clone, Copy, Debug, Error)]
 pub enum InputFault {
     #[error("fault read")]
-    Read,
+    Read(io::Error),
     /// This line, counted from 1, is the first that isn't hexadecimal of whole octets.
     #[error("line {0}: not hex")]
     NotHex(usize),
@@ -16,15 +16,21 @@ pub enum InputFault {
     OutOfMemory,
 }
 
-/// The octets that all lines of the input encode.
-pub fn read_octets<I: Read>(alloc: Global, input: &mut I) -> Result<Vec<u8>, InputFault> {
-    let mut text = Vec::new(alloc);
-    if let Err(fault) = input.read_to_end(&mut text) {
+/// All that the input gives.
+pub fn read_all<I: Read>(alloc: Global, input: &mut I) -> Result<Vec<u8>, InputFault> {
+    let mut octets = Vec::new(alloc);
+    if let Err(fault) = input.read_to_end(&mut octets) {
         if fault.kind() == io::ErrorKind::OutOfMemory {
             return Err(InputFault::OutOfMemory);
         }
-        return Err(InputFault::Read);
+        return Err(InputFault::Read(fault));
     }
+    Ok(octets)
+}
+
+/// The octets that all lines of the input encode.
+pub fn read_octets<I: Read>(alloc: Global, input: &mut I) -> Result<Vec<u8>, InputFault> {
+    let text = read_all(alloc, input)?;
     match octets_of(alloc, &text) {
         Ok(octets) => Ok(octets),
         Err(HexFault::NotHex(line)) => Err(InputFault::NotHex(line)),

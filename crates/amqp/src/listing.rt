@@ -11,7 +11,7 @@ use std::alloc::Global;
 pub const LIMIT: u32 = 1_048_576;
 
 /// How octets end after their frames.
-#[derive(Clone, Copy, PartialEq, Eq, Debug)]
+#[derive(Clone, Copy)]
 pub enum Ending {
     /// With the last frame.
     Whole,
@@ -22,7 +22,7 @@ pub enum Ending {
 }
 
 /// The frames of octets, and what follows them.
-#[derive(PartialEq, Eq, Debug, Drop)]
+#[derive(Drop)]
 pub struct Listing {
     pub frames: Vec<RawFrame>,
     pub end: Ending,

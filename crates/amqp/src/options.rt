@@ -3,7 +3,7 @@ use clap::{Arg, ArgAction, ArgMatches, Command, value_parser};
 use std::alloc::{AllocError, Global};
 
 /// The limits of an end.
-#[derive(Clone, Copy, PartialEq, Eq, Debug)]
+#[derive(Clone, Copy)]
 pub struct Limits {
     /// The greatest frame, in octets.
     pub frame_max: u32,
@@ -24,30 +24,27 @@ impl Limits {
 
 /// The command with an option for each limit.
 pub fn with_limits<'a>(alloc: Global, command: Command<'a>) -> Result<Command<'a>, AllocError> {
-    let frame_max = Arg::new(alloc, "frame-max")
-        .long("frame-max")
-        .value_name("OCTETS")
+    let frame_max = limit(alloc, "frame-max", "OCTETS", "131072")
         .value_parser(value_parser!(u32).range(4096..=1_048_576))
-        .action(ArgAction::Set)
-        .default_value("131072")
         .help("The greatest frame, all its octets counted: 4096 to 1048576");
-    let channel_max = Arg::new(alloc, "channel-max")
-        .long("channel-max")
-        .value_name("NUMBER")
-        .value_parser(value_parser!(u16).range(1..=65_535))
-        .action(ArgAction::Set)
-        .default_value("2047")
-        .help("The greatest channel number: 1 to 65535");
-    let max_body = Arg::new(alloc, "max-body")
-        .long("max-body")
-        .value_name("OCTETS")
-        .value_parser(value_parser!(u64).range(0..=1_073_741_824))
-        .action(ArgAction::Set)
-        .default_value("16777216")
-        .help("The greatest body of a content that is taken: 0 to 1073741824");
     let command = command.arg(frame_max)?;
+    let channel_max = limit(alloc, "channel-max", "NUMBER", "2047")
+        .value_parser(value_parser!(u16).range(1..=65_535))
+        .help("The greatest channel number: 1 to 65535");
     let command = command.arg(channel_max)?;
+    let max_body = limit(alloc, "max-body", "OCTETS", "16777216")
+        .value_parser(value_parser!(u64).range(0..=1_073_741_824))
+        .help("The greatest body of a content that is taken: 0 to 1073741824");
     command.arg(max_body)
+}
+
+/// An option of this name with a value, which has a default.
+fn limit<'a>(alloc: Global, name: &'a str, value: &'a str, default: &'a str) -> Arg<'a> {
+    Arg::new(alloc, name)
+        .long(name)
+        .value_name(value)
+        .action(ArgAction::Set)
+        .default_value(default)
 }
 
 /// The limits that the options give.

@@ -1,53 +1,59 @@
 //! The subcommand `show`.
 use crate::input::read_octets;
-use crate::listing::{Ending, frame_line, list};
+use crate::listing::{Ending, Listing, frame_line, list};
 use crate::payloads::payload_line;
+use crate::printing::{Stop, finish};
 use crate::statuses::{DONE, FAULT};
+use amqp_frame::{OutOfMemory, RawFrame};
 use std::alloc::Global;
 use std::io::{self, Read, Write};
 
 /// Reads hexadecimal to its end, prints a line for each frame, one below it for a method or a header, and one for what ends
 /// them otherwise, and answers the exit status.
 pub fn show<R: Read, W: Write>(alloc: Global, input: &mut R, output: &mut W) -> u8 {
-    let status = print_frames(alloc, input, output);
-    let flushed = output.flush();
-    match (status, flushed) {
-        (Ok(status), Ok(())) => status,
-        _ => FAULT,
+    let run = match read_octets(alloc, input) {
+        Ok(octets) => print_octets(alloc, octets, output),
+        Err(fault) => Err(Stop::from(fault)),
+    };
+    finish(run, output)
+}
+
+fn print_octets<W: Write>(alloc: Global, octets: Vec<u8>, output: &mut W) -> Result<u8, Stop> {
+    let listing = list(alloc, &octets);
+    drop(octets);
+    match listing {
+        Ok(listing) => print_owned(alloc, listing, output),
+        Err(OutOfMemory) => Err(Stop::OutOfMemory),
     }
 }
 
-/// The same, without the last octets reaching the output for sure.
-fn print_frames<R: Read, W: Write>(alloc: Global, input: &mut R, output: &mut W) -> io::Result<u8> {
-    let octets = match read_octets(alloc, input) {
-        Ok(octets) => octets,
-        Err(fault) => {
-            writeln!(output, "{fault}")?;
-            return Ok(FAULT);
-        }
-    };
-    let Ok(listing) = list(alloc, &octets) else {
-        return print_out_of_memory(output);
-    };
+/// Prints the listing, and lets it go.
+fn print_owned<W: Write>(alloc: Global, listing: Listing, output: &mut W) -> Result<u8, Stop> {
+    let run = print_listing(alloc, &listing, output);
+    drop(listing);
+    run
+}
+
+fn print_listing<W: Write>(alloc: Global, listing: &Listing, output: &mut W) -> Result<u8, Stop> {
     let mut status = DONE;
     for frame in &listing.frames {
-        let Ok(line) = frame_line(alloc, frame) else {
-            return print_out_of_memory(output);
-        };
-        writeln!(output, "{line}")?;
-        let Ok(below) = payload_line(alloc, frame) else {
-            return print_out_of_memory(output);
-        };
-        if let Some(below) = below {
-            let text = &below.text;
-            writeln!(output, "{text}")?;
-            if below.is_fault {
-                status = FAULT;
-            }
-        }
+        let printed = print_frame(alloc, frame, output)?;
+        status = status.max(printed);
     }
     let ended = print_ending(listing.end, output)?;
     Ok(status.max(ended))
+}
+
+/// Prints a frame's line, and the one below it, and answers the status of a run of this frame alone.
+fn print_frame<W: Write>(alloc: Global, frame: &RawFrame, output: &mut W) -> Result<u8, Stop> {
+    let line = frame_line(alloc, frame)?;
+    writeln!(output, "{line}")?;
+    let Some(below) = payload_line(alloc, frame)? else {
+        return Ok(DONE);
+    };
+    let text = &below.text;
+    writeln!(output, "{text}")?;
+    Ok(if below.is_fault { FAULT } else { DONE })
 }
 
 fn print_ending<W: Write>(end: Ending, output: &mut W) -> io::Result<u8> {
@@ -60,10 +66,5 @@ fn print_ending<W: Write>(end: Ending, output: &mut W) -> io::Result<u8> {
             writeln!(output, "fault {number} at {at}")?;
         }
     }
-    Ok(FAULT)
-}
-
-fn print_out_of_memory<W: Write>(output: &mut W) -> io::Result<u8> {
-    writeln!(output, "fault memory")?;
     Ok(FAULT)
 }

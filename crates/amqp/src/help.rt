@@ -1,0 +1,188 @@
+//! The texts of `--help`.
+
+pub const ABOUT: &str =
+    "Reads AMQP 0-9-1 octets and says what they are, and speaks AMQP 0-9-1 with other programs";
+
+pub const SHOW_ABOUT: &str = "Lists the frames of octets read from standard input";
+
+pub const SHOW_DETAILS: &str = "\
+Reads hexadecimal from standard input, to its end: digits in either case, spaces and tabs anywhere, line ends between two
+octets. Prints a line for each frame:
+
+    CHANNEL KIND SIZE PAYLOAD
+
+with the kind `method`, `header`, `body` or `heartbeat`, the payload's size in octets and the payload in hexadecimal, `-`
+where it is empty. A frame has at most 1048576 octets. Below a method or header frame stands what its payload says: the
+method with its arguments, or the body's size with the properties, or, where it says nothing, `fault N at A`, with A the place
+in the payload:
+
+    1    no such method, or a header of another class than basic
+    2.1  a field passes the payload's end
+    2.2  a value in a field table has no known tag
+    2.3  an element of a field table passes the table's end
+    2.4  a field table nests deeper than 32
+    3    octets stand after the last field
+    4    a header's weight isn't 0
+    5    a header's flags go on
+
+Where the octets stop being frames it prints `fault N at A`, with A the place of the octet that tells it, counted from 0:
+
+    1  the frame's first octet is no frame type
+    2  the frame is too long
+    3  the frame's last octet isn't CE
+    4  out of memory
+
+and where they end inside a frame `rest N`, the number of octets that were left. A line that isn't hexadecimal of whole
+octets is answered with `line N: not hex` alone. Each fault, rest and such line ends with status 1; status 0 says that all was well.";
+
+pub const SHOW_EXAMPLE: &str = "\
+Example, a frame that opens channel 1:
+
+    $ echo 01 0001 00000005 0014000a00 ce | amqp show
+    1 method 5 0014000a00
+      channel.open";
+
+pub const CHECK_ABOUT: &str =
+    "Checks what the other end of a connection writes, read from standard input";
+
+pub const CHECK_DETAILS: &str = "\
+Plays a client or a server to which the other end writes the octets read from standard input, as hexadecimal in the form that
+`show` reads, and prints its events, one a line:
+
+    negotiated CHANNELMAX FRAMEMAX      the handshake is over
+    opened CHANNEL                      a channel is open
+    told CHANNEL METHOD                 a method came; for a content, once it is whole, two lines follow: `  header ..`
+                                        with its properties and `  body HEX`, `-` where it is empty
+    flow CHANNEL 0|1                    the other end wants no contents (0), or wants them again (1)
+    flow-ok CHANNEL 0|1                 the other end answered a flow
+    channel-closed CHANNEL BY           with `by-us`, or the code and the text of the other end's close
+    connection-closed BY                likewise
+    discarded CHANNEL                   a frame was dropped after a close, or a content was refused as too large
+    blocked TEXT                        the server takes no contents now, and why
+    unblocked                           the server takes contents again
+    quiet                               a step of the handshake, a heartbeat, or a close that crosses a close
+
+Texts are quoted. At first and after each event or fault it prints `> HEX` if the end has octets to write; they count as
+written. A fault ends the run:
+
+    fault peer CODE   the other end broke the protocol, and is answered with a close of the connection with this code
+    fault fatal       there is no answer to what came
+    fault closed      octets came after the frame that closed the connection
+    fault read        standard input can't be read
+    fault memory      out of memory
+
+Where the input ends inside a frame, or inside the protocol header, it prints `rest N`, the number of octets that were left. A
+line that isn't hexadecimal of whole octets is answered with `line N: not hex` alone, before anything is fed. Each fault, rest
+and such line ends with status 1; status 0 says that all was well, and status 2 that the command line can't be read.";
+
+pub const CHECK_EXAMPLE: &str = "\
+Example, the start of a connection as a server sees it:
+
+    $ echo 414d515000000901 | amqp check server
+    quiet
+    > 0100000000001c000a000a00090000000000000005504c41494e00000005656e5f5553ce";
+
+pub const SERVE_ABOUT: &str = "Takes one connection as a server, and prints what comes";
+
+pub const SERVE_DETAILS: &str = "\
+Listens at ADDR, which is a host's name or an IP address with a port, as `localhost:5672` or `[::1]:5672`, and prints
+
+    listening ADDR
+
+With the port 0 the system chooses one, and the address is printed with that. Then it takes one connection, as its server,
+and prints the events as they come, in the form that `amqp check --help` lists. It takes every user, opens the channels that
+the client opens and takes what is published on them. It answers no other request: a client that declares a queue waits for
+ever. Once the client has closed the connection, the run ends with status 0. A fault ends it with status 1:
+
+    fault listen         nothing can listen at ADDR
+    fault accept         no connection can be taken
+    fault read           the connection failed in a read
+    fault write          the connection failed in a write
+    fault end-of-input   the client hung up without a close
+    fault peer CODE      the client broke the protocol, and was sent a close of the connection with this code
+    fault fatal          there is no answer to what the client sent
+    fault memory         out of memory
+
+Standard error says with which address something went wrong, and why. Status 2 says that the command line can't be read.";
+
+pub const SERVE_EXAMPLE: &str = "\
+Example, with a client that publishes two octets:
+
+    $ amqp serve 127.0.0.1:5672
+    listening 127.0.0.1:5672
+    quiet
+    quiet
+    quiet
+    negotiated 2047 131072
+    opened 1
+    told 1 basic.publish exchange=\"\" routing-key=\"q\" mandatory=0 immediate=0
+      header size=2
+      body 6869
+    channel-closed 1 200 \"reply-success\"
+    connection-closed 200 \"reply-success\"";
+
+pub const PUBLISH_ABOUT: &str = "Publishes standard input as one content";
+
+pub const PUBLISH_DETAILS: &str = "\
+Reads standard input to its end, connects to the server at ADDR, a host's name or an IP address with a port, logs in as
+`guest` with the password `guest` on the virtual host `/`, and publishes what it read as one content without properties to
+EXCHANGE, `''` for the default exchange, with the routing key KEY, each at most 255 octets. Then it closes the channel and the
+connection, and prints
+
+    published N
+
+with N the octets of the content. This says that the content was sent, and that the server had closed nothing before the
+client began to close. It does not say that the server took the content: of one that is refused while the client closes, as
+for an exchange that doesn't exist, or that no queue takes, nothing is heard.
+
+With --confirm the client publishes the content as mandatory, and waits until the server confirms it before it closes (by
+RabbitMQ's confirms). `published N` then says that the server has taken the content over. Otherwise the run ends with a
+fault, with status 1:
+
+    fault short          the server closed the channel or the connection, or, with --confirm, it returned the content, since
+                         no queue takes it, or said that it did not take it over
+    fault connect        no connection to ADDR
+    fault read           standard input can't be read, or the connection failed in a read
+    fault write          the connection failed in a write
+    fault end-of-input   the server hung up without a close, as some do that refuse the login
+    fault peer CODE      the server broke the protocol, and was sent a close of the connection with this code
+    fault fatal          there is no answer to what the server sent
+    fault memory         out of memory
+
+Standard error says in which step it went wrong, and why: of a close of the server with its code and text. Status 2 says that
+the command line can't be read.";
+
+pub const PUBLISH_EXAMPLE: &str = "\
+Example, to the queue `q`, which takes what is published to the default exchange with its name as the routing key:
+
+    $ echo hello | amqp publish --confirm localhost:5672 '' q
+    published 6";
+
+pub const LOOP_ABOUT: &str = "Sends contents from a client to a server, both in this process";
+
+pub const LOOP_DETAILS: &str = "\
+Connects a client with a server, both in this process, over TCP on 127.0.0.1, with a port that the system chooses. The client
+opens a channel, publishes COUNT contents of SIZE octets, and closes the channel and the connection; each octet of a content
+is its place, counted from 0, modulo 256. The sides take turns: one writes at most 4096 octets, and the other reads them.
+Prints
+
+    COUNT contents of SIZE octets
+
+where the server was told exactly these, else `fault short`, with status 1. Where standard error is a terminal, it says how
+far the run is. Other faults end the run with status 1, and standard error says why:
+
+    fault listen         nothing can listen on 127.0.0.1
+    fault connect        no connection from this machine to itself
+    fault accept         likewise, on the server's side
+    fault read           the connection failed in a read
+    fault write          the connection failed in a write
+    fault end-of-input   the connection ended without a close
+    fault memory         out of memory
+
+Status 2 says that the command line can't be read.";
+
+pub const LOOP_EXAMPLE: &str = "\
+Example:
+
+    $ amqp loop 1000 65536
+    1000 contents of 65536 octets";

@@ -1,0 +1,239 @@
+//! The subcommand `loop`: both ends of a connection in one process, over two streams.
+use crate::asks::{CHANNEL, ask, close_channel, close_connection, open_channel, publish};
+use crate::options::Limits;
+use crate::printing::Stop;
+use crate::progress::Progress;
+use crate::sessions::{client_end, is_closed, pull, push_some, server_end};
+use crate::tally::{EXCHANGE, KEY, Tally, pattern};
+use crate::words::short;
+use amqp_core::{Ask, ChannelState, Client, Phase, Role, Server};
+use amqp_io::{Session, Stream};
+use amqp_method::OutOfMemory;
+use std::alloc::Global;
+use std::io::Write;
+
+/// How many contents are published, and how many octets each of them has.
+#[derive(Clone, Copy)]
+pub struct Load {
+    pub count: u32,
+    pub size: u32,
+}
+
+/// At most so many octets are on their way at once.
+const AT_ONCE: usize = 4096;
+
+/// Publishes contents from a client to a server, whose streams are the two ends of one connection. It answers whether the server
+/// was told exactly these.
+pub fn run_loop<C: Stream, S: Stream, E: Write + Drop>(
+    alloc: Global,
+    limits: Limits,
+    load: Load,
+    to_server: &mut C,
+    to_client: &mut S,
+    progress: &mut Progress<E>,
+) -> Result<bool, Stop> {
+    let end = client_end(alloc, limits)?;
+    let mut client = Session::new(alloc, end, to_server);
+    let run = run_with_server(alloc, limits, load, &mut client, to_client, progress);
+    drop(client);
+    run
+}
+
+fn run_with_server<C: Stream, S: Stream, E: Write + Drop>(
+    alloc: Global,
+    limits: Limits,
+    load: Load,
+    client: &mut Session<Client, C>,
+    to_client: &mut S,
+    progress: &mut Progress<E>,
+) -> Result<bool, Stop> {
+    let end = server_end(alloc, limits)?;
+    let mut server = Session::new(alloc, end, to_client);
+    let run = run_with_source(alloc, load, client, &mut server, progress);
+    drop(server);
+    run
+}
+
+fn run_with_source<C: Stream, S: Stream, E: Write + Drop>(
+    alloc: Global,
+    load: Load,
+    client: &mut Session<Client, C>,
+    server: &mut Session<Server, S>,
+    progress: &mut Progress<E>,
+) -> Result<bool, Stop> {
+    let body = pattern(alloc, load.size as usize)?;
+    let mut tally = Tally::new(body);
+    let run = match Source::new(alloc, load) {
+        Ok(source) => run_with_tally(source, load, client, server, &mut tally, progress),
+        Err(OutOfMemory) => Err(Stop::OutOfMemory),
+    };
+    drop(tally);
+    run
+}
+
+fn run_with_tally<C: Stream, S: Stream, E: Write + Drop>(
+    mut source: Source,
+    load: Load,
+    client: &mut Session<Client, C>,
+    server: &mut Session<Server, S>,
+    tally: &mut Tally,
+    progress: &mut Progress<E>,
+) -> Result<bool, Stop> {
+    let run = turn_until_still(&mut source, load, client, server, tally, progress);
+    drop(source);
+    run?;
+    Ok(is_closed(client) && is_closed(server) && tally.is_of(load.count))
+}
+
+/// The sides take turns until nothing moves any more: both are closed then, or will never be.
+fn turn_until_still<C: Stream, S: Stream, E: Write + Drop>(
+    source: &mut Source,
+    load: Load,
+    client: &mut Session<Client, C>,
+    server: &mut Session<Server, S>,
+    tally: &mut Tally,
+    progress: &mut Progress<E>,
+) -> Result<(), Stop> {
+    for _ in 0..u64::MAX {
+        let moved = take_turns(client, server, source, tally)?;
+        progress.show(tally.contents(), load.count);
+        if !moved {
+            break;
+        }
+    }
+    Ok(())
+}
+
+/// The client asks what it can and writes, the server takes that, and then the other way round. It answers whether any octet moved.
+fn take_turns<C: Stream, S: Stream>(
+    client: &mut Session<Client, C>,
+    server: &mut Session<Server, S>,
+    source: &mut Source,
+    tally: &mut Tally,
+) -> Result<bool, Stop> {
+    source.ask(client)?;
+    let there = pass(client, server)?;
+    hear_server(server, tally);
+    let back = pass(server, client)?;
+    hear_client(client);
+    Ok(there != 0 || back != 0)
+}
+
+/// One end writes some octets, and the other reads until they have come. It answers how many.
+fn pass<A: Role, B: Role, C: Stream, S: Stream>(
+    from: &mut Session<A, C>,
+    to: &mut Session<B, S>,
+) -> Result<usize, Stop> {
+    let written = push_some(from, AT_ONCE)?;
+    let mut missing = written;
+    for _ in 0..written {
+        if missing == 0 {
+            break;
+        }
+        missing = missing.saturating_sub(pull(to)?);
+    }
+    Ok(written)
+}
+
+fn hear_server<S: Stream>(server: &mut Session<Server, S>, tally: &mut Tally) {
+    for _ in 0..u64::MAX {
+        let Some(event) = server.next_event() else {
+            break;
+        };
+        tally.hear(&event);
+    }
+}
+
+/// Lets go what the client is told. How far it is its end knows.
+fn hear_client<C: Stream>(client: &mut Session<Client, C>) {
+    for _ in 0..u64::MAX {
+        let Some(_) = client.next_event() else {
+            break;
+        };
+    }
+}
+
+/// What the client asks next.
+#[derive(Clone, Copy)]
+enum Step {
+    OpenChannel,
+    /// So many contents are left to publish, and then the channel is closed.
+    Publish(u32),
+    CloseConnection,
+    Nothing,
+}
+
+/// The client of a loop.
+#[derive(Drop)]
+struct Source {
+    alloc: Global,
+    content: Ask,
+    count: u32,
+    next: Step,
+}
+
+/// What publishes one of the contents.
+fn content_of(alloc: Global, load: Load) -> Result<Ask, OutOfMemory> {
+    let exchange = short(alloc, EXCHANGE)?;
+    let key = short(alloc, KEY)?;
+    let body = pattern(alloc, load.size as usize)?;
+    publish(alloc, exchange, key, false, body)
+}
+
+impl Source {
+    fn new(alloc: Global, load: Load) -> Result<Source, OutOfMemory> {
+        let content = content_of(alloc, load)?;
+        Ok(Source {
+            alloc,
+            content,
+            count: load.count,
+            next: Step::OpenChannel,
+        })
+    }
+
+    /// Asks one thing, if nothing that was asked before waits to be written.
+    fn ask<C: Stream>(&mut self, client: &mut Session<Client, C>) -> Result<(), Stop> {
+        if !client.end().output().is_empty() || client.end().phase() != Phase::Running {
+            return Ok(());
+        }
+        match self.next {
+            Step::OpenChannel => {
+                open_channel(client)?;
+                self.next = Step::Publish(self.count);
+                Ok(())
+            }
+            Step::Publish(left) => self.publish(client, left),
+            Step::CloseConnection => self.close_connection(client),
+            Step::Nothing => Ok(()),
+        }
+    }
+
+    /// Publishes the next content, or closes the channel, once it is open; or the connection, where the server closed the channel.
+    fn publish<C: Stream>(
+        &mut self,
+        client: &mut Session<Client, C>,
+        left: u32,
+    ) -> Result<(), Stop> {
+        match client.end().channel_state(CHANNEL) {
+            ChannelState::Open if left > 0 => {
+                ask(client, &self.content)?;
+                self.next = Step::Publish(left - 1);
+                Ok(())
+            }
+            ChannelState::Open => {
+                close_channel(self.alloc, client)?;
+                self.next = Step::CloseConnection;
+                Ok(())
+            }
+            ChannelState::Free => self.close_connection(client),
+            ChannelState::Opening => Ok(()),
+            ChannelState::Closing => Ok(()),
+        }
+    }
+
+    fn close_connection<C: Stream>(&mut self, client: &mut Session<Client, C>) -> Result<(), Stop> {
+        close_connection(self.alloc, client)?;
+        self.next = Step::Nothing;
+        Ok(())
+    }
+}

@@ -1,0 +1,349 @@
+//! The subcommands over TCP: the sockets are opened here, and all else is done over streams.
+use crate::connection::Connection;
+use crate::input::read_all;
+use crate::looping::{Load, run_loop};
+use crate::notes::Notes;
+use crate::options::Limits;
+use crate::printing::{Stop, finish, flushed};
+use crate::progress::Progress;
+use crate::publishing::{Destination, publish};
+use crate::serving::serve;
+use crate::statuses::{DONE, FAULT};
+use crate::tally::print_outcome;
+use std::alloc::{AllocError, Global};
+use std::io::{self, Read, Write};
+use std::net::{Net, SocketAddr, TcpListener, TcpStream};
+
+/// The step in which no connection came about.
+#[derive(Clone, Copy)]
+enum Step {
+    Listen,
+    Accept,
+    Connect,
+}
+
+impl Step {
+    fn line(self) -> &'static str {
+        match self {
+            Step::Listen => "fault listen",
+            Step::Accept => "fault accept",
+            Step::Connect => "fault connect",
+        }
+    }
+
+    fn description(self) -> &'static str {
+        match self {
+            Step::Listen => "can't listen",
+            Step::Accept => "can't accept a connection",
+            Step::Connect => "can't connect",
+        }
+    }
+}
+
+/// Why there is no connection.
+#[derive(Clone, Copy)]
+enum Unconnected {
+    Failed(Step, io::Error),
+    /// Standard output took no more.
+    NotWritten(io::Error),
+    OutOfMemory,
+}
+
+impl From<AllocError> for Unconnected {
+    fn from(_: AllocError) -> Unconnected {
+        Unconnected::OutOfMemory
+    }
+}
+
+impl From<io::Error> for Unconnected {
+    fn from(failure: io::Error) -> Unconnected {
+        Unconnected::NotWritten(failure)
+    }
+}
+
+/// Says and prints why there is no connection, and answers the exit status.
+fn finish_unconnected<W: Write, E: Write + Drop>(
+    fault: Unconnected,
+    output: &mut W,
+    notes: &mut Notes<'_, E>,
+) -> u8 {
+    match fault {
+        Unconnected::Failed(step, failure) => {
+            notes.say_why(step.description(), &failure);
+            finish_line(step.line(), output)
+        }
+        Unconnected::NotWritten(failure) => {
+            finish_noted(Err(Stop::NotWritten(failure)), None, output, notes)
+        }
+        Unconnected::OutOfMemory => finish_noted(Err(Stop::OutOfMemory), None, output, notes),
+    }
+}
+
+/// Prints the line of a fault, and answers the exit status.
+fn finish_line<W: Write>(line: &str, output: &mut W) -> u8 {
+    let _ = writeln!(output, "{line}");
+    let _ = output.flush();
+    FAULT
+}
+
+/// Says and prints why the run was given up, if it was, and answers the exit status.
+fn finish_noted<W: Write, E: Write + Drop>(
+    run: Result<u8, Stop>,
+    failure: Option<io::Error>,
+    output: &mut W,
+    notes: &mut Notes<'_, E>,
+) -> u8 {
+    let run = flushed(run, output);
+    if let Err(stop) = run {
+        notes.say_stop(stop, failure);
+    }
+    finish(run, output)
+}
+
+/// Takes one connection at an address, and serves it.
+pub fn serve_at<R: Net<Stream = TcpStream, Listener = TcpListener>, W: Write, E: Write + Drop>(
+    rt: &R,
+    alloc: Global,
+    address: &str,
+    limits: Limits,
+    output: &mut W,
+    errors: E,
+) -> u8 {
+    match take_connection(rt, alloc, address, output) {
+        Ok((stream, peer)) => serve_peer(alloc, stream, peer, limits, output, errors),
+        Err(fault) => finish_unconnected(fault, output, &mut Notes::new(address, errors)),
+    }
+}
+
+/// Serves the connection of a peer, whose address is given.
+fn serve_peer<W: Write, E: Write + Drop>(
+    alloc: Global,
+    stream: TcpStream,
+    peer: String,
+    limits: Limits,
+    output: &mut W,
+    errors: E,
+) -> u8 {
+    let mut connection = Connection::new(stream);
+    let run = serve(alloc, limits, &mut connection, output);
+    let failure = connection.failure();
+    drop(connection);
+    finish_noted(run, failure, output, &mut Notes::new(peer.as_str(), errors))
+}
+
+/// Says where it listens, and takes one connection, with the address that it comes from. Nobody else is listened to after that.
+fn take_connection<R: Net<Stream = TcpStream, Listener = TcpListener>, W: Write>(
+    rt: &R,
+    alloc: Global,
+    address: &str,
+    output: &mut W,
+) -> Result<(TcpStream, String), Unconnected> {
+    let listener = listen(rt, address)?;
+    let taken = match say_listening(alloc, address, &listener, output) {
+        Ok(()) => accept(&listener),
+        Err(fault) => Err(fault),
+    };
+    drop(listener);
+    let (stream, peer) = taken?;
+    match peer.to_string(alloc) {
+        Ok(peer) => Ok((stream, peer)),
+        Err(AllocError) => Err(Unconnected::OutOfMemory),
+    }
+}
+
+fn listen<R: Net<Stream = TcpStream, Listener = TcpListener>>(
+    rt: &R,
+    address: &str,
+) -> Result<TcpListener, Unconnected> {
+    match TcpListener::bind(rt, address) {
+        Ok(listener) => Ok(listener),
+        Err(failure) => Err(Unconnected::Failed(Step::Listen, failure)),
+    }
+}
+
+fn accept(listener: &TcpListener) -> Result<(TcpStream, SocketAddr), Unconnected> {
+    match listener.accept() {
+        Ok(accepted) => Ok(accepted),
+        Err(failure) => Err(Unconnected::Failed(Step::Accept, failure)),
+    }
+}
+
+/// The address that the system gave the listener.
+fn bound_address(listener: &TcpListener) -> Result<SocketAddr, Unconnected> {
+    match listener.local_addr() {
+        Ok(bound) => Ok(bound),
+        Err(failure) => Err(Unconnected::Failed(Step::Listen, failure)),
+    }
+}
+
+/// Prints the address as it was given, or the one that the system chose where the port was left to it.
+fn say_listening<W: Write>(
+    alloc: Global,
+    address: &str,
+    listener: &TcpListener,
+    output: &mut W,
+) -> Result<(), Unconnected> {
+    if leaves_port(address) {
+        let bound = bound_address(listener)?;
+        writeln!(output, "listening {bound}")?;
+    } else {
+        writeln!(output, "listening {address}")?;
+    }
+    output.flush()?;
+    Ok(())
+}
+
+/// Whether the address has the port 0, in whose place the system chooses one.
+fn leaves_port(address: &str) -> bool {
+    match address.rsplit_once(':') {
+        Some((_, port)) => port.parse::<u16>() == Ok(0),
+        None => false,
+    }
+}
+
+/// Reads the body from the input, connects to an address, and publishes it.
+pub fn publish_at<
+    R: Net<Stream = TcpStream, Listener = TcpListener>,
+    I: Read,
+    W: Write,
+    E: Write + Drop,
+>(
+    rt: &R,
+    alloc: Global,
+    address: &str,
+    destination: Destination,
+    limits: Limits,
+    input: &mut I,
+    output: &mut W,
+    notes: &mut Notes<'_, E>,
+) -> u8 {
+    match read_all(alloc, input) {
+        Ok(body) => publish_body(rt, alloc, address, destination, limits, body, output, notes),
+        Err(fault) => finish_noted(Err(Stop::from(fault)), None, output, notes),
+    }
+}
+
+fn publish_body<R: Net<Stream = TcpStream, Listener = TcpListener>, W: Write, E: Write + Drop>(
+    rt: &R,
+    alloc: Global,
+    address: &str,
+    destination: Destination,
+    limits: Limits,
+    body: Vec<u8>,
+    output: &mut W,
+    notes: &mut Notes<'_, E>,
+) -> u8 {
+    match TcpStream::connect(rt, address) {
+        Ok(stream) => publish_over(alloc, stream, destination, limits, body, output, notes),
+        Err(failure) => {
+            finish_unconnected(Unconnected::Failed(Step::Connect, failure), output, notes)
+        }
+    }
+}
+
+fn publish_over<W: Write, E: Write + Drop>(
+    alloc: Global,
+    stream: TcpStream,
+    destination: Destination,
+    limits: Limits,
+    body: Vec<u8>,
+    output: &mut W,
+    notes: &mut Notes<'_, E>,
+) -> u8 {
+    let size = body.len();
+    let mut connection = Connection::new(stream);
+    let run = publish(alloc, limits, destination, body, &mut connection, notes);
+    let failure = connection.failure();
+    drop(connection);
+    let run = match run {
+        Ok(taken) => print_published(taken, size, output),
+        Err(stop) => Err(stop),
+    };
+    finish_noted(run, failure, output, notes)
+}
+
+fn print_published<W: Write>(taken: bool, size: usize, output: &mut W) -> Result<u8, Stop> {
+    if taken {
+        writeln!(output, "published {size}")?;
+        return Ok(DONE);
+    }
+    writeln!(output, "fault short")?;
+    Ok(FAULT)
+}
+
+/// Runs both ends over a connection of this machine with itself.
+pub fn loop_here<R: Net<Stream = TcpStream, Listener = TcpListener>, W: Write, E: Write + Drop>(
+    rt: &R,
+    alloc: Global,
+    load: Load,
+    limits: Limits,
+    output: &mut W,
+    notes: &mut Notes<'_, E>,
+    progress: &mut Progress<E>,
+) -> u8 {
+    match connect_here(rt) {
+        Ok((client, server)) => {
+            loop_over(alloc, client, server, load, limits, output, notes, progress)
+        }
+        Err(fault) => finish_unconnected(fault, output, notes),
+    }
+}
+
+fn loop_over<W: Write, E: Write + Drop>(
+    alloc: Global,
+    client: TcpStream,
+    server: TcpStream,
+    load: Load,
+    limits: Limits,
+    output: &mut W,
+    notes: &mut Notes<'_, E>,
+    progress: &mut Progress<E>,
+) -> u8 {
+    let mut client = Connection::new(client);
+    let mut server = Connection::new(server);
+    let run = run_loop(alloc, limits, load, &mut client, &mut server, progress);
+    let failure = client.failure().or(server.failure());
+    drop(client);
+    drop(server);
+    progress.end();
+    let run = match run {
+        Ok(came) => print_outcome(came, load, output),
+        Err(stop) => Err(stop),
+    };
+    finish_noted(run, failure, output, notes)
+}
+
+/// The loopback address, with a port that the system chooses.
+pub const HERE: &str = "127.0.0.1:0";
+
+/// The two ends of a connection of this machine with itself.
+fn connect_here<R: Net<Stream = TcpStream, Listener = TcpListener>>(
+    rt: &R,
+) -> Result<(TcpStream, TcpStream), Unconnected> {
+    let listener = listen(rt, HERE)?;
+    let ends = connect_to(rt, &listener);
+    drop(listener);
+    ends
+}
+
+fn connect_to<R: Net<Stream = TcpStream, Listener = TcpListener>>(
+    rt: &R,
+    listener: &TcpListener,
+) -> Result<(TcpStream, TcpStream), Unconnected> {
+    let bound = bound_address(listener)?;
+    match TcpStream::connect(rt, bound) {
+        Ok(client) => accept_with(client, listener),
+        Err(failure) => Err(Unconnected::Failed(Step::Connect, failure)),
+    }
+}
+
+/// The client with the stream of the server that accepts it.
+fn accept_with(
+    client: TcpStream,
+    listener: &TcpListener,
+) -> Result<(TcpStream, TcpStream), Unconnected> {
+    match accept(listener) {
+        Ok((server, _)) => Ok((client, server)),
+        Err(fault) => Err(fault),
+    }
+}
