@@ -37,6 +37,9 @@ use amqp_model::{arrangement, octets, one_end, traces};
 
 /// An end of a connection, kept with its history: a note of each frame that it put and took, the items that it told and said,
 /// and all octets that it was fed and that it wrote.
+///
+/// It is for records, for tests, and for whoever joins two ends in memory: nothing of what it keeps is ever let go. The room for
+/// what a call adds is made before the end does anything, so a call that runs out of memory adds nothing.
 #[derive(Drop)]
 pub struct Traced<R: Role> {
     end: End<R>,
