@@ -30,7 +30,8 @@ use Rattle.amqp_core.specs.Noting.{lives_in, notes_owed, said_by_owed, told_by}
 use Rattle.amqp_core.specs.OwedView.{owed_view}
 use Rattle.amqp_core.specs.Settings.{config_view, role_for}
 use Rattle.amqp_core.specs.Tracing as tracing
-use Rattle.amqp_core.specs.Tracing.{Kept, IsTraceOf, Stands, OpensWith, Grows, TraceGrows}
+use Rattle.amqp_model.specs.Grown as grown
+use Rattle.amqp_core.specs.Tracing.{Kept, IsTraceOf, Stands, OpensWith, TraceGrows}
 use Rattle.amqp_core.specs.declared.owed.Owed.{Owed}
 use Rattle.amqp_core.specs.declared.settings.Settings.{Settings}
 use Rattle.amqp_core.proofs.FeedTrace.{Lists, frame-listed, puts-listed}
@@ -136,32 +137,32 @@ pub follow-trace : (settings : Settings) (old new : Kept) (piece : List ℕ) (fe
 follow-trace settings old new piece fed count took item owed history laws grow account f w traced stands not_closed (octets.waits outcome stands_then) =
     let role = role_for settings in
     let lists = alone settings old new took item owed [] history laws grow (account.waits outcome) tt traced in
-    record { after = history; grows = tracing.waits outcome; trace = traced_by role (config_view settings) new history lists (stood role (config_view settings) new history _ _ f w stands_then) }
+    record { after = history; grows = grown.waits outcome; trace = traced_by role (config_view settings) new history lists (stood role (config_view settings) new history _ _ f w stands_then) }
 follow-trace settings old new piece fed count took item owed history laws grow account f w traced stands not_closed (octets.greets awaits none outcome stands_then) =
     let role = role_for settings in
     let config = config_view settings in
     let lists = alone settings old new took item owed (greeting role config) history laws grow (account.greets awaits outcome) (greeting_back role config laws.writes.greeting) traced in
-    record { after = then_put (map frame_of (greeting role config)) history; grows = tracing.greets awaits none outcome; trace = traced_by role config new _ lists (stood role config new _ _ _ f w stands_then) }
+    record { after = then_put (map frame_of (greeting role config)) history; grows = grown.greets awaits none outcome; trace = traced_by role config new _ lists (stood role config new _ _ _ f w stands_then) }
 follow-trace settings old new piece fed count took item owed history laws grow account f w traced stands not_closed (octets.takes frame phase whole on outcome stands_then) =
     let role = role_for settings in
     let config = config_view settings in
     let law = told-goes role config old.endpoint.end history frame (laws.verdict old.endpoint.end history frame) (laws.tells history frame) laws.puts_tell laws.writes stands.lawful stands.stands on in
     let lists = with_frame settings old new old.endpoint.end frame took item owed history laws grow (account.takes frame phase whole) law traced in
-    record { after = then_taken config old.endpoint.end frame history; grows = tracing.takes frame phase whole on outcome; trace = traced_by role config new _ lists (stood role config new _ _ _ f w stands_then) }
+    record { after = then_taken config old.endpoint.end frame history; grows = grown.takes frame phase whole on outcome; trace = traced_by role config new _ lists (stood role config new _ _ _ f w stands_then) }
 follow-trace settings old new piece fed count took item owed history laws grow account f w traced stands not_closed (octets.faults frame fault phase whole verdict outcome failed) =
     let role = role_for settings in
     let config = config_view settings in
     let law = told-stops role config old.endpoint.end history frame (laws.verdict old.endpoint.end history frame) laws.puts_tell stands.stands (ap goes_on verdict) in
     let lists = with_frame settings old new old.endpoint.end frame took item owed history laws grow (account.takes frame phase whole) law traced in
-    record { after = then_taken config old.endpoint.end frame history; grows = tracing.faults frame fault phase whole verdict outcome; trace = traced_by role config new _ lists (fell role config _ _ new _ _ _ (inl refl) f w failed) }
+    record { after = then_taken config old.endpoint.end frame history; grows = grown.faults frame fault phase whole verdict outcome; trace = traced_by role config new _ lists (fell role config _ _ new _ _ _ (inl refl) f w failed) }
 follow-trace settings old new piece fed count took item owed history laws grow account f w traced stands not_closed (octets.tells kind phase shows outcome failed) =
     let role = role_for settings in
     let config = config_view settings in
     let lists = alone settings old new took item owed (owed_at_fault config old.endpoint.end kind) history laws grow (account.tells kind phase shows) (fault_back role config old.endpoint.end kind laws.writes) traced in
-    record { after = then_put (map frame_of (owed_at_fault config old.endpoint.end kind)) history; grows = tracing.tells kind phase shows outcome; trace = traced_by role config new _ lists (fell role config _ _ new _ _ _ (inl refl) f w failed) }
+    record { after = then_put (map frame_of (owed_at_fault config old.endpoint.end kind)) history; grows = grown.tells kind phase shows outcome; trace = traced_by role config new _ lists (fell role config _ _ new _ _ _ (inl refl) f w failed) }
 follow-trace settings old new piece fed count took item owed history laws grow account f w traced stands not_closed (octets.differs awaits outcome failed) =
     let role = role_for settings in
     let config = config_view settings in
     let lists = alone settings old new took item owed [] history laws grow (account.differs awaits outcome) tt traced in
-    record { after = history; grows = tracing.differs awaits outcome; trace = traced_by role config new history lists (fell role config _ _ new history _ _ (inr (refl, none_put role history old.endpoint.end.phase awaits stands.opens)) f w failed) }
+    record { after = history; grows = grown.differs awaits outcome; trace = traced_by role config new history lists (fell role config _ _ new history _ _ (inr (refl, none_put role history old.endpoint.end.phase awaits stands.opens)) f w failed) }
 follow-trace settings old new piece fed count took item owed history laws grow account f w traced stands not_closed (octets.refuses closed is) = absurd (not_closed closed)

@@ -52,4 +52,3 @@ pub mod FollowTrace
 pub mod AskNotingLemmas
 pub mod AskTrace
 pub mod TracedLemmas
-pub mod TakenLemmas

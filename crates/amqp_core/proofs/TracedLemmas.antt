@@ -1,5 +1,5 @@
 -- An end that is kept with its history: what a feed and a write make of it.
-use Rattle.std.proofs.Common.{◌≡◌, ◌≤◌, ◌+◌, arith, Result, Ok, Err, OnOk, OnErr, IfErr, is_err, cond, Bool, true, false, ℕ, List, [], ◌∷◌, ◌++◌, length, take, Option, Some, refl, ap, sym, ◌∙◌, subst}
+use Rattle.std.proofs.Common.{◌≡◌, ◌≤◌, ◌+◌, arith, Result, Ok, Err, OnOk, OnErr, IfErr, is_err, cond, Bool, true, false, ℕ, List, [], ◌++◌, length, take, Option, Some, refl, ap, sym, ◌∙◌, subst}
 use Rattle.std.proofs.Math.Logic.{∥∥₁_elim, ∥∥₁_map, ∥∥₁_map₂, ∥∥₁_prop}
 use Rattle.std.proofs.lemmas.Bool.{false≢true}
 use Rattle.std.proofs.lemmas.List.{append-nil}
@@ -7,7 +7,7 @@ use Rattle.amqp_model.specs.Channels.{End, Phase, Closed}
 use Rattle.amqp_model.specs.EndLaws.{FailedIsRead, VerdictOfHistory}
 use Rattle.amqp_model.specs.EndVerdict.{takes_octets}
 use Rattle.amqp_model.specs.Asks.{Ask}
-use Rattle.amqp_model.specs.Endpoint.{Endpoint, Feeding, Unfinished, after_feed, after_octets, after_wrote, awaits_opening, fed_after, new_endpoint, refusal_in, unless_over}
+use Rattle.amqp_model.specs.Endpoint.{Endpoint, Feeding, after_feed, after_wrote, new_endpoint, refusal_in}
 use Rattle.amqp_model.specs.Events.{Fault, AlreadyClosed, AlreadyFailed}
 use Rattle.amqp_model.specs.Fitting.{ConfigWrites}
 use Rattle.amqp_model.specs.FittingLaws.{AllReadsBack}
@@ -17,7 +17,7 @@ use Rattle.amqp_model.specs.Histories.{History}
 use Rattle.amqp_model.specs.Items.{Item}
 use Rattle.amqp_model.specs.Negotiation.{Config}
 use Rattle.amqp_model.specs.Notes.{Role}
-use Rattle.amqp_model.specs.OctetLaws.{EndpointStandsFor, Follows, NewStands, WroteFollows, FailedWrites, nothing_taken}
+use Rattle.amqp_model.specs.OctetLaws.{EndpointStandsFor, FeedStaysClosed, FeedStaysFailed, Follows, NewStands, WroteFollows, FailedWrites, nothing_taken}
 use Rattle.amqp_model.specs.Outputs.{output_octets}
 use Rattle.amqp_model.specs.RunningOut.{RunsOut, RanOutWrites}
 use Rattle.amqp_model.specs.Traces.{Noted, PutsTellNothing, SaysMethod, TellsEvent, TracePuts}
@@ -31,6 +31,7 @@ use Rattle.amqp_core.specs.Overs.{IsOver}
 use Rattle.amqp_core.specs.OwedView.{owed_view}
 use Rattle.amqp_core.specs.Settings.{config_view, role_for}
 use Rattle.amqp_core.specs.Tracing as tracing
+use Rattle.amqp_model.specs.Grown as grown
 use Rattle.amqp_core.specs.Tracing.{FedGrows, Kept, IsTraceOf, Stands, SameLists, TraceGoesOn, TraceGrows}
 use Rattle.amqp_core.specs.declared.events.Taken.{Taken}
 use Rattle.amqp_core.specs.declared.faults.AskFault.{AskFault}
@@ -112,7 +113,7 @@ traced-took settings false old new piece fed count took item owed history e laws
 pub traced-over : (role : Role) (config : Config role) (kept : Kept) (piece : List ℕ) (fed : Feeding) (history : History) (fault : Fault)
     → refusal_in kept.endpoint.end.phase ≡ Some fault → fed ≡ nothing_taken kept.endpoint fault → IsTraceOf role config kept history
     → TraceGrows role config kept.endpoint piece fed history kept
-traced-over role config kept piece fed history fault over is traced = record { after = history; grows = tracing.refuses fault over is; trace = traced }
+traced-over role config kept piece fed history fault over is traced = record { after = history; grows = grown.refuses fault over is; trace = traced }
 
 -- A write.
 pub traced-wrote : (role : Role) (config : Config role) (old new : Kept) (history : History) (n : ℕ)
@@ -224,12 +225,6 @@ refused-after (Err fault) old ready new first second = same-then old ready new f
 
 -- A feed of an end that is closed or has failed.
 
-over_feed : (role : Role) (config : Config role) (endpoint : Endpoint) (piece : List ℕ) (fault : Fault) → refusal_in endpoint.end.phase ≡ Some fault → after_feed role config endpoint piece ≡ nothing_taken endpoint fault
-over_feed role config endpoint [] fault e = ap (λ (r : Option Fault). unless_over endpoint r (record { endpoint = endpoint; taken = 0; outcome = Unfinished })) e
-over_feed role config endpoint (octet ∷ later) fault e =
-    let first : Feeding = after_octets role config endpoint (endpoint.unfinished ++ octet ∷ []) (awaits_opening role endpoint.end.phase) in
-    ap (λ (r : Option Fault). fed_after (unless_over endpoint r first) (unless_over endpoint r first).outcome (after_feed role config (unless_over endpoint r first).endpoint later)) e
-
 -- what comes of it: a fault, and nothing else
 pub record OverFeed (role : Role) (config : Config role) (kept : Kept) (piece : List ℕ) (fed : Feeding) (answer : Result Taken CoreFault) : Type 0 where
   pub is_fed : IsFed answer kept.endpoint fed kept.endpoint
@@ -252,22 +247,14 @@ by_fault role config kept piece fed fault code over e kept_going reports =
       history = λ history traced. subst (λ b. ∥ TraceGoesOn role config b kept.endpoint piece fed history kept ∥₁) (sym kept_going) ∣ traced-over role config kept piece fed history fault over e traced ∣₁;
     }
 
-pub over-feed : (role : Role) (config : Config role) (kept : Kept) (piece : List ℕ) (code : CoreFault) → IsOver kept.endpoint.end.phase code → OverFeed role config kept piece (after_feed role config kept.endpoint piece) (Err code)
-over-feed role config kept piece core.Closed over =
-    let there : refusal_in kept.endpoint.end.phase ≡ Some AlreadyClosed = ap refusal_in over in
-    let fed = over_feed role config kept.endpoint piece AlreadyClosed there in
-    by_fault role config kept piece (after_feed role config kept.endpoint piece) AlreadyClosed core.Closed there fed refl (ap (λ (f : Feeding). f.outcome) fed)
-over-feed role config kept piece core.Failed over =
-    let there : refusal_in kept.endpoint.end.phase ≡ Some AlreadyFailed = ap refusal_in over in
-    let fed = over_feed role config kept.endpoint piece AlreadyFailed there in
-    by_fault role config kept piece (after_feed role config kept.endpoint piece) AlreadyFailed core.Failed there fed refl (ap (λ (f : Feeding). f.outcome) fed)
-over-feed role config kept piece (core.Peer reason) over = absurd over
-over-feed role config kept piece core.Fatal over = absurd over
-over-feed role config kept piece core.OutOfMemory over = absurd over
-
--- Out of memory before anything is fed.
-pub fed-out : (role : Role) (config : Config role) (old new : Endpoint) (fed : Feeding) → SameEndpoint (ran_out_of old) new → IsFed (Err core.OutOfMemory) old fed new
-fed-out role config old new fed left = record { answer = tt; taken = tt; left = left }
+pub over-feed : (role : Role) (config : Config role) (kept : Kept) (piece : List ℕ) (code : CoreFault) → FeedStaysClosed role config kept.endpoint piece → FeedStaysFailed role config kept.endpoint piece → IsOver kept.endpoint.end.phase code → OverFeed role config kept piece (after_feed role config kept.endpoint piece) (Err code)
+over-feed role config kept piece core.Closed closed failed over =
+    by_fault role config kept piece (after_feed role config kept.endpoint piece) AlreadyClosed core.Closed (ap refusal_in over) (closed over) refl (ap (λ (f : Feeding). f.outcome) (closed over))
+over-feed role config kept piece core.Failed closed failed over =
+    by_fault role config kept piece (after_feed role config kept.endpoint piece) AlreadyFailed core.Failed (ap refusal_in over) (failed over) refl (ap (λ (f : Feeding). f.outcome) (failed over))
+over-feed role config kept piece (core.Peer reason) closed failed over = absurd over
+over-feed role config kept piece core.Fatal closed failed over = absurd over
+over-feed role config kept piece core.OutOfMemory closed failed over = absurd over
 
 -- there is room
 pub not-err : {A E : Type 0} {P : Type 0} (result : Result A E) → is_err result ≡ false → OnOk result P → P

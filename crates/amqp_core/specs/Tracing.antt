@@ -1,17 +1,13 @@
 -- What callers see of an end that is kept with its history, and the histories that it is a trace of.
-use Rattle.std.specs.Prelude.{◌≡◌, ◌⊎◌, Bool, true, false, ℕ, List, [], ◌++◌, map, take, Some}
-use Rattle.amqp_frame.specs.declared.faults.FrameFaultKind.{FrameFaultKind}
-use Rattle.amqp_model.specs.Closes.{frame_of}
-use Rattle.amqp_model.specs.Endpoint.{Endpoint, Feeding, Unfinished, Finished, Found, awaits_opening, fault_told, greeting, owed_at_fault, refusal_in}
-use Rattle.amqp_model.specs.EndVerdict.{end_verdict, goes_on, takes_frames}
-use Rattle.amqp_model.specs.Events.{Quiet, Fault, Faults, WrongProtocolHeader}
-use Rattle.amqp_model.specs.Frame.{Frame}
+use Rattle.std.specs.Prelude.{◌≡◌, ◌≢◌, ◌⊎◌, Bool, true, false, ℕ, List, [], ◌++◌, take}
+use Rattle.amqp_model.specs.Channels.{Failed}
+use Rattle.amqp_model.specs.Endpoint.{Endpoint, Feeding}
+use Rattle.amqp_model.specs.Grown.{Grows}
 use Rattle.amqp_model.specs.Histories.{History}
-use Rattle.amqp_model.specs.LawfulHistories.{then_put, then_taken}
 use Rattle.amqp_model.specs.Negotiation.{Config, PROTOCOL_HEADER}
 use Rattle.amqp_model.specs.Notes.{Role}
 use Rattle.amqp_model.specs.Octets.{opening_written}
-use Rattle.amqp_model.specs.OctetLaws.{EndpointStandsFor, HasFailed, CompletesFrame, ShowsFault, event_of_frame, nothing_taken}
+use Rattle.amqp_model.specs.OctetLaws.{EndpointStandsFor, HasFailed}
 use Rattle.amqp_model.specs.RunningOut.{RanOut}
 use Rattle.amqp_model.specs.Sent.{Telling, told, said}
 use Rattle.amqp_model.specs.Traces.{Noted, trace}
@@ -55,23 +51,6 @@ pub record SameLists (one other : Kept) : Type 0 where
   pub fed : one.fed ≡ other.fed
   pub written : one.written ≡ other.written
 
--- What a piece makes of a history, by what came of it: nothing; a server's start; a frame taken, and what its verdict puts;
--- and where octets show a fault, the close that is put.
-pub data Grows (role : Role) (config : Config role) (old : Endpoint) (piece : List ℕ) (fed : Feeding) (history : History) : (after : History) → Type 0 where
-  waits : fed.outcome ≡ Unfinished → Grows role config old piece fed history history
-  greets : awaits_opening role old.end.phase ≡ true → history ≡ [] → fed.outcome ≡ Finished (Some Quiet)
-      → Grows role config old piece fed history (then_put (map frame_of (greeting role config)) history)
-  takes : (frame : Frame) → takes_frames old.end.phase ≡ true → CompletesFrame old piece fed frame
-      → goes_on (end_verdict config old.end frame) ≡ true → fed.outcome ≡ Finished (event_of_frame config old.end frame)
-      → Grows role config old piece fed history (then_taken config old.end frame history)
-  faults : (frame : Frame) (fault : Fault) → takes_frames old.end.phase ≡ true → CompletesFrame old piece fed frame
-      → end_verdict config old.end frame ≡ Faults fault → fed.outcome ≡ Found fault
-      → Grows role config old piece fed history (then_taken config old.end frame history)
-  tells : (kind : FrameFaultKind) → takes_frames old.end.phase ≡ true → ShowsFault old piece fed kind → fed.outcome ≡ Found (fault_told kind)
-      → Grows role config old piece fed history (then_put (map frame_of (owed_at_fault config old.end kind)) history)
-  differs : awaits_opening role old.end.phase ≡ true → fed.outcome ≡ Found WrongProtocolHeader → Grows role config old piece fed history history
-  refuses : (fault : Fault) → refusal_in old.end.phase ≡ Some fault → fed ≡ nothing_taken old fault → Grows role config old piece fed history history
-
 -- the history that follows, and of which the end is a trace then
 pub record TraceGrows (role : Role) (config : Config role) (old : Endpoint) (piece : List ℕ) (fed : Feeding) (history : History) (new : Kept) : Type 0 where
   pub after : History
@@ -87,3 +66,8 @@ TraceGoesOn role config false old piece fed history new = TraceGrows role config
 abbrev pub FedGrows : (out_of_memory : Bool) → (piece : List ℕ) → Feeding → (old new : Kept) → Type 0
 FedGrows true piece fed old new = SameLists old new
 FedGrows false piece fed old new = (new.fed ≡ old.fed ++ take fed.taken piece) × (new.written ≡ old.written)
+
+-- an end that hasn't failed stands for each history that it is the trace of
+abbrev pub StandsUnlessFailed : (role : Role) → Config role → Kept → History → Type 0
+StandsUnlessFailed role config kept history =
+    IsTraceOf role config kept history → kept.endpoint.end.phase ≢ Failed → EndpointStandsFor role config kept.endpoint history kept.fed kept.written

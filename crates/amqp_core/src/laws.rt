@@ -12,6 +12,8 @@ ghost use Rattle.amqp_core.specs.declared.verdict.Verdict.{Verdict};
 ghost use Rattle.amqp_model.specs.Methods.{MethodKind};
 ghost use Rattle.amqp_model.specs.Notes.{Role};
 ghost use Rattle.amqp_core.specs.Roles.{SentIsTaken, role_of};
+ghost use Rattle.amqp_core.specs.Tracing.{Kept, StandsUnlessFailed};
+ghost use Rattle.amqp_model.specs.Histories.{History};
 
 pub use amqp_model::{
     agreement, answers, arrangement, bounds, contents, fitting, lives, octets, one_end, pieces,
@@ -21,6 +23,11 @@ pub use amqp_model::{
 /// What one role may put is what the other may take.
 pub fn sent_is_taken()
     ensures { (role : Role) (kind : MethodKind) → SentIsTaken role kind }
+{}
+
+/// An end that is kept with its history, and has not failed, stands for each history that it is the trace of.
+pub fn unfailed_traces_stand()
+    ensures { (role : Role) (config : Config role) (kept : Kept) (history : History) → StandsUnlessFailed role config kept history }
 {}
 
 /// What is decided on one channel of a connection that is Running is the end's verdict, and where it goes on, what the end

@@ -1,5 +1,5 @@
 //! An end of a connection that is kept with its history.
-ghost use Rattle.std.specs.Prelude.{◌≡◌, ◌+◌, ◌≤◌, ℕ, List, [], ◌++◌, length, map, take as first, vec_len, vec_capacity, IfOk, IfErr, OnOk, OnErr};
+ghost use Rattle.std.specs.Prelude.{◌≡◌, ◌≢◌, ◌+◌, ◌<◌, ◌≤◌, ℕ, List, [], ◌++◌, length, map, take as first, vec_len, vec_capacity, IfOk, IfErr, OnOk, OnErr};
 ghost use Rattle.amqp_model.specs.Answers.{channel_state, gathered, reply_due};
 ghost use Rattle.amqp_model.specs.Asks.{frames_asked};
 ghost use Rattle.amqp_model.specs.Endpoint.{after_feed, after_wrote, new_endpoint};
@@ -74,11 +74,14 @@ impl<R: Role> Traced<R> {
     /// Takes octets as [`End::feed`] does. Out of memory, the end has failed, and what is kept of its history is as it was.
     pub fn feed(&mut self, piece: &[u8]) -> Result<Taken, CoreFault>
         ensures fed { IsFed result (traced_of self.old).endpoint (after_feed (role_played self.old) (config_at self.old) (traced_of self.old).endpoint piece.now) (traced_of self.new).endpoint }
+        ensures within { IfOk result (λ taken. taken.octets ≤ length piece.now) }
+        ensures progress { IfOk result (λ taken. piece.now ≢ [] → 0 < taken.octets) }
         ensures octets { FedGrows (ran_out result) piece.now (after_feed (role_played self.old) (config_at self.old) (traced_of self.old).endpoint piece.now) (traced_of self.old) (traced_of self.new) }
         ensures history { (history : History) → IsTraceOf (role_played self.old) (config_at self.old) (traced_of self.old) history
             → ∥ TraceGoesOn (role_played self.old) (config_at self.old) (ran_out result) (traced_of self.old).endpoint piece.now (after_feed (role_played self.old) (config_at self.old) (traced_of self.old).endpoint piece.now) history (traced_of self.new) ∥₁ }
         ensures settings { settings_at self.new ≡ settings_at self.old }
     {
+        octets::cut_changes_nothing();
         one_end::failed_follows();
         traces::memory_runs_out();
         if let Some(fault) = self.end.over() {

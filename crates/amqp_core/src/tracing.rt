@@ -1,5 +1,5 @@
 //! What an end does, and what is kept of it beside the end: both, or, out of memory, neither.
-ghost use Rattle.std.specs.Prelude.{◌≡◌, ◌+◌, ◌*◌, ◌<◌, ◌≤◌, ℕ, true, false, length, vec_len, vec_capacity, IfOk, IfErr, OnOk, OnErr};
+ghost use Rattle.std.specs.Prelude.{◌≡◌, ◌≢◌, ◌+◌, ◌*◌, ◌<◌, ◌≤◌, ℕ, true, false, [], length, vec_len, vec_capacity, IfOk, IfErr, OnOk, OnErr};
 ghost use Rattle.amqp_model.specs.Asks.{frames_asked, refusal};
 ghost use Rattle.amqp_model.specs.Endpoint.{after_feed};
 ghost use Rattle.amqp_model.specs.EndVerdict.{takes_octets};
@@ -76,12 +76,15 @@ pub(crate) fn take<R: Role>(
     ensures octets { FedGrows (ran_out result) piece.now (after_feed (role_played end.old) (config_at end.old) (endpoint_of end.old) piece.now) (kept_of end.old ledger.old) (kept_of end.new ledger.new) }
     ensures history { (history : History) → IsTraceOf (role_played end.old) (config_at end.old) (kept_of end.old ledger.old) history
         → ∥ TraceGoesOn (role_played end.old) (config_at end.old) (ran_out result) (endpoint_of end.old) piece.now (after_feed (role_played end.old) (config_at end.old) (endpoint_of end.old) piece.now) history (kept_of end.new ledger.new) ∥₁ }
+    ensures within { IfOk result (λ taken. taken.octets ≤ length piece.now) }
+    ensures progress { IfOk result (λ taken. piece.now ≢ [] → 0 < taken.octets) }
     ensures grows { GrowsLittle (endpoint_of end.old).output (endpoint_of end.new).output }
     ensures written { ledger.new.written ≡ ledger.old.written }
     ensures settings { settings_at end.new ≡ settings_at end.old }
     ensures side { ledger.new.side ≡ ledger.old.side }
 {
     octets::octets_follow();
+    octets::cut_changes_nothing();
     one_end::failed_follows();
     one_end::verdict_is_of_history();
     traces::memory_runs_out();

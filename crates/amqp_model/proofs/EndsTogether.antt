@@ -15,7 +15,8 @@ use Rattle.amqp_model.specs.Octets.{frames_put, opening_read, opening_written}
 use Rattle.amqp_model.specs.Pairs.{config_of}
 use Rattle.amqp_model.specs.Endpoint.{Endpoint, after_feed}
 use Rattle.amqp_model.specs.OctetsInFlight.{IsFedNext}
-use Rattle.amqp_model.specs.EndsTogether.{NewStandTogether, StandTogetherTurned, CarryStandsTogether, AskStandsTogether}
+use Rattle.amqp_model.specs.EndsTogether.{NewStandTogether, StandTogetherTurned, CarryStandsTogether, AskStandsTogether, AskedStaysPair}
+use Rattle.amqp_model.specs.Histories.{History}
 use Rattle.amqp_model.proofs.Standing.{end-stands}
 use Rattle.amqp_model.proofs.Lawfulness.{end-steps}
 use Rattle.amqp_model.proofs.Pairing.{new-ends-pair, step-stays-pair}
@@ -131,3 +132,9 @@ carry-stands-together reads role client_config server_config mine theirs piece r
             to_theirs = s.to_theirs;
           };
     }
+
+-- An ask that is accepted, of the histories alone.
+pub asked-stays-pair : (role : Role) (client_config : Config Client) (server_config : Config Server) (mine theirs : History) (end : End) (ask : Ask) (frames : List Frame) → AskedStaysPair role client_config server_config mine theirs end ask frames
+asked-stays-pair role client_config server_config mine theirs end ask frames p stands back made e =
+    let step = (end-steps role (config_of role client_config server_config) end mine stands).asks ask frames made back e in
+    record { client_writes = p.client_writes; server_writes = p.server_writes; pair = step-stays-pair role client_config server_config mine theirs None _ p.pair tt step }

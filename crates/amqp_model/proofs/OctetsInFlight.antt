@@ -16,17 +16,18 @@ use Rattle.amqp_model.specs.Channels.{Phase, Handshake, Running, Closed, Failed,
 use Rattle.amqp_model.specs.Negotiation.{Config, frame_limit}
 use Rattle.amqp_model.specs.StateFromHistory.{end_from}
 use Rattle.amqp_model.specs.Closes.{frame_of}
-use Rattle.amqp_model.specs.Events.{Fault, Faults}
+use Rattle.amqp_model.specs.Events.{Fault, Faults, WrongProtocolHeader}
 use Rattle.amqp_model.specs.EndVerdict.{CanTake, end_verdict, goes_on, takes_frames}
 use Rattle.amqp_model.specs.FittingLaws.{MethodReadsBack}
 use Rattle.amqp_model.specs.LawfulHistories.{then_put, greets}
 use Rattle.amqp_model.specs.Octets.{frames_taken, frames_put, opening_read, has_opened, FedAs, FailedAt}
 use Rattle.amqp_model.specs.Pairs.{ComesNext, PairOf, server_goes, config_of}
-use Rattle.amqp_model.specs.Endpoint.{Endpoint, Feeding, Unfinished, Found, awaits_opening, greeting, after_feed}
+use Rattle.amqp_model.specs.Endpoint.{Endpoint, Feeding, Unfinished, Found, awaits_opening, fault_told, greeting, after_feed}
+use Rattle.amqp_model.specs.Grown.{Grows}
 use Rattle.amqp_model.specs.OctetLaws.{IsWhole, TellsLast, EndpointStandsFor, Follows, waits, greets as greets_then, takes, faults, tells, differs, refuses}
 use Rattle.amqp_model.specs.CarryingLaws.{as_carried, Carries}
 use Rattle.amqp_model.specs.NoFault.{TakesWithoutFault}
-use Rattle.amqp_model.specs.OctetsInFlight.{IsFedNext, FindsNoFaultWithOctets, FeedStaysPair, NothingWaitsForClosed, InFlight, OctetsInFlightAreFrames, ItemsSentAreActedOnOrWaiting}
+use Rattle.amqp_model.specs.OctetsInFlight.{IsFedNext, FindsNoFaultWithOctets, FeedStaysPair, GrownStaysPair, NothingWaitsForClosed, InFlight, OctetsInFlightAreFrames, ItemsSentAreActedOnOrWaiting}
 use Rattle.amqp_model.proofs.Standing.{end-stands}
 use Rattle.amqp_model.proofs.Lawfulness.{end-steps}
 use Rattle.amqp_model.proofs.Pairing.{step-stays-pair}
@@ -231,3 +232,27 @@ pub feed-stays-pair : (reads : (method : Method) → MethodReadsBack method) (ro
 feed-stays-pair reads role client_config server_config mine theirs endpoint fed written piece later next =
     let well = fed-well reads role client_config server_config mine theirs endpoint fed written piece later next in
     record { after = well.after; pair = well.pair; stands = well.stands }
+
+-- Whatever history follows.
+pub grown-stays-pair : (reads : (method : Method) → MethodReadsBack method) (role : Role) (client_config : Config Client) (server_config : Config Server) (mine theirs : History) (endpoint : Endpoint) (fed written piece later : List ℕ) (after : History) → GrownStaysPair role client_config server_config mine theirs endpoint fed written piece later after
+grown-stays-pair reads role client_config server_config mine theirs endpoint fed written piece later after next grows =
+    record { client_writes = next.pair.client_writes; server_writes = next.pair.server_writes; pair = go after grows }
+  where
+    config : Config role
+    config = config_of role client_config server_config
+
+    never : (fault : Fault) → (after_feed role config endpoint piece).outcome ≡ Found fault → ⊥
+    never fault e = finds-no-fault-with-octets reads role client_config server_config mine theirs endpoint fed written piece later next fault e
+
+    go : (then : History) → Grows role config endpoint piece (after_feed role config endpoint piece) mine then → PairOf role client_config server_config then theirs
+    go then (Grows.waits outcome) = next.pair.pair
+    go then (Grows.greets awaits none outcome) = greets-pair role client_config server_config mine theirs endpoint.end.phase awaits none next.pair.pair
+    go then (Grows.takes frame phase whole goes outcome) =
+        let well = whole-taken reads role client_config server_config mine theirs endpoint fed written piece later next (after_feed role config endpoint piece).taken frame whole in
+        let same = end-stands role config endpoint.end mine next.stands.stands in
+        let step = (end-steps role config endpoint.end mine next.stands.stands).takes frame (subst (λ x. CanTake x frame) same well.1.can) goes in
+        step-stays-pair role client_config server_config mine theirs (Some frame) _ next.pair.pair well.0 step
+    go then (Grows.faults frame fault phase whole verdict outcome) = absurd (never fault outcome)
+    go then (Grows.tells kind phase shows outcome) = absurd (never (fault_told kind) outcome)
+    go then (Grows.differs awaits outcome) = absurd (never WrongProtocolHeader outcome)
+    go then (Grows.refuses fault over is) = absurd (never fault (ap (λ (f : Feeding). f.outcome) is))

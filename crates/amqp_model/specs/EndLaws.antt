@@ -11,7 +11,7 @@ use Rattle.amqp_model.specs.Runs.{IsNext, Acts}
 use Rattle.amqp_model.specs.Methods.{ReadsBack}
 use Rattle.amqp_model.specs.Readings.{Reading, kind_of, reading as reading_of}
 use Rattle.amqp_model.specs.Histories.{Entry, Put, Took, History, ChannelEntry, PutHere, TookHere, LeftHere, channel_of, entries_on, notes}
-use Rattle.amqp_model.specs.Channels.{Free, Channel, Phase, Handshake, Running, End, state_of}
+use Rattle.amqp_model.specs.Channels.{Free, Channel, Phase, Handshake, Running, Failed, End, state_of}
 use Rattle.amqp_model.specs.Negotiation.{Config}
 use Rattle.amqp_model.specs.StateFromHistory.{channel_from, end_from}
 use Rattle.amqp_model.specs.FrameVerdict.{Facts, on_channel, awaits_in, verdict_on}
@@ -200,6 +200,10 @@ abbrev pub FailedIsRead : (role : Role) → Config role → (end next : End) →
 FailedIsRead role config end next history =
     StandsFor role config true end history → next.phase ≡ end.phase → next.agreed ≡ end.agreed → next.channels 0 ≡ Free
     → StandsFor role config true next history
+
+-- an end that stands for a history without a failure has not failed
+abbrev pub StandingHasNotFailed : (role : Role) → Config role → End → History → Type 0
+StandingHasNotFailed role config end history = StandsFor role config false end history → end.phase ≢ Failed
 
 -- What is read off a lawful history stands for it.
 abbrev pub LawfulStands : (role : Role) → Config role → (failed : Bool) → History → Type 0

@@ -1,8 +1,11 @@
 -- Two endpoints of one connection, as whoever joins them keeps them: what each was fed is what the other wrote.
-use Rattle.std.specs.Prelude.{◌≡◌, ◌≢◌, true, List, [], ◌++◌, ℕ, All}
+use Rattle.std.specs.Prelude.{◌≡◌, ◌≢◌, true, false, List, [], ◌++◌, ℕ, All}
 use Rattle.amqp_model.specs.Frame.{Frame}
 use Rattle.amqp_model.specs.Notes.{Role, Client, Server, other_end}
+use Rattle.amqp_model.specs.Channels.{End}
 use Rattle.amqp_model.specs.Histories.{History}
+use Rattle.amqp_model.specs.LawfulHistories.{then_put}
+use Rattle.amqp_model.specs.Machine.{StandsFor}
 use Rattle.amqp_model.specs.Negotiation.{Config}
 use Rattle.amqp_model.specs.Events.{Fault}
 use Rattle.amqp_model.specs.Asks.{Ask, is_made, Puts, ask_verdict}
@@ -58,3 +61,10 @@ AskStandsTogether role client_config server_config mine theirs ask frames =
     StandTogether role client_config server_config mine theirs → AskReadsBack ask → is_made ask ≡ true
     → ask_verdict role mine.end ask ≡ Puts frames
     → StandTogether role client_config server_config (after_ask role (config_of role client_config server_config) mine ask) theirs
+
+-- The same of the histories themselves.
+abbrev pub AskedStaysPair : Role → Config Client → Config Server → (mine theirs : History) → End → Ask → List Frame → Type 0
+AskedStaysPair role client_config server_config mine theirs end ask frames =
+    PairWrites role client_config server_config mine theirs → StandsFor role (config_of role client_config server_config) false end mine
+    → AskReadsBack ask → is_made ask ≡ true → ask_verdict role end ask ≡ Puts frames
+    → PairWrites role client_config server_config (then_put frames mine) theirs

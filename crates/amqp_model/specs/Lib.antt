@@ -54,6 +54,7 @@ pub mod Fitting
 pub mod FittingLaws
 pub mod Endpoint
 pub mod OctetLaws
+pub mod Grown
 pub mod CarryingLaws
 pub mod Pieces
 pub mod InTurn

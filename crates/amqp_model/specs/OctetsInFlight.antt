@@ -17,6 +17,7 @@ use Rattle.amqp_model.specs.Octets.{frames_taken, frames_put, opening_read, has_
 use Rattle.amqp_model.specs.Pairs.{PairOf, config_of}
 use Rattle.amqp_model.specs.Sent.{items_in, items_sent, life_on}
 use Rattle.amqp_model.specs.Endpoint.{Endpoint, Feeding, Found, after_feed}
+use Rattle.amqp_model.specs.Grown.{Grows}
 use Rattle.amqp_model.specs.OctetLaws.{IsOctet, EndpointStandsFor}
 use Rattle.amqp_model.specs.CarryingLaws.{as_carried, Carries}
 use Rattle.amqp_model.specs.Agreement.{PairWrites, end_in}
@@ -48,6 +49,14 @@ abbrev pub FeedStaysPair :
 FeedStaysPair role client_config server_config mine theirs endpoint fed written piece later =
     IsFedNext role client_config server_config mine theirs endpoint fed written piece later
     → FeedsOn role client_config server_config theirs fed written piece (after_feed role (config_of role client_config server_config) endpoint piece)
+
+-- and whatever history follows by what came of the piece, it is a pair with the other's
+abbrev pub GrownStaysPair :
+    Role → Config Client → Config Server → (mine theirs : History) → Endpoint → (fed written piece later : List ℕ) → (after : History) → Type 0
+GrownStaysPair role client_config server_config mine theirs endpoint fed written piece later after =
+    IsFedNext role client_config server_config mine theirs endpoint fed written piece later
+    → Grows role (config_of role client_config server_config) endpoint piece (after_feed role (config_of role client_config server_config) endpoint piece) mine after
+    → PairWrites role client_config server_config after theirs
 
 -- no octet waits for an end that is closed: it has none unfinished, and was fed all that the other put
 abbrev pub NothingWaitsForClosed :

@@ -7,17 +7,17 @@
 
 ghost use Rattle.std.specs.Prelude.{ℕ, List};
 ghost use Rattle.amqp_model.specs.Agreement.{AgreesOnSmaller, AgreesPastHandshake, ClosedHasTakenAll, GoesOnAtZero, RunsWhereNextIsAbove};
-ghost use Rattle.amqp_model.specs.Channels.{Agreed};
+ghost use Rattle.amqp_model.specs.Channels.{Agreed, End};
 ghost use Rattle.amqp_model.specs.Endpoint.{Endpoint};
 ghost use Rattle.amqp_model.specs.EndsAgree.{LivesAgree, NoContentFromPaused};
-ghost use Rattle.amqp_model.specs.EndsTogether.{AskStandsTogether, CarryStandsTogether, NewStandTogether, StandTogetherTurned};
+ghost use Rattle.amqp_model.specs.EndsTogether.{AskStandsTogether, AskedStaysPair, CarryStandsTogether, NewStandTogether, StandTogetherTurned};
 ghost use Rattle.amqp_model.specs.Asks.{Ask};
 ghost use Rattle.amqp_model.specs.Frame.{Frame};
 ghost use Rattle.amqp_model.specs.Histories.{History};
 ghost use Rattle.amqp_model.specs.Negotiation.{Config};
 ghost use Rattle.amqp_model.specs.Notes.{Client, Role, Server};
 ghost use Rattle.amqp_model.specs.NoFault.{NextIsMatched, TakesWhatComesNext};
-ghost use Rattle.amqp_model.specs.OctetsInFlight.{FeedStaysPair, FindsNoFaultWithOctets, ItemsSentAreActedOnOrWaiting, NothingWaitsForClosed, OctetsInFlightAreFrames};
+ghost use Rattle.amqp_model.specs.OctetsInFlight.{FeedStaysPair, FindsNoFaultWithOctets, GrownStaysPair, ItemsSentAreActedOnOrWaiting, NothingWaitsForClosed, OctetsInFlightAreFrames};
 ghost use Rattle.amqp_model.specs.PairExample.{ExampleIsPair};
 ghost use Rattle.amqp_model.specs.WellPut.{NextIsWellPut, PutsWell};
 
@@ -67,6 +67,7 @@ pub fn no_fault_over_frames()
 pub fn no_fault_over_octets()
     ensures none { (role : Role) (client_config : Config Client) (server_config : Config Server) (mine theirs : History) (endpoint : Endpoint) (fed written piece later : List ℕ) → FindsNoFaultWithOctets role client_config server_config mine theirs endpoint fed written piece later }
     ensures pair { (role : Role) (client_config : Config Client) (server_config : Config Server) (mine theirs : History) (endpoint : Endpoint) (fed written piece later : List ℕ) → FeedStaysPair role client_config server_config mine theirs endpoint fed written piece later }
+    ensures grown { (role : Role) (client_config : Config Client) (server_config : Config Server) (mine theirs : History) (endpoint : Endpoint) (fed written piece later : List ℕ) (after : History) → GrownStaysPair role client_config server_config mine theirs endpoint fed written piece later after }
 {
     written_reads_back();
 }
@@ -105,6 +106,7 @@ pub fn ends_stand_together()
     ensures turned { (role : Role) (client_config : Config Client) (server_config : Config Server) (mine theirs : Endpoint) → StandTogetherTurned role client_config server_config mine theirs }
     ensures carried { (role : Role) (client_config : Config Client) (server_config : Config Server) (mine theirs : Endpoint) (piece rest : List ℕ) → CarryStandsTogether role client_config server_config mine theirs piece rest }
     ensures asked { (role : Role) (client_config : Config Client) (server_config : Config Server) (mine theirs : Endpoint) (ask : Ask) (frames : List Frame) → AskStandsTogether role client_config server_config mine theirs ask frames }
+    ensures pair { (role : Role) (client_config : Config Client) (server_config : Config Server) (mine theirs : History) (end : End) (ask : Ask) (frames : List Frame) → AskedStaysPair role client_config server_config mine theirs end ask frames }
 {
     written_reads_back();
 }

@@ -7,7 +7,7 @@
 ghost use Rattle.std.specs.Prelude.{Bool, ℕ, List, Option};
 ghost use Rattle.amqp_model.specs.Asks.{Ask, first_free};
 ghost use Rattle.amqp_model.specs.Channels.{Channel, End};
-ghost use Rattle.amqp_model.specs.EndLaws.{AnswersOfHistory, AnyFails, FailedIsRead, AskFollows, AskOfHistory, AsksActs, EndFollows, EndSteps, FindsLowest, FollowsPut, FollowsTaken, FrameFails, FrameFollows, LawfulStands, LeavesOthers, NewEndStands, ReadsChannel, ReadsState, StaysAtLeaving, StaysLeaving, StepFollows, TakesActs, TooLargeFails, VerdictAgrees, VerdictOfHistory};
+ghost use Rattle.amqp_model.specs.EndLaws.{AnswersOfHistory, AnyFails, AskFollows, AskOfHistory, AsksActs, EndFollows, EndSteps, FailedIsRead, FindsLowest, FollowsPut, FollowsTaken, FrameFails, FrameFollows, LawfulStands, LeavesOthers, NewEndStands, ReadsChannel, ReadsState, StandingHasNotFailed, StaysAtLeaving, StaysLeaving, StepFollows, TakesActs, TooLargeFails, VerdictAgrees, VerdictOfHistory};
 ghost use Rattle.amqp_model.specs.Frame.{Frame};
 ghost use Rattle.amqp_model.specs.FrameVerdict.{Facts};
 ghost use Rattle.amqp_model.specs.Histories.{ChannelEntry, Entry, History};
@@ -74,12 +74,14 @@ pub fn end_follows()
 
 /// What an end that has failed keeps stands for its history too: with the frame that it found fault with and the close
 /// that it put, with that close alone where octets told of a frame above the limit, or with nothing more. Of such an end
-/// the phase, what was agreed and channel 0 are looked at, and no more.
+/// the phase, what was agreed and channel 0 are looked at, and no more. An end that stands for a history without a failure has not
+/// failed.
 pub fn failed_follows()
     ensures frame { (role : Role) (config : Config role) (end : End) (history : History) (frame : Frame) → FrameFails role config end history frame }
     ensures too_large { (role : Role) (config : Config role) (end : End) (history : History) → TooLargeFails role config end history }
     ensures other { (role : Role) (config : Config role) (end : End) (history : History) → AnyFails role config end history }
     ensures read { (role : Role) (config : Config role) (end next : End) (history : History) → FailedIsRead role config end next history }
+    ensures not_yet { (role : Role) (config : Config role) (end : End) (history : History) → StandingHasNotFailed role config end history }
 {}
 
 /// Each lawful history is one that an end stands for: what is read off it, and what an end keeps that goes on with each of

@@ -8,7 +8,6 @@ use Rattle.amqp_core.specs.TracedFields.{kept_of}
 use Rattle.amqp_core.specs.Answering.{ran_out}
 use Rattle.amqp_core.specs.AccountView.{note_there}
 use Rattle.amqp_core.specs.NoteView.{item_there}
-use Rattle.amqp_core.proofs.TakenLemmas.{taken-within}
 use Rattle.amqp_core.proofs.TracedLemmas.{lists-grow, trace-laws, traced-ran-out, traced-took}
 use Rattle.amqp_core.proofs.tracing.take.Goals as goal
 
@@ -53,5 +52,5 @@ slice_bounds-enter-end g c =
     let end = c.args.end.now in
     let went : ran_out c.advance-answer.result ≡ false = sym c.is_out_of_memory.ensures ∙ c.if-is_out_of_memory.false in
     let account = c.advance-answer.ensures.account c.new-account.ensures.wanted c.requires.takes went in
-    let within = taken-within (role_played end) (config_at end) (endpoint_of end) c.args.piece.now in
+    let within = c.cut_changes_nothing.ensures.within (role_played end) (config_at end) (endpoint_of end) c.args.piece.now in
     sym (length-take-le c.advance-answer.new.account.octets c.args.piece.now (subst (λ n. n ≤ length c.args.piece.now) (sym account.octets_are) within))

@@ -1,5 +1,7 @@
 -- Each clause is a lemma on histories.
 use Rattle.amqp_model.proofs.Failing.{frame-fails, too-large-fails, any-fails, failed-is-read}
+use Rattle.amqp_model.proofs.OctetHistories.{not-failed}
+use Rattle.amqp_model.specs.Histories.{entries_on}
 use Rattle.amqp_model.proofs.one_end.failed_follows.Goals as goal
 
 pub returns-clause-frame : goal.returns-clause-frame
@@ -13,3 +15,6 @@ returns-clause-other c = any-fails
 
 pub returns-clause-read : goal.returns-clause-read
 returns-clause-read c = failed-is-read
+
+pub returns-clause-not_yet : goal.returns-clause-not_yet
+returns-clause-not_yet c = λ role config end history stands. not-failed role (entries_on 0 history) end.phase stands.phase

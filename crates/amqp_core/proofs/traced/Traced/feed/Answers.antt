@@ -12,13 +12,25 @@ use Rattle.amqp_core.proofs.TracedLemmas.{not-err, over-feed, traced-out, traced
 use Rattle.amqp_core.proofs.traced.Traced.feed.Goals as goal
 
 pub returns-in-Some-clause-fed : goal.returns-in-Some-clause-fed
-returns-in-Some-clause-fed g c = (over-feed (role_played c.args.self.now.end) (config_at c.args.self.now.end) (kept_of c.args.self.now.end c.args.self.now.ledger) c.args.piece.now c.in-Some.fault c.in-Some.ensures).is_fed
+returns-in-Some-clause-fed g c =
+    let end = c.args.self.now.end in
+    let laws = c.cut_changes_nothing.ensures in
+    (over-feed (role_played end) (config_at end) (kept_of end c.args.self.now.ledger) c.args.piece.now c.in-Some.fault
+    (laws.closed (role_played end) (config_at end) (endpoint_of end) c.args.piece.now) (laws.failed (role_played end) (config_at end) (endpoint_of end) c.args.piece.now) c.in-Some.ensures).is_fed
 
 pub returns-in-Some-clause-octets : goal.returns-in-Some-clause-octets
-returns-in-Some-clause-octets g c = (over-feed (role_played c.args.self.now.end) (config_at c.args.self.now.end) (kept_of c.args.self.now.end c.args.self.now.ledger) c.args.piece.now c.in-Some.fault c.in-Some.ensures).octets
+returns-in-Some-clause-octets g c =
+    let end = c.args.self.now.end in
+    let laws = c.cut_changes_nothing.ensures in
+    (over-feed (role_played end) (config_at end) (kept_of end c.args.self.now.ledger) c.args.piece.now c.in-Some.fault
+    (laws.closed (role_played end) (config_at end) (endpoint_of end) c.args.piece.now) (laws.failed (role_played end) (config_at end) (endpoint_of end) c.args.piece.now) c.in-Some.ensures).octets
 
 pub returns-in-Some-clause-history : goal.returns-in-Some-clause-history
-returns-in-Some-clause-history g c = (over-feed (role_played c.args.self.now.end) (config_at c.args.self.now.end) (kept_of c.args.self.now.end c.args.self.now.ledger) c.args.piece.now c.in-Some.fault c.in-Some.ensures).history
+returns-in-Some-clause-history g c =
+    let end = c.args.self.now.end in
+    let laws = c.cut_changes_nothing.ensures in
+    (over-feed (role_played end) (config_at end) (kept_of end c.args.self.now.ledger) c.args.piece.now c.in-Some.fault
+    (laws.closed (role_played end) (config_at end) (endpoint_of end) c.args.piece.now) (laws.failed (role_played end) (config_at end) (endpoint_of end) c.args.piece.now) c.in-Some.ensures).history
 
 -- there was no room
 pub returns-then-is_err-clause-history : goal.returns-then-is_err-clause-history
