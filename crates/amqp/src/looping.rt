@@ -144,7 +144,7 @@ fn hear_server<S: Stream>(server: &mut Session<Server, S>, tally: &mut Tally) {
     }
 }
 
-/// Lets go what the client is told. How far it is its end knows.
+/// Drops the client's events. Its end knows how far it is.
 fn hear_client<C: Stream>(client: &mut Session<Client, C>) {
     for _ in 0..u64::MAX {
         let Some(_) = client.next_event() else {

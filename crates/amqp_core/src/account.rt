@@ -65,7 +65,7 @@ impl Account {
         Ok(())
     }
 
-    /// A frame came to this, as the application is told.
+    /// What came of a frame, as it is reported to the application.
     pub(crate) fn keep_item(
         &mut self,
         told: &Result<Option<Event>, Fault>,

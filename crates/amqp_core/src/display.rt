@@ -107,8 +107,8 @@ fn write_negotiated<W: fmt::Write>(
     write!(f, "negotiated {channel_max} {frame_max}")
 }
 
-/// Prints the event's line, without a line feed at its end. A content that is told has two more lines, as its
-/// [`Message`] prints them. A method that is told takes memory for its text, where its arguments have theirs; nothing else does.
+/// Prints the event's line, without a line feed at its end. The event of a content has two more lines, as its
+/// [`Message`] prints them. The event of a method takes memory for its text, where its arguments have theirs; nothing else does.
 impl fmt::Display for Event {
     ghost output = { λ event. Some (event_text event) };
 

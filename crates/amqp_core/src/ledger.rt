@@ -286,7 +286,7 @@ impl Ledger {
         }
     }
 
-    /// An item is told, if there is one.
+    /// An item is acted on, if there is one.
     fn tell(&mut self, channel: u16, item: Option<Item>)
         requires room { vec_len self.old.told < vec_capacity self.old.told }
         ensures told { told_in self.new ≡ told_in self.old ++ telling_at channel (lives_in (role_of self.old.side) (notes_in self.old) channel) (item_there item) }

@@ -11,7 +11,7 @@ use crate::events::Event;
 use crate::faults::OutOfMemory;
 use amqp_method::Message;
 
-/// What an application sends or is told on a channel.
+/// What an application sends or receives on a channel.
 #[derive(PartialEq, Eq, Debug, Drop)]
 pub enum Item {
     /// A method without content, or a whole content.

@@ -51,7 +51,7 @@ fn write_fault<W: fmt::Write>(f: &mut fmt::Formatter<W>, fault: CoreFault) -> fm
 /// The name of a refusal, and its number.
 fn write_refusal<W: fmt::Write>(f: &mut fmt::Formatter<W>, fault: AskFault) -> fmt::Result {
     let number = fault.number();
-    write!(f, "{fault:?} {number}")
+    write!(f, "{number} {fault:?}")
 }
 
 /// Nothing for what the step says, and a text for what it asks for.

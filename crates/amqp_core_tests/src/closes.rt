@@ -25,7 +25,7 @@ static SCRIPTS: [&str; 4] = [
      client phase -> Failed
      client channel 1 -> Free
      client takes tx.select-ok/1 -> Failed
-     client asks close -> NotRunning 1
+     client asks close -> 1 NotRunning
      client shows command-invalid/0
      client carries all
      client shows nothing

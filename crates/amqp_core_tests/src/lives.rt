@@ -69,7 +69,7 @@ static SCRIPT_OF_ONE_CHANNEL: &str = "closes cross
      client carries all
      server channel 1 -> Closing
      server shows channel.close/1 channel.close-ok/1
-     client asks open -> NoFreeChannel 8
+     client asks open -> 8 NoFreeChannel
      server carries all
      client channel 1 -> Free
      client asks open -> channel 1

@@ -86,7 +86,7 @@ fn is_content(event: &Option<Event>, channel: u16, body: &[u8]) -> bool {
     *number == channel && octets == body
 }
 
-/// Whether all of a piece is taken at once, and a content is told.
+/// Whether all of a piece is taken at once, and completes a content.
 fn takes_content<R: Role>(end: &mut End<R>, piece: &[u8], channel: u16, body: &[u8]) -> bool {
     let Ok(taken) = end.feed(piece) else {
         return false;

@@ -5,7 +5,7 @@
 //!
 //!     both open COUNT                     the handshake, and the opening of the channels up to this one
 //!     END asks ASK -> put                 its application asks something of it (the words are those of `Asked`), which is put;
-//!     END asks open -> channel NUMBER     or takes a channel; or is refused: the refusal and its number
+//!     END asks open -> channel NUMBER     or takes a channel; or is refused: the refusal's number and name
 //!     END takes OCTETS -> events COUNT    it takes octets that the other end has not written, of which come events,
 //!     END takes OCTETS -> FAULT           or a fault: the code of the close that is put, or the name of another one
 //!     END carries COUNT                   so many octets of its output are carried to the other end, or `all`
