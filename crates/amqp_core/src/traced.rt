@@ -3,6 +3,7 @@ ghost use Rattle.std.specs.Prelude.{◌≡◌, ◌≢◌, ◌+◌, ◌<◌, ◌�
 ghost use Rattle.amqp_model.specs.Answers.{channel_state, gathered, reply_due};
 ghost use Rattle.amqp_model.specs.Asks.{frames_asked};
 ghost use Rattle.amqp_model.specs.Endpoint.{after_feed, after_wrote, new_endpoint};
+ghost use Rattle.amqp_model.specs.Fitting.{ConfigWrites};
 ghost use Rattle.amqp_model.specs.Histories.{History};
 ghost use Rattle.amqp_model.specs.LawfulHistories.{then_put};
 ghost use Rattle.amqp_model.specs.Outputs.{output_octets};
@@ -63,6 +64,9 @@ impl<R: Role> Traced<R> {
         requires { ends.endpoint_of end ≡ new_endpoint (ends.role_played end) }
         ensures endpoint { IfOk result (λ traced. (traced_of traced).endpoint ≡ ends.endpoint_of end) }
         ensures trace { IfOk result (λ traced. IsTraceOf (role_played traced) (config_at traced) (traced_of traced) []) }
+        ensures fed { IfOk result (λ traced. (traced_of traced).fed ≡ []) }
+        ensures written { IfOk result (λ traced. (traced_of traced).written ≡ []) }
+        ensures writes { IfOk result (λ traced. ∥ ConfigWrites (config_at traced) ∥₁) }
         ensures settings { IfOk result (λ traced. settings_at traced ≡ ends.settings_at end) }
     {
         octets::octets_follow();

@@ -1,0 +1,10 @@
+pub mod Handing
+pub mod Joining
+pub mod LinkLemmas
+pub mod Promising
+pub mod RunLemmas
+pub mod SeatLemmas
+pub mod TallyAll
+pub mod TallyCounts
+pub mod TallyLemmas
+pub mod Ways

@@ -1,0 +1,46 @@
+-- What was sent and acted on in a life of a channel, over a link.
+use Rattle.std.specs.Prelude.{ℕ, List, [], flat_map, length, Option, Some, None, slice_get}
+use Rattle.std.specs.List.{enumerate_from}
+use Rattle.amqp_model.specs.Items.{Item}
+use Rattle.amqp_model.specs.Sent.{Telling, items_of}
+use Rattle.amqp_link.specs.ConnectionSteps.{reader_in, writer_in}
+use Rattle.amqp_link.specs.LinkSteps.{Linked}
+use Rattle.amqp_link.specs.SeatSteps.{to_write}
+use Rattle.amqp_link.specs.Seats.{Joint}
+use Rattle.amqp_link.specs.Tallies.{Tallied, tallies_of}
+use Rattle.amqp_link.specs.declared.lives.Life.{Life}
+use Rattle.amqp_link.specs.declared.steps.Direction.{Direction}
+
+-- what the end that writes said, in any life; nothing where no such connection has begun
+abbrev pub said_at : Direction → Option Joint → List Telling
+said_at direction None = []
+said_at direction (Some joint) = (writer_in direction joint).kept.said
+
+-- what the end that reads was told
+abbrev pub told_at : Direction → Option Joint → List Telling
+told_at direction None = []
+told_at direction (Some joint) = (reader_in direction joint).kept.told
+
+-- the items sent in a life, in order
+abbrev pub sent_in : Linked → Life → Direction → List Item
+sent_in link life direction = items_of life.channel life.number (said_at direction (slice_get link.connections life.connection))
+
+-- the items acted on in it
+abbrev pub acted_in : Linked → Life → Direction → List Item
+acted_in link life direction = items_of life.channel life.number (told_at direction (slice_get link.connections life.connection))
+
+-- how many octets the end that writes has to write
+abbrev pub waiting_at : Direction → Option Joint → ℕ
+waiting_at direction None = 0
+waiting_at direction (Some joint) = length (to_write (writer_in direction joint))
+
+abbrev pub waiting_in : Linked → (connection : ℕ) → Direction → ℕ
+waiting_in link connection direction = waiting_at direction (slice_get link.connections connection)
+
+-- the tallies of a connection
+abbrev pub tallies_at : (index : ℕ) → Joint → List Tallied
+tallies_at index joint = tallies_of index joint.client.kept.notes joint.client.kept.said joint.server.kept.told joint.server.kept.said joint.client.kept.told
+
+-- those of all connections, in the order in which they began
+abbrev pub tally_in : Linked → List Tallied
+tally_in link = flat_map (λ entry. tallies_at entry.0 entry.1) (enumerate_from 0 link.connections)

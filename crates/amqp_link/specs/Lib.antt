@@ -1,0 +1,17 @@
+pub mod ConnectionSteps
+pub mod ConnectionView
+pub mod FaultView
+pub mod Headline
+pub mod Items
+pub mod JoinLaws
+pub mod Joined
+pub mod LinkSteps
+pub mod LinkView
+pub mod PromiseLaws
+pub mod Promises
+pub mod SeatSteps
+pub mod SeatView
+pub mod Seats
+pub mod SetUps
+pub mod Tallies
+pub mod TallyView

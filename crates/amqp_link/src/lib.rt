@@ -1,0 +1,19 @@
+//! Links: pairs of ends in memory, each a client and a server of which the one reads what the other writes, and what is done
+//! with them: connections begin, applications ask, octets are carried, ends are dropped.
+//!
+//! Whatever is done, in whatever order: what an end acts on in a life of a channel is a prefix of what the other sent in that
+//! life.
+#![tactic(auto)]
+
+mod connection;
+mod faults;
+mod link;
+mod lives;
+mod promises;
+mod seat;
+mod steps;
+
+pub use crate::faults::{LinkFault, OutOfMemory};
+pub use crate::link::Link;
+pub use crate::lives::Life;
+pub use crate::steps::{Direction, Step};

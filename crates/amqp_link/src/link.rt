@@ -1,0 +1,217 @@
+//! Pairs of ends in memory, and what is done with them.
+ghost use Rattle.std.specs.Prelude.{◌≡◌, map, slice_get, IfErr, IfOk, OnOk};
+ghost use Rattle.amqp_core.specs.AskView.{ask_view};
+ghost use Rattle.amqp_core.specs.Configs.{set_up_as, settings_of};
+ghost use Rattle.amqp_core.specs.NoteView.{item_view, telling_view};
+ghost use Rattle.amqp_core.specs.Roles.{role_of};
+ghost use Rattle.amqp_link.specs.ConnectionSteps.{ConnectionAsked, ConnectionCarries, ConnectionDrops};
+ghost use Rattle.amqp_link.specs.LinkSteps.{Begins, DoneAt, Fits, FitsNot, IsFaultOf, IsNewLink, RunsTo, Steps};
+ghost use Rattle.amqp_link.specs.Items.{acted_in, said_at, sent_in, tally_in, told_at, waiting_in};
+ghost use Rattle.amqp_link.specs.TallyView.{tally_view};
+ghost use Rattle.amqp_link.specs.SetUps.{client_set_up, server_set_up};
+
+use crate::connection::Connection;
+use crate::faults::{LinkFault, OutOfMemory};
+use crate::lives::{Life, Written, add_tallies, items_of};
+use crate::promises::promises_are_kept;
+use crate::steps::{Direction, Step};
+use amqp_core::{Ask, Client, Config, ConfigFault, End, Item, Role, Server, Side, Telling};
+use std::alloc::Global;
+
+/// Connections of two ends each, numbered from 0 in the order in which they began.
+#[derive(Drop)]
+pub struct Link {
+    alloc: Global,
+    client: Config<Client>,
+    server: Config<Server>,
+    connections: Vec<Connection>,
+}
+
+/// Whether an end can be set up so.
+fn try_config<R: Role>(alloc: Global, config: &Config<R>) -> Result<(), ConfigFault>
+    ensures fits { OnOk result (Fits (set_up_as (settings_of R.hello_of config.now))) }
+    ensures fault { IfErr result (λ fault. IsFaultOf (set_up_as (settings_of R.hello_of config.now)) fault) }
+{
+    let Ok(config) = config.copy() else {
+        return Err(ConfigFault::OutOfMemory);
+    };
+    match End::new(alloc, config) {
+        Ok(end) => {
+            drop(end);
+            Ok(())
+        }
+        Err(fault) => Err(fault),
+    }
+}
+
+impl Link {
+    ghost use Rattle.amqp_link.specs.Headline.{Headline};
+    ghost use Rattle.amqp_link.specs.LinkView.{link_view};
+
+    /// A link of no connection yet. Each connection that begins is of two ends that are set up with copies of these. The fault
+    /// is the client's, or else the server's.
+    pub fn new(
+        alloc: Global,
+        client: Config<Client>,
+        server: Config<Server>,
+    ) -> Result<Link, ConfigFault>
+        ensures new { IfOk result (λ link. IsNewLink (client_set_up client) (server_set_up server) (link_view link)) }
+        ensures fault { IfErr result (λ fault. FitsNot (client_set_up client) (server_set_up server) fault) }
+    {
+        if let Err(fault) = try_config(alloc, &client) {
+            drop(client);
+            drop(server);
+            return Err(fault);
+        }
+        if let Err(fault) = try_config(alloc, &server) {
+            drop(client);
+            drop(server);
+            return Err(fault);
+        }
+        Ok(Link {
+            alloc,
+            client,
+            server,
+            connections: Vec::new(alloc),
+        })
+    }
+
+    fn begin(&mut self) -> Result<(), LinkFault>
+        ensures { Begins (link_view self.old) result (link_view self.new) }
+    {
+        let Ok(connection) = Connection::new(self.alloc, &self.client, &self.server) else {
+            return Err(LinkFault::OutOfMemory);
+        };
+        let Ok(()) = self.connections.push(connection) else {
+            return Err(LinkFault::OutOfMemory);
+        };
+        Ok(())
+    }
+
+    fn ask(&mut self, index: usize, side: Side, ask: &Ask) -> Result<(), LinkFault>
+        ensures { DoneAt (ConnectionAsked (role_of side) (ask_view ask.now)) index (link_view self.old) result (link_view self.new) }
+    {
+        if self.connections.len() <= index {
+            return Err(LinkFault::NoSuchConnection);
+        }
+        let connection = &mut self.connections[index];
+        connection.ask(side, ask)
+    }
+
+    fn carry(&mut self, index: usize, direction: Direction, octets: usize) -> Result<(), LinkFault>
+        ensures { DoneAt (ConnectionCarries direction octets) index (link_view self.old) result (link_view self.new) }
+    {
+        if self.connections.len() <= index {
+            return Err(LinkFault::NoSuchConnection);
+        }
+        let connection = &mut self.connections[index];
+        connection.carry(direction, octets)
+    }
+
+    fn drop_side(&mut self, index: usize, side: Side) -> Result<(), LinkFault>
+        ensures { DoneAt (ConnectionDrops (role_of side)) index (link_view self.old) result (link_view self.new) }
+    {
+        if self.connections.len() <= index {
+            return Err(LinkFault::NoSuchConnection);
+        }
+        let connection = &mut self.connections[index];
+        connection.drop_side(side)
+    }
+
+    /// Does a step.
+    #[tactic(auto, using(crate::proofs::Promising::headline))]
+    pub fn step(&mut self, step: &Step) -> Result<(), LinkFault>
+        ensures steps { Steps (link_view self.old) step.now result (link_view self.new) }
+        ensures headline { Headline (link_view self.new) }
+    {
+        promises_are_kept();
+        match step {
+            Step::Begin => self.begin(),
+            Step::Ask(connection, side, ask) => self.ask(*connection, *side, ask),
+            Step::Carry(connection, direction, octets) => {
+                self.carry(*connection, *direction, *octets)
+            }
+            Step::Drop(connection, side) => self.drop_side(*connection, *side),
+        }
+    }
+
+    /// Does steps in order, also after refused ones, and answers how many were refused. Out of memory, it answers the index of
+    /// the step that met it, after which none was done.
+    #[tactic(auto, using(crate::proofs::Promising::headline))]
+    pub fn run(&mut self, steps: &[Step]) -> Result<usize, usize>
+        ensures runs { RunsTo (link_view self.old) steps.now result (link_view self.new) }
+        ensures headline { Headline (link_view self.new) }
+    {
+        promises_are_kept();
+        let mut refused = 0_usize;
+        let mut index = 0_usize;
+        while index < steps.len() {
+            if let Err(fault) = self.step(&steps[index]) {
+                if fault.is_out_of_memory() {
+                    return Err(index);
+                }
+                refused += 1;
+            }
+            index += 1;
+        }
+        Ok(refused)
+    }
+
+    /// How many octets wait to be carried; none of a connection that hasn't begun.
+    pub fn waiting(&self, connection: usize, direction: Direction) -> usize
+        ensures { result ≡ waiting_in (link_view self.now) connection direction }
+    {
+        match self.connections.get(connection) {
+            Some(connection) => connection.waiting(direction),
+            None => 0,
+        }
+    }
+
+    /// What the end that writes said, in all lives.
+    fn said(&self, connection: usize, direction: Direction) -> &[Telling]
+        ensures { map telling_view result.now ≡ said_at direction (slice_get (link_view self.now).connections connection) }
+    {
+        match self.connections.get(connection) {
+            Some(connection) => connection.said(direction),
+            None => &[],
+        }
+    }
+
+    /// What the end that reads was told, in all lives.
+    fn told(&self, connection: usize, direction: Direction) -> &[Telling]
+        ensures { map telling_view result.now ≡ told_at direction (slice_get (link_view self.now).connections connection) }
+    {
+        match self.connections.get(connection) {
+            Some(connection) => connection.told(direction),
+            None => &[],
+        }
+    }
+
+    /// The items that were sent in a life in a direction, in order. There are none of a life that hasn't begun.
+    pub fn sent(&self, life: Life, direction: Direction) -> Result<Vec<Item>, OutOfMemory>
+        ensures { IfOk result (λ items. map item_view items.items ≡ sent_in (link_view self.now) life direction) }
+    {
+        let said = self.said(life.connection, direction);
+        items_of(self.alloc, said, life.channel, life.number)
+    }
+
+    /// The items that were acted on in a life in a direction, in order.
+    pub fn acted(&self, life: Life, direction: Direction) -> Result<Vec<Item>, OutOfMemory>
+        ensures { IfOk result (λ items. map item_view items.items ≡ acted_in (link_view self.now) life direction) }
+    {
+        let told = self.told(life.connection, direction);
+        items_of(self.alloc, told, life.channel, life.number)
+    }
+
+    /// How many items were sent and acted on in each life that began: by connection, channel and number, each to the server
+    /// first.
+    pub fn tally(&self) -> Result<Vec<(Life, Direction, usize, usize)>, OutOfMemory>
+        ensures { IfOk result (λ tallies. map tally_view tallies.items ≡ tally_in (link_view self.now)) }
+    {
+        let mut tallies = Vec::new(self.alloc);
+        for (index, connection) in self.connections.iter().enumerate() {
+            add_tallies(self.alloc, &mut tallies, index, connection.written())?;
+        }
+        Ok(tallies)
+    }
+}
