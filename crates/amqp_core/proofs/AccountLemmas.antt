@@ -1,5 +1,5 @@
 -- The account of a piece is what came of it: of a frame, of a rest, of octets that show a fault, and of the protocol header.
-use Rattle.std.proofs.Common.{◌≡◌, ◌≢◌, ◌+◌, ◌-◌, ◌^◌, ◌<◌, ◌≤◌, Bool, true, false, ℕ, suc, List, [], ◌++◌, length, take, Option, Some, None, Result, Ok, Err, inl, inr, refl, ap, sym, ◌∙◌, subst, arith}
+use Rattle.std.proofs.Common.{◌≡◌, ◌≢◌, ◌+◌, ◌-◌, ◌^◌, ◌<◌, ◌≤◌, Bool, true, false, ℕ, suc, List, [], ◌++◌, length, take, Option, Some, None, Ok, Err, inl, inr, refl, ap, sym, ◌∙◌, subst, arith}
 use Rattle.std.proofs.Math.Seq.{take-append-add, take-length}
 use Rattle.std.proofs.lemmas.Bool.{false≢true}
 use Rattle.std.proofs.lemmas.List.{length-take-le, take-take}
@@ -24,13 +24,11 @@ use Rattle.amqp_model.specs.Pieces.{IsFedBy, SplitsFor, FeedFindsFault, with_tak
 use Rattle.amqp_core.specs.AccountView.{Came, IsAccount, IsFresh, came_by, came_of_frame, note_there, puts_alone}
 use Rattle.amqp_core.specs.Answering as answering
 use Rattle.amqp_core.specs.Answering.{Reports, ran_out}
-use Rattle.amqp_core.specs.Feeding.{IsFed, in_piece}
+use Rattle.amqp_core.specs.Feeding.{IsFed}
 use Rattle.amqp_core.specs.NoteView.{item_there}
 use Rattle.amqp_core.specs.OwedView.{owed_view}
 use Rattle.amqp_core.specs.declared.account.Account.{Account}
 use Rattle.amqp_core.specs.declared.events.Event.TheVariants as event
-use Rattle.amqp_core.specs.declared.events.Event.{Event as CodeEvent}
-use Rattle.amqp_core.specs.declared.faults.CoreFault.{CoreFault}
 use Rattle.amqp_core.specs.declared.faults.CoreFault.TheVariants as core
 use Rattle.amqp_core.specs.declared.owed.Owed.{Owed}
 use Rattle.amqp_core.specs.declared.settings.Settings.{Settings}
@@ -284,7 +282,3 @@ whole_of stream old taken frame splits completes = record {
   fits = completes.fits;
   within = subst (λ l. frame_length frame ≤ l) splits.limit completes.within;
 }
-
-pub ran_in_piece : (octets : ℕ) (result : Result (Option CodeEvent) CoreFault) → ran_out (in_piece octets result) ≡ ran_out result
-ran_in_piece octets (Ok event) = refl
-ran_in_piece octets (Err fault) = refl

@@ -27,9 +27,9 @@ use Rattle.amqp_model.specs.Octets.{opening_read}
 use Rattle.amqp_model.specs.Outputs.{Output, after_puts}
 use Rattle.amqp_model.specs.Pieces.{AreBegun, IsFedBy, IsProperPrefixOf, HoldsUnfinished, FaultFed, FeedHolds, FeedGivesFrame, FeedWaits, FeedFindsFault, reads_frames}
 use Rattle.amqp_model.specs.Readings.{reading}
-use Rattle.amqp_core.specs.Answering.{Answers, EndsAs, PutsAs, Reports, ran_out, is_out_of_memory, stopped}
+use Rattle.amqp_core.specs.Answering.{Answers, Brings, EndsAs, PutsAs, Reports, Tells, ran_out, is_out_of_memory, stopped}
 use Rattle.amqp_core.specs.EndpointView.{FieldsFit, IsSound, endpoint_view, is_opened, unfinished_of}
-use Rattle.amqp_core.specs.Feeding.{IsFed, SameEndpoint, in_piece, ran_out_of}
+use Rattle.amqp_core.specs.Feeding.{IsFed, IsInPiece, SameEndpoint, ran_out_of}
 use Rattle.amqp_core.specs.Bounded.{IsBounded}
 use Rattle.amqp_core.specs.CoreView.{core_end}
 use Rattle.amqp_core.specs.Kept.{agreed_prop}
@@ -38,6 +38,9 @@ use Rattle.amqp_core.specs.Outcomes.{SameEnd}
 use Rattle.amqp_core.specs.Settings.{config_view, role_for}
 use Rattle.amqp_core.specs.declared.endpoint.Endpoint.{Endpoint}
 use Rattle.amqp_core.specs.declared.settings.Settings.{Settings}
+use Rattle.amqp_core.specs.EventView.{event_there}
+use Rattle.amqp_core.specs.NewsView.{news_there}
+use Rattle.amqp_core.specs.declared.news.News.{News}
 use Rattle.amqp_core.specs.declared.events.Event.{Event}
 use Rattle.amqp_core.specs.declared.events.Taken.{Taken}
 use Rattle.amqp_core.specs.declared.faults.CoreFault.{CoreFault}
@@ -134,16 +137,31 @@ same_endpoint true old next new unfinished put output same none out = record { e
 same_endpoint false old next new unfinished put output same none out = record { end = same; unfinished = sym none; output = sym out }
 
 -- the answer to a frame, as an answer to the piece
-answered : (result : Result (Option Event) CoreFault) (octets : ℕ) (old : model.Endpoint) (next new : End) (unfinished : List ℕ) (put output : Output) (outcome : Outcome) → Answers result outcome → SameEnd (cond (ran_out result) (as_failed old.end) next) new → unfinished ≡ [] → output ≡ cond (ran_out result) old.output put
-    → IsFed (in_piece octets result) old (record { endpoint = record { end = next; unfinished = []; output = put }; taken = octets; outcome = outcome }) (record { end = new; unfinished = unfinished; output = output })
-answered (Ok event) octets old next new unfinished put output outcome says same none out = record { answer = says; taken = refl; left = same_endpoint false old next new unfinished put output same none out }
-answered (Err fault) octets old next new unfinished put output outcome says same none out = record { answer = says; taken = tt; left = same_endpoint (is_out_of_memory fault) old next new unfinished put output same none out }
+told_in_piece : (news : Option News) (event : Option Event) (outcome : Outcome) → event_there event ≡ news_there news → Brings news outcome → Tells event outcome
+told_in_piece news event Unfinished same says = absurd says
+told_in_piece news event (Finished told) same says = says ∙ sym same
+told_in_piece news event (Found fault) same says = absurd says
 
-pub frame_fed : (role : Role) (config : Config role) (old : model.Endpoint) (stream : Stream) (piece : List ℕ) (octets : ℕ) (frame : Frame) (result : Result (Option Event) CoreFault) (new : End) (unfinished : List ℕ) (outgoing : Outgoing) → FeedGivesFrame role config old stream piece octets frame → IsFedBy role old stream piece → octets ≤ length piece → Completes stream (take octets piece) frame → Answers result (outcome_of (facts_at config old.end frame.channel) (end_verdict config old.end frame)) → EndsAs result old.end (end_after_taken role config old.end (reading frame) frame) new → unfinished ≡ [] → PutsAs result old.output (after_puts (end_puts config old.end frame) old.output) outgoing
-    → IsFed (in_piece octets result) old (after_feed role config old piece) (record { end = new; unfinished = unfinished; output = outgoing.output })
-frame_fed role config old stream piece octets frame result new unfinished outgoing law fed within completes says ends none puts =
-    subst (λ (f : Feeding). IsFed (in_piece octets result) old f (record { end = new; unfinished = unfinished; output = outgoing.output })) (sym (law fed within completes))
-    (answered result octets old (end_after_taken role config old.end (reading frame) frame) new unfinished (after_puts (end_puts config old.end frame) old.output) outgoing.output (outcome_of (facts_at config old.end frame.channel) (end_verdict config old.end frame)) says ends none (ap (λ (o : Outgoing). o.output) puts))
+pub ran_in_piece : (octets : ℕ) (answer : Result (Option News) CoreFault) (result : Result Taken CoreFault) → IsInPiece octets answer result → ran_out result ≡ ran_out answer
+ran_in_piece octets (Ok news) (Ok taken) is = refl
+ran_in_piece octets (Ok news) (Err fault) is = absurd is
+ran_in_piece octets (Err fault) (Ok taken) is = absurd is
+ran_in_piece octets (Err fault) (Err told) is = ap is_out_of_memory is
+
+answered : (answer : Result (Option News) CoreFault) (result : Result Taken CoreFault) (octets : ℕ) (old : model.Endpoint) (next new : End) (unfinished : List ℕ) (put output : Output) (outcome : Outcome) → IsInPiece octets answer result → Answers answer outcome → SameEnd (cond (ran_out answer) (as_failed old.end) next) new → unfinished ≡ [] → output ≡ cond (ran_out answer) old.output put
+    → IsFed result old (record { endpoint = record { end = next; unfinished = []; output = put }; taken = octets; outcome = outcome }) (record { end = new; unfinished = unfinished; output = output })
+answered (Ok news) (Ok taken) octets old next new unfinished put output outcome is says same none out = record { answer = told_in_piece news taken.event outcome is.1 says; taken = is.0; left = same_endpoint false old next new unfinished put output same none out }
+answered (Ok news) (Err fault) octets old next new unfinished put output outcome is says same none out = absurd is
+answered (Err fault) (Ok taken) octets old next new unfinished put output outcome is says same none out = absurd is
+answered (Err fault) (Err told) octets old next new unfinished put output outcome is says same none out =
+    subst (λ (f : CoreFault). IsFed (Err f) old (record { endpoint = record { end = next; unfinished = []; output = put }; taken = octets; outcome = outcome }) (record { end = new; unfinished = unfinished; output = output })) (sym is)
+    (record { answer = says; taken = tt; left = same_endpoint (is_out_of_memory fault) old next new unfinished put output same none out })
+
+pub frame_fed : (role : Role) (config : Config role) (old : model.Endpoint) (stream : Stream) (piece : List ℕ) (octets : ℕ) (frame : Frame) (answer : Result (Option News) CoreFault) (result : Result Taken CoreFault) (new : End) (unfinished : List ℕ) (outgoing : Outgoing) → FeedGivesFrame role config old stream piece octets frame → IsFedBy role old stream piece → octets ≤ length piece → Completes stream (take octets piece) frame → IsInPiece octets answer result → Answers answer (outcome_of (facts_at config old.end frame.channel) (end_verdict config old.end frame)) → EndsAs answer old.end (end_after_taken role config old.end (reading frame) frame) new → unfinished ≡ [] → PutsAs answer old.output (after_puts (end_puts config old.end frame) old.output) outgoing
+    → IsFed result old (after_feed role config old piece) (record { end = new; unfinished = unfinished; output = outgoing.output })
+frame_fed role config old stream piece octets frame answer result new unfinished outgoing law fed within completes is says ends none puts =
+    subst (λ (f : Feeding). IsFed result old f (record { end = new; unfinished = unfinished; output = outgoing.output })) (sym (law fed within completes))
+    (answered answer result octets old (end_after_taken role config old.end (reading frame) frame) new unfinished (after_puts (end_puts config old.end frame) old.output) outgoing.output (outcome_of (facts_at config old.end frame.channel) (end_verdict config old.end frame)) is says ends none (ap (λ (o : Outgoing). o.output) puts))
 
 -- It answers with none.
 

@@ -17,7 +17,7 @@ use Rattle.amqp_core.specs.CoreView.{told_view}
 use Rattle.amqp_core.specs.NoteView.{item_there, note_view}
 use Rattle.amqp_core.specs.OwedView.{owed_view}
 use Rattle.amqp_core.specs.declared.account.Account.{Account}
-use Rattle.amqp_core.specs.declared.events.Event as code
+use Rattle.amqp_core.specs.declared.news.News.{News}
 use Rattle.amqp_core.specs.declared.notes.Note.{Note}
 use Rattle.amqp_core.specs.declared.one_end.Fault as faults
 use Rattle.amqp_core.specs.declared.owed.Owed.TheVariants as owed
@@ -40,7 +40,7 @@ item_in_outcome (Finished event) = item_in_event event
 item_in_outcome outcome = None
 
 -- the account has the item that is told
-abbrev pub TellsItem : Result (Option code.Event) faults.Fault → Account → Type 0
+abbrev pub TellsItem : Result (Option News) faults.Fault → Account → Type 0
 TellsItem told account = item_there account.item ≡ item_in_outcome (told_view told)
 
 -- What a piece came to: the frame that was taken, as it is noted, the item that it told, and the methods that were put.

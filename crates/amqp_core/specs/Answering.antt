@@ -10,9 +10,11 @@ use Rattle.amqp_model.specs.Notes.{Role}
 use Rattle.amqp_model.specs.Outputs.{Output}
 use Rattle.amqp_core.specs.Closes.{code_view}
 use Rattle.amqp_core.specs.EventView.{event_there}
+use Rattle.amqp_core.specs.NewsView.{news_there}
 use Rattle.amqp_core.specs.OutboxView.{Outgoing, only}
 use Rattle.amqp_core.specs.Outcomes.{SameEnd}
 use Rattle.amqp_core.specs.declared.events.Event.{Event}
+use Rattle.amqp_core.specs.declared.news.News.{News}
 use Rattle.amqp_core.specs.declared.faults.CoreFault.{CoreFault}
 use Rattle.amqp_core.specs.declared.faults.CoreFault.TheVariants as core
 
@@ -31,8 +33,14 @@ Reports core.OutOfMemory outcome = Unit {0}
 Reports core.Failed outcome = outcome ≡ Found events.AlreadyFailed
 Reports core.Closed outcome = outcome ≡ Found events.AlreadyClosed
 
-abbrev pub Answers : Result (Option Event) CoreFault → Outcome → Type 0
-Answers (Ok event) outcome = Tells event outcome
+-- what comes of a frame, before its event is made
+abbrev pub Brings : Option News → Outcome → Type 0
+Brings news Unfinished = ⊥
+Brings news (Finished told) = told ≡ news_there news
+Brings news (Found fault) = ⊥
+
+abbrev pub Answers : Result (Option News) CoreFault → Outcome → Type 0
+Answers (Ok news) outcome = Brings news outcome
 Answers (Err fault) outcome = Reports fault outcome
 
 -- memory was refused

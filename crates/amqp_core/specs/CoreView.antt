@@ -14,7 +14,7 @@ use Rattle.amqp_model.specs.Notes.{Role}
 use Rattle.amqp_model.specs.Readings.{Reading}
 use Rattle.amqp_core.specs.ChannelsView.{channels_view}
 use Rattle.amqp_core.specs.Closes.{code_view}
-use Rattle.amqp_core.specs.EventView.{event_there}
+use Rattle.amqp_core.specs.NewsView.{news_there}
 use Rattle.amqp_core.specs.OwedView.{owed_view}
 use Rattle.amqp_core.specs.Settings.{config_view, side_in}
 use Rattle.amqp_core.specs.Stages.{phase_at, agreed_at}
@@ -23,7 +23,7 @@ use Rattle.amqp_core.specs.declared.one_end.Decision.{Decision}
 use Rattle.amqp_core.specs.declared.one_end.Decision.TheVariants as code
 use Rattle.amqp_core.specs.declared.one_end.Fault.{Fault}
 use Rattle.amqp_core.specs.declared.one_end.Fault.TheVariants.{Peer, Fatal}
-use Rattle.amqp_core.specs.declared.events.Event.{Event}
+use Rattle.amqp_core.specs.declared.news.News.{News}
 use Rattle.amqp_core.specs.declared.settings.Settings.{Settings}
 use Rattle.amqp_core.specs.declared.verdict.Site.{Site}
 
@@ -35,12 +35,12 @@ fault_of (Peer code) = events.Peer (code_view code)
 fault_of Fatal = events.Fatal
 
 abbrev pub decision_view : Settings → Decision → FrameVerdict
-decision_view settings (code.Proceeds event owed) = Proceeds (event_there event) (owed_view settings owed)
+decision_view settings (code.Proceeds news owed) = Proceeds (news_there news) (owed_view settings owed)
 decision_view settings code.RefusesContent = RefusesContent
 decision_view settings (code.Faults fault) = Faults (fault_of fault)
 
-abbrev pub told_view : Result (Option Event) Fault → endpoint.Outcome
-told_view (Ok event) = endpoint.Finished (event_there event)
+abbrev pub told_view : Result (Option News) Fault → endpoint.Outcome
+told_view (Ok news) = endpoint.Finished (news_there news)
 told_view (Err fault) = endpoint.Found (fault_of fault)
 
 -- the channel of a frame, where so many channels were agreed

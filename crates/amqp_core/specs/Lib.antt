@@ -10,6 +10,7 @@ pub mod Closes
 pub mod Reasons
 pub mod Faults
 pub mod EventView
+pub mod NewsView
 pub mod EventTexts
 pub mod Stages
 pub mod LifeView

@@ -1,5 +1,6 @@
 -- What is read of a payload, in the words of the model.
-use Rattle.std.specs.Prelude.{Option, Some, None, Result, Ok, Err}
+use Rattle.std.specs.Global.{Global}
+use Rattle.std.specs.Prelude.{Box, Option, Some, None, Result, Ok, Err}
 use Rattle.amqp_method.specs.HeaderView.{properties_view}
 use Rattle.amqp_method.specs.MethodView.{method_view}
 use Rattle.amqp_method.specs.declared.headers.Header.{Header}
@@ -12,6 +13,6 @@ abbrev pub call_reading : Result Method Unread → Reading
 call_reading (Ok method) = Calls (method_view method)
 call_reading (Err unread) = unread_view unread
 
-abbrev pub header_seen : Option Header → Reading
-header_seen (Some header) = HeaderOf header.body_size (properties_view header.properties)
+abbrev pub header_seen : Option (Box Header Global) → Reading
+header_seen (Some header) = HeaderOf header.value.body_size (properties_view header.value.properties)
 header_seen None = MalformedHeader

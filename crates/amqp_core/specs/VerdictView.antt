@@ -16,7 +16,7 @@ use Rattle.amqp_model.specs.Readings.{Reading, Calls, kind_of}
 use Rattle.amqp_model.specs.Replies.{one_if, completes_reply}
 use Rattle.amqp_model.specs.Verdict.{when_open}
 use Rattle.amqp_core.specs.Closes.{code_view}
-use Rattle.amqp_core.specs.EventView.{event_there}
+use Rattle.amqp_core.specs.NewsView.{news_there}
 use Rattle.amqp_core.specs.Roles.{role_of}
 use Rattle.amqp_core.specs.declared.verdict.Reply.{Reply}
 use Rattle.amqp_core.specs.declared.verdict.Reply.TheVariants.{OpenOk, CloseOk, FlowOk}
@@ -35,7 +35,7 @@ reply_there (Some reply) = Some (reply_kind reply)
 
 -- the verdict on a frame of the channel with this number
 abbrev pub verdict_view : (number : ℕ) → Verdict → FrameVerdict
-verdict_view number (code.Proceeds event reply) = Proceeds (event_there event) (map (on_channel number) (reply_to (reply_there reply)))
+verdict_view number (code.Proceeds news reply) = Proceeds (news_there news) (map (on_channel number) (reply_to (reply_there reply)))
 verdict_view number code.RefusesContent = RefusesContent
 verdict_view number (code.Faults fault) = Faults (Peer (code_view fault))
 

@@ -3,8 +3,8 @@ ghost use Rattle.std.specs.Prelude.{◌≡◌, true, false, OnOk, IsOk, Some, No
 ghost use Rattle.amqp_model.specs.Traces.{IsTaken, noted};
 ghost use Rattle.amqp_core.specs.CoreView.{frame_at};
 
-use crate::events::Event;
 use crate::faults::OutOfMemory;
+use crate::news::News;
 use crate::notes::Note;
 use crate::one_end::Fault;
 use crate::owed::Owed;
@@ -65,10 +65,24 @@ impl Account {
         Ok(())
     }
 
+    /// A copy of what came of a frame. It is large, and stands apart, so that who wants none makes no room for it.
+    #[inline(never)]
+    fn copy_item(&mut self, told: &Result<Option<News>, Fault>) -> Result<(), OutOfMemory>
+        requires { self.old.item ≡ None }
+        ensures item { OnOk result (TellsItem told.now self.new) }
+        ensures octets { self.new.octets ≡ self.old.octets }
+        ensures took { self.new.took ≡ self.old.took }
+    {
+        if let Ok(news) = told {
+            self.item = Item::of_news(news)?;
+        }
+        Ok(())
+    }
+
     /// What came of a frame, as it is reported to the application.
     pub(crate) fn keep_item(
         &mut self,
-        told: &Result<Option<Event>, Fault>,
+        told: &Result<Option<News>, Fault>,
     ) -> Result<(), OutOfMemory>
         requires { self.old.item ≡ None }
         ensures item { self.old.wanted ≡ true → OnOk result (TellsItem told.now self.new) }
@@ -77,9 +91,7 @@ impl Account {
         ensures took { self.new.took ≡ self.old.took }
     {
         if self.wanted {
-            if let Ok(event) = told {
-                self.item = Item::of_event(event)?;
-            }
+            return self.copy_item(told);
         }
         Ok(())
     }

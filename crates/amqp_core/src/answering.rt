@@ -23,8 +23,8 @@ ghost use Rattle.amqp_core.specs.Stages.{agreed_at, phase_at};
 
 use crate::account::Account;
 use crate::codes::CloseCode;
-use crate::events::Event;
 use crate::faults::{CoreFault, OutOfMemory};
+use crate::news::News;
 use crate::one_end::{Core, Fault, Outcome};
 use crate::outbox::Outbox;
 use crate::owed::Owed;
@@ -48,13 +48,13 @@ impl Fault {
 }
 
 /// What a frame tells, as the application sees it.
-fn report(told: Result<Option<Event>, Fault>) -> Result<Option<Event>, CoreFault>
+fn report(told: Result<Option<News>, Fault>) -> Result<Option<News>, CoreFault>
     ensures says { Answers result (told_view told) }
     ensures memory { ran_out result ≡ false }
     ensures ok { IsOk told → IsOk result }
 {
     match told {
-        Ok(event) => Ok(event),
+        Ok(news) => Ok(news),
         Err(fault) => Err(fault.reported()),
     }
 }
@@ -96,7 +96,7 @@ impl Core {
         number: u16,
         payload: &[u8],
         account: &mut Account,
-    ) -> Result<Option<Event>, CoreFault>
+    ) -> Result<Option<News>, CoreFault>
         requires taking { takes_frames (phase_at self.old.stage) ≡ true }
         requires staged { outbox.old.staged ≡ [] }
         requires none { account.old.item ≡ None }

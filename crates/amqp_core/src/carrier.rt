@@ -3,7 +3,8 @@ ghost use Rattle.std.specs.Prelude.{◌≡◌, true};
 ghost use Rattle.amqp_method.specs.Kinds.{has_content};
 ghost use Rattle.amqp_method.specs.MethodView.{method_view};
 
-use amqp_method::{Kind, Message, Method, Properties};
+use crate::faults::OutOfMemory;
+use amqp_method::{Header, Kind, Message, Method};
 
 /// A method that a content follows.
 #[derive(Debug, Drop)]
@@ -16,7 +17,7 @@ pub(crate) struct Carrier {
 #[derive(Debug, Drop)]
 pub(crate) struct Content {
     pub(crate) method: Carrier,
-    pub(crate) properties: Properties,
+    pub(crate) header: Box<Header>,
     pub(crate) body: Vec<u8>,
 }
 
@@ -41,7 +42,7 @@ impl Carrier {
 }
 
 impl Content {
-    ghost use Rattle.std.specs.Prelude.{◌≡◌};
+    ghost use Rattle.std.specs.Prelude.{◌≡◌, IfOk};
     ghost use Rattle.amqp_method.specs.MessageView.{message_view};
     ghost use Rattle.amqp_model.specs.Events.{Whole};
     ghost use Rattle.amqp_core.specs.CarrierView.{content_view};
@@ -53,15 +54,27 @@ impl Content {
         self.method.kind()
     }
 
-    /// The message that a whole content makes.
+    /// The message that a whole content makes. It is large, and stands apart, so that who makes none makes no room for it.
+    #[inline(never)]
     pub(crate) fn into_message(self) -> Message
         ensures { message_of (message_view result) ≡ Whole (content_view self) }
     {
         let Content {
             method,
-            properties,
+            header,
             body,
         } = self;
+        let Header { properties, .. } = Box::into_inner(header);
         Message::content(method.method, properties, body)
+    }
+
+    /// An equal message.
+    pub(crate) fn copy_message(&self) -> Result<Message, OutOfMemory>
+        ensures { IfOk result (λ message. message_of (message_view message) ≡ Whole (content_view self.now)) }
+    {
+        let method = self.method.method.copy()?;
+        let properties = self.header.properties.copy()?;
+        let body = Vec::from_slice(*self.body.allocator(), &self.body)?;
+        Ok(Message::content(method, properties, body))
     }
 }

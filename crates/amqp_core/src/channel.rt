@@ -18,9 +18,10 @@ ghost use Rattle.amqp_core.specs.Roles.{role_of};
 ghost use Rattle.amqp_core.specs.VerdictView.{verdict_view, open_verdict, Decides, LeavesAfter};
 
 use crate::codes::CloseCode;
-use crate::events::{Event, reason_of};
+use crate::events::reason_of;
 use crate::faults::OutOfMemory;
 use crate::life::Life;
+use crate::news::News;
 use crate::roles::Side;
 use crate::verdict::{Reply, Site, Unread, Verdict};
 use crate::words::is_of_connection;
@@ -79,12 +80,12 @@ impl Channel {
         ensures after { (frame : Frame) → LeavesAfter (role_of site.side) site.number frame (Calls (method_view method.now)) (verdict_view site.number result) (channel_view self.old) (channel_view self.new) }
     {
         match method.kind() {
-            Kind::ChannelClose => Verdict::Proceeds(Some(Event::Quiet), Some(Reply::CloseOk)),
+            Kind::ChannelClose => Verdict::Proceeds(Some(News::Quiet), Some(Reply::CloseOk)),
             Kind::ChannelCloseOk => {
                 *self = Channel::Free;
-                Verdict::Proceeds(Some(Event::ChannelClosed(site.number, None)), None)
+                Verdict::Proceeds(Some(News::ChannelClosed(site.number, None)), None)
             }
-            _ => Verdict::Proceeds(Some(Event::Discarded(site.number)), None),
+            _ => Verdict::Proceeds(Some(News::Discarded(site.number)), None),
         }
     }
 
@@ -97,7 +98,7 @@ impl Channel {
         match (site.side, method.kind()) {
             (Side::Server, Kind::ChannelOpen) => {
                 *self = Channel::Open(Life::new(alloc));
-                Verdict::Proceeds(Some(Event::Opened(site.number)), Some(Reply::OpenOk))
+                Verdict::Proceeds(Some(News::Opened(site.number)), Some(Reply::OpenOk))
             }
             (Side::Server, Kind::ChannelOpenOk) | (Side::Client, Kind::ChannelOpen) => {
                 Verdict::Faults(CloseCode::CommandInvalid)
@@ -123,13 +124,13 @@ impl Channel {
                 let reason = reason_of(method)?;
                 *self = Channel::Free;
                 Ok(Verdict::Proceeds(
-                    Some(Event::ChannelClosed(site.number, Some(reason))),
+                    Some(News::ChannelClosed(site.number, Some(reason))),
                     Some(Reply::CloseOk),
                 ))
             }
             (Side::Client, Kind::ChannelOpenOk) => {
                 *self = Channel::Open(Life::new(alloc));
-                Ok(Verdict::Proceeds(Some(Event::Opened(site.number)), None))
+                Ok(Verdict::Proceeds(Some(News::Opened(site.number)), None))
             }
             (Side::Server, Kind::ChannelOpenOk) | (Side::Client, Kind::ChannelOpen) => {
                 Ok(Verdict::Faults(CloseCode::CommandInvalid))
@@ -149,7 +150,7 @@ impl Channel {
             let reason = reason_of(&method)?;
             *self = Channel::Free;
             return Ok(Verdict::Proceeds(
-                Some(Event::ChannelClosed(site.number, Some(reason))),
+                Some(News::ChannelClosed(site.number, Some(reason))),
                 Some(Reply::CloseOk),
             ));
         }
@@ -191,13 +192,13 @@ impl Channel {
     }
 
     /// A content header.
-    pub(crate) fn take_header(&mut self, alloc: Global, site: Site, header: Header) -> Verdict
+    pub(crate) fn take_header(&mut self, alloc: Global, site: Site, header: Box<Header>) -> Verdict
         requires { 0 < site.number }
-        ensures verdict { Decides site (channel_view self.old) (HeaderOf header.body_size (properties_view header.properties)) (verdict_view site.number result) }
-        ensures after { (frame : Frame) → LeavesAfter (role_of site.side) site.number frame (HeaderOf header.body_size (properties_view header.properties)) (verdict_view site.number result) (channel_view self.old) (channel_view self.new) }
+        ensures verdict { Decides site (channel_view self.old) (HeaderOf header.value.body_size (properties_view header.value.properties)) (verdict_view site.number result) }
+        ensures after { (frame : Frame) → LeavesAfter (role_of site.side) site.number frame (HeaderOf header.value.body_size (properties_view header.value.properties)) (verdict_view site.number result) (channel_view self.old) (channel_view self.new) }
     {
         match self {
-            Channel::Closing => Verdict::Proceeds(Some(Event::Discarded(site.number)), None),
+            Channel::Closing => Verdict::Proceeds(Some(News::Discarded(site.number)), None),
             Channel::Free => Verdict::Faults(CloseCode::ChannelError),
             Channel::Opening => Verdict::Faults(CloseCode::ChannelError),
             Channel::Open(life) => {
@@ -221,7 +222,7 @@ impl Channel {
         ensures err { OnErr result (channel_view self.new ≡ channel_view self.old) }
     {
         match self {
-            Channel::Closing => Ok(Verdict::Proceeds(Some(Event::Discarded(site.number)), None)),
+            Channel::Closing => Ok(Verdict::Proceeds(Some(News::Discarded(site.number)), None)),
             Channel::Free => Ok(Verdict::Faults(CloseCode::ChannelError)),
             Channel::Opening => Ok(Verdict::Faults(CloseCode::ChannelError)),
             Channel::Open(life) => {
@@ -240,7 +241,7 @@ impl Channel {
         ensures after { (frame : Frame) → LeavesAfter (role_of site.side) site.number frame (unread_view unread) (verdict_view site.number result) (channel_view self.now) (channel_view self.now) }
     {
         if let Channel::Closing = self {
-            return Verdict::Proceeds(Some(Event::Discarded(site.number)), None);
+            return Verdict::Proceeds(Some(News::Discarded(site.number)), None);
         }
         match unread {
             Unread::UnknownMethod => Verdict::Faults(CloseCode::NotImplemented),

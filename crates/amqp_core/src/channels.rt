@@ -132,10 +132,10 @@ impl Channels {
     }
 
     /// A content header that a channel takes.
-    pub(crate) fn take_header(&mut self, alloc: Global, site: Site, header: Header) -> Verdict
+    pub(crate) fn take_header(&mut self, alloc: Global, site: Site, header: Box<Header>) -> Verdict
         requires { 0 < site.number }
-        ensures verdict { Decides site (channels_view self.old site.number) (HeaderOf header.body_size (properties_view header.properties)) (verdict_view site.number result) }
-        ensures after { (frame : Frame) → LeavesAfter (role_of site.side) site.number frame (HeaderOf header.body_size (properties_view header.properties)) (verdict_view site.number result) (channels_view self.old site.number) (channels_view self.new site.number) }
+        ensures verdict { Decides site (channels_view self.old site.number) (HeaderOf header.value.body_size (properties_view header.value.properties)) (verdict_view site.number result) }
+        ensures after { (frame : Frame) → LeavesAfter (role_of site.side) site.number frame (HeaderOf header.value.body_size (properties_view header.value.properties)) (verdict_view site.number result) (channels_view self.old site.number) (channels_view self.new site.number) }
         ensures others { OnlyAt site.number (channels_view self.old) (channels_view self.new) }
     {
         let number = site.number;

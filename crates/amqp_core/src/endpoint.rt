@@ -2,7 +2,7 @@
 //!
 //! A server compares the first octets with the protocol header. All others go to the splitter, which lends each frame from
 //! the piece where it lies whole in it; the frame is taken while it is lent, so a body is copied once.
-ghost use Rattle.std.specs.Prelude.{◌≡◌, ◌≢◌, ◌+◌, ◌<◌, ◌≤◌, length, true, false, [], None, IsOk, IfOk, IfErr, OnOk};
+ghost use Rattle.std.specs.Prelude.{◌≡◌, ◌≢◌, ◌+◌, ◌<◌, ◌≤◌, length, true, false, [], Some, None, Ok, IsOk, IfOk, IfErr, OnOk};
 ghost use Rattle.amqp_model.specs.Endpoint.{after_feed, after_wrote, awaits_opening, new_endpoint};
 ghost use Rattle.amqp_model.specs.EndVerdict.{takes_octets};
 ghost use Rattle.amqp_model.specs.Asks.{refusal};
@@ -19,7 +19,7 @@ ghost use Rattle.amqp_core.specs.Asked.{number_taken};
 ghost use Rattle.amqp_core.specs.Asking.{AcceptsAsk, RefusesAsk};
 ghost use Rattle.amqp_core.specs.Answering.{ran_out};
 ghost use Rattle.amqp_core.specs.Dropping.{DropsInPlace};
-ghost use Rattle.amqp_core.specs.Feeding.{IsFed, SameEndpoint, in_piece, ran_out_of};
+ghost use Rattle.amqp_core.specs.Feeding.{IsFed, IsInPiece, SameEndpoint, ran_out_of};
 ghost use Rattle.amqp_core.specs.OutboxView.{begins_with};
 ghost use Rattle.amqp_core.specs.Roles.{role_of};
 ghost use Rattle.amqp_core.specs.Settings.{config_view, role_for};
@@ -30,6 +30,7 @@ use crate::allowing::Place;
 use crate::asks::LentAsk;
 use crate::events::{Event, Taken};
 use crate::faults::{AskFault, CoreFault, OutOfMemory};
+use crate::news::News;
 use crate::one_end::Core;
 use crate::opening::going_on;
 use crate::outbox::Outbox;
@@ -66,13 +67,39 @@ fn tune(splitter: &mut Splitter, stage: Stage)
     }
 }
 
+/// The answer to a piece of which so many octets were taken, and no event came.
+///
+/// An answer to a piece has room for an event, which is large. So of frames it is made here and in [`telling`] alone, which
+/// stand apart, and what comes before them clears no room for it.
+#[inline(never)]
+fn telling_nothing(octets: usize) -> Result<Taken, CoreFault>
+    ensures { result ≡ Ok (record { octets = octets; event = None }) }
+{
+    Ok(Taken {
+        octets,
+        event: None,
+    })
+}
+
+/// The same, and this came.
+#[inline(never)]
+fn telling(octets: usize, news: News) -> Result<Taken, CoreFault>
+    ensures { IsInPiece octets (Ok (Some news)) result }
+{
+    Ok(Taken {
+        octets,
+        event: Some(news.into_event()),
+    })
+}
+
 /// The answer to the frame that so many octets of a piece end.
-fn after_octets(octets: usize, answer: Result<Option<Event>, CoreFault>) -> Result<Taken, CoreFault>
-    ensures piece { result ≡ in_piece octets answer }
+fn after_octets(octets: usize, answer: Result<Option<News>, CoreFault>) -> Result<Taken, CoreFault>
+    ensures piece { IsInPiece octets answer result }
     ensures ok { IsOk answer → IsOk result }
 {
     match answer {
-        Ok(event) => Ok(Taken { octets, event }),
+        Ok(Some(news)) => telling(octets, news),
+        Ok(None) => telling_nothing(octets),
         Err(fault) => Err(fault),
     }
 }
@@ -97,6 +124,7 @@ impl Endpoint {
     ghost use Rattle.amqp_core.specs.Growth.{GrowsLittle};
 
     /// Octets of the protocol header, at a server that awaits it.
+    #[inline(never)]
     fn hear(&mut self, piece: &[u8], account: &mut Account) -> Result<Taken, CoreFault>
         requires sound { IsSound self.old }
         requires fresh { IsFresh account.old }
@@ -164,10 +192,7 @@ impl Endpoint {
                 let octets = fed.taken;
                 account.octets = octets;
                 let Some(frame) = fed.frame else {
-                    return Ok(Taken {
-                        octets,
-                        event: None,
-                    });
+                    return telling_nothing(octets);
                 };
                 let answer = self.core.answer(
                     &mut self.outbox,

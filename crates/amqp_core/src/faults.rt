@@ -33,6 +33,12 @@ impl From<amqp_value::OutOfMemory> for OutOfMemory {
     }
 }
 
+impl From<amqp_method::OutOfMemory> for OutOfMemory {
+    fn from(_: amqp_method::OutOfMemory) -> OutOfMemory {
+        OutOfMemory
+    }
+}
+
 /// For the methods that an end puts of itself. They are short, so staging them fails only where memory is refused.
 impl From<StageFault> for OutOfMemory {
     fn from(_: StageFault) -> OutOfMemory {

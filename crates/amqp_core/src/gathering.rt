@@ -89,21 +89,18 @@ impl Gathering {
     }
 
     /// Takes a content header.
-    pub(crate) fn take_header(&mut self, alloc: Global, header: Header) -> Part
-        ensures step { step_view result self.new ≡ step (gathering_view self.old) (HeaderPart header.body_size (properties_view header.properties)) }
-        ensures left { gathering_view self.new ≡ remains (step (gathering_view self.old) (HeaderPart header.body_size (properties_view header.properties))) (HeaderPart header.body_size (properties_view header.properties)) }
+    pub(crate) fn take_header(&mut self, alloc: Global, header: Box<Header>) -> Part
+        ensures step { step_view result self.new ≡ step (gathering_view self.old) (HeaderPart header.value.body_size (properties_view header.value.properties)) }
+        ensures left { gathering_view self.new ≡ remains (step (gathering_view self.old) (HeaderPart header.value.body_size (properties_view header.value.properties))) (HeaderPart header.value.body_size (properties_view header.value.properties)) }
     {
-        let Header {
-            body_size,
-            properties,
-        } = header;
+        let body_size = header.body_size;
         match mem::replace(self, Gathering::Nothing) {
             Gathering::Nothing => Part::Misfits(Misfit::NothingBegun),
             Gathering::BodyDue { .. } => Part::Misfits(Misfit::BodyAwaited),
             Gathering::HeaderDue(method) => {
                 let content = Content {
                     method,
-                    properties,
+                    header,
                     body: Vec::new(alloc),
                 };
                 if body_size == 0 {

@@ -12,8 +12,9 @@ ghost use Rattle.amqp_core.specs.Roles.{role_of};
 ghost use Rattle.amqp_core.specs.Stages.{phase_at, leaves};
 
 use crate::codes::CloseCode;
-use crate::events::{Agreed, Event, blocked_reason, reason_of};
+use crate::events::{Agreed, blocked_reason, reason_of};
 use crate::faults::OutOfMemory;
+use crate::news::News;
 use crate::one_end::{Core, Decision, Fault, closes_with};
 use crate::owed::Owed;
 use crate::roles::Side;
@@ -107,7 +108,7 @@ impl Core {
     {
         let reason = reason_of(method)?;
         self.stage = Stage::Closed(self.stage.agreed());
-        Ok(Decision::Proceeds(Some(Event::ConnectionClosed(Some(reason))), Owed::CloseOk))
+        Ok(Decision::Proceeds(Some(News::ConnectionClosed(Some(reason))), Owed::CloseOk))
     }
 
     /// A client answers start with start-ok.
@@ -120,7 +121,7 @@ impl Core {
         ensures settings { self.new.settings ≡ self.old.settings }
     {
         self.stage = Stage::AwaitsTune;
-        Decision::Proceeds(Some(Event::Quiet), Owed::StartOk)
+        Decision::Proceeds(Some(News::Quiet), Owed::StartOk)
     }
 
     /// A server answers start-ok with tune.
@@ -133,7 +134,7 @@ impl Core {
         ensures settings { self.new.settings ≡ self.old.settings }
     {
         self.stage = Stage::AwaitsTuneOk;
-        Decision::Proceeds(Some(Event::Quiet), Owed::Tune)
+        Decision::Proceeds(Some(News::Quiet), Owed::Tune)
     }
 
     /// A server answers open with open-ok, and the connection is Running.
@@ -146,7 +147,7 @@ impl Core {
         ensures settings { self.new.settings ≡ self.old.settings }
     {
         self.stage = Stage::Running(agreed);
-        Decision::Proceeds(Some(Event::Negotiated(agreed)), Owed::OpenOk)
+        Decision::Proceeds(Some(News::Negotiated(agreed)), Owed::OpenOk)
     }
 
     /// At a client the connection is Running with open-ok.
@@ -159,7 +160,7 @@ impl Core {
         ensures settings { self.new.settings ≡ self.old.settings }
     {
         self.stage = Stage::Running(agreed);
-        Decision::Proceeds(Some(Event::Negotiated(agreed)), Owed::Nothing)
+        Decision::Proceeds(Some(News::Negotiated(agreed)), Owed::Nothing)
     }
 
     /// A client settles on the smaller of its own limits and the server's, and opens the connection at once.
@@ -181,7 +182,7 @@ impl Core {
             frame_max: smaller(self.settings.frame_max as u64, frame) as u32,
         };
         self.stage = Stage::AwaitsOpenOk(agreed);
-        Decision::Proceeds(Some(Event::Quiet), Owed::TuneOkAndOpen(agreed))
+        Decision::Proceeds(Some(News::Quiet), Owed::TuneOkAndOpen(agreed))
     }
 
     /// A server takes a tune-ok within its own limits.
@@ -202,7 +203,7 @@ impl Core {
             channel_max: channels as u16,
             frame_max: frame as u32,
         });
-        Decision::Proceeds(Some(Event::Quiet), Owed::Nothing)
+        Decision::Proceeds(Some(News::Quiet), Owed::Nothing)
     }
 
     /// The method that the stage awaits.
@@ -279,10 +280,10 @@ impl Core {
         }
         if side.is_client() && same(kind, Kind::ConnectionBlocked) {
             let reason = blocked_reason(method)?;
-            return Ok(Decision::Proceeds(Some(Event::Blocked(reason)), Owed::Nothing));
+            return Ok(Decision::Proceeds(Some(News::Blocked(reason)), Owed::Nothing));
         }
         if side.is_client() && same(kind, Kind::ConnectionUnblocked) {
-            return Ok(Decision::Proceeds(Some(Event::Unblocked), Owed::Nothing));
+            return Ok(Decision::Proceeds(Some(News::Unblocked), Owed::Nothing));
         }
         if is_of_connection(kind) {
             return Ok(closes_with(CloseCode::CommandInvalid));

@@ -24,6 +24,7 @@ pub mod laws;
 mod ledger;
 mod life;
 mod lives;
+mod news;
 mod notes;
 mod one_end;
 mod opening;

@@ -18,13 +18,13 @@ ghost use Rattle.amqp_core.specs.VerdictView.{verdict_view, life_verdict, refuse
 
 use crate::carrier::Carrier;
 use crate::codes::CloseCode;
-use crate::events::Event;
 use crate::faults::OutOfMemory;
 use crate::gathering::{Gathering, Misfit, Part};
+use crate::news::{Lone, News};
 use crate::roles::Side;
 use crate::verdict::{Reply, Site, Verdict};
 use crate::words::{answers_first, bit_at, carries_content};
-use amqp_method::{Header, Kind, Message, Method};
+use amqp_method::{Header, Kind, Method};
 use std::alloc::Global;
 use std::collections::VecDeque;
 
@@ -72,7 +72,7 @@ impl Life {
                 let active = bit_at(0, &method);
                 self.paused = !active;
                 Ok(Verdict::Proceeds(
-                    Some(Event::Flow(site.number, active)),
+                    Some(News::Flow(site.number, active)),
                     Some(Reply::FlowOk(active)),
                 ))
             }
@@ -81,7 +81,7 @@ impl Life {
                     return Ok(Verdict::Faults(CloseCode::CommandInvalid));
                 }
                 self.awaits = false;
-                Ok(Verdict::Proceeds(Some(Event::FlowOk(site.number, bit_at(0, &method))), None))
+                Ok(Verdict::Proceeds(Some(News::FlowOk(site.number, bit_at(0, &method))), None))
             }
             Kind::ChannelOpen => Ok(Verdict::Faults(match site.side {
                 Side::Client => CloseCode::CommandInvalid,
@@ -106,7 +106,7 @@ impl Life {
                 if site.side.is_client() && content.kind().is_reply() {
                     let _ = self.requests.pop_front();
                 }
-                Verdict::Proceeds(Some(Event::Told(site.number, content.into_message())), None)
+                Verdict::Proceeds(Some(News::Content(site.number, content)), None)
             }
             Part::Misfits(Misfit::PastSize) => Verdict::Faults(CloseCode::FrameError),
             Part::Misfits(Misfit::NothingBegun) => Verdict::Faults(CloseCode::UnexpectedFrame),
@@ -145,9 +145,9 @@ impl Life {
     }
 
     /// A content header whose body is not too large.
-    pub(crate) fn take_header(&mut self, alloc: Global, site: Site, header: Header) -> Verdict
-        ensures verdict { verdict_view site.number result ≡ after_part site.number (step (life_view self.old).content (HeaderPart header.body_size (properties_view header.properties))) }
-        ensures after { (frame : Frame) → LeavesAfter (role_of site.side) site.number frame (HeaderOf header.body_size (properties_view header.properties)) (verdict_view site.number result) (Open (life_view self.old)) (Open (life_view self.new)) }
+    pub(crate) fn take_header(&mut self, alloc: Global, site: Site, header: Box<Header>) -> Verdict
+        ensures verdict { verdict_view site.number result ≡ after_part site.number (step (life_view self.old).content (HeaderPart header.value.body_size (properties_view header.value.properties))) }
+        ensures after { (frame : Frame) → LeavesAfter (role_of site.side) site.number frame (HeaderOf header.value.body_size (properties_view header.value.properties)) (verdict_view site.number result) (Open (life_view self.old)) (Open (life_view self.new)) }
     {
         let part = self.content.take_header(alloc, header);
         self.conclude(site, part)
@@ -196,7 +196,7 @@ impl Life {
         if replies {
             let _ = self.requests.pop_front();
         }
-        Verdict::Proceeds(Some(Event::Told(site.number, Message::plain(method))), None)
+        Verdict::Proceeds(Some(News::Method(site.number, Lone::new(method))), None)
     }
 
     /// What a server takes: so many requests are kept, and no more.
@@ -218,6 +218,6 @@ impl Life {
             self.content = Gathering::HeaderDue(Carrier::new(method));
             return Ok(Verdict::Proceeds(None, None));
         }
-        Ok(Verdict::Proceeds(Some(Event::Told(site.number, Message::plain(method))), None))
+        Ok(Verdict::Proceeds(Some(News::Method(site.number, Lone::new(method))), None))
     }
 }

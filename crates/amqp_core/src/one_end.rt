@@ -11,13 +11,14 @@ ghost use Rattle.amqp_model.specs.Readings.{Calls, Beat, BodyOf, method_reading,
 ghost use Rattle.amqp_core.specs.Closes.{code_view};
 ghost use Rattle.amqp_core.specs.Stages.{phase_at, leaves};
 ghost use Rattle.amqp_core.specs.Unreads.{unread_code};
-ghost use Rattle.amqp_core.specs.declared.events.Event.TheVariants.{Discarded};
+ghost use Rattle.amqp_core.specs.declared.news.News.TheVariants.{Discarded};
 ghost use Rattle.amqp_core.specs.declared.stage.Stage.TheVariants.{Running};
 
 use crate::channels::Channels;
 use crate::codes::CloseCode;
-use crate::events::{Agreed, Event};
+use crate::events::Agreed;
 use crate::faults::OutOfMemory;
+use crate::news::News;
 use crate::owed::Owed;
 use crate::read::read_content_header;
 use crate::settings::Settings;
@@ -48,7 +49,7 @@ pub(crate) enum Fault {
 /// What comes of a frame by the rule that applies.
 #[derive(Debug, Drop)]
 pub(crate) enum Decision {
-    Proceeds(Option<Event>, Owed),
+    Proceeds(Option<News>, Owed),
     /// The content is refused at its header, which costs the channel.
     RefusesContent,
     Faults(Fault),
@@ -57,7 +58,7 @@ pub(crate) enum Decision {
 /// The event of a frame for the application, and what the end owes.
 #[derive(Debug, Drop)]
 pub(crate) struct Outcome {
-    pub(crate) told: Result<Option<Event>, Fault>,
+    pub(crate) told: Result<Option<News>, Fault>,
     pub(crate) owed: Owed,
 }
 
@@ -65,7 +66,7 @@ pub(crate) struct Outcome {
 pub(crate) fn discards(number: u16) -> Decision
     ensures { result ≡ Decision.Proceeds (Some (Discarded number)) Owed.Nothing }
 {
-    Decision::Proceeds(Some(Event::Discarded(number)), Owed::Nothing)
+    Decision::Proceeds(Some(News::Discarded(number)), Owed::Nothing)
 }
 
 /// The other end broke the protocol.
@@ -156,7 +157,7 @@ impl Core {
             return discards(number);
         }
         if number == 0 && empty {
-            return Decision::Proceeds(Some(Event::Quiet), Owed::Nothing);
+            return Decision::Proceeds(Some(News::Quiet), Owed::Nothing);
         }
         closes_with(CloseCode::FrameError)
     }
@@ -253,11 +254,11 @@ impl Core {
     {
         let kind = method.kind();
         if same(kind, Kind::ConnectionClose) {
-            return Decision::Proceeds(Some(Event::Quiet), Owed::CloseOk);
+            return Decision::Proceeds(Some(News::Quiet), Owed::CloseOk);
         }
         if same(kind, Kind::ConnectionCloseOk) {
             self.stage = Stage::Closed(self.stage.agreed());
-            return Decision::Proceeds(Some(Event::ConnectionClosed(None)), Owed::Nothing);
+            return Decision::Proceeds(Some(News::ConnectionClosed(None)), Owed::Nothing);
         }
         discards(0)
     }

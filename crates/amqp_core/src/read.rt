@@ -37,11 +37,14 @@ pub(crate) fn read_call(
 pub(crate) fn read_content_header(
     alloc: Global,
     payload: &[u8],
-) -> Result<Option<Header>, OutOfMemory>
+) -> Result<Option<Box<Header>>, OutOfMemory>
     ensures { IfOk result (λ read. header_seen read ≡ header_reading (header_at payload.now)) }
 {
     match read_header(alloc, payload) {
-        Ok(header) => Ok(Some(header)),
+        Ok(header) => {
+            let header = Box::new(alloc, header)?;
+            Ok(Some(header))
+        }
         Err(fault) => match fault.kind {
             MethodFaultKind::OutOfMemory => Err(OutOfMemory),
             MethodFaultKind::UnknownMethod

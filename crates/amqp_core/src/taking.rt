@@ -20,8 +20,8 @@ ghost use Rattle.amqp_core.specs.Unreads.{unread_view, IsOfMethod};
 ghost use Rattle.amqp_core.specs.Used.{is_closing_at};
 
 use crate::codes::CloseCode;
-use crate::events::Event;
 use crate::faults::OutOfMemory;
+use crate::news::News;
 use crate::one_end::{Core, Decision, Fault, Outcome, closes_with, discards};
 use crate::owed::Owed;
 use crate::read::read_call;
@@ -238,7 +238,7 @@ impl Core {
                 owed,
             },
             Decision::RefusesContent => Outcome {
-                told: Ok(Some(Event::Discarded(number))),
+                told: Ok(Some(News::Discarded(number))),
                 owed: Owed::ChannelClose(number, CloseCode::ContentTooLarge),
             },
             Decision::Faults(fault) => {

@@ -3,12 +3,12 @@ ghost use Rattle.std.specs.Prelude.{◌≡◌, IfOk};
 ghost use Rattle.amqp_model.specs.Traces.{item_in_event};
 ghost use Rattle.amqp_core.specs.AskNoting.{item_asked};
 ghost use Rattle.amqp_core.specs.AskView.{lent_view};
-ghost use Rattle.amqp_core.specs.EventView.{event_there};
+ghost use Rattle.amqp_core.specs.NewsView.{news_there};
 ghost use Rattle.amqp_core.specs.NoteView.{item_there, item_view};
 
 use crate::asks::LentAsk;
-use crate::events::Event;
 use crate::faults::OutOfMemory;
+use crate::news::News;
 use amqp_method::Message;
 
 /// What an application sends or receives on a channel.
@@ -32,9 +32,7 @@ pub struct Telling {
 fn copied(message: &Message) -> Result<Item, OutOfMemory>
     ensures { IfOk result (λ item. item_view item ≡ item_view (Item.Message message.now)) }
 {
-    let Ok(message) = message.copy() else {
-        return Err(OutOfMemory);
-    };
+    let message = message.copy()?;
     Ok(Item::Message(message))
 }
 
@@ -68,17 +66,21 @@ impl Item {
         }
     }
 
-    /// The item that an event tells, if it tells one.
-    pub(crate) fn of_event(event: &Option<Event>) -> Result<Option<Item>, OutOfMemory>
-        ensures { IfOk result (λ item. item_there item ≡ item_in_event (event_there event.now)) }
+    /// The item that the news of a frame tells, if it tells one.
+    pub(crate) fn of_news(news: &Option<News>) -> Result<Option<Item>, OutOfMemory>
+        ensures { IfOk result (λ item. item_there item ≡ item_in_event (news_there news.now)) }
     {
-        match event {
-            Some(Event::Told(_, message)) => {
-                let item = copied(message)?;
-                Ok(Some(item))
+        match news {
+            Some(News::Method(_, lone)) => {
+                let message = lone.copy_message()?;
+                Ok(Some(Item::Message(message)))
             }
-            Some(Event::Flow(_, active)) => Ok(Some(Item::Flow(*active))),
-            Some(Event::FlowOk(_, active)) => Ok(Some(Item::FlowOk(*active))),
+            Some(News::Content(_, content)) => {
+                let message = content.copy_message()?;
+                Ok(Some(Item::Message(message)))
+            }
+            Some(News::Flow(_, active)) => Ok(Some(Item::Flow(*active))),
+            Some(News::FlowOk(_, active)) => Ok(Some(Item::FlowOk(*active))),
             Some(_) => Ok(None),
             None => Ok(None),
         }

@@ -1,7 +1,7 @@
 //! What comes of a frame that is taken on a channel.
 
 use crate::codes::CloseCode;
-use crate::events::Event;
+use crate::news::News;
 use crate::roles::Side;
 
 /// What an end owes in reply, on the same channel.
@@ -16,7 +16,7 @@ pub(crate) enum Reply {
 #[derive(Debug, Drop)]
 pub(crate) enum Verdict {
     /// The end goes on, with an event and a reply.
-    Proceeds(Option<Event>, Option<Reply>),
+    Proceeds(Option<News>, Option<Reply>),
     /// The content is refused at its header: the channel is closed with its code.
     RefusesContent,
     /// The connection is closed with this code.

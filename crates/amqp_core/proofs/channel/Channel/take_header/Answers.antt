@@ -1,4 +1,4 @@
-use Rattle.std.proofs.Common.{◌≡◌, ◌≤◌, ◌∙◌, sym, ap, false, arith}
+use Rattle.std.proofs.Common.{◌≡◌, ◌≤◌, ap, false, arith}
 use Rattle.amqp_method.specs.HeaderView.{properties_view}
 use Rattle.amqp_model.specs.Channels.{Open}
 use Rattle.amqp_core.specs.ChannelView.{channel_view}
@@ -11,8 +11,8 @@ pub returns-else-refuses-clause-verdict : goal.returns-else-refuses-clause-verdi
 returns-else-refuses-clause-verdict c =
     let is_open : channel_view c.args.self.now ≡ Open (life_view c.in-Open.life) = ap channel_view c.in-Open.is in
     let within : c.args.site.number ≤ c.args.site.channel_max = omega arith in
-    let fits : refuses_at (life_view c.in-Open.life).content c.args.site.max_body c.args.header.body_size ≡ false = sym c.refuses.ensures ∙ c.if-refuses.false in
-    header_carries c.args.site _ _ c.args.header.body_size (properties_view c.args.header.properties) _ is_open c.requires within fits c.take_header.ensures.verdict
+    let fits : refuses_at (life_view c.in-Open.life).content c.args.site.max_body c.args.header.value.body_size ≡ false = cc in
+    header_carries c.args.site _ _ c.args.header.value.body_size (properties_view c.args.header.value.properties) _ is_open c.requires within fits c.take_header.ensures.verdict
 
 pub returns-else-refuses-clause-after : goal.returns-else-refuses-clause-after
 returns-else-refuses-clause-after c = λ frame. rw c.in-Open.is (c.take_header.ensures.after frame)

@@ -15,11 +15,11 @@ use Rattle.amqp_core.specs.Feeding.{IsFed}
 use Rattle.amqp_core.specs.NoteView.{item_there}
 use Rattle.amqp_core.specs.OutboxView.{Outgoing}
 use Rattle.amqp_core.specs.Settings.{config_view}
-use Rattle.amqp_core.proofs.AccountLemmas.{account_of_frame, account_of_rest, account_of_stop, came_fresh, ran_in_piece, rest_of, whole_of}
+use Rattle.amqp_core.proofs.AccountLemmas.{account_of_frame, account_of_rest, account_of_stop, came_fresh, rest_of, whole_of}
 use Rattle.amqp_core.proofs.GrowthLemmas.{frame_grows, stop_grows}
 use Rattle.amqp_core.proofs.BoundLemmas.{bounded_failed, bounded_frame}
 use Rattle.amqp_core.proofs.DropLemmas.{none_pending, frame_there, given_dropped}
-use Rattle.amqp_core.proofs.FeedLemmas.{sound_with, reads, takes, fed_by, frame_fed, rest_fed, fault_fed, first_fault, stop_leaves, fed_holds, after_rest, after_frame, after_stop, fields_rest, fields_frame, fields_failed, frame_leaves, rest_unfinished, none_unfinished}
+use Rattle.amqp_core.proofs.FeedLemmas.{sound_with, reads, takes, fed_by, frame_fed, rest_fed, fault_fed, first_fault, ran_in_piece, stop_leaves, fed_holds, after_rest, after_frame, after_stop, fields_rest, fields_frame, fields_failed, frame_leaves, rest_unfinished, none_unfinished}
 use Rattle.amqp_core.proofs.endpoint.Endpoint.read.Goals as goal
 
 pub answer-answer-requires-clause-taking : goal.answer-answer-requires-clause-taking
@@ -39,8 +39,9 @@ returns-in_default-clause-fed c =
     let by = fed_by (role_at old) (core_end old.core) old.heard old.splitter old.outbox.output c.args.piece.now c.requires.reads c.requires.sound.fields c.requires.sound.holds (λ i. omega (arith, c.type_inv.piece i)) in
     let after = after_rest old.splitter c.args.piece.now c.feed_ref.result c.in-Ok.fed c.feed_ref.follows.lender-at-none c.feed_ref.follows.holds-at-none c.in-Ok.is c.in_default.is in
     let waits : Waits old.splitter c.args.piece.now c.in-Ok.fed.taken = subst (λ o. IfNone o (Waits old.splitter c.args.piece.now c.in-Ok.fed.taken)) c.in_default.is c.in-Ok.ensures.rest in
-    rest_fed (role_at old) (config_view old.core.settings) (endpoint_view old) old.splitter c.args.piece.now c.in-Ok.fed.taken (unfinished_of old.heard c.feed_ref.follows.lender-at-none.pending) (c.pieces_are_split.ensures.rest (role_at old) (config_view old.core.settings) (endpoint_view old) old.splitter c.args.piece.now c.in-Ok.fed.taken) by waits
-    (rest_unfinished old.heard (place_after old.splitter.taken c.in-Ok.fed.taken) old.splitter c.feed_ref.follows.lender-at-none c.args.piece.now none after)
+    subst (λ r. IsFed r (endpoint_view old) (after_feed (role_at old) (config_view old.core.settings) (endpoint_view old) c.args.piece.now) (endpoint_view (record old { splitter = c.feed_ref.follows.lender-at-none }))) (sym c.telling_nothing.ensures)
+    (rest_fed (role_at old) (config_view old.core.settings) (endpoint_view old) old.splitter c.args.piece.now c.in-Ok.fed.taken (unfinished_of old.heard c.feed_ref.follows.lender-at-none.pending) (c.pieces_are_split.ensures.rest (role_at old) (config_view old.core.settings) (endpoint_view old) old.splitter c.args.piece.now c.in-Ok.fed.taken) by waits
+    (rest_unfinished old.heard (place_after old.splitter.taken c.in-Ok.fed.taken) old.splitter c.feed_ref.follows.lender-at-none c.args.piece.now none after))
 
 pub returns-in_default-clause-sound : goal.returns-in_default-clause-sound
 returns-in_default-clause-sound c =
@@ -63,9 +64,8 @@ returns-in-Some-clause-fed c =
     let after = after_frame old.splitter c.args.piece.now c.feed_ref.result c.in-Ok.fed c.in-Some.frame c.feed_ref.follows.lender-at-none c.feed_ref.follows.holds-at-none c.in-Ok.is c.in-Some.is in
     let completes : Completes old.splitter (take c.in-Ok.fed.taken c.args.piece.now) (lent c.in-Some.frame) = subst (λ o. IfSome o (λ f. Completes old.splitter (take c.in-Ok.fed.taken c.args.piece.now) (lent f))) c.in-Some.is c.in-Ok.ensures.frame in
     let pending : c.tune.new.splitter.pending ≡ [] = ap (λ (s : Stream). s.pending) c.tune.ensures ∙ ap (λ (s : Stream). s.pending) after in
-    subst (λ r. IsFed r (endpoint_view old) (after_feed (role_at old) (config_view old.core.settings) (endpoint_view old) c.args.piece.now) (endpoint_view record { core = c.answer-answer.new.self; splitter = c.tune.new.splitter; heard = old.heard; outbox = c.answer-answer.new.outbox })) (sym c.after_octets.ensures.piece)
-    (frame_fed (role_at old) (config_view old.core.settings) (endpoint_view old) old.splitter c.args.piece.now c.in-Ok.fed.taken (lent c.in-Some.frame) c.answer-answer.result (core_end c.answer-answer.new.self) (unfinished_of old.heard c.tune.new.splitter.pending) c.answer-answer.new.outbox
-    (c.pieces_are_split.ensures.frame (role_at old) (config_view old.core.settings) (endpoint_view old) old.splitter c.args.piece.now c.in-Ok.fed.taken (lent c.in-Some.frame)) by c.in-Ok.ensures.within completes c.answer-answer.ensures.said c.answer-answer.ensures.end (none_unfinished old.heard c.tune.new.splitter.pending none pending) c.answer-answer.ensures.output)
+    frame_fed (role_at old) (config_view old.core.settings) (endpoint_view old) old.splitter c.args.piece.now c.in-Ok.fed.taken (lent c.in-Some.frame) c.answer-answer.result c.after_octets.result (core_end c.answer-answer.new.self) (unfinished_of old.heard c.tune.new.splitter.pending) c.answer-answer.new.outbox
+    (c.pieces_are_split.ensures.frame (role_at old) (config_view old.core.settings) (endpoint_view old) old.splitter c.args.piece.now c.in-Ok.fed.taken (lent c.in-Some.frame)) by c.in-Ok.ensures.within completes c.after_octets.ensures.piece c.answer-answer.ensures.said c.answer-answer.ensures.end (none_unfinished old.heard c.tune.new.splitter.pending none pending) c.answer-answer.ensures.output
 
 pub returns-in-Some-clause-sound : goal.returns-in-Some-clause-sound
 returns-in-Some-clause-sound c =
@@ -129,7 +129,7 @@ returns-in-Some-clause-account c = λ wanted ran.
     let old = c.args.self.now in
     let by = fed_by (role_at old) (core_end old.core) old.heard old.splitter old.outbox.output c.args.piece.now c.requires.reads c.requires.sound.fields c.requires.sound.holds (λ i. omega (arith, c.type_inv.piece i)) in
     let completes : Completes old.splitter (take c.in-Ok.fed.taken c.args.piece.now) (lent c.in-Some.frame) = subst (λ o. IfSome o (λ f. Completes old.splitter (take c.in-Ok.fed.taken c.args.piece.now) (lent f))) c.in-Some.is c.in-Ok.ensures.frame in
-    let lasts : ran_out c.answer-answer.result ≡ false = sym (ran_in_piece c.in-Ok.fed.taken c.answer-answer.result) ∙ (sym (ap (λ r. ran_out r) c.after_octets.ensures.piece) ∙ ran) in
+    let lasts : ran_out c.answer-answer.result ≡ false = sym (ran_in_piece c.in-Ok.fed.taken c.answer-answer.result c.after_octets.result c.after_octets.ensures.piece) ∙ ran in
     account_of_frame (role_at old) (config_view old.core.settings) (endpoint_view old) c.args.piece.now _ c.in-Ok.fed.taken _ (lent c.in-Some.frame) _ c.judged_is_said.ensures.one c.requires.reads
     (c.pieces_are_split.ensures.frame (role_at old) (config_view old.core.settings) (endpoint_view old) old.splitter c.args.piece.now c.in-Ok.fed.taken (lent c.in-Some.frame) by c.in-Ok.ensures.within completes)
     (whole_of old.splitter (endpoint_view old) (take c.in-Ok.fed.taken c.args.piece.now) (lent c.in-Some.frame) by.splits completes) c.answer-answer.ensures.octets

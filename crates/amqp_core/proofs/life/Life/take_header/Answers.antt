@@ -7,5 +7,5 @@ use Rattle.amqp_core.proofs.life.Life.take_header.Goals as goal
 
 pub returns-clause-after : goal.returns-clause-after
 returns-clause-after c = λ frame.
-    part_leaves (role_of c.args.site.side) c.args.site.number frame (HeaderOf c.args.header.body_size (properties_view c.args.header.properties)) (life_view c.args.self.now) _ _ _ _ tt
+    part_leaves (role_of c.args.site.side) c.args.site.number frame (HeaderOf c.args.header.value.body_size (properties_view c.args.header.value.properties)) (life_view c.args.self.now) _ _ _ _ tt
     c.take_header-part.ensures.step c.take_header-part.ensures.left c.conclude.ensures.verdict c.conclude.ensures.after

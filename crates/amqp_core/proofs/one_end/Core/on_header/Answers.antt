@@ -10,15 +10,15 @@ use Rattle.amqp_core.proofs.one_end.Core.on_header.Goals as goal
 
 pub returns-in-Some-clause-verdict : goal.returns-in-Some-clause-verdict
 returns-in-Some-clause-verdict c =
-    let read : HeaderOf c.in-Some.header.body_size (properties_view c.in-Some.header.properties) ≡ header_reading (header_at c.args.payload.now) = ap header_seen (sym c.in-Some.is) ∙ c.in_ok-read.ensures in
+    let read : HeaderOf c.in-Some.header.value.body_size (properties_view c.in-Some.header.value.properties) ≡ header_reading (header_at c.args.payload.now) = ap header_seen (sym c.in-Some.is) ∙ c.in_ok-read.ensures in
     subst (λ (r : Reading). IsVerdict c.args.self.now.settings (core_end c.args.self.now) c.args.number r c.decide.result) read
-    (running_decides c.args.self.now.settings c.args.self.now.stage c.args.agreed c.args.number c.site-site.result (channels_view c.args.self.now.channels) (HeaderOf c.in-Some.header.body_size (properties_view c.in-Some.header.properties)) c.take_header-verdict.result _ c.requires.running c.site-site.ensures (c.decide.ensures c.args.self.now.settings) c.take_header-verdict.ensures.verdict)
+    (running_decides c.args.self.now.settings c.args.self.now.stage c.args.agreed c.args.number c.site-site.result (channels_view c.args.self.now.channels) (HeaderOf c.in-Some.header.value.body_size (properties_view c.in-Some.header.value.properties)) c.take_header-verdict.result _ c.requires.running c.site-site.ensures (c.decide.ensures c.args.self.now.settings) c.take_header-verdict.ensures.verdict)
 
 pub returns-in-Some-clause-after : goal.returns-in-Some-clause-after
 returns-in-Some-clause-after c =
-    let read : HeaderOf c.in-Some.header.body_size (properties_view c.in-Some.header.properties) ≡ header_reading (header_at c.args.payload.now) = ap header_seen (sym c.in-Some.is) ∙ c.in_ok-read.ensures in
+    let read : HeaderOf c.in-Some.header.value.body_size (properties_view c.in-Some.header.value.properties) ≡ header_reading (header_at c.args.payload.now) = ap header_seen (sym c.in-Some.is) ∙ c.in_ok-read.ensures in
     subst (λ (r : Reading). LeavesEnd c.args.self.now.settings c.args.number r c.decide.result (core_end c.args.self.now) (end_at c.args.self.now.stage (channels_view c.take_header-verdict.new.self))) read
-    (channel_leaves c.args.self.now.settings c.args.number c.args.agreed.channel_max c.site-site.result (HeaderOf c.in-Some.header.body_size (properties_view c.in-Some.header.properties)) c.take_header-verdict.result _ (core_end c.args.self.now) (end_at c.args.self.now.stage (channels_view c.take_header-verdict.new.self)) c.site-site.ensures (c.decide.ensures c.args.self.now.settings) c.requires.above
+    (channel_leaves c.args.self.now.settings c.args.number c.args.agreed.channel_max c.site-site.result (HeaderOf c.in-Some.header.value.body_size (properties_view c.in-Some.header.value.properties)) c.take_header-verdict.result _ (core_end c.args.self.now) (end_at c.args.self.now.stage (channels_view c.take_header-verdict.new.self)) c.site-site.ensures (c.decide.ensures c.args.self.now.settings) c.requires.above
     (running_stays c.args.self.now.stage c.args.agreed c.requires.running) refl refl c.take_header-verdict.ensures.others c.take_header-verdict.ensures.after)
 
 pub returns-in-None-clause-verdict : goal.returns-in-None-clause-verdict

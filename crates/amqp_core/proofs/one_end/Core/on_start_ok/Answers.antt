@@ -7,7 +7,7 @@ use Rattle.amqp_core.specs.CoreView.{IsVerdict}
 use Rattle.amqp_core.specs.Roles.{role_of}
 use Rattle.amqp_core.specs.Settings.{config_view, role_for}
 use Rattle.amqp_core.specs.declared.one_end.Decision.TheVariants as decisions
-use Rattle.amqp_core.specs.declared.events.Event.TheVariants as events
+use Rattle.amqp_core.specs.declared.news.News.TheVariants as events
 use Rattle.amqp_core.specs.declared.owed.Owed.TheVariants as owed
 use Rattle.amqp_core.specs.declared.stage.Stage.{Stage}
 use Rattle.amqp_core.proofs.CoreLemmas.{end_at}
