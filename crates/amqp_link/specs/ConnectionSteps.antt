@@ -17,6 +17,10 @@ abbrev pub reader_in : Direction → Joint → Seated
 reader_in directions.ToServer joint = joint.server
 reader_in directions.ToClient joint = joint.client
 
+abbrev pub reading_role : Direction → Role
+reading_role directions.ToServer = Server
+reading_role directions.ToClient = Client
+
 -- a connection as it begins
 pub record IsNewConnection (client_set_up server_set_up : (role : Role) × Config role) (joint : Joint) : Type 0 where
   pub client : IsNew client_set_up joint.client

@@ -63,7 +63,7 @@ impl From<AskFault> for LinkFault {
 }
 
 impl LinkFault {
-    ghost use Rattle.amqp_link.specs.FaultView.{is_of_memory};
+    ghost use Rattle.amqp_link.specs.FaultView.{is_of_memory, link_fault_number};
 
     /// Whether memory was refused.
     pub(crate) fn is_out_of_memory(self) -> bool
@@ -79,7 +79,9 @@ impl LinkFault {
     }
 
     /// Its number: of a refused ask that of the ask is another one.
-    pub fn number(self) -> u8 {
+    pub fn number(self) -> u8
+        ensures { result ≡ link_fault_number self }
+    {
         match self {
             LinkFault::NoSuchConnection => 1,
             LinkFault::Dropped => 2,

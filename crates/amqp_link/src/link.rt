@@ -118,7 +118,7 @@ impl Link {
         connection.drop_side(side)
     }
 
-    /// Does a step.
+    /// Does a step, or refuses it. A refused step leaves the link as it was.
     #[tactic(auto, using(crate::proofs::Promising::headline))]
     pub fn step(&mut self, step: &Step) -> Result<(), LinkFault>
         ensures steps { Steps (link_view self.old) step.now result (link_view self.new) }

@@ -9,8 +9,14 @@ pub enum Direction {
 }
 
 impl Direction {
+    ghost use Rattle.std.specs.Prelude.{◌≡◌};
+    ghost use Rattle.amqp_core.specs.Roles.{role_of};
+    ghost use Rattle.amqp_link.specs.ConnectionSteps.{reading_role};
+
     /// The side that reads.
-    pub fn reader(self) -> Side {
+    pub fn reader(self) -> Side
+        ensures { role_of result ≡ reading_role self }
+    {
         match self {
             Direction::ToServer => Side::Server,
             Direction::ToClient => Side::Client,
