@@ -10,6 +10,10 @@ import subprocess
 import sys
 import tempfile
 import threading
+import time
+
+sys.dont_write_bytecode = True
+import link_scripts
 
 PROGRAM, SHIM = sys.argv[1:3]
 differences = []
@@ -295,18 +299,54 @@ def limits():
         checks(f"a body above the greatest with {options}", ["server", *options], given + frame(2, 1, f"003c0000{max_body + 1:016x}0000"), [*printed, *TOO_LARGE], 0)
 
 
+def octets_of(script):
+    """The octets of a script's lines, each of which is ended."""
+    return b"".join((line if isinstance(line, bytes) else line.encode()) + b"\n" for line in script)
+
+
+def links(what, options, given, printed, status):
+    """`link` prints these lines for a script, nothing on standard error, and ends with the status."""
+    ran = run(["link", *options], given)
+    compare(what, ("".join(f"{line}\n" for line in printed), "", status), (ran.stdout.decode(), ran.stderr.decode(), ran.returncode))
+
+
+def scripts():
+    for what, options, script, printed in link_scripts.whole_runs():
+        links(what, options, octets_of(script), printed, 0)
+    for what, options, script, printed in link_scripts.given_up():
+        links(what, options, octets_of(script), printed, 1)
+    for what, given, printed, status in link_scripts.line_ends():
+        links(what, [], given, printed, status)
+    for what, options, script, printed, most in link_scripts.long_runs():
+        given = octets_of(script)
+        began = time.monotonic()
+        links(what, options, given, printed, 0)
+        seconds = time.monotonic() - began
+        if seconds > most:
+            differences.append(f"{what}: {seconds:.1f} seconds, more than {most}")
+
+
+def link_example():
+    """What the help says that a script prints, it prints."""
+    shown = run(["link", "--help"]).stdout.decode().split("$ cat script\n")[1]
+    script, printed = ([line.strip() for line in part.strip().split("\n")] for part in shown.split("$ amqp link < script\n"))
+    links("the example of the help", [], octets_of(script), printed, 0)
+
+
 def command_lines():
     ran = run(["--version"])
     compare("--version", (b"amqp 0.1.0\n", b"", 0), (ran.stdout, ran.stderr, ran.returncode))
-    for arguments in (["--help"], *([name, "--help"] for name in ("show", "check", "serve", "publish", "loop"))):
+    for arguments in (["--help"], *([name, "--help"] for name in ("show", "check", "link", "serve", "publish", "loop"))):
         ran = run(arguments)
         compare(f"{arguments}", (b"", 0, True), (ran.stderr, ran.returncode, b"Usage: amqp" in ran.stdout))
-    for arguments in ([], ["shew"], ["show", "twice"], ["show", "--twice"], ["--twice"], ["show", "--frame-max", "4096"], ["check", "client", "--max-body", "-1"], ["check"], ["check", "server", "client"], ["serve"], ["publish"], ["publish", "127.0.0.1:1", "x"], ["loop", "1"]):
+    for arguments in ([], ["shew"], ["show", "twice"], ["show", "--twice"], ["--twice"], ["show", "--frame-max", "4096"], ["check", "client", "--max-body", "-1"], ["check"], ["check", "server", "client"], ["link", "twice"], ["link", "--twice"], ["serve"], ["publish"], ["publish", "127.0.0.1:1", "x"], ["loop", "1"]):
         ran = run(arguments)
         compare(f"{arguments}", (b"", 2, True), (ran.stdout, ran.returncode, b"Usage: amqp" in ran.stderr))
     for arguments in (["broker"], ["client", "--frame-max", "4095"], ["client", "--frame-max", "1048577"], ["client", "--channel-max", "0"], ["client", "--channel-max", "65536"], ["client", "--max-body", "1073741825"]):
         ran = run(["check", *arguments])
         compare(f"check {arguments}", (b"", 2, True), (ran.stdout, ran.returncode, ran.stderr.startswith(b"error: invalid value")))
+        ran = run(["link", *arguments[1:]]) if arguments[1:] else ran
+        compare(f"link {arguments[1:]}", (b"", 2, True), (ran.stdout, ran.returncode, ran.stderr.startswith(b"error: invalid value")))
 
 
 def failing_streams():
@@ -321,8 +361,12 @@ def failing_streams():
             compare(f"{many} frames to {where}", 1, ran.returncode)
     ran = subprocess.run(f"{PROGRAM} show >/dev/full", shell=True, input=b"", capture_output=True, timeout=60, check=False)
     compare("nothing to /dev/full", 0, ran.returncode)
-    ran = subprocess.run(f"{PROGRAM} check client <&-", shell=True, capture_output=True, timeout=60, check=False)
-    compare("standard input of check closed", (b"fault read\n", 1), (ran.stdout, ran.returncode))
+    for words in ("check client", "link"):
+        ran = subprocess.run(f"{PROGRAM} {words} <&-", shell=True, capture_output=True, timeout=60, check=False)
+        compare(f"standard input of {words} closed", (b"fault read\n", 1), (ran.stdout, ran.returncode))
+    for given, status in ((b"begin\n", 0), (b"shake 1\n", 1), (b"shake 1\n" * 100_000, 1)):
+        ran = subprocess.run(f"{PROGRAM} link >/dev/full", shell=True, input=given, capture_output=True, timeout=60, check=False)
+        compare(f"a script of {len(given)} octets to /dev/full", status, ran.returncode)
     for side, status in (("client", 1), ("server", 0)):
         ran = subprocess.run(f"{PROGRAM} check {side} >/dev/full", shell=True, input=b"", capture_output=True, timeout=60, check=False)
         compare(f"nothing at a {side} to /dev/full", status, ran.returncode)
@@ -628,7 +672,8 @@ def refused(words, given, number):
     """What a run prints, its status, and whether its request for memory of that number was refused."""
     with tempfile.TemporaryFile() as told:
         words = ["bash", "-c", f'exec 9<&{told.fileno()}; LD_PRELOAD="$1" REFUSED="$2" exec "${{@:3}}"', "-", SHIM, str(number), PROGRAM, *words]
-        ran = subprocess.run(words, input=given.encode(), capture_output=True, timeout=60, check=False, pass_fds=[told.fileno()])
+        given = given.encode() if isinstance(given, str) else given
+        ran = subprocess.run(words, input=given, capture_output=True, timeout=60, check=False, pass_fds=[told.fileno()])
         return ran.stdout.decode(), ran.returncode, os.fstat(told.fileno()).st_size > 0
 
 
@@ -643,20 +688,30 @@ def refusals():
     ):
         whole, wanted, _ = refused(words, given, 0)
         compare(f"{words} with ample memory", 0, wanted)
-        number, reached = 1, True
-        while reached and number < 5000:
-            printed, status, reached = refused(words, given, number)
-            lines = printed.splitlines(keepends=True)
-            # what is refused while standard input is read is reported as a read that failed; without room for the output nothing is printed
-            short = not lines or lines[-1] in ("fault memory\n", "fault read\n") and whole.startswith("".join(lines[:-1]))
-            if (printed, status) != (whole, wanted) and not (short and status != 0):
-                differences.append(f"{words}, request {number} refused: status {status}, printed {printed[-300:]!r}")
-            number += 1
-        if number < 10 or number == 5000:
-            differences.append(f"{words}: {number} requests, so nothing was tried")
+        refuses(f"{words}", words, given, whole)
+    for what, options, script, printed in link_scripts.refused_runs():
+        refuses(what, ["link", *options], octets_of(script), "".join(f"{line}\n" for line in printed))
 
 
-for part in (streams, payloads, large, hexadecimal, servers, running_servers, prefixes, clients, limits, command_lines, failing_streams, loops, progress, served_clients, publishers, failing_connections, no_connections, hostile_peers, refusals):
+def refuses(what, words, given, whole):
+    """A run with each request for memory refused in turn ends in this answer, with status 0, or with a part of it and that memory
+    ran out, until a run meets no refusal, which ends in the answer."""
+    number, reached = 1, True
+    while reached and number < 5000:
+        printed, status, reached = refused(words, given, number)
+        lines = printed.splitlines(keepends=True)
+        # without room for the words of the command line, or for the output, nothing is printed, and standard error says so
+        unread = not lines and status in (1, 2)
+        short = lines[-1:] == ["fault memory\n"] and status == 1 and whole.startswith("".join(lines[:-1]))
+        if (printed, status) != (whole, 0) and not (reached and (unread or short)):
+            differences.append(f"{what}, request {number} refused: status {status}, printed {printed[-300:]!r}")
+        number += 1
+    if number < 10 or number == 5000:
+        differences.append(f"{what}: {number} requests, so nothing was tried")
+
+
+# a run counts as large as this program was when it was begun, so the long scripts come after the runs whose memory is measured
+for part in (streams, payloads, large, hexadecimal, servers, running_servers, prefixes, clients, limits, link_example, command_lines, failing_streams, loops, progress, served_clients, publishers, failing_connections, no_connections, hostile_peers, scripts, refusals):
     part()
 for difference in differences:
     print(difference)

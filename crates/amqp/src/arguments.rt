@@ -15,6 +15,8 @@ pub enum Request {
     Show,
     /// Check what the other end of this side writes.
     Check(Side, Limits),
+    /// Do what a script says with pairs of ends.
+    Link(Limits),
     /// Serve one connection at this address.
     Serve(String, Limits),
     /// Publish to the server at this address.
@@ -49,6 +51,9 @@ fn request_in(alloc: Global, matches: &ArgMatches) -> Result<Request, Error> {
     if let Some(check) = matches.subcommand_matches("check") {
         return Ok(Request::Check(side_of(check), limits_of(check)));
     }
+    if let Some(link) = matches.subcommand_matches("link") {
+        return Ok(Request::Link(limits_of(link)));
+    }
     if let Some(serve) = matches.subcommand_matches("serve") {
         let address = text_of(alloc, serve, "address")?;
         return Ok(Request::Serve(address, limits_of(serve)));
@@ -70,6 +75,7 @@ fn program<'a>(alloc: Global) -> Result<Command<'a>, AllocError> {
         .arg_required_else_help(true);
     let command = command.subcommand(show_command(alloc))?;
     let command = with_subcommand(command, check_command(alloc))?;
+    let command = with_subcommand(command, link_command(alloc))?;
     let command = with_subcommand(command, serve_command(alloc))?;
     let command = with_subcommand(command, publish_command(alloc))?;
     with_subcommand(command, loop_command(alloc))
@@ -106,6 +112,14 @@ fn check_command<'a>(alloc: Global) -> Result<Command<'a>, AllocError> {
         .after_long_help(help::CHECK_EXAMPLE)
         .arg(side)?;
     with_limits(alloc, check)
+}
+
+fn link_command<'a>(alloc: Global) -> Result<Command<'a>, AllocError> {
+    let link = Command::new(alloc, "link")
+        .about(help::LINK_ABOUT)
+        .long_about(help::LINK_DETAILS)
+        .after_long_help(help::LINK_EXAMPLE);
+    with_limits(alloc, link)
 }
 
 /// A word that has to be given.

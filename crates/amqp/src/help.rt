@@ -82,6 +82,76 @@ Example, the start of a connection as a server sees it:
     quiet
     > 0100000000001c000a000a00090000000000000005504c41494e00000005656e5f5553ce";
 
+pub const LINK_ABOUT: &str = "Follows a script of what is done with pairs of ends";
+
+pub const LINK_DETAILS: &str = "\
+Reads a script from standard input, to its end, one step a line, and does what it says with connections of a client and a
+server in memory. What an end writes waits until the script carries it to the other end. N is a connection, numbered from 1 in
+the order in which they begin, SIDE is `client` or `server`, and CH is a channel:
+
+    begin                               a connection of a new client and a new server begins
+    shake N                             all octets that wait are carried, six times, in turn, to the server first
+    ask N SIDE ASK                      the application of a side asks something of its end
+    carry N to-server|to-client COUNT   so many of the octets that wait are carried, or `all`
+    drop N SIDE                         a side is dropped: it takes and asks nothing more; what it wrote still waits
+
+ASK is one of these, with methods, headers and bodies as hexadecimal, and TEXT one word of at most 255 octets:
+
+    open                                     the client opens the lowest channel that is free
+    send CH METHODHEX                        sends a method that has no content
+    content CH METHODHEX HEADERHEX BODYHEX   sends a content, of a body as long as its header says; `-` is an empty body
+    flow CH 0|1                              says that contents aren't wanted (0), or wanted again (1)
+    close-channel CH CODE TEXT               closes the channel
+    close CODE TEXT                          closes the connection
+    blocked TEXT                             the server says that it takes no contents now, and why
+    unblocked                                the server says that it takes contents again
+
+Spaces part the words, and numbers are decimal. Empty lines and lines that begin with `#` say nothing, but count. A step that is
+refused prints `line K: refused ..`, and the script goes on:
+
+    refused 1      no such connection has begun
+    refused 2      the side was dropped
+    refused 3.1    the connection isn't running
+    refused 3.2    no such channel
+    refused 3.3    the channel isn't open
+    refused 3.4    the other end wants no contents now
+    refused 3.5    not sent by this side, or not as a message
+    refused 3.6    too long for a frame
+    refused 3.7    the last flow is unanswered
+    refused 3.8    no channel is free
+    refused 3.10   a request waits for its reply
+    refused 3.11   no request waits for this reply
+    refused 4      fewer octets wait
+
+Any other line prints `line K: not a step`, and the run ends with status 1. After the last line it prints two lines for each
+life of a channel, which begins as the client opens the channel: the K-th of channel CH on connection N
+
+    N.CH.K to-server sent S acted A
+    N.CH.K to-client sent S acted A
+
+S counts the messages, flows and answers to flows that the one side sent in that life, and A those on which the other side
+acted: the first A of them. Status 0 says that the script was read to its end, and status 2 that the command line can't be read.
+These end the run with status 1:
+
+    fault read     standard input can't be read
+    fault memory   out of memory";
+
+pub const LINK_EXAMPLE: &str = "\
+Example, a client that says twice that it wants no contents, and the answer of the server, which is not carried:
+
+    $ cat script
+    begin
+    shake 1
+    ask 1 client open
+    shake 1
+    ask 1 client flow 1 0
+    ask 1 client flow 1 0
+    carry 1 to-server all
+    $ amqp link < script
+    line 6: refused 3.7
+    1.1.1 to-server sent 1 acted 1
+    1.1.1 to-client sent 1 acted 0";
+
 pub const SERVE_ABOUT: &str = "Takes one connection as a server, and prints what comes";
 
 pub const SERVE_DETAILS: &str = "\

@@ -10,6 +10,7 @@ mod hellos;
 mod help;
 mod hexadecimal;
 mod input;
+mod linking;
 mod listing;
 mod looping;
 mod notes;
@@ -19,6 +20,7 @@ mod printing;
 mod progress;
 mod publisher;
 mod publishing;
+mod scripts;
 mod serving;
 mod sessions;
 mod showing;
@@ -50,6 +52,7 @@ fn main(rt: HostRuntime) -> anyhow::Result<ExitCode> {
         Request::Check(side, limits) => {
             checking::check_side(alloc, side, limits, &mut rt.reader(), &mut output)
         }
+        Request::Link(limits) => linking::link(alloc, limits, &mut rt.reader(), &mut output),
         Request::Serve(address, limits) => {
             let errors = rt.stderr();
             sockets::serve_at(&rt, alloc, address.as_str(), limits, &mut output, errors)
