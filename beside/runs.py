@@ -3,6 +3,7 @@ is the library that refuses a request for memory (memory/refuse.c)."""
 
 import os
 import pty
+import re
 import signal
 import socket
 import struct
@@ -31,9 +32,9 @@ def compare(what, wanted, found):
         differences.append(f"{what}: wanted {wanted!r:.300}, and not {found!r:.300}")
 
 
-def shows(what, given, printed, status):
+def shows(what, given, printed, status, options=()):
     """`show` prints these lines for the input, nothing on standard error, and ends with the status."""
-    ran = run(["show"], given.encode() if isinstance(given, str) else given)
+    ran = run(["show", *options], given.encode() if isinstance(given, str) else given)
     compare(what, ("".join(f"{line}\n" for line in printed), "", status), (ran.stdout.decode(), ran.stderr.decode(), ran.returncode))
 
 
@@ -326,11 +327,45 @@ def scripts():
             differences.append(f"{what}: {seconds:.1f} seconds, more than {most}")
 
 
-def link_example():
-    """What the help says that a script prints, it prints."""
+def documented(where, text):
+    """What a text says that a command prints, it prints. A command is an indented line that begins with `$`; what it prints stands below it, and ends
+    before an empty line. `amqp` and `./amqp` are the program."""
+    count = 0
+    for part in text.split("    $ ")[1:]:
+        command, *printed = part.split("\n\n")[0].rstrip("\n").split("\n")
+        printed = [line.removeprefix("    ") for line in printed]
+        ran = subprocess.run(["bash", "-c", re.sub(r"(^|\| )(\./)?amqp ", rf"\1{PROGRAM} ", command)], capture_output=True, timeout=60, check=False)
+        compare(f"{where}: {command}", ("".join(f"{line}\n" for line in printed), ""), (ran.stdout.decode(), ran.stderr.decode()))
+        count += 1
+    return count
+
+
+def documented_runs():
+    with open("docs/CAPTURES.md", encoding="utf-8") as captures:
+        compare("the runs in docs/CAPTURES.md", 4, documented("docs/CAPTURES.md", captures.read()))
+    for name, count in (("show", 2), ("check", 1), ("loop", 1)):
+        compare(f"the runs in the help of {name}", count, documented(f"{name} --help", run([name, "--help"]).stdout.decode()))
     shown = run(["link", "--help"]).stdout.decode().split("$ cat script\n")[1]
     script, printed = ([line.strip() for line in part.strip().split("\n")] for part in shown.split("$ amqp link < script\n"))
-    links("the example of the help", [], octets_of(script), printed, 0)
+    links("the example in the help of link", [], octets_of(script), printed, 0)
+
+
+def protocol_headers():
+    """A client's octets from the first: the protocol header, and then frames."""
+    header, option, line = "414d515000000901", ["--protocol-header"], "protocol header AMQP 0-9-1"
+    shows("a protocol header where frames are awaited", header, ["fault 1 at 0"], 1)
+    shows("nothing where a protocol header is awaited", "", [], 0, option)
+    shows("a protocol header alone", header, [line], 0, option)
+    shows("a protocol header and a frame", header + OPEN, [line, *OPENED], 0, option)
+    shows("a payload fault after a protocol header", header + TRAILING + OPEN, [line, *TRAILED, *OPENED], 1, option)
+    shows("a frame where a protocol header is awaited", OPEN, ["fault protocol-header at 0"], 1, option)
+    shows("a second protocol header", header * 2, [line, "fault 1 at 8"], 1, option)
+    shows("a wrong end after a protocol header", header + OPEN + OPEN[:-2] + "cd", [line, *OPENED, "fault 3 at 33"], 1, option)
+    shows("a rest after a protocol header", header + OPEN[:-2], [line, "rest 12"], 1, option)
+    shows("a protocol header that isn't hexadecimal", header + "g", ["line 1: not hex"], 1, option)
+    for octets in range(1, 8):
+        shows(f"{octets} octets of a protocol header", header[: 2 * octets], [f"rest {octets}"], 1, option)
+        shows(f"{octets} octets of a protocol header and a frame", header[: 2 * octets] + HEARTBEAT, [f"fault protocol-header at {octets}"], 1, option)
 
 
 def command_lines():
@@ -339,7 +374,7 @@ def command_lines():
     for arguments in (["--help"], *([name, "--help"] for name in ("show", "check", "link", "serve", "publish", "loop"))):
         ran = run(arguments)
         compare(f"{arguments}", (b"", 0, True), (ran.stderr, ran.returncode, b"Usage: amqp" in ran.stdout))
-    for arguments in ([], ["shew"], ["show", "twice"], ["show", "--twice"], ["--twice"], ["show", "--frame-max", "4096"], ["check", "client", "--max-body", "-1"], ["check"], ["check", "server", "client"], ["link", "twice"], ["link", "--twice"], ["serve"], ["publish"], ["publish", "127.0.0.1:1", "x"], ["loop", "1"]):
+    for arguments in ([], ["shew"], ["show", "twice"], ["show", "--twice"], ["check", "client", "--protocol-header"], ["--twice"], ["show", "--frame-max", "4096"], ["check", "client", "--max-body", "-1"], ["check"], ["check", "server", "client"], ["link", "twice"], ["link", "--twice"], ["serve"], ["publish"], ["publish", "127.0.0.1:1", "x"], ["loop", "1"]):
         ran = run(arguments)
         compare(f"{arguments}", (b"", 2, True), (ran.stdout, ran.returncode, b"Usage: amqp" in ran.stderr))
     for arguments in (["broker"], ["client", "--frame-max", "4095"], ["client", "--frame-max", "1048577"], ["client", "--channel-max", "0"], ["client", "--channel-max", "65536"], ["client", "--max-body", "1073741825"]):
@@ -711,7 +746,7 @@ def refuses(what, words, given, whole):
 
 
 # a run counts as large as this program was when it was begun, so the long scripts come after the runs whose memory is measured
-for part in (streams, payloads, large, hexadecimal, servers, running_servers, prefixes, clients, limits, link_example, command_lines, failing_streams, loops, progress, served_clients, publishers, failing_connections, no_connections, hostile_peers, scripts, refusals):
+for part in (streams, payloads, large, hexadecimal, servers, running_servers, prefixes, clients, limits, documented_runs, protocol_headers, command_lines, failing_streams, loops, progress, served_clients, publishers, failing_connections, no_connections, hostile_peers, scripts, refusals):
     part()
 for difference in differences:
     print(difference)

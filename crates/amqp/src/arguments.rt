@@ -3,6 +3,7 @@ use crate::help;
 use crate::looping::Load;
 use crate::options::{Limits, limits_of, with_limits};
 use crate::publishing::Destination;
+use crate::showing::Start;
 use amqp_core::Side;
 use amqp_value::ShortStr;
 use clap::error::ErrorKind;
@@ -12,7 +13,8 @@ use std::alloc::{AllocError, Global};
 /// What the command line asks for.
 #[derive(Drop)]
 pub enum Request {
-    Show,
+    /// List the frames of octets that start so.
+    Show(Start),
     /// Check what the other end of this side writes.
     Check(Side, Limits),
     /// Do what a script says with pairs of ends.
@@ -64,7 +66,10 @@ fn request_in(alloc: Global, matches: &ArgMatches) -> Result<Request, Error> {
     if let Some(over) = matches.subcommand_matches("loop") {
         return Ok(Request::Loop(load_of(over), limits_of(over)));
     }
-    Ok(Request::Show)
+    if let Some(show) = matches.subcommand_matches("show") {
+        return Ok(Request::Show(start_of(show)));
+    }
+    Ok(Request::Show(Start::Frame))
 }
 
 fn program<'a>(alloc: Global) -> Result<Command<'a>, AllocError> {
@@ -73,7 +78,7 @@ fn program<'a>(alloc: Global) -> Result<Command<'a>, AllocError> {
         .about(help::ABOUT)
         .subcommand_required(true)
         .arg_required_else_help(true);
-    let command = command.subcommand(show_command(alloc))?;
+    let command = with_subcommand(command, show_command(alloc))?;
     let command = with_subcommand(command, check_command(alloc))?;
     let command = with_subcommand(command, link_command(alloc))?;
     let command = with_subcommand(command, serve_command(alloc))?;
@@ -92,11 +97,19 @@ fn with_subcommand<'a>(
     }
 }
 
-fn show_command<'a>(alloc: Global) -> Command<'a> {
+fn show_command<'a>(alloc: Global) -> Result<Command<'a>, AllocError> {
     Command::new(alloc, "show")
         .about(help::SHOW_ABOUT)
         .long_about(help::SHOW_DETAILS)
         .after_long_help(help::SHOW_EXAMPLE)
+        .arg(protocol_header_option(alloc))
+}
+
+fn protocol_header_option<'a>(alloc: Global) -> Arg<'a> {
+    Arg::new(alloc, "protocol-header")
+        .long("protocol-header")
+        .action(ArgAction::SetTrue)
+        .help("The octets start with the protocol header, as a client's do")
 }
 
 fn check_command<'a>(alloc: Global) -> Result<Command<'a>, AllocError> {
@@ -182,6 +195,14 @@ fn loop_command<'a>(alloc: Global) -> Result<Command<'a>, AllocError> {
     );
     let command = command.arg(size)?;
     with_limits(alloc, command)
+}
+
+fn start_of(matches: &ArgMatches) -> Start {
+    if matches.get_flag("protocol-header") {
+        Start::ProtocolHeader
+    } else {
+        Start::Frame
+    }
 }
 
 /// The side that is named. No other words than its two are let through.

@@ -25,7 +25,7 @@ in the payload:
     4    a header's weight isn't 0
     5    a header's flags go on
 
-Where the octets stop being frames it prints `fault N at A`, with A the place of the octet that tells it, counted from 0:
+Where the octets stop being frames it prints `fault N at A`, with A the place of the octet that shows it, counted from 0:
 
     1  the frame's first octet is no frame type
     2  the frame is too long
@@ -33,12 +33,24 @@ Where the octets stop being frames it prints `fault N at A`, with A the place of
     4  out of memory
 
 and where they end inside a frame `rest N`, the number of octets that were left. A line that isn't hexadecimal of whole
-octets is answered with `line N: not hex` alone. Each fault, rest and such line ends with status 1; status 0 says that all was well.";
+octets is answered with `line N: not hex` alone. Each fault, rest and such line ends with status 1; status 0 says that all was
+well, and status 2 that the command line can't be read.
+
+What a client writes starts with the eight octets of the protocol header, which are no frame. With --protocol-header they are
+taken first, as `protocol header AMQP 0-9-1`; octets that don't start so are answered with `fault protocol-header at A` alone,
+with A the place of the first octet that differs.";
 
 pub const SHOW_EXAMPLE: &str = "\
 Example, a frame that opens channel 1:
 
     $ echo 01 0001 00000005 0014000a00 ce | amqp show
+    1 method 5 0014000a00
+      channel.open
+
+and the start of what a client writes:
+
+    $ echo 414d515000000901 01 0001 00000005 0014000a00 ce | amqp show --protocol-header
+    protocol header AMQP 0-9-1
     1 method 5 0014000a00
       channel.open";
 

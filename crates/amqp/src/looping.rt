@@ -19,7 +19,7 @@ pub struct Load {
     pub size: u32,
 }
 
-/// At most so many octets are on their way at once.
+/// At most so many octets are in flight at once.
 const AT_ONCE: usize = 4096;
 
 /// Publishes contents from a client to a server, whose streams are the two ends of one connection. It answers whether the server

@@ -48,7 +48,7 @@ fn main(rt: HostRuntime) -> anyhow::Result<ExitCode> {
     };
     let mut output = BufWriter::new(alloc, io::writer(&rt))?;
     let status = match request {
-        Request::Show => showing::show(alloc, &mut rt.reader(), &mut output),
+        Request::Show(start) => showing::show(alloc, start, &mut rt.reader(), &mut output),
         Request::Check(side, limits) => {
             checking::check_side(alloc, side, limits, &mut rt.reader(), &mut output)
         }

@@ -115,6 +115,8 @@ impl<R: Role> End<R> {
         // For every history that the end stands for: what comes of the piece, and the history that follows.
         ensures history { (history : History) (fed written : List ℕ) → EndpointStandsFor (role_played self.old) (config_at self.old) (endpoint_of self.old) history fed written
             → ∥ GoesOn (role_played self.old) (config_at self.old) (ran_out result) (endpoint_of self.old) history fed written piece.now (after_feed (role_played self.old) (config_at self.old) (endpoint_of self.old) piece.now) (endpoint_of self.new) ∥₁ }
+        // A closed or failed end says so, and takes no memory.
+        ensures memory { ran_out result ≡ true → takes_octets (endpoint_of self.old).end.phase ≡ true }
         ensures settings { settings_at self.new ≡ settings_at self.old }
     {
         let mut account = Account::new(false);

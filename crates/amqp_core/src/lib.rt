@@ -1,5 +1,8 @@
 //! The cores of AMQP 0-9-1: what a client and a server do with the octets that they take, and with what their
 //! applications ask. No socket is touched and no thread started.
+//!
+//! [`End`] is one end of a connection, [`Traced`] one that is kept with its history. What each call does is stated by its contract,
+//! with the definitions of `amqp_model`; the laws of these can be named from [`laws`].
 #![tactic(auto)]
 
 mod account;

@@ -1,8 +1,9 @@
 //! An end of a connection that is kept with its history.
-ghost use Rattle.std.specs.Prelude.{◌≡◌, ◌≢◌, ◌+◌, ◌<◌, ◌≤◌, ℕ, List, [], ◌++◌, length, map, take as first, vec_len, vec_capacity, IfOk, IfErr, OnOk, OnErr};
+ghost use Rattle.std.specs.Prelude.{◌≡◌, ◌≢◌, ◌+◌, ◌<◌, ◌≤◌, ℕ, List, [], true, ◌++◌, length, map, take as first, vec_len, vec_capacity, IfOk, IfErr, OnOk, OnErr};
 ghost use Rattle.amqp_model.specs.Answers.{channel_state, gathered, reply_due};
 ghost use Rattle.amqp_model.specs.Asks.{frames_asked};
 ghost use Rattle.amqp_model.specs.Endpoint.{after_feed, after_wrote, new_endpoint};
+ghost use Rattle.amqp_model.specs.EndVerdict.{takes_octets};
 ghost use Rattle.amqp_model.specs.Fitting.{ConfigWrites};
 ghost use Rattle.amqp_model.specs.Histories.{History};
 ghost use Rattle.amqp_model.specs.LawfulHistories.{then_put};
@@ -83,6 +84,8 @@ impl<R: Role> Traced<R> {
         ensures octets { FedGrows (ran_out result) piece.now (after_feed (role_played self.old) (config_at self.old) (traced_of self.old).endpoint piece.now) (traced_of self.old) (traced_of self.new) }
         ensures history { (history : History) → IsTraceOf (role_played self.old) (config_at self.old) (traced_of self.old) history
             → ∥ TraceGoesOn (role_played self.old) (config_at self.old) (ran_out result) (traced_of self.old).endpoint piece.now (after_feed (role_played self.old) (config_at self.old) (traced_of self.old).endpoint piece.now) history (traced_of self.new) ∥₁ }
+        // A closed or failed end says so, and takes no memory.
+        ensures memory { ran_out result ≡ true → takes_octets (traced_of self.old).endpoint.end.phase ≡ true }
         ensures settings { settings_at self.new ≡ settings_at self.old }
     {
         octets::cut_changes_nothing();

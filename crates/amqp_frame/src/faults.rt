@@ -37,7 +37,7 @@ pub enum FrameFaultKind {
     /// Memory was refused: reported at the number of octets that were taken before the call.
     #[error("out of memory")]
     OutOfMemory = 4,
-    /// The splitter has told a fault before: reported at that first fault's place.
+    /// The splitter has reported a fault before: reported at that first fault's place.
     #[error("fed after a fault")]
     Failed = 5,
 }

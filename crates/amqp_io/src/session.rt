@@ -20,9 +20,9 @@ use std::collections::VecDeque;
 
 /// One end of a connection, over a stream.
 ///
-/// [`Session::pull`] reads from the stream and feeds the end, [`Session::push`] writes what the end has put, and
-/// [`Session::turn`] does the one and then the other. The end's events are kept until [`Session::next_event`] hands them
-/// out. After a fault the session may be used again: [`IoFault`] says what stands after each.
+/// [`Session::pull`] reads from the stream and feeds the end, [`Session::push`] writes what the end has put, all of it by
+/// `push(usize::MAX)`, and [`Session::turn`] does the one and then the other. The end's events are kept until
+/// [`Session::next_event`] hands them out. After a fault the session may be used again: [`IoFault`] says what stands after each.
 ///
 /// It has room for the 4096 octets of one read in itself, so that reading takes no memory.
 #[derive(Drop)]
@@ -182,7 +182,8 @@ impl<R: Role, S: Stream> Session<R, S> {
         Ok(count)
     }
 
-    /// Pulls, and then, if that answers Ok, pushes the whole output.
+    /// Pulls, and then, if that answers Ok, pushes the whole output. A client speaks first, so it pushes before its first
+    /// turn: else both sides wait.
     pub fn turn(&mut self) -> Result<(), IoFault>
         ensures turned { Turns (role_in self.old) (config_in self.old) result (intake_of self.old) (intake_of self.new) (S.to_give (stream_of self.old)) (S.to_give (stream_of self.new)) (S.taken (stream_of self.old)) (S.taken (stream_of self.new)) }
         ensures failure { Marks ((result ≡ Err IoFault.Read) ⊎ (result ≡ Err IoFault.Write)) (S.failures (stream_of self.old)) (S.failures (stream_of self.new)) }

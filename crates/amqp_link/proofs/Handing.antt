@@ -39,7 +39,7 @@ hands octets taken out writer reader writer_after reader_after e many enough the
       writes = wrote;
     }
 
--- Any fault is want of memory.
+-- Any fault is that memory ran out.
 
 memory-or : (fault : CoreFault) → (is_out_of_memory fault ≡ false → ⊥) → fault ≡ core.OutOfMemory
 memory-or (core.Peer code) never = absurd (never refl)

@@ -200,7 +200,7 @@ ran-out role octets writer reader reader_after j fed dropped =
       joined = joined;
     })
 
--- A fault but for want of memory is none that a reader of a pair has.
+-- A reader of a pair has no fault but that memory ran out.
 
 no-report : (outcome : Outcome) (fault : CoreFault) → ((found : Fault) → outcome ≢ Found found) → is_out_of_memory fault ≡ false → Reports fault outcome → ⊥
 no-report outcome (core.Peer code) none memory reports = none _ reports

@@ -1,7 +1,7 @@
 -- The headline.
 --
 -- Whatever the applications ask, however the two octet streams are cut and interleaved, and wherever connections are dropped and
--- begun anew, what an end acts on in a channel's life is a prefix of what the other sent in that life, the rest being on its way,
+-- begun anew, what an end acts on in a channel's life is a prefix of what the other sent in that life, the rest being in flight,
 -- lost in a drop, or after the reader's close; no frame is taken in another life; neither end finds fault.
 --
 -- "Whatever is asked, cut, interleaved, dropped, begun anew" is any list of steps: `Link::step` and `Link::run` ensure this of the
@@ -18,7 +18,7 @@ use Rattle.amqp_link.specs.declared.lives.Life.{Life}
 use Rattle.amqp_link.specs.declared.steps.Direction.{Direction}
 
 -- A connection, of a client and a server with their configurations: in each life, in both directions, no frame is taken in
--- another life, all of a life was acted on where the other's close ended it, the rest of one that goes on is on its way, nothing
+-- another life, all of a life was acted on where the other's close ended it, the rest of one that goes on is in flight, nothing
 -- waits for a closed end, no content comes while paused, each reply answers its request in turn, and no fault is found.
 pub record KeepsPromises (joint : Joint) : Type 0 where
   pub client_config : Config Client

@@ -58,7 +58,7 @@ Steps old (steps.Ask index side ask) answer new = DoneAt (ConnectionAsked (role_
 Steps old (steps.Carry index direction octets) answer new = DoneAt (ConnectionCarries direction octets) index old answer new
 Steps old (steps.Drop index side) answer new = DoneAt (ConnectionDrops (role_of side)) index old answer new
 
--- Steps one after another, of which so many were refused for another reason than want of memory.
+-- Steps one after another, of which so many were refused for another reason than being out of memory.
 pub data Runs (old : Linked) : List Step → (refused : ℕ) → (new : Linked) → Type 0 where
   nothing : Runs old [] 0 old
   does : {before : List Step} {refused : ℕ} {then new : Linked} (step : Step) → Runs old before refused then → Steps then step (Ok (tt {0})) new

@@ -48,7 +48,7 @@ pub record KeepsOn (role : Role) (reader writer : Seated) (mine theirs : History
   -- all was acted on of a life that the other's close ended, of the channel or of the connection
   pub closed : AllItemsActedOnAtClose role (suc n) mine theirs
   pub connection_closed : AllItemsActedOnOfEnded role (suc n) mine theirs
-  -- and of one that goes on, the rest is on its way
+  -- and of one that goes on, the rest is in flight
   pub on_its_way : reader.dropped ≡ false → has_opened role mine ≡ true → IsLive role (notes_on (suc n) mine) → OnItsWay role reader writer mine theirs n
   pub paused : TakesNoneWhilePaused role mine n
 

@@ -78,7 +78,7 @@ impl LinkFault {
         }
     }
 
-    /// Its number: of a refused ask that of the ask is another one.
+    /// Its number. A refused ask has a number of its own besides: that of the refusal.
     pub fn number(self) -> u8
         ensures { result ≡ link_fault_number self }
     {

@@ -2,7 +2,7 @@
 //! with them: connections begin, applications ask, octets are carried, ends are dropped.
 //!
 //! Whatever is done, in whatever order: what an end acts on in a life of a channel is a prefix of what the other sent in that
-//! life.
+//! life. [`Link::step`] and [`Link::run`] ensure this, and all that the definitions of `specs/Headline` say beside it.
 #![tactic(auto)]
 
 mod connection;

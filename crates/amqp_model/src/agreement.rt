@@ -2,7 +2,7 @@
 //!
 //! The premise of these laws is `PairWrites`: both ends are set up so that what they say of themselves can be written, and
 //! their histories are those that any steps of the two come to, in any interleaving, where each frame taken is the next on its
-//! channel. An end that is dropped just takes no further step. `mine` is the history of the end in the role, `theirs` that of
+//! channel. An end that is dropped takes no further step. `mine` is the history of the end in the role, `theirs` that of
 //! the other.
 
 ghost use Rattle.std.specs.Prelude.{ℕ, List};

@@ -25,7 +25,7 @@ pub fn rows_follow_rules()
     ensures { ArrangedByRules }
 {}
 
-/// For the frames that wait there is just one arranged row that has each queue in order: the one that the puts make.
+/// For the frames that wait there is exactly one arranged row that has each queue in order: the one that the puts make.
 pub fn one_row()
     ensures one { OneRow }
     ensures made { PutsMakeRow }
@@ -42,7 +42,7 @@ pub fn put_keeps_arranged()
     ensures begun { PutLeavesBegun }
 {}
 
-/// A write leaves just one output: the octets after those written, and a row that is arranged from the new LAST.
+/// A write leaves exactly one output: the octets after those written, and a row that is arranged from the new LAST.
 pub fn write_keeps_arranged()
     ensures leaves { WriteLeaves }
     ensures one { OneIsLeft }

@@ -1,7 +1,7 @@
 //! Contents: messages that carry a body.
 //!
 //! A content is a method, a header with the body's size, and body parts that join to the body (AMQP 0-9-1
-//! specification, section 4.2.6, "Content Framing"). `IsContent` says which payloads are just one content, `cut` is
+//! specification, section 4.2.6, "Content Framing"). `IsContent` says which payloads are exactly one content, `cut` is
 //! what this profile writes, and `UnderWay` says what an end has taken of a content that isn't whole. An end keeps
 //! little of it: `Gathering` is that, and `step` is what a payload does to it. These laws say that this machine keeps
 //! what the definitions speak of, whatever payloads come.
@@ -15,7 +15,7 @@ ghost use Rattle.amqp_model.specs.Gathering.{Gathering, Misfit};
 ghost use Rattle.amqp_model.specs.Items.{Item};
 ghost use Rattle.amqp_model.specs.Methods.{Method};
 
-/// Payloads are one content at most, and no content is a prefix of another. So a list of payloads falls into contents
+/// Payloads are at most one content, and no content is a prefix of another. So a list of payloads falls into contents
 /// in one way only.
 pub fn one_content()
     ensures unique { (payloads : List Payload) → IsAtMostOneContent payloads }
@@ -82,7 +82,7 @@ pub fn items_are_encoded()
 
 /// The items of a prefix are a prefix of the items. A payload adds the item that it ends; a content's payloads add that
 /// content; what is under way has added nothing; and where nothing is under way, as after a method that carries no
-/// content, the items of what comes after are just added.
+/// content, the items of what comes after are added.
 pub fn items_follow()
     ensures prefix { (prefix whole : List Payload) → ItemsOfPrefix prefix whole }
     ensures one_more { (prefix : List Payload) (payload : Payload) → OneMoreEncoded prefix payload }

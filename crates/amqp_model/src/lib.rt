@@ -2,8 +2,8 @@
 //! hold of them. No code runs here.
 //!
 //! A history is the list of what one end put and took. The definitions in `specs/` read everything off it by
-//! counting: states, lives, what was dropped, what was acted on. A law is the contract of a function with an empty
-//! body. Who needs it calls the function and has its clauses.
+//! counting: states, lives, what was dropped, what was acted on. A law is the contract of a function that does
+//! nothing. Who needs it calls the function and has its clauses.
 #![tactic(auto)]
 
 pub mod agreement;

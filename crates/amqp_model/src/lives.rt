@@ -45,8 +45,8 @@ pub fn in_flight()
     ensures sent { (role : Role) (mine theirs : List Note) → RunAt role mine theirs → SentIsActedOnOrOnItsWay role mine theirs }
 {}
 
-/// Where the other's close ended a life, of the channel or of the connection, and was taken before the end put one,
-/// everything sent in that life was acted on.
+/// Where the other's close of the channel ended a life, and was taken before the end put one, everything sent in that life
+/// was acted on; and so it is in a life that goes on, where the end has taken all that the other put.
 pub fn all_acted_on_at_close()
     ensures channel { (role : Role) (mine theirs : List Note) → RunAt role mine theirs → AllActedOnAtClose role mine theirs }
     ensures connection { (role : Role) (mine theirs : List Note) → RunAt role mine theirs → AllActedOnAtConnectionClose role mine theirs }

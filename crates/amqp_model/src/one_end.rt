@@ -48,8 +48,8 @@ pub fn ask_is_of_history()
     ensures { (role : Role) (config : Config role) (failed : Bool) (end : End) (history : History) (ask : Ask) → AskOfHistory role config failed end history ask }
 {}
 
-/// Where an end goes on, its verdict on a frame of a channel above 0 is that of the lives of a channel: the same event
-/// and the same reply.
+/// Where an end goes on after a frame of a channel above 0, the lives of a channel go on too, and owe the reply that its
+/// verdict puts; or it refuses a content, of which they say that it came. Which event it is says `verdict_names_event`.
 pub fn verdict_agrees()
     ensures { (role : Role) (facts : Facts role) (reading : Reading) → VerdictAgrees role facts reading }
 {}
