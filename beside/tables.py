@@ -306,7 +306,7 @@ CONSTANTS = (
     ("end octet", "crates/amqp_frame/src/frames.rt", r"const END: u8 = (\w+);"),
     ("end octet", "crates/amqp_frame/specs/Frame.antt", r"^END = (\d+)$"),
     ("protocol header", "crates/amqp_model/specs/Negotiation.antt", r"^PROTOCOL_HEADER = ([\d ∷]+) ∷ \[\]$"),
-    ("greatest frame that `show` reads", "crates/amqp/src/listing.rt", r"const LIMIT: u32 = ([\d_]+);"),
+    ("greatest frame that `show` reads", "crates/amqp_text/src/listing.rt", r"const LIMIT: u32 = ([\d_]+);"),
     ("greatest frame that `show` reads", "crates/amqp/src/help.rt", r"A frame has at most (\d+) octets"),
     ("least agreed frame size", "crates/amqp_model/specs/Negotiation.antt", r"^FRAME_MIN = (\d+)$"),
     ("greatest agreed frame size", "crates/amqp_model/specs/Fitting.antt", r"^FRAME_MOST = (\d+)$"),

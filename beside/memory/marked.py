@@ -6,10 +6,10 @@ import sys
 import tempfile
 
 SHIM = sys.argv[1]
-# What one of these takes where it lies. A short string has its form, its length and room for 24 octets, which take no memory of
-# their own; a value has its tag and at most a vector's three words; an argument has its kind and at most a short string.
+# What one of these takes where it lies. A short string has its form and its length, an octet each, and room for 30 octets, which take
+# no memory of their own; a value has its tag and at most a vector's three words; an argument has its kind and at most a short string.
 WORD = 8
-SHORT_STRING = 2 * WORD + 24
+SHORT_STRING = 2 + 30
 VALUE = WORD + 3 * WORD
 PAIR = SHORT_STRING + VALUE
 ARGUMENT = WORD + SHORT_STRING
@@ -35,7 +35,7 @@ WANTED = (
         (13, 1, PAIR, "nor for a table inside"),
         (14, 0, 0, "a table of no pairs takes none"),
         (15, 1, PAIR, "a table of one pair takes one"),
-        (16, 4, (2 + 4 + 8 + 16) * PAIR, "27 octets look like two pairs of 16; as they are nine, the room is doubled three times"),
+        (16, 3, (3 + 6 + 12) * PAIR, "27 octets look like three pairs of 12; as they are nine, the room is doubled twice"),
         (17, 3, 2 * PAIR + 2 * VALUE + VALUE, "17 octets look like two pairs, 10 like two values of eight, five like one; the array inside has none"),
         (18, 2, 2 * PAIR + 2 * VALUE, "the same, up to the array whose count is greater than what is there"),
     )),

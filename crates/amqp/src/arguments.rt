@@ -1,10 +1,10 @@
 //! The command line.
 use crate::help;
-use crate::looping::Load;
 use crate::options::{Limits, limits_of, with_limits};
 use crate::publishing::Destination;
 use crate::showing::Start;
 use amqp_core::Side;
+use amqp_text::Load;
 use amqp_value::ShortStr;
 use clap::error::ErrorKind;
 use clap::{Arg, ArgAction, ArgMatches, Command, Error, value_parser};

@@ -1,13 +1,13 @@
 //! The subcommand `check`.
 ghost use Rattle.std.specs.Prelude.{◌<◌, ◌≤◌, length, IfOk};
 
-use crate::events::print_event;
 use crate::input::read_octets;
 use crate::options::Limits;
 use crate::printing::{Stop, finish, print_fault};
 use crate::sessions::{client_end, server_end};
-use crate::statuses::{DONE, FAULT};
 use amqp_core::{End, Event, Role, Side, Taken};
+use amqp_text::print_event;
+use amqp_text::statuses::{DONE, FAULT};
 use std::alloc::Global;
 use std::io::{Read, Write};
 

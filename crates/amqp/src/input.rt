@@ -1,5 +1,5 @@
 //! What a reader gives, read whole: octets, or hexadecimal.
-use crate::hexadecimal::{HexFault, octets_of};
+use amqp_text::{HexFault, octets_of};
 use std::alloc::Global;
 use std::io::{self, Read};
 use thiserror::Error;

@@ -4,9 +4,9 @@ use crate::input::read_all;
 use crate::options::Limits;
 use crate::printing::{Stop, finish};
 use crate::scripts::{Count, Line, LineFault, line_of};
-use crate::statuses::{DONE, FAULT};
 use amqp_core::{Ask, Side};
 use amqp_link::{Direction, Life, Link, LinkFault, Step};
+use amqp_text::statuses::{DONE, FAULT};
 use std::alloc::Global;
 use std::io::{Read, Write};
 

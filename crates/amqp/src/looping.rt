@@ -4,20 +4,13 @@ use crate::options::Limits;
 use crate::printing::Stop;
 use crate::progress::Progress;
 use crate::sessions::{client_end, is_closed, pull, push_some, server_end};
-use crate::tally::{EXCHANGE, KEY, Tally, pattern};
 use crate::words::short;
 use amqp_core::{Ask, ChannelState, Client, Phase, Role, Server};
 use amqp_io::{Session, Stream};
 use amqp_method::OutOfMemory;
+use amqp_text::{EXCHANGE, KEY, Load, Tally, pattern};
 use std::alloc::Global;
 use std::io::Write;
-
-/// How many contents are published, and how many octets each of them has.
-#[derive(Clone, Copy)]
-pub struct Load {
-    pub count: u32,
-    pub size: u32,
-}
 
 /// At most so many octets are in flight at once.
 const AT_ONCE: usize = 4096;

@@ -1,8 +1,9 @@
 //! What the subcommands that run an end print: its events, and why a run was given up.
 use crate::input::InputFault;
-use crate::statuses::FAULT;
 use amqp_core::{AskFault, ConfigFault, CoreFault};
 use amqp_method::OutOfMemory;
+use amqp_text::PrintFault;
+use amqp_text::statuses::FAULT;
 use std::alloc::AllocError;
 use std::io::{self, Write};
 
@@ -42,6 +43,15 @@ impl From<InputFault> for Stop {
             InputFault::Read(failure) => Stop::NotGiven(failure),
             InputFault::NotHex(line) => Stop::NotHex(line),
             InputFault::OutOfMemory => Stop::OutOfMemory,
+        }
+    }
+}
+
+impl From<PrintFault> for Stop {
+    fn from(fault: PrintFault) -> Stop {
+        match fault {
+            PrintFault::NotWritten(failure) => Stop::NotWritten(failure),
+            PrintFault::OutOfMemory => Stop::OutOfMemory,
         }
     }
 }

@@ -1,11 +1,11 @@
 //! The subcommand `serve`, over a stream.
-use crate::events::print_event;
 use crate::options::Limits;
 use crate::printing::Stop;
 use crate::sessions::{pull, server_end, settle};
-use crate::statuses::DONE;
 use amqp_core::{Event, Server};
 use amqp_io::{Session, Stream};
+use amqp_text::print_event;
+use amqp_text::statuses::DONE;
 use std::alloc::Global;
 use std::io::Write;
 
@@ -59,5 +59,5 @@ fn print_events<S: Stream, W: Write>(
 fn print_owned<W: Write>(alloc: Global, event: Event, output: &mut W) -> Result<(), Stop> {
     let printed = print_event(alloc, &event, output);
     drop(event);
-    printed
+    Ok(printed?)
 }

@@ -1,10 +1,9 @@
 //! The subcommand `show`.
 use crate::input::read_octets;
-use crate::listing::{Ending, Listing, frame_line, list};
-use crate::payloads::payload_line;
 use crate::printing::{Stop, finish};
-use crate::statuses::{DONE, FAULT};
 use amqp_frame::{OutOfMemory, PROTOCOL_HEADER, RawFrame};
+use amqp_text::statuses::{DONE, FAULT};
+use amqp_text::{Ending, Listing, frame_line, list, payload_line};
 use std::alloc::Global;
 use std::io::{self, Read, Write};
 

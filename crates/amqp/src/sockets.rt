@@ -1,15 +1,15 @@
 //! The subcommands over TCP: the sockets are opened here, and all else is done over streams.
 use crate::connection::Connection;
 use crate::input::read_all;
-use crate::looping::{Load, run_loop};
+use crate::looping::run_loop;
 use crate::notes::Notes;
 use crate::options::Limits;
 use crate::printing::{Stop, finish, flushed};
 use crate::progress::Progress;
 use crate::publishing::{Destination, publish};
 use crate::serving::serve;
-use crate::statuses::{DONE, FAULT};
-use crate::tally::print_outcome;
+use amqp_text::statuses::{DONE, FAULT};
+use amqp_text::{Load, print_outcome};
 use std::alloc::{AllocError, Global};
 use std::io::{self, Read, Write};
 use std::net::{Net, SocketAddr, TcpListener, TcpStream};
@@ -307,7 +307,7 @@ fn loop_over<W: Write, E: Write + Drop>(
     drop(server);
     progress.end();
     let run = match run {
-        Ok(came) => print_outcome(came, load, output),
+        Ok(came) => print_outcome(came, load, output).map_err(Stop::NotWritten),
         Err(stop) => Err(stop),
     };
     finish_noted(run, failure, output, notes)

@@ -23,13 +23,13 @@ use Rattle.amqp_model.specs.Notes.{Role, Client, Server}
 use Rattle.amqp_model.specs.Outputs.{after_puts}
 use Rattle.amqp_model.specs.ReadingBack.{AskReadsBack}
 use Rattle.amqp_model.specs.Readings.{Calls, payload_of, method_reading, header_reading, reading}
+use Rattle.amqp_outbox.specs.OutboxView.{Outgoing, only, with_staged, all_put}
 use Rattle.amqp_core.specs.Asked.{IsAccepted, IsAllowed, IsRefusal, IsRefused}
 use Rattle.amqp_core.specs.ChannelsView.{OnlyAt}
 use Rattle.amqp_core.specs.CoreView.{site_at}
 use Rattle.amqp_core.specs.Faults.{refusal_view}
 use Rattle.amqp_core.specs.Laws.{AreWritten, SayPayloads}
 use Rattle.amqp_core.specs.Messages.{message_of}
-use Rattle.amqp_core.specs.OutboxView.{Outgoing, only, with_staged, all_put}
 use Rattle.amqp_core.specs.Puts.{after_payloads}
 use Rattle.amqp_core.specs.Roles.{role_of}
 use Rattle.amqp_core.specs.Settings.{config_view, role_for}

@@ -19,13 +19,13 @@ use Rattle.amqp_model.specs.Notes.{Role, Client, Server}
 use Rattle.amqp_model.specs.OctetLaws.{AcceptedFollows, EndpointStandsFor}
 use Rattle.amqp_model.specs.Outputs.{Output, after_puts}
 use Rattle.amqp_model.specs.Pieces.{AskHolds, HoldsUnfinished}
+use Rattle.amqp_outbox.specs.OutboxView.{Outgoing}
 use Rattle.amqp_core.specs.Asked.{IsAccepted, IsRefused}
 use Rattle.amqp_core.specs.Asking.{AcceptsAsk, RefusesAsk}
 use Rattle.amqp_core.specs.Bounded.{IsBounded}
 use Rattle.amqp_core.specs.CoreView.{core_end}
 use Rattle.amqp_core.specs.Faults.{refusal_view}
 use Rattle.amqp_core.specs.EndpointView.{FieldsFit, IsSound, endpoint_view, is_opened, role_at}
-use Rattle.amqp_core.specs.OutboxView.{Outgoing}
 use Rattle.amqp_core.specs.Settings.{config_view, role_for}
 use Rattle.amqp_core.specs.declared.endpoint.Endpoint.{Endpoint}
 use Rattle.amqp_core.specs.declared.faults.AskFault.{AskFault}

@@ -27,13 +27,13 @@ use Rattle.amqp_model.specs.Octets.{opening_read}
 use Rattle.amqp_model.specs.Outputs.{Output, after_puts}
 use Rattle.amqp_model.specs.Pieces.{AreBegun, IsFedBy, IsProperPrefixOf, HoldsUnfinished, FaultFed, FeedHolds, FeedGivesFrame, FeedWaits, FeedFindsFault, reads_frames}
 use Rattle.amqp_model.specs.Readings.{reading}
+use Rattle.amqp_outbox.specs.OutboxView.{Outgoing, only}
 use Rattle.amqp_core.specs.Answering.{Answers, Brings, EndsAs, PutsAs, Reports, Tells, ran_out, is_out_of_memory, stopped}
 use Rattle.amqp_core.specs.EndpointView.{FieldsFit, IsSound, endpoint_view, is_opened, unfinished_of}
 use Rattle.amqp_core.specs.Feeding.{IsFed, IsInPiece, SameEndpoint, ran_out_of}
 use Rattle.amqp_core.specs.Bounded.{IsBounded}
 use Rattle.amqp_core.specs.CoreView.{core_end}
 use Rattle.amqp_core.specs.Kept.{agreed_prop}
-use Rattle.amqp_core.specs.OutboxView.{Outgoing, only}
 use Rattle.amqp_core.specs.Outcomes.{SameEnd}
 use Rattle.amqp_core.specs.Settings.{config_view, role_for}
 use Rattle.amqp_core.specs.declared.endpoint.Endpoint.{Endpoint}

@@ -21,9 +21,9 @@ use Rattle.amqp_model.specs.Negotiation.{Config, FRAME_MIN}
 use Rattle.amqp_model.specs.Notes.{Role, Client, Server}
 use Rattle.amqp_model.specs.Outputs.{Output, output_octets, after_put, after_puts}
 use Rattle.amqp_model.specs.Readings.{reading}
+use Rattle.amqp_outbox.specs.OutboxView.{Outgoing, only}
 use Rattle.amqp_core.specs.Answering.{PutsAs, is_out_of_memory, ran_out}
 use Rattle.amqp_core.specs.Growth.{GrowsLittle}
-use Rattle.amqp_core.specs.OutboxView.{Outgoing, only}
 use Rattle.amqp_core.specs.OwedView.{owed_view, starts, answers_start, tunes, answers_tune}
 use Rattle.amqp_core.specs.EventView.{agreed_view}
 use Rattle.amqp_core.specs.Settings.{config_view, role_for}
@@ -32,7 +32,10 @@ use Rattle.amqp_core.specs.declared.owed.Owed.{Owed}
 use Rattle.amqp_core.specs.declared.owed.Owed.TheVariants as code
 use Rattle.amqp_core.specs.declared.settings.Settings.{Settings}
 use Rattle.amqp_core.specs.declared.verdict.Reply.TheVariants as replies
-use Rattle.amqp_core.proofs.OutboxRows.{length-octets}
+
+length-octets : (f : Frame) → length (octets f) ≡ frame_length f
+unfolding octets
+length-octets f = simp length-append (omega arith)
 
 pub length_row : (f : Frame) (row : List Frame) → length (stream (f ∷ row)) ≡ frame_length f + length (stream row)
 length_row f row = length-append (octets f) (stream row) ∙ ap (λ n. n + length (stream row)) (length-octets f)

@@ -28,15 +28,6 @@ pub mod GreetingLemmas
 pub mod GreetingLengths
 pub mod SettingsWrite
 pub mod OwedLemmas
-pub mod OutboxFrames
-pub mod OutboxLists
-pub mod OutboxMoves
-pub mod OutboxPlaces
-pub mod OutboxRows
-pub mod OutboxSlots
-pub mod OutboxStates
-pub mod OutboxWrites
-pub mod ReadLemmas
 pub mod FreeLemmas
 pub mod RefusalLemmas
 pub mod PieceLemmas

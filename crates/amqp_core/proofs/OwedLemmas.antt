@@ -9,8 +9,8 @@ use Rattle.amqp_model.specs.FrameVerdict.{on_zero}
 use Rattle.amqp_model.specs.Methods.{Method}
 use Rattle.amqp_model.specs.Negotiation.{Config, tune_ok}
 use Rattle.amqp_model.specs.Notes.{Role}
+use Rattle.amqp_outbox.specs.OutboxView.{Outgoing, with_staged}
 use Rattle.amqp_core.specs.HandshakeMethods.{IsOpen, IsTune}
-use Rattle.amqp_core.specs.OutboxView.{Outgoing, with_staged}
 use Rattle.amqp_core.specs.OwedView.{starts, answers_start, tunes, answers_tune}
 use Rattle.amqp_core.specs.Settings.{role_for, config_view}
 use Rattle.amqp_core.specs.declared.settings.ClientHello.{ClientHello}

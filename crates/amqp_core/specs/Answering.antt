@@ -8,10 +8,10 @@ use Rattle.amqp_model.specs.Machine.{as_failed, end_after_owed, failed_by}
 use Rattle.amqp_model.specs.Negotiation.{Config}
 use Rattle.amqp_model.specs.Notes.{Role}
 use Rattle.amqp_model.specs.Outputs.{Output}
+use Rattle.amqp_outbox.specs.OutboxView.{Outgoing, only}
 use Rattle.amqp_core.specs.Closes.{code_view}
 use Rattle.amqp_core.specs.EventView.{event_there}
 use Rattle.amqp_core.specs.NewsView.{news_there}
-use Rattle.amqp_core.specs.OutboxView.{Outgoing, only}
 use Rattle.amqp_core.specs.Outcomes.{SameEnd}
 use Rattle.amqp_core.specs.declared.events.Event.{Event}
 use Rattle.amqp_core.specs.declared.news.News.{News}

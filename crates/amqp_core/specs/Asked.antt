@@ -5,8 +5,8 @@ use Rattle.amqp_model.specs.Channels.{End}
 use Rattle.amqp_model.specs.Machine.{end_after_put}
 use Rattle.amqp_model.specs.Outputs.{after_puts}
 use Rattle.amqp_model.specs.ReadingBack.{AskReadsBack}
+use Rattle.amqp_outbox.specs.OutboxView.{Outgoing, only}
 use Rattle.amqp_core.specs.Faults.{refusal_view}
-use Rattle.amqp_core.specs.OutboxView.{Outgoing, only}
 use Rattle.amqp_core.specs.Settings.{config_view, role_for}
 use Rattle.amqp_core.specs.declared.faults.AskFault.{AskFault}
 use Rattle.amqp_core.specs.declared.settings.Settings.{Settings}

@@ -27,11 +27,6 @@ pub mod Handshakes
 pub mod Outcomes
 pub mod Puts
 pub mod Laws
-pub mod OutboxSlots
-pub mod OutboxView
-pub mod OutboxFields
-pub mod OutboxFrames
-pub mod OutboxFaults
 pub mod Answering
 pub mod Bounded
 pub mod EndpointView

@@ -9,12 +9,12 @@ ghost use Rattle.amqp_model.specs.Outputs.{after_puts};
 ghost use Rattle.amqp_model.specs.Readings.{reading};
 ghost use Rattle.amqp_model.specs.FrameVerdict.{methods_put};
 ghost use Rattle.amqp_model.specs.Traces.{IsTaken, noted};
+ghost use Rattle.amqp_outbox.specs.OutboxView.{only};
 ghost use Rattle.amqp_core.specs.AccountView.{item_in_outcome, note_there};
 ghost use Rattle.amqp_core.specs.NoteView.{item_there};
 ghost use Rattle.amqp_core.specs.Answering.{Answers, EndsAs, PutsAs, Reports, is_out_of_memory, ran_out, stopped};
 ghost use Rattle.amqp_core.specs.CoreView.{core_end, fault_of, frame_at, told_view};
 ghost use Rattle.amqp_core.specs.Dropping.{IsDropped};
-ghost use Rattle.amqp_core.specs.OutboxView.{only};
 ghost use Rattle.amqp_core.specs.Owing.{IsNothing};
 ghost use Rattle.amqp_core.specs.Outcomes.{SameEnd};
 ghost use Rattle.amqp_core.specs.OwedView.{owed_view};
@@ -26,12 +26,12 @@ use crate::codes::CloseCode;
 use crate::faults::{CoreFault, OutOfMemory};
 use crate::news::News;
 use crate::one_end::{Core, Fault, Outcome};
-use crate::outbox::Outbox;
 use crate::owed::Owed;
 use crate::settings::Settings;
 use crate::stage::Stage;
 use crate::taking::owed_at;
 use amqp_frame::{FrameFaultKind, FrameKind};
+use amqp_outbox::Outbox;
 use std::alloc::Global;
 
 impl Fault {
@@ -60,6 +60,28 @@ fn report(told: Result<Option<News>, Fault>) -> Result<Option<News>, CoreFault>
 }
 
 /// Puts what is owed: all of it, or nothing where memory is refused.
+///
+/// It stands apart, since most frames are answered by none.
+#[inline(never)]
+fn put_all(
+    alloc: Global,
+    settings: &Settings,
+    owed: Owed,
+    outbox: &mut Outbox,
+) -> Result<(), OutOfMemory>
+    requires { outbox.old.staged ≡ [] }
+    ensures ok { OnOk result (outbox.new ≡ only (after_puts (map frame_of (owed_view settings.now owed)) outbox.old.output)) }
+    ensures err { OnErr result (outbox.new ≡ only outbox.old.output) }
+{
+    let Ok(()) = owed.stage(alloc, settings, outbox) else {
+        outbox.discard();
+        return Err(OutOfMemory);
+    };
+    outbox.put();
+    Ok(())
+}
+
+/// Puts what is owed, if anything is.
 pub(crate) fn put_owed(
     alloc: Global,
     settings: &Settings,
@@ -71,12 +93,10 @@ pub(crate) fn put_owed(
     ensures err { OnErr result (outbox.new ≡ only outbox.old.output) }
     ensures nothing { IsNothing owed → IsOk result }
 {
-    let Ok(()) = owed.stage(alloc, settings, outbox) else {
-        outbox.discard();
-        return Err(OutOfMemory);
-    };
-    outbox.put();
-    Ok(())
+    if let Owed::Nothing = owed {
+        return Ok(());
+    }
+    put_all(alloc, settings, owed, outbox)
 }
 
 impl Core {

@@ -14,11 +14,11 @@ use crate::asks::LentAsk;
 use crate::channel::Channel;
 use crate::faults::AskFault;
 use crate::one_end::Core;
-use crate::outbox::Outbox;
 use crate::replies::bare;
 use crate::sending;
 use crate::stage::Stage;
 use amqp_method::{Kind, Message};
+use amqp_outbox::Outbox;
 use amqp_value::ShortStr;
 
 impl Core {

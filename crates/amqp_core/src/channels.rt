@@ -35,6 +35,23 @@ pub(crate) struct Channels {
     ghost taken_below: { NoneFreeBelow used low },
 }
 
+/// Takes out a channel that is Free. The answer is a number below which none is Free.
+///
+/// It stands apart, since few frames end a channel.
+#[inline(never)]
+fn take_out(used: &mut HashMap<u16, Channel>, low: u16, number: u16) -> u16
+    requires above { 0 < number }
+    requires free { is_free (used_view used.old number) ≡ true }
+    requires least { 1 ≤ low }
+    requires taken { (j : ℕ) → suc j < low → suc j ≢ number → is_free (used_view used.old (suc j)) ≡ false }
+    ensures same { (other : ℕ) → used_view used.new other ≡ used_view used.old other }
+    ensures least { 1 ≤ result }
+    ensures taken { NoneFreeBelow used.new result }
+{
+    let _ = used.remove(&number);
+    if number < low { number } else { low }
+}
+
 /// Takes a channel out if it is Free. The answer is a number below which none is Free.
 fn tidy(used: &mut HashMap<u16, Channel>, low: u16, number: u16, over: bool) -> u16
     requires above { 0 < number }
@@ -48,8 +65,7 @@ fn tidy(used: &mut HashMap<u16, Channel>, low: u16, number: u16, over: bool) -> 
     if !over {
         return low;
     }
-    let _ = used.remove(&number);
-    if number < low { number } else { low }
+    take_out(used, low, number)
 }
 
 impl Channels {

@@ -12,6 +12,7 @@ ghost use Rattle.amqp_model.specs.Fitting.{ConfigWrites, IfAgreedFits};
 ghost use Rattle.amqp_model.specs.Octets.{opening_written};
 ghost use Rattle.amqp_model.specs.Outputs.{output_octets};
 ghost use Rattle.amqp_model.specs.Pieces.{reads_frames};
+ghost use Rattle.amqp_outbox.specs.OutboxView.{begins_with};
 ghost use Rattle.amqp_core.specs.AccountView.{IsFresh};
 ghost use Rattle.amqp_core.specs.AskNoting.{IsChannelOf, IsSizeOf};
 ghost use Rattle.amqp_core.specs.AskView.{lent_view};
@@ -20,7 +21,6 @@ ghost use Rattle.amqp_core.specs.Asking.{AcceptsAsk, RefusesAsk};
 ghost use Rattle.amqp_core.specs.Answering.{ran_out};
 ghost use Rattle.amqp_core.specs.Dropping.{DropsInPlace};
 ghost use Rattle.amqp_core.specs.Feeding.{IsFed, IsInPiece, SameEndpoint, ran_out_of};
-ghost use Rattle.amqp_core.specs.OutboxView.{begins_with};
 ghost use Rattle.amqp_core.specs.Roles.{role_of};
 ghost use Rattle.amqp_core.specs.Settings.{config_view, role_for};
 ghost use Rattle.amqp_core.specs.Stages.{agreed_at, phase_at};
@@ -33,13 +33,13 @@ use crate::faults::{AskFault, CoreFault, OutOfMemory};
 use crate::news::News;
 use crate::one_end::Core;
 use crate::opening::going_on;
-use crate::outbox::Outbox;
 use crate::owed::Owed;
 use crate::roles::Side;
 use crate::settings::Settings;
 use crate::stage::Stage;
 use amqp_frame::{PROTOCOL_HEADER, Splitter, faults_are_judged, one_frame_at_start};
 use amqp_model::{bounds, fitting, octets, pieces};
+use amqp_outbox::Outbox;
 use std::alloc::Global;
 
 /// What an end keeps.
@@ -97,11 +97,14 @@ fn after_octets(octets: usize, answer: Result<Option<News>, CoreFault>) -> Resul
     ensures piece { IsInPiece octets answer result }
     ensures ok { IsOk answer → IsOk result }
 {
-    match answer {
-        Ok(Some(news)) => telling(octets, news),
-        Ok(None) => telling_nothing(octets),
-        Err(fault) => Err(fault),
-    }
+    let told = match answer {
+        Ok(told) => told,
+        Err(fault) => return Err(fault),
+    };
+    let Some(news) = told else {
+        return telling_nothing(octets);
+    };
+    telling(octets, news)
 }
 
 /// What an end of a side has to write as it begins.
@@ -167,6 +170,7 @@ impl Endpoint {
     }
 
     /// Octets of frames.
+    #[inline(never)]
     fn read(&mut self, piece: &[u8], account: &mut Account) -> Result<Taken, CoreFault>
         requires sound { IsSound self.old }
         requires fresh { IsFresh account.old }
@@ -187,28 +191,27 @@ impl Endpoint {
         octets::judged_is_said();
         faults_are_judged();
         fitting::frames_are_within();
-        match self.splitter.feed_ref(piece) {
-            Ok(fed) => {
-                let octets = fed.taken;
-                account.octets = octets;
-                let Some(frame) = fed.frame else {
-                    return telling_nothing(octets);
-                };
-                let answer = self.core.answer(
-                    &mut self.outbox,
-                    frame.kind,
-                    frame.channel,
-                    frame.payload,
-                    account,
-                );
-                tune(&mut self.splitter, self.core.stage);
-                after_octets(octets, answer)
-            }
+        let fed = match self.splitter.feed_ref(piece) {
+            Ok(fed) => fed,
             Err(fault) => {
                 account.octets = self.splitter.taken_to_fault();
-                Err(self.core.stop(&mut self.outbox, fault.kind, account))
+                return Err(self.core.stop(&mut self.outbox, fault.kind, account));
             }
-        }
+        };
+        let octets = fed.taken;
+        account.octets = octets;
+        let Some(frame) = fed.frame else {
+            return telling_nothing(octets);
+        };
+        let answer = self.core.answer(
+            &mut self.outbox,
+            frame.kind,
+            frame.channel,
+            frame.payload,
+            account,
+        );
+        tune(&mut self.splitter, self.core.stage);
+        after_octets(octets, answer)
     }
 
     /// An end as it begins: a client has the protocol header to write, a server nothing.

@@ -1,12 +1,13 @@
 //! What an end finds wrong, why it refuses what is asked, and why it can't be set up.
 ghost use Rattle.std.specs.Prelude.{◌≡◌};
+ghost use Rattle.amqp_outbox.specs.OutboxFaults.{out_of_memory};
 ghost use Rattle.amqp_core.specs.declared.faults.CoreFault.TheVariants as core_faults;
 ghost use Rattle.amqp_core.specs.declared.faults.ConfigFault.TheVariants as config_faults;
 ghost use Rattle.amqp_core.specs.declared.faults.AskFault.TheVariants as ask_faults;
 ghost use Rattle.amqp_core.specs.Faults.{core_fault_number, config_fault_number, ask_fault_number};
 
 use crate::codes::CloseCode;
-use crate::staging::StageFault;
+use amqp_outbox::StageFault;
 use std::alloc::{AllocError, AllocFailed};
 use thiserror::Error;
 
@@ -43,6 +44,15 @@ impl From<amqp_method::OutOfMemory> for OutOfMemory {
 impl From<StageFault> for OutOfMemory {
     fn from(_: StageFault) -> OutOfMemory {
         OutOfMemory
+    }
+}
+
+/// For the same methods: they are made before they are staged, which wants memory too.
+impl From<OutOfMemory> for StageFault {
+    ghost from_gives = { λ _ e. e ≡ out_of_memory };
+
+    fn from(_: OutOfMemory) -> StageFault {
+        StageFault::OutOfMemory
     }
 }
 

@@ -5,18 +5,18 @@ ghost use Rattle.amqp_model.specs.Endpoint.{awaits_opening, greeting};
 ghost use Rattle.amqp_model.specs.Machine.{as_failed, end_after_owed};
 ghost use Rattle.amqp_model.specs.Negotiation.{PROTOCOL_HEADER as HEADER};
 ghost use Rattle.amqp_model.specs.Outputs.{after_puts};
+ghost use Rattle.amqp_outbox.specs.OutboxView.{only};
 ghost use Rattle.amqp_core.specs.CoreView.{core_end};
-ghost use Rattle.amqp_core.specs.OutboxView.{only};
 ghost use Rattle.amqp_core.specs.Outcomes.{SameEnd};
 ghost use Rattle.amqp_core.specs.Settings.{config_view, role_for};
 
 use crate::answering::put_owed;
 use crate::faults::OutOfMemory;
 use crate::one_end::Core;
-use crate::outbox::Outbox;
 use crate::owed::Owed;
 use crate::stage::Stage;
 use amqp_frame::PROTOCOL_HEADER;
+use amqp_outbox::Outbox;
 
 /// How many octets agree with those that are wanted, from the first on.
 fn agreeing(octets: &[u8], wanted: &[u8]) -> usize

@@ -15,15 +15,15 @@ ghost use Rattle.amqp_model.specs.Closes.{close_as, flow_as, method_frame};
 ghost use Rattle.amqp_model.specs.Contents.{pieces};
 ghost use Rattle.amqp_model.specs.Methods.{ReadsBack};
 ghost use Rattle.amqp_model.specs.ReadingBack.{AskReadsBack};
+ghost use Rattle.amqp_outbox.specs.OutboxFrames.{header_frame, body_frame, HeaderReadsBack};
+ghost use Rattle.amqp_outbox.specs.OutboxView.{with_staged};
 ghost use Rattle.amqp_core.specs.Faults.{refusal_view};
 ghost use Rattle.amqp_core.specs.Messages.{message_of};
-ghost use Rattle.amqp_core.specs.OutboxFrames.{header_frame, body_frame, HeaderReadsBack};
-ghost use Rattle.amqp_core.specs.OutboxView.{with_staged};
 ghost use Rattle.amqp_core.specs.Reasons.{IsClose};
 
 use crate::faults::AskFault;
-use crate::outbox::Outbox;
 use amqp_method::{Arg, Header, Kind, Message, Method, Properties};
+use amqp_outbox::Outbox;
 use amqp_value::ShortStr;
 use std::alloc::Global;
 

@@ -1,5 +1,5 @@
 -- Content headers: what is read is encoded so, and what is encoded so is read.
-use Rattle.std.proofs.Common.{◌≡◌, ℕ, suc, ◌+◌, ◌*◌, ◌/◌, ◌%◌, ◌^◌, ◌==◌, ◌<◌, cond, List, [], ◌∷◌, ◌++◌, length, Bool, true, false, Option, Some, None, Result, Ok, Err, inl, inr, refl, sym, ap, subst, ◌∙◌, append_assoc, arith}
+use Rattle.std.proofs.Common.{◌≡◌, ℕ, suc, ◌+◌, ◌*◌, ◌/◌, ◌%◌, ◌^◌, ◌==◌, ◌<◌, cond, List, [], ◌∷◌, ◌++◌, length, map, Bool, true, false, Option, Some, None, Result, Ok, Err, inl, inr, refl, sym, ap, subst, ◌∙◌, append_assoc, arith}
 use Rattle.std.specs.Prelude.{IfOk, IfErr, ◌⊎◌}
 use Rattle.std.proofs.Math.Nat.{mod-lt, mod-eq_of_lt, one-le-pow, mul-add-mod_self_right}
 use Rattle.std.proofs.lemmas.Nat.{mod-pow-add, pow-add, same_from_place}
@@ -303,3 +303,10 @@ header_encoded h size kinds fitting =
       flags_are = record { fits = omega arith; octets_are = refl };
       encoded = present-encoded h.properties property_kinds all_own kinds fitting;
     }
+
+-- ---- no flags
+
+-- where no flag is set, nothing is there
+pub none_there : (end : ℕ) (octets : List ℕ) → properties_at property_kinds 0 end octets ≡ Ok (map (λ kind. None) property_kinds, octets)
+unfolding properties_at optional_at
+none_there end octets = refl

@@ -25,6 +25,10 @@ properties_at (kind ∷ kinds) flags end octets =
     optional_at (has_flag (length kinds + 2) flags) kind end octets
     >>= λ x. (properties_at kinds flags end x.1 >>= λ y. Ok (x.0 ∷ y.0, y.1))
 
+-- a header of a body of a size, from its properties on
+abbrev pub with_properties_at : ℕ → ℕ → ℕ → List ℕ → Result ContentHeader MethodFault
+with_properties_at size flags end octets = properties_at property_kinds flags end octets >>= λ x. whole end (header size x.0) x.1
+
 -- a header after its class, and after its weight
 abbrev pub flagged_at : ℕ → ℕ → List ℕ → ℕ → Result ContentHeader MethodFault
 flagged_at end size octets flags =

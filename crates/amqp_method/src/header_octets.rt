@@ -4,7 +4,7 @@ ghost use Rattle.amqp_method.specs.EarlyFaults.{fault_of_start};
 ghost use Rattle.amqp_method.specs.Arguments.{octet, long_long, short_string};
 ghost use Rattle.amqp_method.specs.Faults.{out_of_memory, too_long};
 ghost use Rattle.amqp_method.specs.FirstFault.{FirstFaultOfHeader};
-ghost use Rattle.amqp_method.specs.HeaderReading.{has_flag as is_set, optional_at, properties_at, header_at};
+ghost use Rattle.amqp_method.specs.HeaderReading.{has_flag as is_set, optional_at, properties_at, with_properties_at, header_at};
 ghost use Rattle.amqp_method.specs.HeaderView.{present, table_argument, later_view, properties_view, header_view};
 ghost use Rattle.amqp_method.specs.Plain.{plain_start, plain_header, CountsPresentFit};
 ghost use Rattle.amqp_method.specs.Properties.{ContentHeader, EncodesHeader, property_kinds, later_kinds};
@@ -193,10 +193,48 @@ fn read_properties(
     Ok((properties, octets))
 }
 
+/// A header of a body of this size without properties, after which no octet is left.
+#[tactic(auto, using(crate::proofs::HeaderLemmas::none_there))]
+fn read_bare(body_size: u64, octets: &[u8], end: usize) -> Result<Header, MethodFault>
+    requires { length octets.now ≤ end }
+    ensures { Gives header_view result (with_properties_at body_size 0 end octets.now) }
+{
+    read_end(octets, end)?;
+    Ok(Header {
+        body_size,
+        properties: Properties::none(),
+    })
+}
+
+/// A header of a body of this size with the properties whose flags are set, after which no octet is left.
+///
+/// It stands apart, so that a header without properties makes no room for any.
+#[inline(never)]
+fn read_flagged(
+    alloc: Global,
+    body_size: u64,
+    flags: u16,
+    octets: &[u8],
+    end: usize,
+) -> Result<Header, MethodFault>
+    requires { length octets.now ≤ end }
+    ensures { Gives header_view result (with_properties_at body_size flags end octets.now) }
+{
+    let (properties, after) = read_properties(alloc, flags, octets, end)?;
+    read_end(after, end)?;
+    Ok(Header {
+        body_size,
+        properties,
+    })
+}
+
 /// The content header that a payload encodes: the class id 60 and the weight 0, 16 bits each, the size of the body in 64
 /// bits, the flags in 16, and the properties whose flags are set (AMQP 0-9-1 specification, section 4.2.6.1).
 ///
 /// A fault tells the first field that can't be read, by its first octet; for a field table, the octet in it.
+///
+/// A header is large. It stands apart, so that it is moved as one piece, and not property by property.
+#[inline(never)]
 pub fn read_header(alloc: Global, octets: &[u8]) -> Result<Header, MethodFault>
     // What is read is encoded so.
     ensures found { IfOk result (λ h. EncodesHeader (header_view h) octets.now) }
@@ -248,12 +286,10 @@ fn exact_header(alloc: Global, octets: &[u8]) -> Result<Header, MethodFault>
             kind: MethodFaultKind::BadFlags,
         });
     }
-    let (properties, after) = read_properties(alloc, flags, after, end)?;
-    read_end(after, end)?;
-    Ok(Header {
-        body_size,
-        properties,
-    })
+    if flags == 0 {
+        return read_bare(body_size, after, end);
+    }
+    read_flagged(alloc, body_size, flags, after, end)
 }
 
 /// Appends the header's payload: the class id 60, the weight 0, the size of the body, the flags, and the properties that

@@ -1,10 +1,10 @@
 //! Content headers.
-ghost use Rattle.std.specs.Prelude.{◌≡◌, ℕ, length, IfOk};
+ghost use Rattle.std.specs.Prelude.{◌≡◌, ℕ, length, map, None, IfOk};
 ghost use Rattle.amqp_value.specs.Lengths.{capped};
 ghost use Rattle.amqp_method.specs.Arguments.{short_string};
 ghost use Rattle.amqp_method.specs.HeaderView.{present, table_argument, properties_view, header_view};
 ghost use Rattle.amqp_method.specs.Plain.{plain_header};
-ghost use Rattle.amqp_method.specs.Properties.{header};
+ghost use Rattle.amqp_method.specs.Properties.{header, property_kinds};
 
 use crate::faults::OutOfMemory;
 use crate::lengths::properties_length;
@@ -72,6 +72,28 @@ impl Header {
 }
 
 impl Properties {
+    /// No property at all.
+    pub(crate) fn none() -> Properties
+        ensures { properties_view result ≡ map (λ kind. None) property_kinds }
+    {
+        Properties {
+            content_type: None,
+            content_encoding: None,
+            headers: None,
+            delivery_mode: None,
+            priority: None,
+            correlation_id: None,
+            reply_to: None,
+            expiration: None,
+            message_id: None,
+            timestamp: None,
+            type_name: None,
+            user_id: None,
+            app_id: None,
+            cluster_id: None,
+        }
+    }
+
     /// How many octets a header with these properties is written in: the same for every size of a body. `u64::MAX` stands
     /// for every number from there on, which no properties in memory reach.
     pub fn header_length(&self) -> u64

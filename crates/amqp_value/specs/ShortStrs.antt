@@ -8,5 +8,5 @@ stored (InPlace len octets) = take len octets
 stored (Allocated octets) = octets.items
 
 abbrev pub IsStored : Store → Type 0
-IsStored (InPlace len octets) = len ≤ 24
+IsStored (InPlace len octets) = len ≤ 30
 IsStored (Allocated octets) = length octets.items ≤ 255

@@ -21,7 +21,7 @@ use std::alloc::Global;
 
 /// How many octets a pair of a table, and a value of an array, are expected to have. Room for as many as the
 /// octets then hold is made at once, but for no more than a few, since a long value looks like many.
-const EXPECTED_PAIR: usize = 16;
+const EXPECTED_PAIR: usize = 12;
 
 const EXPECTED_VALUE: usize = 8;
 

@@ -14,7 +14,7 @@ use std::fmt;
 use std::marker::Model;
 
 /// How many octets stand in place, without an allocation: the names of most headers have fewer.
-const IN_PLACE: usize = 24;
+const IN_PLACE: usize = 30;
 
 /// At most 255 octets, any octets.
 #[derive(Drop)]
@@ -25,7 +25,7 @@ pub struct ShortStr {
 /// The octets after `len` say nothing.
 #[derive(Drop)]
 enum Store {
-    InPlace { len: usize, octets: [u8; IN_PLACE] },
+    InPlace { len: u8, octets: [u8; IN_PLACE] },
     Allocated(Vec<u8>),
 }
 
@@ -76,7 +76,7 @@ impl ShortStr {
         ensures short { length self.now ≤ 255 }
     {
         match &self.store {
-            Store::InPlace { len, octets } => &octets[..*len],
+            Store::InPlace { len, octets } => &octets[..usize::from(*len)],
             Store::Allocated(octets) => octets.as_slice(),
         }
     }
@@ -141,7 +141,7 @@ impl ShortStr {
         }
         Ok(ShortStr {
             store: Store::InPlace {
-                len,
+                len: len as u8,
                 octets: in_place(octets, len),
             },
         })
@@ -152,7 +152,7 @@ impl ShortStr {
 #[inline(always)]
 fn in_place(octets: &[u8], len: usize) -> [u8; IN_PLACE]
     requires within { len ≤ length octets.now }
-    requires room { len ≤ 24 }
+    requires room { len ≤ 30 }
     ensures { take len result ≡ take len octets.now }
 {
     let mut copied = [0; IN_PLACE];

@@ -1,7 +1,7 @@
 use Rattle.std.proofs.Common.{List, Option, length, subst}
 use Rattle.amqp_method.specs.Arguments.{Argument}
 use Rattle.amqp_method.specs.Properties.{header}
-use Rattle.amqp_core.specs.OutboxFrames.{HeaderReadsBack}
+use Rattle.amqp_outbox.specs.OutboxFrames.{HeaderReadsBack}
 use Rattle.amqp_core.proofs.sending.stage_header.Goals as goal
 
 pub returns-clause-reads_back : goal.returns-clause-reads_back

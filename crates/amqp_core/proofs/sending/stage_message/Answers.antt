@@ -3,8 +3,8 @@ use Rattle.std.proofs.lemmas.Result.{on_ok_weaker}
 use Rattle.amqp_method.specs.HeaderView.{properties_view}
 use Rattle.amqp_method.specs.MessageView.{message_view}
 use Rattle.amqp_method.specs.Properties.{header}
-use Rattle.amqp_core.specs.OutboxFrames.{header_frame}
-use Rattle.amqp_core.specs.OutboxView.{with_staged}
+use Rattle.amqp_outbox.specs.OutboxFrames.{header_frame}
+use Rattle.amqp_outbox.specs.OutboxView.{with_staged}
 use Rattle.amqp_core.proofs.PieceLemmas.{message_staged}
 use Rattle.amqp_core.proofs.sending.stage_message.Goals as goal
 

@@ -1,6 +1,6 @@
 use Rattle.std.proofs.Common.{◌≡◌, ◌++◌, map, length}
 use Rattle.amqp_model.specs.Contents.{pieces}
-use Rattle.amqp_core.specs.OutboxFrames.{body_frame}
+use Rattle.amqp_outbox.specs.OutboxFrames.{body_frame}
 use Rattle.amqp_core.proofs.sending.stage_parts.Given as goal
 
 abbrev pub invariant-loop-rest : goal.invariant-loop-rest

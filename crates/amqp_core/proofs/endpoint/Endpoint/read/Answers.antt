@@ -7,13 +7,13 @@ use Rattle.amqp_frame.specs.Stream.{Stream}
 use Rattle.amqp_model.specs.Endpoint.{after_feed}
 use Rattle.amqp_model.specs.EndVerdict.{facts_at}
 use Rattle.amqp_model.specs.Readings.{reading}
+use Rattle.amqp_outbox.specs.OutboxView.{Outgoing}
 use Rattle.amqp_core.specs.AccountView.{note_there}
 use Rattle.amqp_core.specs.Answering.{is_out_of_memory, ran_out}
 use Rattle.amqp_core.specs.CoreView.{core_end}
 use Rattle.amqp_core.specs.EndpointView.{endpoint_view, role_at, unfinished_of}
 use Rattle.amqp_core.specs.Feeding.{IsFed}
 use Rattle.amqp_core.specs.NoteView.{item_there}
-use Rattle.amqp_core.specs.OutboxView.{Outgoing}
 use Rattle.amqp_core.specs.Settings.{config_view}
 use Rattle.amqp_core.proofs.AccountLemmas.{account_of_frame, account_of_rest, account_of_stop, came_fresh, rest_of, whole_of}
 use Rattle.amqp_core.proofs.GrowthLemmas.{frame_grows, stop_grows}
@@ -56,8 +56,8 @@ returns-in_default-clause-sound c =
       bounded = c.requires.sound.bounded;
     }
 
-pub returns-in-Some-clause-fed : goal.returns-in-Some-clause-fed
-returns-in-Some-clause-fed c =
+pub returns-clause-fed : goal.returns-clause-fed
+returns-clause-fed c =
     let old = c.args.self.now in
     let none : old.heard ≡ 0 = c.requires.sound.fields.opened (reads (role_at old) (core_end old.core).phase c.requires.reads).opened in
     let by = fed_by (role_at old) (core_end old.core) old.heard old.splitter old.outbox.output c.args.piece.now c.requires.reads c.requires.sound.fields c.requires.sound.holds (λ i. omega (arith, c.type_inv.piece i)) in
@@ -67,8 +67,8 @@ returns-in-Some-clause-fed c =
     frame_fed (role_at old) (config_view old.core.settings) (endpoint_view old) old.splitter c.args.piece.now c.in-Ok.fed.taken (lent c.in-Some.frame) c.answer-answer.result c.after_octets.result (core_end c.answer-answer.new.self) (unfinished_of old.heard c.tune.new.splitter.pending) c.answer-answer.new.outbox
     (c.pieces_are_split.ensures.frame (role_at old) (config_view old.core.settings) (endpoint_view old) old.splitter c.args.piece.now c.in-Ok.fed.taken (lent c.in-Some.frame)) by c.in-Ok.ensures.within completes c.after_octets.ensures.piece c.answer-answer.ensures.said c.answer-answer.ensures.end (none_unfinished old.heard c.tune.new.splitter.pending none pending) c.answer-answer.ensures.output
 
-pub returns-in-Some-clause-sound : goal.returns-in-Some-clause-sound
-returns-in-Some-clause-sound c =
+pub returns-clause-sound : goal.returns-clause-sound
+returns-clause-sound c =
     let old = c.args.self.now in
     let r = reads (role_at old) (core_end old.core).phase c.requires.reads in
     let by = fed_by (role_at old) (core_end old.core) old.heard old.splitter old.outbox.output c.args.piece.now c.requires.reads c.requires.sound.fields c.requires.sound.holds (λ i. omega (arith, c.type_inv.piece i)) in
@@ -76,7 +76,7 @@ returns-in-Some-clause-sound c =
     let left = frame_leaves (role_at old) (config_view old.core.settings) (core_end old.core) (core_end c.answer-answer.new.self) (lent c.in-Some.frame) (ran_out c.answer-answer.result) c.requires.sound.writes (c.agreed_is_within.ensures.frame (role_at old) (config_view old.core.settings) (core_end old.core) (lent c.in-Some.frame)) (c.requires.sound.fields.awaited r.opened) c.requires.sound.fields.agreed c.answer-answer.ensures.end in
     sound_with old.core.settings (record { core = c.answer-answer.new.self; splitter = c.tune.new.splitter; heard = old.heard; outbox = c.answer-answer.new.outbox }) c.answer-answer.ensures.settings c.requires.sound.writes (ap (λ (o : Outgoing). o.staged) c.answer-answer.ensures.output)
     (fields_frame (role_at old) (core_end old.core) (core_end c.answer-answer.new.self) old.heard old.splitter c.feed_ref.follows.lender-at-none c.tune.new.splitter (place_after old.splitter.taken c.in-Ok.fed.taken) c.requires.reads c.requires.sound.fields after c.tune.ensures left.0 left.1)
-    (fed_holds (role_at old) (config_view old.core.settings) (endpoint_view old) _ old.splitter c.args.piece.now _ (c.unfinished_is_held.ensures.feed (role_at old) (config_view old.core.settings) (endpoint_view old) c.args.piece.now) by (returns-in-Some-clause-fed c))
+    (fed_holds (role_at old) (config_view old.core.settings) (endpoint_view old) _ old.splitter c.args.piece.now _ (c.unfinished_is_held.ensures.feed (role_at old) (config_view old.core.settings) (endpoint_view old) c.args.piece.now) by (returns-clause-fed c))
     (bounded_frame (role_at old) (config_view old.core.settings) (core_end old.core) (core_end c.answer-answer.new.self) (lent c.in-Some.frame) (ran_out c.answer-answer.result) (c.ends_are_bounded.ensures.frame (role_at old) (config_view old.core.settings) (core_end old.core) (lent c.in-Some.frame)) r.octets c.requires.sound.bounded c.answer-answer.ensures.end)
 
 pub returns-in-Err-clause-fed : goal.returns-in-Err-clause-fed
@@ -101,8 +101,8 @@ returns-in-Err-clause-sound c =
     (fed_holds (role_at old) (config_view old.core.settings) (endpoint_view old) _ old.splitter c.args.piece.now _ (c.unfinished_is_held.ensures.feed (role_at old) (config_view old.core.settings) (endpoint_view old) c.args.piece.now) by (returns-in-Err-clause-fed c))
     (bounded_failed (role_at old) (config_view old.core.settings) (core_end c.stop.new.self) left.0)
 
-pub returns-in-Some-clause-in_place : goal.returns-in-Some-clause-in_place
-returns-in-Some-clause-in_place c = λ unwanted drops.
+pub returns-clause-in_place : goal.returns-clause-in_place
+returns-clause-in_place c = λ unwanted drops.
     let old = c.args.self.now in
     let completes : Completes old.splitter (take c.in-Ok.fed.taken c.args.piece.now) (lent c.in-Some.frame) = subst (λ o. IfSome o (λ f. Completes old.splitter (take c.in-Ok.fed.taken c.args.piece.now) (lent f))) c.in-Some.is c.in-Ok.ensures.frame in
     let none = none_pending (role_at old) (core_end old.core) old.heard old.splitter old.outbox.output c.args.piece.now c.requires.sound.fields drops in
@@ -124,8 +124,8 @@ returns-in_default-clause-account c = λ wanted ran.
     (c.pieces_are_split.ensures.rest (role_at old) (config_view old.core.settings) (endpoint_view old) old.splitter c.args.piece.now c.in-Ok.fed.taken by waits) waits.all
     (rest_of old.splitter (endpoint_view old) c.args.piece.now c.in-Ok.fed.taken by.splits waits) refl (came_fresh old.core.settings c.args.account.now c.requires.fresh)
 
-pub returns-in-Some-clause-account : goal.returns-in-Some-clause-account
-returns-in-Some-clause-account c = λ wanted ran.
+pub returns-clause-account : goal.returns-clause-account
+returns-clause-account c = λ wanted ran.
     let old = c.args.self.now in
     let by = fed_by (role_at old) (core_end old.core) old.heard old.splitter old.outbox.output c.args.piece.now c.requires.reads c.requires.sound.fields c.requires.sound.holds (λ i. omega (arith, c.type_inv.piece i)) in
     let completes : Completes old.splitter (take c.in-Ok.fed.taken c.args.piece.now) (lent c.in-Some.frame) = subst (λ o. IfSome o (λ f. Completes old.splitter (take c.in-Ok.fed.taken c.args.piece.now) (lent f))) c.in-Some.is c.in-Ok.ensures.frame in
@@ -135,8 +135,8 @@ returns-in-Some-clause-account c = λ wanted ran.
     (whole_of old.splitter (endpoint_view old) (take c.in-Ok.fed.taken c.args.piece.now) (lent c.in-Some.frame) by.splits completes) c.answer-answer.ensures.octets
     (λ i. record { took = c.answer-answer.ensures.took wanted lasts i; item = c.answer-answer.ensures.item wanted lasts i; owed = c.answer-answer.ensures.owed lasts i })
 
-pub returns-in-Some-clause-grows : goal.returns-in-Some-clause-grows
-returns-in-Some-clause-grows c =
+pub returns-clause-grows : goal.returns-clause-grows
+returns-clause-grows c =
     let old = c.args.self.now in
     frame_grows old.core.settings (core_end old.core) (lent c.in-Some.frame) c.answer-answer.result c.answer-answer.new.account.owed old.outbox.output c.answer-answer.new.outbox c.requires.sound.writes
     (c.frames_are_within.ensures.verdict (role_at old) (facts_at (config_view old.core.settings) (core_end old.core) (lent c.in-Some.frame).channel) (reading (lent c.in-Some.frame))) c.answer-answer.ensures.owed c.answer-answer.ensures.output

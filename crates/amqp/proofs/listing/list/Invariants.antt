@@ -1,9 +1,0 @@
-use Rattle.std.proofs.Common.{length}
-use Rattle.amqp.proofs.ListingLemmas.{ListedSoFar}
-use Rattle.amqp.proofs.listing.list.Given as goal
-
-abbrev pub invariant-loop-rest : goal.invariant-loop-rest
-invariant-loop-rest l = ListedSoFar l.fn.octets l.rest l.frames.items l.splitter
-
-abbrev pub decreases-loop-rest : goal.decreases-loop-rest
-decreases-loop-rest l = length l.rest

@@ -1,7 +1,0 @@
-//! The exit statuses of a run. Status 2, for a command line that can't be read, is `clap`'s.
-
-/// The run met no fault.
-pub const DONE: u8 = 0;
-
-/// The run printed a fault, or could not print.
-pub const FAULT: u8 = 1;

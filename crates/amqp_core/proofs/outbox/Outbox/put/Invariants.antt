@@ -1,6 +1,0 @@
-use Rattle.std.proofs.Common.{◌≡◌, ◌+◌, length}
-use Rattle.amqp_core.specs.OutboxView.{all_put}
-use Rattle.amqp_core.proofs.outbox.Outbox.put.Given as goal
-
-abbrev pub invariant-loop : goal.invariant-loop
-invariant-loop l = (all_put l.self ≡ all_put l.initial.self) × (l.counter + length l.self.staged ≡ length l.initial.self.staged)

@@ -1,6 +1,0 @@
-use Rattle.std.proofs.Common.{◌≡◌, take}
-use Rattle.amqp_core.specs.OutboxSlots.{slots_length}
-use Rattle.amqp_core.proofs.slots.length_of.Given as goal
-
-abbrev pub invariant-loop-slot : goal.invariant-loop-slot
-invariant-loop-slot l = l.total ≡ slots_length (take l.slot-index l.slots)

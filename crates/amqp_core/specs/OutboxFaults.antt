@@ -1,9 +1,0 @@
--- Why a frame can't be staged.
-use Rattle.amqp_core.specs.declared.staging.StageFault.{StageFault}
-use Rattle.amqp_core.specs.declared.staging.StageFault.TheVariants.{OutOfMemory, TooLong}
-
-abbrev pub out_of_memory : StageFault
-out_of_memory = OutOfMemory
-
-abbrev pub too_long : StageFault
-too_long = TooLong

@@ -1,0 +1,9 @@
+mod OutboxFrames
+mod OutboxLists
+mod OutboxMoves
+mod OutboxPlaces
+mod OutboxRows
+mod OutboxSlots
+mod OutboxStates
+mod OutboxWrites
+mod ReadLemmas

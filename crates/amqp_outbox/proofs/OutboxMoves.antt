@@ -1,0 +1,346 @@
+-- What the calls of an outbox make of its fields.
+use Rattle.std.proofs.Common.{◌≡◌, ℕ, ◌+◌, ◌-◌, ◌<◌, ◌≤◌, List, [], ◌∷◌, ◌++◌, length, map, take, drop, All, refl, sym, ap, ap₂, ◌∙◌, subst, arith, append_assoc, append-nil, length-append, length-drop, take-append-drop, get_or}
+use Rattle.std.proofs.lemmas.List.{drop_at, take_at, length-map, length-take-le, map-append, get_or_at, drop-take, drop-map}
+use Rattle.std.proofs.lemmas.List.Elements.{All-push, All-append, All-take, All-drop, All-cons, All-head, All-tail}
+use Rattle.amqp_frame.specs.Frame.{Frame, octets}
+use Rattle.amqp_frame.specs.Splitting.{stream}
+use Rattle.amqp_model.specs.Arrangement.{HasChannel, IsChannel, IsArranged, placed}
+use Rattle.amqp_model.specs.ArrangementLaws.{PutArranges}
+use Rattle.amqp_model.specs.Outputs.{output_octets, after_put, after_puts}
+use Rattle.amqp_outbox.specs.OutboxSlots.{slot_of, slot_length, slots_length, moved_up, moved_down}
+use Rattle.amqp_outbox.specs.OutboxView.{Outgoing, only, with_staged, all_put, IsPutOfFirst}
+use Rattle.amqp_outbox.specs.OutboxFields.{row_of, staged_of, outgoing_of, IsSound}
+use Rattle.amqp_outbox.specs.declared.slots.Slot.{Slot}
+use Rattle.amqp_outbox.specs.declared.outbox.Outbox.TheInside.{Inside}
+use Rattle.amqp_outbox.proofs.OutboxLists.{moved_up-is, moved_down-is, last_of_three, last_of_four}
+use Rattle.amqp_outbox.proofs.OutboxRows.{stream-append, length-octets, slots_length-row}
+use Rattle.amqp_outbox.proofs.OutboxStates.{IsLaidOut, IsKept, laid_out, view, outgoing}
+
+-- the octets to write are those from the written ones up to those staged
+pub output-is : (x : Inside) → IsSound x → take (x.arranged - x.written) (drop x.written x.octets.items) ≡ output_octets (outgoing_of x).output
+output-is x s =
+    let l = laid_out x s in
+    let ahead = drop x.written (take x.begun x.octets.items) in
+    let gone = take x.written x.octets.items in
+    let a : drop x.written x.octets.items ≡ ahead ++ (stream (row_of x) ++ stream (staged_of x)) = ap (drop x.written) l.octets ∙ drop_at gone (ahead ++ (stream (row_of x) ++ stream (staged_of x))) x.written (sym l.written) in
+    let b : drop x.written x.octets.items ≡ (ahead ++ stream (row_of x)) ++ stream (staged_of x) = a ∙ sym (append_assoc ahead (stream (row_of x)) (stream (staged_of x))) in
+    let c = length-append ahead (stream (row_of x)) in
+    let d = l.begun in
+    let e = l.arranged in
+    ap (take (x.arranged - x.written)) b ∙ take_at (ahead ++ stream (row_of x)) (stream (staged_of x)) (x.arranged - x.written) (omega arith)
+
+-- The octets that are written are dropped.
+pub written-dropped : (x y : Inside) → IsSound x → y.octets.items ≡ drop x.written x.octets.items → y.slots.items ≡ x.slots.items → y.written ≡ 0 → y.begun ≡ x.begun - x.written → y.arranged ≡ x.arranged - x.written
+    → y.slots_begun ≡ x.slots_begun → y.slots_arranged ≡ x.slots_arranged
+    → IsLaidOut y [] (drop x.written (take x.begun x.octets.items)) (take x.slots_begun x.slots.items) (row_of x) (staged_of x)
+written-dropped x y s octets slots written begun arranged slots_begun slots_arranged =
+    let l = laid_out x s in
+    let ahead = drop x.written (take x.begun x.octets.items) in
+    let rest = ahead ++ (stream (row_of x) ++ stream (staged_of x)) in
+    let a = l.begun in
+    let b = l.arranged in
+    let c = s.written in
+    record {
+      octets = octets ∙ (ap (drop x.written) l.octets ∙ drop_at (take x.written x.octets.items) rest x.written (sym l.written));
+      slots = slots ∙ l.slots;
+      written = written;
+      begun = omega arith;
+      arranged = omega arith;
+      slots_begun = slots_begun ∙ l.slots_begun;
+      slots_arranged = let d = l.slots_arranged in omega arith;
+    }
+
+-- The slots of the frames that are begun are dropped.
+pub begun-dropped : (x y : Inside) → IsSound x → y.octets.items ≡ x.octets.items → y.slots.items ≡ drop x.slots_begun x.slots.items → y.written ≡ x.written → y.begun ≡ x.begun → y.arranged ≡ x.arranged
+    → y.slots_begun ≡ 0 → y.slots_arranged ≡ x.slots_arranged - x.slots_begun
+    → IsLaidOut y (take x.written x.octets.items) (drop x.written (take x.begun x.octets.items)) [] (row_of x) (staged_of x)
+begun-dropped x y s octets slots written begun arranged slots_begun slots_arranged =
+    let l = laid_out x s in
+    let rest = map slot_of (row_of x) ++ map slot_of (staged_of x) in
+    let a = l.begun in
+    let b = l.arranged in
+    let c = l.slots_arranged in
+    record {
+      octets = octets ∙ l.octets;
+      slots = slots ∙ (ap (drop x.slots_begun) l.slots ∙ drop_at (take x.slots_begun x.slots.items) rest x.slots_begun (sym l.slots_begun));
+      written = written ∙ l.written;
+      begun = omega arith;
+      arranged = omega arith;
+      slots_begun = slots_begun;
+      slots_arranged = omega arith;
+    }
+
+-- fields that are laid out with the same lists stand for the same
+pub same_view : (x y : Inside) (gone : List ℕ) (past : List Slot) (value : Outgoing) → outgoing_of x ≡ value → y.last ≡ x.last → IsLaidOut y gone (drop x.written (take x.begun x.octets.items)) past (row_of x) (staged_of x) → outgoing_of y ≡ value
+same_view x y gone past value e f l =
+    let ahead = drop x.written (take x.begun x.octets.items) in
+    view y gone ahead past (row_of x) (staged_of x) l ∙ (ap (λ last. outgoing ahead last (row_of x) (staged_of x)) f ∙ e)
+
+-- A frame is staged after the others.
+pub frame-staged : (x y : Inside) (f : Frame) → IsSound x → y.octets.items ≡ x.octets.items ++ octets f → y.slots.items ≡ x.slots.items ++ slot_of f ∷ [] → y.written ≡ x.written → y.begun ≡ x.begun → y.arranged ≡ x.arranged
+    → y.slots_begun ≡ x.slots_begun → y.slots_arranged ≡ x.slots_arranged
+    → IsLaidOut y (take x.written x.octets.items) (drop x.written (take x.begun x.octets.items)) (take x.slots_begun x.slots.items) (row_of x) (staged_of x ++ f ∷ [])
+frame-staged x y f s more more_slots written begun arranged slots_begun slots_arranged =
+    let l = laid_out x s in
+    let gone = take x.written x.octets.items in
+    let ahead = drop x.written (take x.begun x.octets.items) in
+    let row = row_of x in
+    let staged = staged_of x in
+    let past = take x.slots_begun x.slots.items in
+    let a = l.begun in
+    let b = l.arranged in
+    let c = l.slots_arranged in
+    let d : stream (staged ++ f ∷ []) ≡ stream staged ++ octets f = stream-append staged (f ∷ []) ∙ ap (λ l. stream staged ++ l) (append-nil (octets f)) in
+    let e : map slot_of (staged ++ f ∷ []) ≡ map slot_of staged ++ slot_of f ∷ [] = map-append slot_of staged (f ∷ []) in
+    record {
+      octets = more ∙ (ap (λ l. l ++ octets f) l.octets ∙ (last_of_four gone ahead (stream row) (stream staged) (octets f) ∙ ap (λ l. gone ++ (ahead ++ (stream row ++ l))) (sym d)));
+      slots = more_slots ∙ (ap (λ l. l ++ slot_of f ∷ []) l.slots ∙ (last_of_three past (map slot_of row) (map slot_of staged) (slot_of f ∷ []) ∙ ap (λ l. past ++ (map slot_of row ++ l)) (sym e)));
+      written = written ∙ l.written;
+      begun = omega arith;
+      arranged = omega arith;
+      slots_begun = slots_begun ∙ l.slots_begun;
+      slots_arranged = omega arith;
+    }
+
+pub kept-staged : (x : Inside) (f : Frame) → IsSound x → HasChannel f → IsKept x.last (row_of x) (staged_of x ++ f ∷ [])
+kept-staged x f s h = record { in_turn = s.in_turn; row_channels = s.row_channels; staged_channels = All-push HasChannel (staged_of x) f s.staged_channels h }
+
+pub staged_view : (x y : Inside) (f : Frame) (gone : List ℕ) (past : List Slot) (value : Outgoing) → outgoing_of x ≡ value → y.last ≡ x.last → IsLaidOut y gone (drop x.written (take x.begun x.octets.items)) past (row_of x) (staged_of x ++ f ∷ [])
+    → outgoing_of y ≡ with_staged value (f ∷ [])
+staged_view x y f gone past value e g l =
+    let ahead = drop x.written (take x.begun x.octets.items) in
+    view y gone ahead past (row_of x) (staged_of x ++ f ∷ []) l ∙ (ap (λ last. outgoing ahead last (row_of x) (staged_of x ++ f ∷ [])) g ∙ ap (λ v. with_staged v (f ∷ [])) e)
+
+-- the frame appended stands from where the octets ended before
+pub frame-appended : (f : Frame) (old new : List ℕ) (at : ℕ) → at ≡ length old → new ≡ old ++ octets f → drop at new ≡ octets f
+frame-appended f old new at e g = ap (drop at) g ∙ drop_at old (octets f) at (sym e)
+
+pub length-appended : (f : Frame) (old new : List ℕ) (at : ℕ) → at ≡ length old → new ≡ old ++ octets f → length new ≡ at + (length f.payload + 8)
+length-appended f old new at e g =
+    let a = ap length g ∙ length-append old (octets f) in
+    let b = length-octets f in
+    omega arith
+
+-- The slot of the first frame that is staged is put after so many slots of the row.
+slots-put : (x y : Inside) (f : Frame) (later : List Frame) (p : ℕ) → IsSound x → staged_of x ≡ f ∷ later → p ≤ length (row_of x) → y.slots.items ≡ moved_up (x.slots_begun + p) (x.slots_arranged + 1) 1 x.slots.items
+    → y.slots.items ≡ take x.slots_begun x.slots.items ++ (map slot_of (take p (row_of x) ++ f ∷ drop p (row_of x)) ++ map slot_of later)
+slots-put x y f later p s staged few slots_are =
+    let l = laid_out x s in
+    let row = row_of x in
+    let past = take x.slots_begun x.slots.items in
+    let c = l.slots_arranged in
+    let slots1 : map slot_of row ≡ map slot_of (take p row) ++ map slot_of (drop p row) = ap (map slot_of) (sym (take-append-drop p row)) ∙ map-append slot_of (take p row) (drop p row) in
+    let slots2 : x.slots.items ≡ (past ++ map slot_of (take p row)) ++ (map slot_of (drop p row) ++ ((slot_of f ∷ []) ++ map slot_of later)) =
+    l.slots
+    ∙ (ap₂ (λ r t. past ++ (r ++ map slot_of t)) slots1 staged
+    ∙ (ap (λ ss. past ++ ss) (append_assoc (map slot_of (take p row)) (map slot_of (drop p row)) (slot_of f ∷ map slot_of later)) ∙ sym (append_assoc past (map slot_of (take p row)) (map slot_of (drop p row) ++ (slot_of f ∷ map slot_of later))))) in
+    let count1 = length-map (take p row) slot_of in
+    let count2 = length-take-le p row few in
+    let count3 = length-append past (map slot_of (take p row)) in
+    let count4 = l.slots_begun in
+    let count5 = length-map (drop p row) slot_of in
+    let count6 = length-drop p row in
+    let slots_then : y.slots.items ≡ (past ++ map slot_of (take p row)) ++ ((slot_of f ∷ []) ++ (map slot_of (drop p row) ++ map slot_of later)) =
+    slots_are ∙ (ap (moved_up (x.slots_begun + p) (x.slots_arranged + 1) 1) slots2 ∙ moved_up-is (past ++ map slot_of (take p row)) (map slot_of (drop p row)) (slot_of f ∷ []) (map slot_of later) (x.slots_begun + p) (x.slots_arranged + 1) 1 (omega arith) (omega arith) refl) in
+    let row_slots_then : map slot_of (take p row ++ f ∷ drop p row) ≡ map slot_of (take p row) ++ slot_of f ∷ map slot_of (drop p row) = map-append slot_of (take p row) (f ∷ drop p row) in
+    let regrouped_slots : (past ++ map slot_of (take p row)) ++ (slot_of f ∷ (map slot_of (drop p row) ++ map slot_of later)) ≡ past ++ ((map slot_of (take p row) ++ slot_of f ∷ map slot_of (drop p row)) ++ map slot_of later) =
+    append_assoc past (map slot_of (take p row)) (slot_of f ∷ (map slot_of (drop p row) ++ map slot_of later)) ∙ ap (λ ss. past ++ ss) (sym (append_assoc (map slot_of (take p row)) (slot_of f ∷ map slot_of (drop p row)) (map slot_of later))) in
+    slots_then ∙ (regrouped_slots ∙ ap (λ ss. past ++ (ss ++ map slot_of later)) (sym row_slots_then))
+
+-- The first frame that is staged is put after so many frames of the row.
+pub frame-put : (x y : Inside) (f : Frame) (later : List Frame) (p moved count end : ℕ) → IsSound x → staged_of x ≡ f ∷ later → p ≤ length (row_of x) → moved ≡ length (stream (drop p (row_of x))) → count ≡ length f.payload + 8 → end ≡ x.arranged + count
+    → y.octets.items ≡ moved_up (x.arranged - moved) end count x.octets.items → y.slots.items ≡ moved_up (x.slots_begun + p) (x.slots_arranged + 1) 1 x.slots.items
+    → y.written ≡ x.written → y.begun ≡ x.begun → y.arranged ≡ end → y.slots_begun ≡ x.slots_begun → y.slots_arranged ≡ x.slots_arranged + 1
+    → IsLaidOut y (take x.written x.octets.items) (drop x.written (take x.begun x.octets.items)) (take x.slots_begun x.slots.items) (take p (row_of x) ++ f ∷ drop p (row_of x)) later
+frame-put x y f later p moved count end s staged few moved_is count_is end_is octets_are slots_are written begun arranged slots_begun slots_arranged =
+    let l = laid_out x s in
+    let row = row_of x in
+    let gone = take x.written x.octets.items in
+    let ahead = drop x.written (take x.begun x.octets.items) in
+    let first = stream (take p row) in
+    let rest = stream (drop p row) in
+    let a = l.begun in
+    let b = l.arranged in
+    let c = l.slots_arranged in
+    let d = l.written in
+    let split : stream row ≡ first ++ rest = ap stream (sym (take-append-drop p row)) ∙ stream-append (take p row) (drop p row) in
+    let size = ap length split ∙ length-append first rest in
+    let frame = length-octets f in
+    let whole : x.octets.items ≡ ((gone ++ ahead) ++ first) ++ (rest ++ (octets f ++ stream later)) =
+    l.octets
+    ∙ (ap₂ (λ r t. gone ++ (ahead ++ (r ++ stream t))) split staged
+    ∙ (ap (λ os. gone ++ (ahead ++ os)) (append_assoc first rest (octets f ++ stream later))
+    ∙ (sym (append_assoc gone ahead (first ++ (rest ++ (octets f ++ stream later)))) ∙ sym (append_assoc (gone ++ ahead) first (rest ++ (octets f ++ stream later)))))) in
+    let size1 = length-append gone ahead in
+    let size2 = length-append (gone ++ ahead) first in
+    let octets_then : y.octets.items ≡ ((gone ++ ahead) ++ first) ++ (octets f ++ (rest ++ stream later)) =
+    octets_are ∙ (ap (moved_up (x.arranged - moved) end count) whole ∙ moved_up-is ((gone ++ ahead) ++ first) rest (octets f) (stream later) (x.arranged - moved) end count (omega arith) (omega arith) (omega arith)) in
+    let row_then : stream (take p row ++ f ∷ drop p row) ≡ first ++ (octets f ++ rest) = stream-append (take p row) (f ∷ drop p row) in
+    let regrouped : ((gone ++ ahead) ++ first) ++ (octets f ++ (rest ++ stream later)) ≡ gone ++ (ahead ++ ((first ++ (octets f ++ rest)) ++ stream later)) =
+    append_assoc (gone ++ ahead) first (octets f ++ (rest ++ stream later))
+    ∙ (append_assoc gone ahead (first ++ (octets f ++ (rest ++ stream later)))
+    ∙ ap (λ os. gone ++ (ahead ++ os)) (ap (λ os. first ++ os) (sym (append_assoc (octets f) rest (stream later))) ∙ sym (append_assoc first (octets f ++ rest) (stream later)))) in
+    let count4 = l.slots_begun in
+    let count1 = length-take-le p row few in
+    let count6 = length-drop p row in
+    let size3 = ap length row_then ∙ length-append first (octets f ++ rest) in
+    let size4 = length-append (octets f) rest in
+    let count7 = length-append (take p row) (f ∷ drop p row) in
+    record {
+      octets = octets_then ∙ (regrouped ∙ ap (λ os. gone ++ (ahead ++ (os ++ stream later))) (sym row_then));
+      slots = slots-put x y f later p s staged few slots_are;
+      written = written ∙ l.written;
+      begun = omega arith;
+      arranged = omega arith;
+      slots_begun = slots_begun ∙ l.slots_begun;
+      slots_arranged = omega arith;
+    }
+
+-- The same, where what stands before the place makes room.
+pub frame-put-down : (x y : Inside) (f : Frame) (later : List Frame) (p moved count : ℕ) → IsSound x → staged_of x ≡ f ∷ later → p ≤ length (row_of x) → moved ≡ length (stream (drop p (row_of x))) → count ≡ length f.payload + 8 → count ≤ x.written
+    → y.octets.items ≡ moved_down x.written (x.arranged - moved) x.arranged count x.octets.items → y.slots.items ≡ moved_up (x.slots_begun + p) (x.slots_arranged + 1) 1 x.slots.items
+    → y.written ≡ x.written - count → y.begun ≡ x.begun - count → y.arranged ≡ x.arranged → y.slots_begun ≡ x.slots_begun → y.slots_arranged ≡ x.slots_arranged + 1
+    → IsLaidOut y (take (x.written - count) (take x.written x.octets.items)) (drop x.written (take x.begun x.octets.items)) (take x.slots_begun x.slots.items) (take p (row_of x) ++ f ∷ drop p (row_of x)) later
+frame-put-down x y f later p moved count s staged few moved_is count_is room octets_are slots_are written begun arranged slots_begun slots_arranged =
+    let l = laid_out x s in
+    let row = row_of x in
+    let gone = take x.written x.octets.items in
+    let ahead = drop x.written (take x.begun x.octets.items) in
+    let first = stream (take p row) in
+    let rest = stream (drop p row) in
+    let a = l.begun in
+    let b = l.arranged in
+    let d = l.written in
+    let split : stream row ≡ first ++ rest = ap stream (sym (take-append-drop p row)) ∙ stream-append (take p row) (drop p row) in
+    let size = ap length split ∙ length-append first rest in
+    let frame = length-octets f in
+    let whole : x.octets.items ≡ gone ++ ((ahead ++ first) ++ (rest ++ (octets f ++ stream later))) =
+    l.octets
+    ∙ (ap₂ (λ r t. gone ++ (ahead ++ (r ++ stream t))) split staged
+    ∙ (ap (λ os. gone ++ (ahead ++ os)) (append_assoc first rest (octets f ++ stream later)) ∙ ap (λ os. gone ++ os) (sym (append_assoc ahead first (rest ++ (octets f ++ stream later)))))) in
+    let size1 = length-append ahead first in
+    let lost = take (x.written - count) gone in
+    let size2 = length-take-le (x.written - count) gone (omega arith) in
+    let octets_then : y.octets.items ≡ lost ++ ((ahead ++ first) ++ (octets f ++ (rest ++ stream later))) =
+    octets_are ∙ (ap (moved_down x.written (x.arranged - moved) x.arranged count) whole ∙ moved_down-is gone (ahead ++ first) rest (octets f) (stream later) x.written (x.arranged - moved) x.arranged count d (omega arith) (omega arith) (omega arith) room) in
+    let row_then : stream (take p row ++ f ∷ drop p row) ≡ first ++ (octets f ++ rest) = stream-append (take p row) (f ∷ drop p row) in
+    let regrouped : (ahead ++ first) ++ (octets f ++ (rest ++ stream later)) ≡ ahead ++ ((first ++ (octets f ++ rest)) ++ stream later) =
+    append_assoc ahead first (octets f ++ (rest ++ stream later)) ∙ ap (λ os. ahead ++ os) (ap (λ os. first ++ os) (sym (append_assoc (octets f) rest (stream later))) ∙ sym (append_assoc first (octets f ++ rest) (stream later))) in
+    let size3 = ap length row_then ∙ length-append first (octets f ++ rest) in
+    let size4 = length-append (octets f) rest in
+    let g = slots-put x y f later p s staged few slots_are in
+    let c = l.slots_arranged in
+    let count4 = l.slots_begun in
+    let count1 = length-take-le p row few in
+    let count6 = length-drop p row in
+    let count7 = length-append (take p row) (f ∷ drop p row) in
+    record {
+      octets = octets_then ∙ ap (λ os. lost ++ os) (regrouped ∙ ap (λ os. ahead ++ (os ++ stream later)) (sym row_then));
+      slots = g;
+      written = omega arith;
+      begun = omega arith;
+      arranged = omega arith;
+      slots_begun = slots_begun ∙ l.slots_begun;
+      slots_arranged = omega arith;
+    }
+
+-- the row is arranged still
+pub kept-put : (law : PutArranges) (x : Inside) (f : Frame) (later : List Frame) (p : ℕ) → IsSound x → IsChannel x.last → staged_of x ≡ f ∷ later → placed x.last f (row_of x) ≡ take p (row_of x) ++ f ∷ drop p (row_of x)
+    → IsKept x.last (take p (row_of x) ++ f ∷ drop p (row_of x)) later
+kept-put law x f later p s last staged at =
+    let row = row_of x in
+    let channels : All HasChannel (f ∷ later) = subst (All HasChannel) staged s.staged_channels in
+    let channel : HasChannel f = All-head HasChannel f later channels in
+    let arranges = law x.last f row row last channel s.row_channels (record { arranged = s.in_turn; queues = λ queue. refl }) in
+    let arranged : IsArranged x.last (placed x.last f row) = arranges.arranged in
+    record {
+      in_turn = rw (sym at) arranged;
+      row_channels = All-append HasChannel (take p row) (f ∷ drop p row) (All-take HasChannel p row s.row_channels) (All-cons HasChannel f (drop p row) channel (All-drop HasChannel p row s.row_channels));
+      staged_channels = All-tail HasChannel f later channels;
+    }
+
+pub put_view : (x y : Inside) (f : Frame) (later : List Frame) (p : ℕ) (gone : List ℕ) (past : List Slot) (value : Outgoing) → outgoing_of x ≡ value → y.last ≡ x.last → placed x.last f (row_of x) ≡ take p (row_of x) ++ f ∷ drop p (row_of x)
+    → IsLaidOut y gone (drop x.written (take x.begun x.octets.items)) past (take p (row_of x) ++ f ∷ drop p (row_of x)) later
+    → outgoing_of y ≡ record { output = after_put f value.output; staged = later }
+put_view x y f later p gone past value e g at l =
+    let ahead = drop x.written (take x.begun x.octets.items) in
+    view y gone ahead past (take p (row_of x) ++ f ∷ drop p (row_of x)) later l
+    ∙ (ap₂ (λ last row. outgoing ahead last row later) g (sym at)
+    ∙ ap (λ (v : Outgoing). record { output = after_put f v.output; staged = later }) e)
+
+-- the first slot that is staged is that of the first frame
+pub first-staged : (x : Inside) (d : Slot) (f : Frame) (later : List Frame) → IsSound x → staged_of x ≡ f ∷ later → (get_or x.slots.items x.slots_arranged d ≡ slot_of f) × (x.slots_arranged < length x.slots.items)
+first-staged x d f later s staged =
+    let l = laid_out x s in
+    let past = take x.slots_begun x.slots.items in
+    let row = row_of x in
+    let a = l.slots_begun in
+    let b = l.slots_arranged in
+    let c = length-append past (map slot_of row) in
+    let e = length-map row slot_of in
+    let whole : x.slots.items ≡ (past ++ map slot_of row) ++ slot_of f ∷ map slot_of later = l.slots ∙ (ap (λ t. past ++ (map slot_of row ++ map slot_of t)) staged ∙ sym (append_assoc past (map slot_of row) (slot_of f ∷ map slot_of later))) in
+    let size = ap length whole ∙ length-append (past ++ map slot_of row) (slot_of f ∷ map slot_of later) in
+    (ap (λ ss. get_or ss x.slots_arranged d) whole ∙ get_or_at (past ++ map slot_of row) (slot_of f) (map slot_of later) d x.slots_arranged (omega arith), omega arith)
+
+-- the slots of the row, as they are lent
+pub row-lent : (x : Inside) (items : List Slot) → IsSound x → items ≡ x.slots.items → take (x.slots_arranged - x.slots_begun) (drop x.slots_begun items) ≡ map slot_of (row_of x)
+row-lent x items s e =
+    let a = s.slots_begun in
+    ap (λ ss. take (x.slots_arranged - x.slots_begun) (drop x.slots_begun ss)) e
+    ∙ (sym (drop-take x.slots_begun (x.slots_arranged - x.slots_begun) x.slots.items)
+    ∙ (ap (λ n. drop x.slots_begun (take n x.slots.items)) (omega arith) ∙ sym s.row_described))
+
+-- the length of the slots of the row from a place on
+pub row-length : (x : Inside) (slots : List Slot) (p : ℕ) → slots ≡ map slot_of (row_of x) → slots_length (drop p slots) ≡ length (stream (drop p (row_of x)))
+row-length x slots p e = ap slots_length (ap (drop p) e ∙ drop-map slot_of p (row_of x)) ∙ slots_length-row (drop p (row_of x))
+
+-- the octets of the row stand after those ahead and before those that are staged
+pub row-size : (x : Inside) → IsSound x → x.begun + length (stream (row_of x)) ≡ x.arranged
+row-size x s = sym (laid_out x s).arranged
+
+pub row-within : (x : Inside) (p : ℕ) → IsSound x → x.begun + length (stream (drop p (row_of x))) ≤ x.arranged
+row-within x p s =
+    let a = row-size x s in
+    let row = row_of x in
+    let b = ap length (ap stream (sym (take-append-drop p row)) ∙ stream-append (take p row) (drop p row)) ∙ length-append (stream (take p row)) (stream (drop p row)) in
+    omega arith
+
+-- what is staged begins with a frame, where it isn't empty
+pub record BeginsWith (frames : List Frame) : Type 0 where
+  pub first : Frame
+  pub later : List Frame
+  pub frames_are : frames ≡ first ∷ later
+
+pub begins : (frames : List Frame) → 0 < length frames → BeginsWith frames
+begins [] h = absurd (omega arith)
+begins (f ∷ later) h = record { first = f; later = later; frames_are = refl }
+
+-- the first frame that is staged, by its slot
+pub record FirstStaged (x : Inside) (slot : Slot) (count : ℕ) (f : Frame) (later : List Frame) : Type 0 where
+  pub staged : staged_of x ≡ f ∷ later
+  pub slot_is : slot_of f ≡ slot
+  pub count_is : count ≡ length f.payload + 8
+  pub within : x.arranged + count ≤ length x.octets.items
+
+pub first_staged : (x : Inside) (value : Outgoing) (slot : Slot) (count : ℕ) (f : Frame) (later : List Frame) → IsSound x → outgoing_of x ≡ value → value.staged ≡ f ∷ later → slot ≡ get_or x.slots.items x.slots_arranged slot → count ≡ slot_length slot → FirstStaged x slot count f later
+first_staged x value slot count f later s e staged at size =
+    let staged2 : staged_of x ≡ f ∷ later = ap (λ (v : Outgoing). v.staged) e ∙ staged in
+    let slot_is : slot ≡ slot_of f = at ∙ (first-staged x slot f later s staged2).0 in
+    let count_is : count ≡ length f.payload + 8 = size ∙ ap slot_length slot_is in
+    let l = laid_out x s in
+    let a = ap length s.staged_encoded in
+    let b = ap length (ap stream staged2) ∙ length-append (octets f) (stream later) in
+    let c = length-octets f in
+    let d = length-drop x.arranged x.octets.items in
+    let g = s.arranged in
+    record { staged = staged2; slot_is = sym slot_is; count_is = count_is; within = omega arith }
+
+-- the first frame that is staged is put, and the others are still to be put
+pub put-more : (old new : Outgoing) → 0 < length old.staged → IsPutOfFirst old new → (all_put new ≡ all_put old) × (length old.staged ≡ length new.staged + 1)
+put-more old new some put =
+    let b = begins old.staged some in
+    let n = put b.first b.later b.frames_are in
+    let put_is : all_put new ≡ all_put old = ap all_put n ∙ ap (λ staged. only (after_puts staged old.output)) (sym b.frames_are) in
+    let staged = ap (λ (v : Outgoing). length v.staged) n in
+    let count = ap length b.frames_are in
+    (put_is, omega arith)

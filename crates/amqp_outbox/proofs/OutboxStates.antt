@@ -1,0 +1,121 @@
+-- The fields of an outbox beside the lists that they stand for.
+use Rattle.std.proofs.Common.{◌≡◌, ℕ, ◌+◌, List, ◌++◌, length, map, take, drop, All, sym, ap, ap₂, ◌∙◌, arith, append_assoc, length-append}
+use Rattle.std.proofs.lemmas.List.{drop_at, length-map, length-take-le}
+use Rattle.amqp_frame.specs.Frame.{Frame}
+use Rattle.amqp_frame.specs.Splitting.{stream}
+use Rattle.amqp_model.specs.Arrangement.{IsArranged, HasChannel}
+use Rattle.amqp_outbox.specs.OutboxSlots.{slot_of, frames_in}
+use Rattle.amqp_outbox.specs.OutboxView.{Outgoing}
+use Rattle.amqp_outbox.specs.OutboxFields.{row_octets, row_slots, row_of, staged_octets, staged_slots, staged_of, outgoing_of, IsSound}
+use Rattle.amqp_outbox.specs.declared.slots.Slot.{Slot}
+use Rattle.amqp_outbox.specs.declared.outbox.Outbox.TheInside.{Inside}
+use Rattle.amqp_outbox.proofs.OutboxLists.{second, three, four, length-second}
+use Rattle.amqp_outbox.proofs.OutboxRows.{row-read}
+
+-- the octets and the slots, part by part
+pub record IsLaidOut (x : Inside) (gone ahead : List ℕ) (past : List Slot) (row staged : List Frame) : Type 0 where
+  pub octets : x.octets.items ≡ gone ++ (ahead ++ (stream row ++ stream staged))
+  pub slots : x.slots.items ≡ past ++ (map slot_of row ++ map slot_of staged)
+  pub written : x.written ≡ length gone
+  pub begun : x.begun ≡ x.written + length ahead
+  pub arranged : x.arranged ≡ x.begun + length (stream row)
+  pub slots_begun : x.slots_begun ≡ length past
+  pub slots_arranged : x.slots_arranged ≡ x.slots_begun + length row
+
+-- what is kept of a row beside its octets
+pub record IsKept (last : ℕ) (row staged : List Frame) : Type 0 where
+  pub in_turn : IsArranged last row
+  pub row_channels : All HasChannel row
+  pub staged_channels : All HasChannel staged
+
+abbrev pub outgoing : (ahead : List ℕ) (last : ℕ) (row staged : List Frame) → Outgoing
+outgoing ahead last row staged = record { output = record { ahead = ahead; last = last; row = row }; staged = staged }
+
+-- each part of such fields
+pub record Parts (x : Inside) (ahead : List ℕ) (row staged : List Frame) : Type 0 where
+  pub ahead_is : drop x.written (take x.begun x.octets.items) ≡ ahead
+  pub row_octets_are : row_octets x ≡ stream row
+  pub row_slots_are : row_slots x ≡ map slot_of row
+  pub staged_octets_are : staged_octets x ≡ stream staged
+  pub staged_slots_are : staged_slots x ≡ map slot_of staged
+  pub row_is : row_of x ≡ row
+  pub staged_is : staged_of x ≡ staged
+
+pub parts : (x : Inside) (gone ahead : List ℕ) (past : List Slot) (row staged : List Frame) → IsLaidOut x gone ahead past row staged → Parts x ahead row staged
+parts x gone ahead past row staged l =
+    let a : drop x.written (take x.begun x.octets.items) ≡ ahead = ap (λ os. drop x.written (take x.begun os)) l.octets ∙ second gone ahead (stream row ++ stream staged) x.written x.begun l.written l.begun in
+    let regrouped : x.octets.items ≡ (gone ++ ahead) ++ (stream row ++ stream staged) = l.octets ∙ sym (append_assoc gone ahead (stream row ++ stream staged)) in
+    let size = length-append gone ahead in
+    let b : row_octets x ≡ stream row = ap (λ os. drop x.begun (take x.arranged os)) regrouped ∙ second (gone ++ ahead) (stream row) (stream staged) x.begun x.arranged (omega arith) l.arranged in
+    let regrouped2 : x.octets.items ≡ ((gone ++ ahead) ++ stream row) ++ stream staged = regrouped ∙ sym (append_assoc (gone ++ ahead) (stream row) (stream staged)) in
+    let size2 = length-append (gone ++ ahead) (stream row) in
+    let c : staged_octets x ≡ stream staged = ap (drop x.arranged) regrouped2 ∙ drop_at ((gone ++ ahead) ++ stream row) (stream staged) x.arranged (omega arith) in
+    let count = length-map row slot_of in
+    let d : row_slots x ≡ map slot_of row = ap (λ ss. drop x.slots_begun (take x.slots_arranged ss)) l.slots ∙ second past (map slot_of row) (map slot_of staged) x.slots_begun x.slots_arranged l.slots_begun (omega arith) in
+    let count2 = length-append past (map slot_of row) in
+    let e : staged_slots x ≡ map slot_of staged = ap (drop x.slots_arranged) (l.slots ∙ sym (append_assoc past (map slot_of row) (map slot_of staged))) ∙ drop_at (past ++ map slot_of row) (map slot_of staged) x.slots_arranged (omega arith) in
+    record {
+      ahead_is = a;
+      row_octets_are = b;
+      row_slots_are = d;
+      staged_octets_are = c;
+      staged_slots_are = e;
+      row_is = ap₂ frames_in d b ∙ row-read row;
+      staged_is = ap₂ frames_in e c ∙ row-read staged;
+    }
+
+-- fields that are laid out so are sound
+pub sound : (x : Inside) (gone ahead : List ℕ) (past : List Slot) (row staged : List Frame) → IsLaidOut x gone ahead past row staged → IsKept x.last row staged → IsSound x
+sound x gone ahead past row staged l k =
+    let p = parts x gone ahead past row staged l in
+    let a = ap length l.octets ∙ length-append gone (ahead ++ (stream row ++ stream staged)) in
+    let b = length-append ahead (stream row ++ stream staged) in
+    let c = length-append (stream row) (stream staged) in
+    let d = ap length l.slots ∙ length-append past (map slot_of row ++ map slot_of staged) in
+    let e = length-append (map slot_of row) (map slot_of staged) in
+    let f = length-map row slot_of in
+    record {
+      written = omega arith;
+      begun = omega arith;
+      arranged = omega arith;
+      slots_begun = omega arith;
+      slots_arranged = omega arith;
+      row_encoded = ap stream p.row_is ∙ sym p.row_octets_are;
+      row_described = ap (map slot_of) p.row_is ∙ sym p.row_slots_are;
+      staged_encoded = ap stream p.staged_is ∙ sym p.staged_octets_are;
+      staged_described = ap (map slot_of) p.staged_is ∙ sym p.staged_slots_are;
+      in_turn = rw p.row_is k.in_turn;
+      row_channels = rw p.row_is k.row_channels;
+      staged_channels = rw p.staged_is k.staged_channels;
+    }
+
+-- and these lists are what they stand for
+pub view : (x : Inside) (gone ahead : List ℕ) (past : List Slot) (row staged : List Frame) → IsLaidOut x gone ahead past row staged → outgoing_of x ≡ outgoing ahead x.last row staged
+view x gone ahead past row staged l =
+    let p = parts x gone ahead past row staged l in
+    cc (p.ahead_is, p.row_is, p.staged_is)
+
+-- sound fields are laid out
+pub laid_out : (x : Inside) → IsSound x
+    → IsLaidOut x (take x.written x.octets.items) (drop x.written (take x.begun x.octets.items)) (take x.slots_begun x.slots.items) (row_of x) (staged_of x)
+laid_out x s =
+    let a = length-take-le x.written x.octets.items (omega arith) in
+    let b = length-second x.octets.items x.written x.begun s.written (omega arith) in
+    let c = length-second x.octets.items x.begun x.arranged s.begun s.arranged in
+    let d = length-take-le x.slots_begun x.slots.items (omega arith) in
+    let e = length-second x.slots.items x.slots_begun x.slots_arranged s.slots_begun s.slots_arranged in
+    let f = length-map (row_of x) slot_of in
+    let g = ap length s.row_encoded in
+    let h = ap length s.row_described in
+    record {
+      octets = four x.octets.items x.written x.begun x.arranged s.written s.begun s.arranged ∙ ap₂ (λ y z. take x.written x.octets.items ++ (drop x.written (take x.begun x.octets.items) ++ (y ++ z))) (sym s.row_encoded) (sym s.staged_encoded);
+      slots = three x.slots.items x.slots_begun x.slots_arranged s.slots_begun s.slots_arranged ∙ ap₂ (λ y z. take x.slots_begun x.slots.items ++ (y ++ z)) (sym s.row_described) (sym s.staged_described);
+      written = sym a;
+      begun = omega arith;
+      arranged = omega arith;
+      slots_begun = sym d;
+      slots_arranged = omega arith;
+    }
+
+pub kept : (x : Inside) → IsSound x → IsKept x.last (row_of x) (staged_of x)
+kept x s = record { in_turn = s.in_turn; row_channels = s.row_channels; staged_channels = s.staged_channels }

@@ -1,0 +1,48 @@
+use Rattle.std.proofs.Common.{◌+◌, refl, ap, ◌∙◌, arith}
+use Rattle.amqp_outbox.specs.OutboxSlots.{slots_length}
+use Rattle.amqp_outbox.specs.declared.outbox.Outbox.TheInside.{Inside}
+use Rattle.amqp_outbox.proofs.OutboxMoves.{row-lent, row-within}
+use Rattle.amqp_outbox.proofs.OutboxRows.{slots_length-row}
+use Rattle.amqp_outbox.proofs.OutboxStates.{sound}
+use Rattle.amqp_outbox.proofs.OutboxWrites.{is_write, write-laid_out, write-kept, write_view, row-enough, row-room}
+use Rattle.amqp_outbox.proofs.outbox.Outbox.wrote.Goals as goal
+
+pub begun_of-begun-requires-clause-within : goal.begun_of-begun-requires-clause-within
+begun_of-begun-requires-clause-within c =
+    let x = c.self.inside in
+    let a = ap slots_length (row-lent x _ c.self.invariant c.deref.ensures.value) ∙ slots_length-row _ in
+    let b = row-enough x c.args.octets c.args.self.now c.self.invariant c.self.view_is c.requires c.if-ahead-octets.true in
+    omega arith
+
+pub begun_of-begun-requires-clause-fits : goal.begun_of-begun-requires-clause-fits
+begun_of-begun-requires-clause-fits c =
+    let x = c.self.inside in
+    let a = ap slots_length (row-lent x _ c.self.invariant c.deref.ensures.value) ∙ slots_length-row _ in
+    let b = row-within x 0 c.self.invariant in
+    omega arith
+
+pub overflow_add-self-then-ahead-octets : goal.overflow_add-self-then-ahead-octets
+overflow_add-self-then-ahead-octets c =
+    let x = c.self.inside in
+    let r = c.begun_of-begun in
+    let w = is_write x _ c.args.octets r.result.frames r.result.octets r.result.last c.self.invariant (row-lent x _ c.self.invariant c.deref.ensures.value) c.if-ahead-octets.true r.ensures.frames r.ensures.octets r.ensures.last r.ensures.count r.ensures.reached in
+    let a = row-room x r.result.frames c.self.invariant in
+    let b = w.passed_is in
+    omega arith
+
+pub invariant_of-self : goal.invariant_of-self
+invariant_of-self c =
+    let x = c.self.inside in
+    let r = c.begun_of-begun in
+    let w = is_write x _ c.args.octets r.result.frames r.result.octets r.result.last c.self.invariant (row-lent x _ c.self.invariant c.deref.ensures.value) c.if-ahead-octets.true r.ensures.frames r.ensures.octets r.ensures.last r.ensures.count r.ensures.reached in
+    sound _ _ _ _ _ _ (write-laid_out x _ c.args.octets r.result.frames r.result.octets r.result.last c.self.invariant w refl refl refl refl refl refl refl)
+    (write-kept x c.args.octets r.result.frames r.result.octets r.result.last c.self.invariant w)
+
+pub returns-then-ahead-octets : goal.returns-then-ahead-octets
+returns-then-ahead-octets c =
+    let x = c.self.inside in
+    let r = c.begun_of-begun in
+    let w = is_write x _ c.args.octets r.result.frames r.result.octets r.result.last c.self.invariant (row-lent x _ c.self.invariant c.deref.ensures.value) c.if-ahead-octets.true r.ensures.frames r.ensures.octets r.ensures.last r.ensures.count r.ensures.reached in
+    let y : Inside = record x { written = x.written + c.args.octets; begun = x.begun + r.result.octets; slots_begun = x.slots_begun + r.result.frames; last = r.result.last } in
+    write_view x y c.args.octets r.result.frames r.result.octets r.result.last _ _ c.args.self.now c.self.view_is c.requires w refl
+    (write-laid_out x y c.args.octets r.result.frames r.result.octets r.result.last c.self.invariant w refl refl refl refl refl refl refl)

@@ -1,0 +1,5 @@
+pub mod OutboxSlots
+pub mod OutboxView
+pub mod OutboxFields
+pub mod OutboxFrames
+pub mod OutboxFaults

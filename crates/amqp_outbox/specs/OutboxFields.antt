@@ -1,0 +1,49 @@
+-- What the fields of an outbox stand for.
+use Rattle.std.specs.Prelude.{◌≡◌, ◌≤◌, ℕ, List, length, map, take, drop, All}
+use Rattle.amqp_frame.specs.Frame.{Frame}
+use Rattle.amqp_frame.specs.Splitting.{stream}
+use Rattle.amqp_model.specs.Arrangement.{IsArranged, HasChannel}
+use Rattle.amqp_outbox.specs.OutboxSlots.{slot_of, frames_in}
+use Rattle.amqp_outbox.specs.OutboxView.{Outgoing}
+use Rattle.amqp_outbox.specs.declared.slots.Slot.{Slot}
+use Rattle.amqp_outbox.specs.declared.outbox.Outbox.TheInside.{Inside}
+
+-- the octets and the slots of the row
+abbrev pub row_octets : Inside → List ℕ
+row_octets x = drop x.begun (take x.arranged x.octets.items)
+
+abbrev pub row_slots : Inside → List Slot
+row_slots x = drop x.slots_begun (take x.slots_arranged x.slots.items)
+
+abbrev pub row_of : Inside → List Frame
+row_of x = frames_in (row_slots x) (row_octets x)
+
+-- the octets and the slots that are staged
+abbrev pub staged_octets : Inside → List ℕ
+staged_octets x = drop x.arranged x.octets.items
+
+abbrev pub staged_slots : Inside → List Slot
+staged_slots x = drop x.slots_arranged x.slots.items
+
+abbrev pub staged_of : Inside → List Frame
+staged_of x = frames_in (staged_slots x) (staged_octets x)
+
+abbrev pub outgoing_of : Inside → Outgoing
+outgoing_of x = record {
+  output = record { ahead = drop x.written (take x.begun x.octets.items); last = x.last; row = row_of x };
+  staged = staged_of x;
+}
+
+pub record IsSound (x : Inside) : Type 0 where
+  pub written : x.written ≤ x.begun
+  pub begun : x.begun ≤ x.arranged
+  pub arranged : x.arranged ≤ length x.octets.items
+  pub slots_begun : x.slots_begun ≤ x.slots_arranged
+  pub slots_arranged : x.slots_arranged ≤ length x.slots.items
+  pub row_encoded : stream (row_of x) ≡ row_octets x
+  pub row_described : map slot_of (row_of x) ≡ row_slots x
+  pub staged_encoded : stream (staged_of x) ≡ staged_octets x
+  pub staged_described : map slot_of (staged_of x) ≡ staged_slots x
+  pub in_turn : IsArranged x.last (row_of x)
+  pub row_channels : All HasChannel (row_of x)
+  pub staged_channels : All HasChannel (staged_of x)

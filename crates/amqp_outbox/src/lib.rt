@@ -1,0 +1,14 @@
+//! The output of an end of an AMQP 0-9-1 connection: the octets that it has put and not written, in the fair order of
+//! their frames.
+//!
+//! An [`Outbox`] is handed methods, content headers and parts of bodies. They are staged, which encodes them and is what
+//! may want memory, and then put, each frame in its place, which can't fail. What each call does is stated by its
+//! contract: `specs/OutboxView` has what callers see of an outbox, and `amqp_model` the fair order.
+#![tactic(auto)]
+
+mod outbox;
+mod slots;
+mod staging;
+
+pub use crate::outbox::Outbox;
+pub use crate::staging::StageFault;

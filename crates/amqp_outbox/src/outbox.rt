@@ -1,0 +1,289 @@
+//! The output of an end: the octets that it has put and not written, in the fair order of their frames.
+//!
+//! Frames are put in two steps. Staging encodes a frame after all others and is what may want memory; [`Outbox::put`]
+//! then moves each staged frame to its place and can't fail. An end stages all that a call puts, changes its own state,
+//! and puts; where staging fails it discards what it staged, and the output is as before.
+//!
+//! `output` lends one slice, so a frame that goes before others has to move octets. Where one channel is active each
+//! frame goes last and nothing moves, nor is any slot looked at but the last. Otherwise a put reads the slots after the
+//! last frame of its channel, of the whole row where the channel has none, and moves the octets on the smaller side of
+//! its place; those before it only where as many octets were written as the frame has. So the worst is a row of many
+//! octets of which none is written, and frames that go near its beginning: each moves nearly all of the row. A write
+//! reads the slots of the frames that it begins, and moves nothing.
+ghost use Rattle.std.specs.Prelude.{◌≡◌, ◌+◌, ◌^◌, ◌<◌, ◌≤◌, ◌==◌, [], ◌∷◌, ◌++◌, length, drop, IfErr, OnOk, OnErr, Err};
+ghost use Rattle.amqp_method.specs.HeaderView.{header_view};
+ghost use Rattle.amqp_method.specs.MethodView.{method_view};
+ghost use Rattle.amqp_method.specs.Plain.{plain_method, plain_header, CountsAllFit, CountsPresentFit};
+ghost use Rattle.amqp_model.specs.Closes.{method_frame};
+ghost use Rattle.amqp_model.specs.Methods.{ReadsBack};
+ghost use Rattle.amqp_model.specs.Outputs.{output_octets, after_writing};
+ghost use Rattle.amqp_outbox.specs.OutboxFaults.{out_of_memory, too_long};
+ghost use Rattle.amqp_outbox.specs.OutboxFrames.{header_frame, body_frame, HeaderReadsBack};
+ghost use Rattle.amqp_outbox.specs.OutboxSlots.{moved_up, moved_down};
+ghost use Rattle.amqp_outbox.specs.OutboxView.{only, begins_with, with_staged, with_output, all_put, IsPutOfFirst};
+
+use crate::slots::{Slot, begun_of, length_from, place_of};
+use crate::staging::{StageFault, append_body, append_header, append_method, enlist};
+use amqp_frame::FrameKind;
+use amqp_method::{Header, Method};
+use amqp_model::arrangement;
+use std::alloc::Global;
+use std::marker::Model;
+
+/// What an end has put and not written, and the frames that it is about to put.
+///
+/// The octets stand one after another: those written; those left of what no put moves, which is the frame that is
+/// begun, or the protocol header; the frames of the row, in the order in which they are to leave; and the frames that
+/// are staged. The slots are those of the frames begun, of the row, and of the frames staged.
+#[derive(Drop)]
+pub struct Outbox {
+    octets: Vec<u8>,
+    written: usize,
+    begun: usize,
+    arranged: usize,
+    slots: Vec<Slot>,
+    slots_begun: usize,
+    slots_arranged: usize,
+    /// the channel above 0 whose frame was begun most recently, 0 at first
+    last: u16,
+}
+
+impl Model for Outbox {
+    ghost use Rattle.amqp_outbox.specs.OutboxView.{Outgoing};
+
+    ghost Value = { Outgoing };
+
+    ghost use Rattle.amqp_outbox.specs.OutboxFields.{outgoing_of, IsSound};
+
+    ghost view = { outgoing_of };
+
+    ghost invariant = { IsSound };
+}
+
+impl Outbox {
+    /// Nothing to write.
+    pub fn new(alloc: Global) -> Outbox
+        ensures { result ≡ begins_with [] }
+    {
+        Outbox {
+            octets: Vec::new(alloc),
+            written: 0,
+            begun: 0,
+            arranged: 0,
+            slots: Vec::new(alloc),
+            slots_begun: 0,
+            slots_arranged: 0,
+            last: 0,
+        }
+    }
+
+    /// The octets to write next.
+    pub fn output(&self) -> &[u8]
+        ensures { result.now ≡ output_octets self.now.output }
+    {
+        &self.octets[self.written..self.arranged]
+    }
+
+    /// Begins with these octets: what was there is dropped.
+    pub fn begin_with(&mut self, octets: &[u8]) -> Result<(), StageFault>
+        ensures ok { OnOk result (self.new ≡ begins_with octets.now) }
+        ensures err { IfErr result (λ e. e ≡ out_of_memory) }
+        ensures same { OnErr result (self.new ≡ self.old) }
+    {
+        let before = self.octets.len();
+        self.octets.extend_from_slice(octets)?;
+        forget(&mut self.octets, before);
+        self.slots.clear();
+        self.written = 0;
+        self.begun = octets.len();
+        self.arranged = octets.len();
+        self.slots_begun = 0;
+        self.slots_arranged = 0;
+        self.last = 0;
+        Ok(())
+    }
+
+    /// So many octets of the output are written.
+    pub fn wrote(&mut self, octets: usize)
+        requires { octets ≤ length (output_octets self.old.output) }
+        ensures { self.new ≡ with_output self.old (after_writing octets self.old.output) }
+    {
+        let ahead = self.begun - self.written;
+        self.written += octets;
+        if ahead <= octets {
+            let row = &self.slots[self.slots_begun..self.slots_arranged];
+            let begun = begun_of(row, octets - ahead, self.last);
+            self.begun += begun.octets;
+            self.slots_begun += begun.frames;
+            self.last = begun.last;
+        }
+    }
+
+    /// Drops the octets that are written, where these are more than the others.
+    fn drop_written(&mut self)
+        ensures { self.new ≡ self.old }
+    {
+        if self.octets.len() - self.written < self.written {
+            forget(&mut self.octets, self.written);
+            self.begun -= self.written;
+            self.arranged -= self.written;
+            self.written = 0;
+        }
+    }
+
+    /// Drops the slots of the frames that are begun, where these are more than the others.
+    fn drop_begun(&mut self)
+        ensures { self.new ≡ self.old }
+    {
+        if self.slots.len() - self.slots_begun < self.slots_begun {
+            forget(&mut self.slots, self.slots_begun);
+            self.slots_arranged -= self.slots_begun;
+            self.slots_begun = 0;
+        }
+    }
+
+    /// Makes room for so many frames of so many octets together, so that staging them grows nothing step by step.
+    pub fn reserve(&mut self, frames: usize, octets: usize) -> Result<(), StageFault>
+        ensures same { self.new ≡ self.old }
+        ensures err { IfErr result (λ e. e ≡ out_of_memory) }
+    {
+        self.octets.reserve(octets)?;
+        self.slots.reserve(frames)?;
+        Ok(())
+    }
+
+    /// Stages a frame with this method.
+    pub fn stage_method(&mut self, channel: u16, method: &Method) -> Result<(), StageFault>
+        ensures ok { OnOk result (self.new ≡ with_staged self.old (method_frame channel (method_view method.now) ∷ [])) }
+        ensures reads_back { OnOk result (ReadsBack (method_view method.now)) }
+        ensures too_long { result ≡ Err too_long → length (plain_method (method_view method.now)) < 2 ^ 32 → CountsAllFit (method_view method.now).args → ⊥ }
+        ensures same { OnErr result (self.new ≡ self.old) }
+    {
+        self.drop_written();
+        self.drop_begun();
+        let at = self.octets.len();
+        append_method(&mut self.octets, channel, method)?;
+        let kind = FrameKind::Method;
+        enlist(&mut self.octets, &mut self.slots, at, kind, channel)?;
+        Ok(())
+    }
+
+    /// Stages a frame with this content header.
+    pub fn stage_header(&mut self, channel: u16, header: &Header) -> Result<(), StageFault>
+        ensures ok { OnOk result (self.new ≡ with_staged self.old (header_frame channel (header_view header.now) ∷ [])) }
+        ensures reads_back { OnOk result (HeaderReadsBack (header_view header.now)) }
+        ensures too_long { result ≡ Err too_long → length (plain_header (header_view header.now)) < 2 ^ 32 → CountsPresentFit (header_view header.now).properties → ⊥ }
+        ensures same { OnErr result (self.new ≡ self.old) }
+    {
+        self.drop_written();
+        self.drop_begun();
+        let at = self.octets.len();
+        append_header(&mut self.octets, channel, header)?;
+        let kind = FrameKind::Header;
+        enlist(&mut self.octets, &mut self.slots, at, kind, channel)?;
+        Ok(())
+    }
+
+    /// Stages a frame with this part of a body.
+    pub fn stage_body(&mut self, channel: u16, part: &[u8]) -> Result<(), StageFault>
+        ensures ok { OnOk result (self.new ≡ with_staged self.old (body_frame channel part.now ∷ [])) }
+        ensures too_long { result ≡ Err too_long → 2 ^ 32 ≤ length part.now }
+        ensures same { OnErr result (self.new ≡ self.old) }
+    {
+        self.drop_written();
+        self.drop_begun();
+        let at = self.octets.len();
+        append_body(&mut self.octets, channel, part)?;
+        let kind = FrameKind::Body;
+        enlist(&mut self.octets, &mut self.slots, at, kind, channel)?;
+        Ok(())
+    }
+
+    /// Drops what is staged.
+    pub fn discard(&mut self)
+        ensures { self.new ≡ only self.old.output }
+    {
+        self.octets.truncate(self.arranged);
+        self.slots.truncate(self.slots_arranged);
+    }
+
+    /// How many frames are staged.
+    fn staged(&self) -> usize
+        ensures { result ≡ length self.now.staged }
+    {
+        self.slots.len() - self.slots_arranged
+    }
+
+    /// Puts the first of the frames that are staged.
+    ///
+    /// Where its place is the last one, no octets move. Otherwise those after its place make room; or those before it,
+    /// where they are fewer and enough octets were written before them.
+    fn put_first(&mut self)
+        requires { 0 < length self.old.staged }
+        ensures { IsPutOfFirst self.old self.new }
+    {
+        arrangement::put_keeps_arranged();
+        let slot = self.slots[self.slots_arranged];
+        let row = &self.slots[self.slots_begun..self.slots_arranged];
+        let place = place_of(row, slot, self.last);
+        let moved = length_from(row, place, self.arranged - self.begun);
+        let count = slot.length();
+        let at = self.arranged - moved;
+        let first = self.slots_begun + place;
+        move_up(&mut self.slots, first, self.slots_arranged + 1, 1);
+        self.slots_arranged += 1;
+        if count <= self.written && at - self.written < moved {
+            move_down(&mut self.octets, self.written, at, self.arranged, count);
+            self.written -= count;
+            self.begun -= count;
+        } else {
+            move_up(&mut self.octets, at, self.arranged + count, count);
+            self.arranged += count;
+        }
+    }
+
+    /// Puts all that is staged, each frame in its place.
+    pub fn put(&mut self)
+        ensures { self.new ≡ all_put self.old }
+    {
+        for _ in 0..self.staged() {
+            self.put_first();
+        }
+    }
+}
+
+/// Drops the first of the items.
+fn forget<T: Copy + Drop>(items: &mut Vec<T>, count: usize)
+    requires { count ≤ length items.old.items }
+    ensures { items.new.items ≡ drop count items.old.items }
+{
+    let left = items.len() - count;
+    items.copy_within(count.., 0);
+    items.truncate(left);
+}
+
+/// Moves so many items, which stand last before an end, up to an earlier place.
+fn move_up<T>(items: &mut Vec<T>, place: usize, end: usize, count: usize)
+    requires room { place + count ≤ end }
+    requires end { end ≤ length items.old.items }
+    ensures { items.new.items ≡ moved_up place end count items.old.items }
+{
+    let part = &mut items.as_mut_slice()[place..end];
+    part.rotate_right(count);
+}
+
+/// Moves so many octets, which stand at a place, down before those from an earlier place on. Those from a still earlier
+/// place up to there make room: they move down over octets that are written, and as many are dropped.
+fn move_down(octets: &mut Vec<u8>, from: usize, place: usize, at: usize, count: usize)
+    requires room { count ≤ from }
+    requires order { from ≤ place }
+    requires place { place ≤ at }
+    requires end { at + count ≤ length octets.old.items }
+    ensures { octets.new.items ≡ moved_down from place at count octets.old.items }
+{
+    let length = octets.len();
+    octets.copy_within(from..place, from - count);
+    octets.copy_within(at..at + count, place - count);
+    octets.copy_within(at + count..length, at);
+    octets.truncate(length - count);
+}
