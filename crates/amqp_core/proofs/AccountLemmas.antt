@@ -21,14 +21,13 @@ use Rattle.amqp_model.specs.Negotiation.{Config, frame_limit}
 use Rattle.amqp_model.specs.Notes.{Role, Client, Server}
 use Rattle.amqp_model.specs.OctetLaws.{OneIsSaid, IsWhole, TellsLast}
 use Rattle.amqp_model.specs.Pieces.{IsFedBy, SplitsFor, FeedFindsFault, with_taken, reads_frames}
+use Rattle.amqp_channel.specs.declared.news.News.TheVariants as news
 use Rattle.amqp_core.specs.AccountView.{Came, IsAccount, IsFresh, came_by, came_of_frame, note_there, puts_alone}
-use Rattle.amqp_core.specs.Answering as answering
-use Rattle.amqp_core.specs.Answering.{Reports, ran_out}
-use Rattle.amqp_core.specs.Feeding.{IsFed}
-use Rattle.amqp_core.specs.NoteView.{item_there}
+use Rattle.amqp_core.specs.Answering.{Reports}
+use Rattle.amqp_core.specs.Hearing.{Hears, IsHeard}
+use Rattle.amqp_core.specs.NoteView.{item_kept}
 use Rattle.amqp_core.specs.OwedView.{owed_view}
 use Rattle.amqp_core.specs.declared.account.Account.{Account}
-use Rattle.amqp_core.specs.declared.events.Event.TheVariants as event
 use Rattle.amqp_core.specs.declared.faults.CoreFault.TheVariants as core
 use Rattle.amqp_core.specs.declared.owed.Owed.{Owed}
 use Rattle.amqp_core.specs.declared.settings.Settings.{Settings}
@@ -222,7 +221,7 @@ abbrev event_or : Outcome → Option Event
 event_or (Finished event) = event
 event_or outcome = None
 
-nothing_finished : (outcome : Outcome) → answering.Tells None outcome → outcome ≢ Finished (Some Quiet)
+nothing_finished : (outcome : Outcome) → Hears None outcome → outcome ≢ Finished (Some Quiet)
 nothing_finished Unfinished says e = false≢true (sym (ap is_unfinished e))
 nothing_finished (Finished told) says e = let there : told ≡ Some Quiet = ap event_or e in none_is_some (sym there ∙ says)
 nothing_finished (Found fault) says e = absurd says
@@ -232,31 +231,31 @@ fault_finished outcome (inl says) e = false≢true (sym (ap is_found (sym says �
 fault_finished outcome (inr says) e = false≢true (sym (ap is_found (sym says ∙ e)))
 
 -- A part of the header came, or an octet that differs: no frame is taken, and nothing put.
-quiet_unfinished : (outcome : Outcome) → answering.Tells (Some event.Quiet) outcome → outcome ≢ Unfinished
+quiet_unfinished : (outcome : Outcome) → Hears (Some news.Quiet) outcome → outcome ≢ Unfinished
 quiet_unfinished Unfinished says e = none_is_some says
 quiet_unfinished (Finished told) says e = false≢true (ap is_unfinished e)
 quiet_unfinished (Found fault) says e = absurd says
 
-quiet_found : (outcome : Outcome) → answering.Tells (Some event.Quiet) outcome → outcome ≢ Found WrongProtocolHeader
+quiet_found : (outcome : Outcome) → Hears (Some news.Quiet) outcome → outcome ≢ Found WrongProtocolHeader
 quiet_found Unfinished says e = none_is_some says
 quiet_found (Finished told) says e = false≢true (ap is_found e)
 quiet_found (Found fault) says e = absurd says
 
 pub account_of_part : (role : Role) (config : Config role) (old new : Endpoint) (piece : List ℕ) (count octets : ℕ) (came : Came)
-    → awaits_opening role old.end.phase ≡ true → IsFed (Ok (record { octets = count; event = None })) old (after_feed role config old piece) new → octets ≡ count → came ≡ puts_alone []
+    → awaits_opening role old.end.phase ≡ true → IsHeard (Ok (record { octets = count; news = None })) old (after_feed role config old piece) new → octets ≡ count → came ≡ puts_alone []
     → IsAccount role config old piece (after_feed role config old piece) octets came
 account_of_part role config old new piece count octets came awaits fed octets_are came_is =
     account_of_opening role config old piece (after_feed role config old piece) octets came awaits (octets_are ∙ fed.taken) (λ e. came_is) (λ e. absurd (nothing_finished (after_feed role config old piece).outcome fed.answer e)) (λ e. came_is)
 
 pub account_of_other : (role : Role) (config : Config role) (old new : Endpoint) (piece : List ℕ) (octets : ℕ) (came : Came)
-    → awaits_opening role old.end.phase ≡ true → IsFed (Err core.Fatal) old (after_feed role config old piece) new → octets ≡ (after_feed role config old piece).taken → came ≡ puts_alone []
+    → awaits_opening role old.end.phase ≡ true → IsHeard (Err core.Fatal) old (after_feed role config old piece) new → octets ≡ (after_feed role config old piece).taken → came ≡ puts_alone []
     → IsAccount role config old piece (after_feed role config old piece) octets came
 account_of_other role config old new piece octets came awaits fed octets_are came_is =
     account_of_opening role config old piece (after_feed role config old piece) octets came awaits octets_are (λ e. came_is) (λ e. absurd (fault_finished (after_feed role config old piece).outcome fed.answer e)) (λ e. came_is)
 
 -- the same of an end that has put start
 pub account_of_whole : (role : Role) (config : Config role) (old new : Endpoint) (piece : List ℕ) (count octets : ℕ) (came : Came)
-    → awaits_opening role old.end.phase ≡ true → IsFed (Ok (record { octets = count; event = Some event.Quiet })) old (after_feed role config old piece) new → octets ≡ count → came ≡ puts_alone (greeting role config)
+    → awaits_opening role old.end.phase ≡ true → IsHeard (Ok (record { octets = count; news = Some news.Quiet })) old (after_feed role config old piece) new → octets ≡ count → came ≡ puts_alone (greeting role config)
     → IsAccount role config old piece (after_feed role config old piece) octets came
 account_of_whole role config old new piece count octets came awaits fed octets_are came_is =
     account_of_opening role config old piece (after_feed role config old piece) octets came awaits (octets_are ∙ fed.taken)
@@ -264,11 +263,11 @@ account_of_whole role config old new piece count octets came awaits fed octets_a
 
 -- What an account says where nothing came yet.
 pub came_fresh : (settings : Settings) (account : Account) → IsFresh account → came_by settings account ≡ puts_alone []
-came_fresh settings account fresh = λ i. record { took = note_there (fresh.took i); item = item_there (fresh.item i); owed = owed_view settings (fresh.owed i) }
+came_fresh settings account fresh = λ i. record { took = note_there (fresh.took i); item = item_kept (fresh.item i); owed = owed_view settings (fresh.owed i) }
 
 -- and where only what is owed has changed
 pub came_owed : (settings : Settings) (account : Account) (more : Owed) → IsFresh account → came_by settings (record account { owed = more }) ≡ puts_alone (owed_view settings more)
-came_owed settings account more fresh = λ i. record { took = note_there (fresh.took i); item = item_there (fresh.item i); owed = owed_view settings more }
+came_owed settings account more fresh = λ i. record { took = note_there (fresh.took i); item = item_kept (fresh.item i); owed = owed_view settings more }
 
 -- In the words of the splitter.
 

@@ -24,22 +24,22 @@ use Rattle.amqp_model.specs.Outputs.{after_puts}
 use Rattle.amqp_model.specs.ReadingBack.{AskReadsBack}
 use Rattle.amqp_model.specs.Readings.{Calls, payload_of, method_reading, header_reading, reading}
 use Rattle.amqp_outbox.specs.OutboxView.{Outgoing, only, with_staged, all_put}
+use Rattle.amqp_channel.specs.ChannelsView.{OnlyAt}
+use Rattle.amqp_channel.specs.Messages.{message_of}
+use Rattle.amqp_channel.specs.Puts.{after_payloads}
+use Rattle.amqp_channel.specs.Roles.{role_of}
+use Rattle.amqp_channel.specs.declared.events.Agreed.{Agreed}
+use Rattle.amqp_channel.specs.declared.verdict.Site.{Site}
 use Rattle.amqp_core.specs.Asked.{IsAccepted, IsAllowed, IsRefusal, IsRefused}
-use Rattle.amqp_core.specs.ChannelsView.{OnlyAt}
 use Rattle.amqp_core.specs.CoreView.{site_at}
 use Rattle.amqp_core.specs.Faults.{refusal_view}
 use Rattle.amqp_core.specs.Laws.{AreWritten, SayPayloads}
-use Rattle.amqp_core.specs.Messages.{message_of}
-use Rattle.amqp_core.specs.Puts.{after_payloads}
-use Rattle.amqp_core.specs.Roles.{role_of}
 use Rattle.amqp_core.specs.Settings.{config_view, role_for}
 use Rattle.amqp_core.specs.Stages.{phase_at}
-use Rattle.amqp_core.specs.declared.events.Agreed.{Agreed}
 use Rattle.amqp_core.specs.declared.faults.AskFault.{AskFault}
 use Rattle.amqp_core.specs.declared.settings.Settings.{Settings}
 use Rattle.amqp_core.specs.declared.stage.Stage.{Stage}
 use Rattle.amqp_core.specs.declared.stage.Stage.TheVariants as stages
-use Rattle.amqp_core.specs.declared.verdict.Site.{Site}
 use Rattle.amqp_core.proofs.CoreLemmas.{end_at, running, set_only}
 use Rattle.amqp_core.proofs.PutSteps.{puts_as_end}
 

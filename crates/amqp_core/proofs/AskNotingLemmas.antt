@@ -20,8 +20,8 @@ use Rattle.amqp_model.specs.Readings.{Calls, header_reading, kind_of, method_rea
 use Rattle.amqp_model.specs.Sent.{life_on}
 use Rattle.amqp_model.specs.Traces as traces
 use Rattle.amqp_model.specs.Traces.{IsPut, Noted, Other, noted, said_by_ask, telling_at, trace, word_of}
+use Rattle.amqp_channel.specs.LifeView.{IsOther}
 use Rattle.amqp_core.specs.AskNoting.{GrowsByFrames, IsChannelOf, frames_of_message, item_asked, notes_asked}
-use Rattle.amqp_core.specs.LifeView.{IsOther}
 use Rattle.amqp_core.specs.Noting.{lives_in}
 use Rattle.amqp_core.specs.NoteView.{noted_as}
 use Rattle.amqp_core.proofs.GrowthLemmas.{length_puts, length_row}

@@ -17,21 +17,21 @@ use Rattle.amqp_model.specs.Frame.{Frame}
 use Rattle.amqp_model.specs.Notes.{Role}
 use Rattle.amqp_model.specs.Readings.{Reading, Calls, Beat, kind_of}
 use Rattle.amqp_model.specs.Verdict.{when_closing}
-use Rattle.amqp_core.specs.ChannelsView.{OnlyAt}
+use Rattle.amqp_channel.specs.ChannelsView.{OnlyAt}
+use Rattle.amqp_channel.specs.EventView.{agreed_view}
+use Rattle.amqp_channel.specs.Roles.{role_of}
+use Rattle.amqp_channel.specs.Used.{is_closing_at}
+use Rattle.amqp_channel.specs.VerdictView.{verdict_view, reply_there, Decides, LeavesAfter}
+use Rattle.amqp_channel.specs.declared.events.Agreed as code_agreed
+use Rattle.amqp_channel.specs.declared.verdict.Site.{Site}
+use Rattle.amqp_channel.specs.declared.verdict.Verdict.{Verdict}
+use Rattle.amqp_channel.specs.declared.verdict.Verdict.TheVariants as code
 use Rattle.amqp_core.specs.CoreView.{EndLeft, frame_at, site_at}
-use Rattle.amqp_core.specs.EventView.{agreed_view}
-use Rattle.amqp_core.specs.Roles.{role_of}
 use Rattle.amqp_core.specs.Settings.{config_view, role_for}
 use Rattle.amqp_core.specs.Stages.{leaves, phase_at, agreed_at}
-use Rattle.amqp_core.specs.Used.{is_closing_at}
-use Rattle.amqp_core.specs.VerdictView.{verdict_view, reply_there, Decides, LeavesAfter}
-use Rattle.amqp_core.specs.declared.events.Agreed as code_agreed
 use Rattle.amqp_core.specs.declared.settings.Settings.{Settings}
 use Rattle.amqp_core.specs.declared.stage.Stage.{Stage}
 use Rattle.amqp_core.specs.declared.stage.Stage.TheVariants as stages
-use Rattle.amqp_core.specs.declared.verdict.Site.{Site}
-use Rattle.amqp_core.specs.declared.verdict.Verdict.{Verdict}
-use Rattle.amqp_core.specs.declared.verdict.Verdict.TheVariants as code
 use Rattle.amqp_core.proofs.EntryLemmas.{with_channel, entry_leaving, taken_above, agreed_above, nothing_stays, no_call, IsNoCall}
 
 -- A channel's step is the end's.

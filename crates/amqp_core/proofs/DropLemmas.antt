@@ -14,8 +14,8 @@ use Rattle.amqp_model.specs.Outputs.{Output}
 use Rattle.amqp_model.specs.Pieces.{reads_frames}
 use Rattle.amqp_core.specs.Dropping.{DropsInPlace, IsDropped}
 use Rattle.amqp_core.specs.EndpointView.{FieldsFit, unfinished_of}
-use Rattle.amqp_core.specs.Feeding.{IsFed}
-use Rattle.amqp_core.specs.declared.events.Taken.{Taken}
+use Rattle.amqp_core.specs.Hearing.{IsHeard}
+use Rattle.amqp_core.specs.declared.taken.Heard.{Heard}
 use Rattle.amqp_core.specs.declared.faults.CoreFault.{CoreFault}
 use Rattle.amqp_core.proofs.FeedLemmas.{reads, unfinished_is}
 
@@ -49,10 +49,10 @@ failed_reads Client phase e = ap (reads_frames Client) e
 failed_reads Server phase e = ap (reads_frames Server) e
 
 -- what is answered of a piece, by what is taken of it
-pub takes_within : (result : Result Taken CoreFault) (old : model.Endpoint) (feeding : Feeding) (new : model.Endpoint) (most : ℕ) → IsFed result old feeding new → feeding.taken ≤ most → IfOk result (λ t. t.octets ≤ most)
-takes_within (Ok taken) old feeding new most fed within = subst (λ n. n ≤ most) (sym fed.taken) within
+pub takes_within : (result : Result Heard CoreFault) (old : model.Endpoint) (feeding : Feeding) (new : model.Endpoint) (most : ℕ) → IsHeard result old feeding new → feeding.taken ≤ most → IfOk result (λ t. t.octets ≤ most)
+takes_within (Ok heard) old feeding new most fed within = subst (λ n. n ≤ most) (sym fed.taken) within
 takes_within (Err fault) old feeding new most fed within = tt
 
-pub takes_some : (result : Result Taken CoreFault) (old : model.Endpoint) (feeding : Feeding) (new : model.Endpoint) (piece : List ℕ) → IsFed result old feeding new → (piece ≢ [] → 0 < feeding.taken) → IfOk result (λ t. piece ≢ [] → 0 < t.octets)
-takes_some (Ok taken) old feeding new piece fed some = λ there. subst (λ n. 0 < n) (sym fed.taken) (some there)
+pub takes_some : (result : Result Heard CoreFault) (old : model.Endpoint) (feeding : Feeding) (new : model.Endpoint) (piece : List ℕ) → IsHeard result old feeding new → (piece ≢ [] → 0 < feeding.taken) → IfOk result (λ t. piece ≢ [] → 0 < t.octets)
+takes_some (Ok heard) old feeding new piece fed some = λ there. subst (λ n. 0 < n) (sym fed.taken) (some there)
 takes_some (Err fault) old feeding new piece fed some = tt

@@ -13,12 +13,12 @@ use Rattle.amqp_model.specs.Machine.{set_channel, channel_after, end_after, end_
 use Rattle.amqp_model.specs.Methods.{Method}
 use Rattle.amqp_model.specs.Negotiation.{Config}
 use Rattle.amqp_model.specs.Readings.{Reading, Calls}
+use Rattle.amqp_channel.specs.Roles.{role_of}
+use Rattle.amqp_channel.specs.VerdictView.{reply_there, after_owed}
+use Rattle.amqp_channel.specs.declared.verdict.Site.{Site}
+use Rattle.amqp_channel.specs.declared.verdict.Verdict.{Verdict}
+use Rattle.amqp_channel.specs.declared.verdict.Verdict.TheVariants as code
 use Rattle.amqp_core.specs.Laws.{running_end, frame_here, StepsAsEnd}
-use Rattle.amqp_core.specs.Roles.{role_of}
-use Rattle.amqp_core.specs.VerdictView.{reply_there, after_owed}
-use Rattle.amqp_core.specs.declared.verdict.Site.{Site}
-use Rattle.amqp_core.specs.declared.verdict.Verdict.{Verdict}
-use Rattle.amqp_core.specs.declared.verdict.Verdict.TheVariants as code
 
 pub entry_above : (site : Site) (config : Config (role_of site.side)) (frame_max number : ℕ) (entry : ChannelEntry) (channels : ℕ → Channel) → 0 < number → end_after (role_of site.side) config number entry (running_end site frame_max channels) ≡ running_end site frame_max (set_channel number (channel_after (role_of site.side) entry (channels number)) channels)
 entry_above site config frame_max zero entry channels h = absurd (omega arith)

@@ -12,8 +12,8 @@ use Rattle.amqp_model.specs.Negotiation.{Config}
 use Rattle.amqp_model.specs.Notes.{Role, Client, Server}
 use Rattle.amqp_model.specs.Frame.{Frame}
 use Rattle.amqp_model.specs.Readings.{Reading, Calls, UnknownMethod, MalformedMethod, HeaderOf, MalformedHeader, BodyOf, Beat, is_call}
+use Rattle.amqp_channel.specs.VerdictView.{after_owed}
 use Rattle.amqp_core.specs.Stages.{leaves}
-use Rattle.amqp_core.specs.VerdictView.{after_owed}
 
 -- the end with this channel set
 abbrev pub with_channel : (number : ℕ) → Channel → End → End

@@ -28,9 +28,12 @@ use Rattle.amqp_model.specs.Outputs.{Output, after_puts}
 use Rattle.amqp_model.specs.Pieces.{AreBegun, IsFedBy, IsProperPrefixOf, HoldsUnfinished, FaultFed, FeedHolds, FeedGivesFrame, FeedWaits, FeedFindsFault, reads_frames}
 use Rattle.amqp_model.specs.Readings.{reading}
 use Rattle.amqp_outbox.specs.OutboxView.{Outgoing, only}
-use Rattle.amqp_core.specs.Answering.{Answers, Brings, EndsAs, PutsAs, Reports, Tells, ran_out, is_out_of_memory, stopped}
+use Rattle.amqp_channel.specs.NewsView.{news_there}
+use Rattle.amqp_channel.specs.declared.news.News.{News}
+use Rattle.amqp_core.specs.Answering.{Answers, Brings, EndsAs, PutsAs, Reports, ran_out, is_out_of_memory, stopped}
 use Rattle.amqp_core.specs.EndpointView.{FieldsFit, IsSound, endpoint_view, is_opened, unfinished_of}
-use Rattle.amqp_core.specs.Feeding.{IsFed, IsInPiece, SameEndpoint, ran_out_of}
+use Rattle.amqp_core.specs.Feeding.{SameEndpoint, ran_out_of}
+use Rattle.amqp_core.specs.Hearing.{Hears, IsHeard, IsInPiece}
 use Rattle.amqp_core.specs.Bounded.{IsBounded}
 use Rattle.amqp_core.specs.CoreView.{core_end}
 use Rattle.amqp_core.specs.Kept.{agreed_prop}
@@ -38,11 +41,7 @@ use Rattle.amqp_core.specs.Outcomes.{SameEnd}
 use Rattle.amqp_core.specs.Settings.{config_view, role_for}
 use Rattle.amqp_core.specs.declared.endpoint.Endpoint.{Endpoint}
 use Rattle.amqp_core.specs.declared.settings.Settings.{Settings}
-use Rattle.amqp_core.specs.EventView.{event_there}
-use Rattle.amqp_core.specs.NewsView.{news_there}
-use Rattle.amqp_core.specs.declared.news.News.{News}
-use Rattle.amqp_core.specs.declared.events.Event.{Event}
-use Rattle.amqp_core.specs.declared.events.Taken.{Taken}
+use Rattle.amqp_core.specs.declared.taken.Heard.{Heard}
 use Rattle.amqp_core.specs.declared.faults.CoreFault.{CoreFault}
 use Rattle.amqp_core.specs.declared.faults.CoreFault.TheVariants as core
 use Rattle.amqp_core.proofs.OpenedLemmas.{frame_opened}
@@ -137,30 +136,30 @@ same_endpoint true old next new unfinished put output same none out = record { e
 same_endpoint false old next new unfinished put output same none out = record { end = same; unfinished = sym none; output = sym out }
 
 -- the answer to a frame, as an answer to the piece
-told_in_piece : (news : Option News) (event : Option Event) (outcome : Outcome) → event_there event ≡ news_there news → Brings news outcome → Tells event outcome
-told_in_piece news event Unfinished same says = absurd says
-told_in_piece news event (Finished told) same says = says ∙ sym same
-told_in_piece news event (Found fault) same says = absurd says
+heard_in_piece : (one other : Option News) (outcome : Outcome) → other ≡ one → Brings one outcome → Hears other outcome
+heard_in_piece one other Unfinished same says = absurd says
+heard_in_piece one other (Finished told) same says = says ∙ ap news_there (sym same)
+heard_in_piece one other (Found fault) same says = absurd says
 
-pub ran_in_piece : (octets : ℕ) (answer : Result (Option News) CoreFault) (result : Result Taken CoreFault) → IsInPiece octets answer result → ran_out result ≡ ran_out answer
-ran_in_piece octets (Ok news) (Ok taken) is = refl
+pub ran_in_piece : (octets : ℕ) (answer : Result (Option News) CoreFault) (result : Result Heard CoreFault) → IsInPiece octets answer result → ran_out result ≡ ran_out answer
+ran_in_piece octets (Ok news) (Ok heard) is = refl
 ran_in_piece octets (Ok news) (Err fault) is = absurd is
-ran_in_piece octets (Err fault) (Ok taken) is = absurd is
+ran_in_piece octets (Err fault) (Ok heard) is = absurd is
 ran_in_piece octets (Err fault) (Err told) is = ap is_out_of_memory is
 
-answered : (answer : Result (Option News) CoreFault) (result : Result Taken CoreFault) (octets : ℕ) (old : model.Endpoint) (next new : End) (unfinished : List ℕ) (put output : Output) (outcome : Outcome) → IsInPiece octets answer result → Answers answer outcome → SameEnd (cond (ran_out answer) (as_failed old.end) next) new → unfinished ≡ [] → output ≡ cond (ran_out answer) old.output put
-    → IsFed result old (record { endpoint = record { end = next; unfinished = []; output = put }; taken = octets; outcome = outcome }) (record { end = new; unfinished = unfinished; output = output })
-answered (Ok news) (Ok taken) octets old next new unfinished put output outcome is says same none out = record { answer = told_in_piece news taken.event outcome is.1 says; taken = is.0; left = same_endpoint false old next new unfinished put output same none out }
+answered : (answer : Result (Option News) CoreFault) (result : Result Heard CoreFault) (octets : ℕ) (old : model.Endpoint) (next new : End) (unfinished : List ℕ) (put output : Output) (outcome : Outcome) → IsInPiece octets answer result → Answers answer outcome → SameEnd (cond (ran_out answer) (as_failed old.end) next) new → unfinished ≡ [] → output ≡ cond (ran_out answer) old.output put
+    → IsHeard result old (record { endpoint = record { end = next; unfinished = []; output = put }; taken = octets; outcome = outcome }) (record { end = new; unfinished = unfinished; output = output })
+answered (Ok news) (Ok heard) octets old next new unfinished put output outcome is says same none out = record { answer = heard_in_piece news heard.news outcome is.1 says; taken = is.0; left = same_endpoint false old next new unfinished put output same none out }
 answered (Ok news) (Err fault) octets old next new unfinished put output outcome is says same none out = absurd is
-answered (Err fault) (Ok taken) octets old next new unfinished put output outcome is says same none out = absurd is
+answered (Err fault) (Ok heard) octets old next new unfinished put output outcome is says same none out = absurd is
 answered (Err fault) (Err told) octets old next new unfinished put output outcome is says same none out =
-    subst (λ (f : CoreFault). IsFed (Err f) old (record { endpoint = record { end = next; unfinished = []; output = put }; taken = octets; outcome = outcome }) (record { end = new; unfinished = unfinished; output = output })) (sym is)
+    subst (λ (f : CoreFault). IsHeard (Err f) old (record { endpoint = record { end = next; unfinished = []; output = put }; taken = octets; outcome = outcome }) (record { end = new; unfinished = unfinished; output = output })) (sym is)
     (record { answer = says; taken = tt; left = same_endpoint (is_out_of_memory fault) old next new unfinished put output same none out })
 
-pub frame_fed : (role : Role) (config : Config role) (old : model.Endpoint) (stream : Stream) (piece : List ℕ) (octets : ℕ) (frame : Frame) (answer : Result (Option News) CoreFault) (result : Result Taken CoreFault) (new : End) (unfinished : List ℕ) (outgoing : Outgoing) → FeedGivesFrame role config old stream piece octets frame → IsFedBy role old stream piece → octets ≤ length piece → Completes stream (take octets piece) frame → IsInPiece octets answer result → Answers answer (outcome_of (facts_at config old.end frame.channel) (end_verdict config old.end frame)) → EndsAs answer old.end (end_after_taken role config old.end (reading frame) frame) new → unfinished ≡ [] → PutsAs answer old.output (after_puts (end_puts config old.end frame) old.output) outgoing
-    → IsFed result old (after_feed role config old piece) (record { end = new; unfinished = unfinished; output = outgoing.output })
+pub frame_fed : (role : Role) (config : Config role) (old : model.Endpoint) (stream : Stream) (piece : List ℕ) (octets : ℕ) (frame : Frame) (answer : Result (Option News) CoreFault) (result : Result Heard CoreFault) (new : End) (unfinished : List ℕ) (outgoing : Outgoing) → FeedGivesFrame role config old stream piece octets frame → IsFedBy role old stream piece → octets ≤ length piece → Completes stream (take octets piece) frame → IsInPiece octets answer result → Answers answer (outcome_of (facts_at config old.end frame.channel) (end_verdict config old.end frame)) → EndsAs answer old.end (end_after_taken role config old.end (reading frame) frame) new → unfinished ≡ [] → PutsAs answer old.output (after_puts (end_puts config old.end frame) old.output) outgoing
+    → IsHeard result old (after_feed role config old piece) (record { end = new; unfinished = unfinished; output = outgoing.output })
 frame_fed role config old stream piece octets frame answer result new unfinished outgoing law fed within completes is says ends none puts =
-    subst (λ (f : Feeding). IsFed result old f (record { end = new; unfinished = unfinished; output = outgoing.output })) (sym (law fed within completes))
+    subst (λ (f : Feeding). IsHeard result old f (record { end = new; unfinished = unfinished; output = outgoing.output })) (sym (law fed within completes))
     (answered answer result octets old (end_after_taken role config old.end (reading frame) frame) new unfinished (after_puts (end_puts config old.end frame) old.output) outgoing.output (outcome_of (facts_at config old.end frame.channel) (end_verdict config old.end frame)) is says ends none (ap (λ (o : Outgoing). o.output) puts))
 
 -- It answers with none.
@@ -169,15 +168,15 @@ same_end : (end : End) → SameEnd end end
 same_end end = record { phase = refl; agreed = refl; no_channel = refl; channels = λ running. refl }
 
 pub rest_fed : (role : Role) (config : Config role) (old : model.Endpoint) (stream : Stream) (piece : List ℕ) (octets : ℕ) (unfinished : List ℕ) → FeedWaits role config old stream piece octets → IsFedBy role old stream piece → Waits stream piece octets → old.unfinished ++ piece ≡ unfinished
-    → IsFed (Ok (record { octets = octets; event = None })) old (after_feed role config old piece) (record { end = old.end; unfinished = unfinished; output = old.output })
+    → IsHeard (Ok (record { octets = octets; news = None })) old (after_feed role config old piece) (record { end = old.end; unfinished = unfinished; output = old.output })
 rest_fed role config old stream piece octets unfinished law fed waits is =
-    subst (λ (f : Feeding). IsFed (Ok (record { octets = octets; event = None })) old f (record { end = old.end; unfinished = unfinished; output = old.output })) (sym (law fed waits))
+    subst (λ (f : Feeding). IsHeard (Ok (record { octets = octets; news = None })) old f (record { end = old.end; unfinished = unfinished; output = old.output })) (sym (law fed waits))
     (record { answer = refl; taken = refl; left = record { end = same_end old.end; unfinished = is; output = refl } })
 
 -- It reports a fault.
 
 stopped_fed : (fault : CoreFault) (octets : ℕ) (old : model.Endpoint) (next new : End) (unfinished : List ℕ) (put output : Output) (outcome : Outcome) → Reports fault outcome → SameEnd (cond (is_out_of_memory fault) (as_failed old.end) next) new → unfinished ≡ [] → output ≡ cond (is_out_of_memory fault) old.output put
-    → IsFed (Err fault) old (record { endpoint = record { end = next; unfinished = []; output = put }; taken = octets; outcome = outcome }) (record { end = new; unfinished = unfinished; output = output })
+    → IsHeard (Err fault) old (record { endpoint = record { end = next; unfinished = []; output = put }; taken = octets; outcome = outcome }) (record { end = new; unfinished = unfinished; output = output })
 stopped_fed fault octets old next new unfinished put output outcome says same none out = record { answer = says; taken = tt; left = same_endpoint (is_out_of_memory fault) old next new unfinished put output same none out }
 
 -- The splitter after each answer.
@@ -238,21 +237,21 @@ frame_leaves role config old new frame b writes stays read_on fits same =
     (agreed_left b old (end_after_taken role config old (reading frame) frame) new same fits (∥∥₁_elim writes (agreed_prop _) (λ w. stays w fits)), opened_left b old (end_after_taken role config old (reading frame) frame) new same (frame_opened role config old (reading frame) frame read_on))
 
 -- What is unfinished then.
-pub fed_holds : (role : Role) (config : Config role) (old new : model.Endpoint) (stream : Stream) (piece : List ℕ) (result : Result Taken CoreFault) → FeedHolds role config old piece → IsFedBy role old stream piece → IsFed result old (after_feed role config old piece) new → HoldsUnfinished role new
+pub fed_holds : (role : Role) (config : Config role) (old new : model.Endpoint) (stream : Stream) (piece : List ℕ) (result : Result Heard CoreFault) → FeedHolds role config old piece → IsFedBy role old stream piece → IsHeard result old (after_feed role config old piece) new → HoldsUnfinished role new
 fed_holds role config old new stream piece result law by fed =
     holds_left role (ran_out result) old (after_feed role config old piece).endpoint new fed.left (law by.holds by.are_octets)
 
 -- A fault.
 
 stop_case : (role : Role) (config : Config role) (old : model.Endpoint) (stream : Stream) (piece : List ℕ) (kind : FrameFaultKind) (at : ℕ) (fault : CoreFault) (new : End) (unfinished : List ℕ) (outgoing : Outgoing) → FaultFed role config old stream piece kind at → Reports fault (Found (fault_told kind)) → SameEnd (cond (is_out_of_memory fault) (as_failed old.end) (stopped role config old.end kind)) new → unfinished ≡ [] → outgoing ≡ only (cond (is_out_of_memory fault) old.output (after_puts (map frame_of (owed_at_fault config old.end kind)) old.output))
-    → IsFed (Err fault) old (after_feed role config old piece) (record { end = new; unfinished = unfinished; output = outgoing.output })
+    → IsHeard (Err fault) old (after_feed role config old piece) (record { end = new; unfinished = unfinished; output = outgoing.output })
 stop_case role config old stream piece kind at fault new unfinished outgoing told says ends none puts =
-    subst (λ (f : Feeding). IsFed (Err fault) old f (record { end = new; unfinished = unfinished; output = outgoing.output })) (sym told.fed)
+    subst (λ (f : Feeding). IsHeard (Err fault) old f (record { end = new; unfinished = unfinished; output = outgoing.output })) (sym told.fed)
     (stopped_fed fault (suc told.before) old (stopped role config old.end kind) new unfinished (after_puts (map frame_of (owed_at_fault config old.end kind)) old.output) outgoing.output (Found (fault_told kind)) says ends none (ap (λ (o : Outgoing). o.output) puts))
 
 -- out of memory nothing is said of what the octets are
 lacks_case : (old : model.Endpoint) (feeding : Feeding) (new : End) (unfinished : List ℕ) (outgoing : Outgoing) (next : End) (put : Output) (fault : CoreFault) → is_out_of_memory fault ≡ true → SameEnd (cond (is_out_of_memory fault) (as_failed old.end) next) new → unfinished ≡ [] → outgoing ≡ only (cond (is_out_of_memory fault) old.output put)
-    → IsFed (Err fault) old feeding (record { end = new; unfinished = unfinished; output = outgoing.output })
+    → IsHeard (Err fault) old feeding (record { end = new; unfinished = unfinished; output = outgoing.output })
 lacks_case old feeding new unfinished outgoing next put (core.Peer code) e ends none puts = absurd (false≢true e)
 lacks_case old feeding new unfinished outgoing next put core.Fatal e ends none puts = absurd (false≢true e)
 lacks_case old feeding new unfinished outgoing next put core.Failed e ends none puts = absurd (false≢true e)
@@ -270,7 +269,7 @@ pub first_fault : (stream : Stream) (piece : List ℕ) (fault : FrameFault) → 
 first_fault stream piece fault none faults = subst (λ (place : Option ℕ). Faults place stream piece fault) none faults
 
 pub fault_fed : (role : Role) (config : Config role) (old : model.Endpoint) (stream : Stream) (piece : List ℕ) (kind : FrameFaultKind) (at : ℕ) (fault : CoreFault) (new : End) (unfinished : List ℕ) (outgoing : Outgoing) → FeedFindsFault role config old stream piece kind at → IsFedBy role old stream piece → FirstFault stream piece kind at → (kind ≡ OutOfMemory → is_out_of_memory fault ≡ true) → Reports fault (Found (fault_told kind)) → SameEnd (cond (is_out_of_memory fault) (as_failed old.end) (stopped role config old.end kind)) new → unfinished ≡ [] → outgoing ≡ only (cond (is_out_of_memory fault) old.output (after_puts (map frame_of (owed_at_fault config old.end kind)) old.output))
-    → IsFed (Err fault) old (after_feed role config old piece) (record { end = new; unfinished = unfinished; output = outgoing.output })
+    → IsHeard (Err fault) old (after_feed role config old piece) (record { end = new; unfinished = unfinished; output = outgoing.output })
 fault_fed role config old stream piece OutOfMemory at fault new unfinished outgoing law by first memory says ends none puts =
     lacks_case old (after_feed role config old piece) new unfinished outgoing (stopped role config old.end OutOfMemory) (after_puts (map frame_of (owed_at_fault config old.end OutOfMemory)) old.output) fault (memory refl) ends none puts
 fault_fed role config old stream piece UnknownType at fault new unfinished outgoing law by first memory says ends none puts =

@@ -12,14 +12,14 @@ use Rattle.amqp_model.specs.Negotiation.{Config}
 use Rattle.amqp_model.specs.Notes.{Role, Client, Server}
 use Rattle.amqp_model.specs.Sent.{Telling, life_on, told, said, told_at, goes_on_with}
 use Rattle.amqp_model.specs.Traces.{IsTaken, Noted, noted, trace, PutsTellNothing, SaysMethod, TracePuts, telling_at, telling_above}
-use Rattle.amqp_core.specs.EventView.{agreed_view}
+use Rattle.amqp_channel.specs.EventView.{agreed_view}
+use Rattle.amqp_channel.specs.declared.verdict.Reply.TheVariants as replies
 use Rattle.amqp_core.specs.Noting.{item_of_reply, lives_in, noted_owed, notes_owed, said_by_owed, told_by}
 use Rattle.amqp_core.specs.OwedView.{owed_view, starts, answers_start, tunes, answers_tune}
 use Rattle.amqp_core.specs.Settings.{config_view, role_for}
 use Rattle.amqp_core.specs.declared.owed.Owed.{Owed}
 use Rattle.amqp_core.specs.declared.owed.Owed.TheVariants as code
 use Rattle.amqp_core.specs.declared.settings.Settings.{Settings}
-use Rattle.amqp_core.specs.declared.verdict.Reply.TheVariants as replies
 use Rattle.amqp_core.proofs.LifeCountLemmas.{life-counted}
 use Rattle.amqp_core.proofs.TraceLemmas.{notes-put, said-owed}
 

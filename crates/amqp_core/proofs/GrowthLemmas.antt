@@ -22,16 +22,16 @@ use Rattle.amqp_model.specs.Notes.{Role, Client, Server}
 use Rattle.amqp_model.specs.Outputs.{Output, output_octets, after_put, after_puts}
 use Rattle.amqp_model.specs.Readings.{reading}
 use Rattle.amqp_outbox.specs.OutboxView.{Outgoing, only}
+use Rattle.amqp_channel.specs.EventView.{agreed_view}
+use Rattle.amqp_channel.specs.declared.verdict.Reply.TheVariants as replies
 use Rattle.amqp_core.specs.Answering.{PutsAs, is_out_of_memory, ran_out}
 use Rattle.amqp_core.specs.Growth.{GrowsLittle}
 use Rattle.amqp_core.specs.OwedView.{owed_view, starts, answers_start, tunes, answers_tune}
-use Rattle.amqp_core.specs.EventView.{agreed_view}
 use Rattle.amqp_core.specs.Settings.{config_view, role_for}
 use Rattle.amqp_core.specs.declared.faults.CoreFault.{CoreFault}
 use Rattle.amqp_core.specs.declared.owed.Owed.{Owed}
 use Rattle.amqp_core.specs.declared.owed.Owed.TheVariants as code
 use Rattle.amqp_core.specs.declared.settings.Settings.{Settings}
-use Rattle.amqp_core.specs.declared.verdict.Reply.TheVariants as replies
 
 length-octets : (f : Frame) → length (octets f) ≡ frame_length f
 unfolding octets

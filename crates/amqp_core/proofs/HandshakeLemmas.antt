@@ -13,11 +13,11 @@ use Rattle.amqp_model.specs.Notes.{Role, Client, Server, is_client}
 use Rattle.amqp_model.specs.StateFromHistory.{awaits_tune_ok}
 use Rattle.amqp_model.specs.Histories.{TookHere}
 use Rattle.amqp_model.specs.Readings.{Reading, Calls}
+use Rattle.amqp_channel.specs.Used.{is_closing_at}
 use Rattle.amqp_core.specs.CoreView.{EndLeft, frame_at}
 use Rattle.amqp_core.specs.Handshakes.{within, is_in_handshake, awaited_in, answers_at, answered_in}
 use Rattle.amqp_core.specs.OwedView.{answers_start, tunes, answers_tune}
 use Rattle.amqp_core.specs.Stages.{leaves}
-use Rattle.amqp_core.specs.Used.{is_closing_at}
 use Rattle.amqp_core.proofs.EntryLemmas.{agreed_above}
 use Rattle.std.proofs.lemmas.Bool.Decides.{nat_tests}
 

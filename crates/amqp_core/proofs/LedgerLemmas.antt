@@ -4,14 +4,14 @@ use Rattle.std.proofs.lemmas.List.{append_assoc, map-append}
 use Rattle.amqp_model.specs.Items.{Item}
 use Rattle.amqp_model.specs.Notes.{Role}
 use Rattle.amqp_model.specs.Traces.{IsPut, Noted, Other, telling_above, telling_at}
+use Rattle.amqp_channel.specs.Roles.{role_of}
+use Rattle.amqp_channel.specs.declared.side.Side.{Side}
 use Rattle.amqp_core.specs.CountView.{lives_view}
 use Rattle.amqp_core.specs.CountsLives.{CountsLives}
 use Rattle.amqp_core.specs.LifeCounts.{LifeCount, after_word, counted, counted_with, nothing_counted}
 use Rattle.amqp_core.specs.NoteView.{note_view, noted_as}
-use Rattle.amqp_core.specs.Roles.{role_of}
 use Rattle.amqp_core.specs.declared.lives.Lives.{Lives}
 use Rattle.amqp_core.specs.declared.notes.Note.{Note}
-use Rattle.amqp_core.specs.declared.roles.Side.{Side}
 use Rattle.amqp_core.proofs.LifeCountLemmas.{counted-last}
 
 pub mapped-last : {A B : Type 0} (f : A → B) (items new : List A) (item : A) → new ≡ items ++ item ∷ [] → map f new ≡ map f items ++ f item ∷ []

@@ -11,7 +11,7 @@ use Rattle.amqp_model.specs.Frame.{Frame}
 use Rattle.amqp_model.specs.Methods.{Method, Properties}
 use Rattle.amqp_outbox.specs.OutboxFrames.{header_frame, body_frame}
 use Rattle.amqp_outbox.specs.OutboxView.{Outgoing, with_staged}
-use Rattle.amqp_core.specs.Messages.{message_by}
+use Rattle.amqp_channel.specs.Messages.{message_by}
 
 first_count : (a room n : ℕ) → 0 < room → n ≡ suc a → (n + room - 1) / room ≡ suc (a / room)
 first_count a room n some e =

@@ -21,16 +21,16 @@ use Rattle.amqp_model.specs.ReadingBack.{WritesReadBack}
 use Rattle.amqp_model.specs.Readings.{kind_of, method_reading}
 use Rattle.amqp_model.specs.Sent.{Telling, life_on, told, said, told_at, goes_on_with}
 use Rattle.amqp_model.specs.Traces.{Other, IsPut, IsTaken, noted, trace, word_of, TracePuts, TellsEvent, PutsTellNothing, SaysMethod, item_in_event, telling_at, telling_above}
+use Rattle.amqp_channel.specs.EventView.{agreed_view}
 use Rattle.amqp_core.specs.AccountView.{item_in_outcome}
 use Rattle.amqp_core.specs.Noting.{noted_owed, said_by_owed}
 use Rattle.amqp_core.specs.OwedView.{owed_view, starts, answers_start, tunes, answers_tune}
-use Rattle.amqp_core.specs.EventView.{agreed_view}
 use Rattle.amqp_core.specs.Settings.{config_view, role_for}
 use Rattle.amqp_model.specs.Channels as channels
+use Rattle.amqp_channel.specs.declared.verdict.Reply.TheVariants as replies
 use Rattle.amqp_core.specs.declared.owed.Owed.{Owed}
 use Rattle.amqp_core.specs.declared.owed.Owed.TheVariants as code
 use Rattle.amqp_core.specs.declared.settings.Settings.{Settings}
-use Rattle.amqp_core.specs.declared.verdict.Reply.TheVariants as replies
 
 -- Notes.
 

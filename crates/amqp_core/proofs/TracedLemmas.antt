@@ -33,7 +33,7 @@ use Rattle.amqp_core.specs.Settings.{config_view, role_for}
 use Rattle.amqp_core.specs.Tracing as tracing
 use Rattle.amqp_model.specs.Grown as grown
 use Rattle.amqp_core.specs.Tracing.{FedGrows, Kept, IsTraceOf, Stands, SameLists, TraceGoesOn, TraceGrows}
-use Rattle.amqp_core.specs.declared.events.Taken.{Taken}
+use Rattle.amqp_core.specs.declared.taken.Taken.{Taken}
 use Rattle.amqp_core.specs.declared.faults.AskFault.{AskFault}
 use Rattle.amqp_core.specs.declared.faults.CoreFault.{CoreFault}
 use Rattle.amqp_core.specs.declared.faults.CoreFault.TheVariants as core

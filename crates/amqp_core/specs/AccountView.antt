@@ -13,11 +13,11 @@ use Rattle.amqp_model.specs.Negotiation.{Config}
 use Rattle.amqp_model.specs.Notes.{Role}
 use Rattle.amqp_model.specs.OctetLaws.{CompletesFrame, ShowsFault}
 use Rattle.amqp_model.specs.Traces.{Noted, IsTaken, noted, item_in_event}
+use Rattle.amqp_channel.specs.declared.news.News.{News}
 use Rattle.amqp_core.specs.CoreView.{told_view}
-use Rattle.amqp_core.specs.NoteView.{item_there, note_view}
+use Rattle.amqp_core.specs.NoteView.{item_kept, note_view}
 use Rattle.amqp_core.specs.OwedView.{owed_view}
 use Rattle.amqp_core.specs.declared.account.Account.{Account}
-use Rattle.amqp_core.specs.declared.news.News.{News}
 use Rattle.amqp_core.specs.declared.notes.Note.{Note}
 use Rattle.amqp_core.specs.declared.one_end.Fault as faults
 use Rattle.amqp_core.specs.declared.owed.Owed.TheVariants as owed
@@ -41,7 +41,7 @@ item_in_outcome outcome = None
 
 -- the account has the item that is told
 abbrev pub TellsItem : Result (Option News) faults.Fault → Account → Type 0
-TellsItem told account = item_there account.item ≡ item_in_outcome (told_view told)
+TellsItem told account = item_kept account.item ≡ item_in_outcome (told_view told)
 
 -- What a piece came to: the frame that was taken, as it is noted, the item that it told, and the methods that were put.
 pub record Came : Type 0 where
@@ -50,7 +50,7 @@ pub record Came : Type 0 where
   pub owed : List Owed
 
 abbrev pub came_by : Settings → Account → Came
-came_by settings account = record { took = note_there account.took; item = item_there account.item; owed = owed_view settings account.owed }
+came_by settings account = record { took = note_there account.took; item = item_kept account.item; owed = owed_view settings account.owed }
 
 -- no frame, and these methods put
 abbrev pub puts_alone : List Owed → Came

@@ -9,12 +9,12 @@ use Rattle.amqp_model.specs.Negotiation.{Config}
 use Rattle.amqp_model.specs.Notes.{Role}
 use Rattle.amqp_model.specs.Outputs.{Output}
 use Rattle.amqp_outbox.specs.OutboxView.{Outgoing, only}
-use Rattle.amqp_core.specs.Closes.{code_view}
-use Rattle.amqp_core.specs.EventView.{event_there}
-use Rattle.amqp_core.specs.NewsView.{news_there}
+use Rattle.amqp_channel.specs.Closes.{code_view}
+use Rattle.amqp_channel.specs.EventView.{event_there}
+use Rattle.amqp_channel.specs.NewsView.{news_there}
+use Rattle.amqp_channel.specs.declared.events.Event.{Event}
+use Rattle.amqp_channel.specs.declared.news.News.{News}
 use Rattle.amqp_core.specs.Outcomes.{SameEnd}
-use Rattle.amqp_core.specs.declared.events.Event.{Event}
-use Rattle.amqp_core.specs.declared.news.News.{News}
 use Rattle.amqp_core.specs.declared.faults.CoreFault.{CoreFault}
 use Rattle.amqp_core.specs.declared.faults.CoreFault.TheVariants as core
 

@@ -12,9 +12,11 @@ use Rattle.amqp_model.specs.Machine.{taken_verdict, end_after, end_after_owed}
 use Rattle.amqp_model.specs.Negotiation.{Config}
 use Rattle.amqp_model.specs.Notes.{Role}
 use Rattle.amqp_model.specs.Readings.{Reading}
-use Rattle.amqp_core.specs.ChannelsView.{channels_view}
-use Rattle.amqp_core.specs.Closes.{code_view}
-use Rattle.amqp_core.specs.NewsView.{news_there}
+use Rattle.amqp_channel.specs.ChannelsView.{channels_view}
+use Rattle.amqp_channel.specs.Closes.{code_view}
+use Rattle.amqp_channel.specs.NewsView.{news_there}
+use Rattle.amqp_channel.specs.declared.news.News.{News}
+use Rattle.amqp_channel.specs.declared.verdict.Site.{Site}
 use Rattle.amqp_core.specs.OwedView.{owed_view}
 use Rattle.amqp_core.specs.Settings.{config_view, side_in}
 use Rattle.amqp_core.specs.Stages.{phase_at, agreed_at}
@@ -23,9 +25,7 @@ use Rattle.amqp_core.specs.declared.one_end.Decision.{Decision}
 use Rattle.amqp_core.specs.declared.one_end.Decision.TheVariants as code
 use Rattle.amqp_core.specs.declared.one_end.Fault.{Fault}
 use Rattle.amqp_core.specs.declared.one_end.Fault.TheVariants.{Peer, Fatal}
-use Rattle.amqp_core.specs.declared.news.News.{News}
 use Rattle.amqp_core.specs.declared.settings.Settings.{Settings}
-use Rattle.amqp_core.specs.declared.verdict.Site.{Site}
 
 abbrev pub core_end : Core → End
 core_end core = record { phase = phase_at core.stage; agreed = agreed_at core.stage; channels = channels_view core.channels }

@@ -1,12 +1,12 @@
 -- The lives that the code counts are those of its notes.
 use Rattle.std.specs.Prelude.{◌≡◌, ℕ, List, map}
+use Rattle.amqp_channel.specs.Roles.{role_of}
+use Rattle.amqp_channel.specs.declared.side.Side.{Side}
 use Rattle.amqp_core.specs.CountView.{lives_view}
 use Rattle.amqp_core.specs.LifeCounts.{counted}
 use Rattle.amqp_core.specs.NoteView.{note_view}
-use Rattle.amqp_core.specs.Roles.{role_of}
 use Rattle.amqp_core.specs.declared.lives.Lives.{Lives}
 use Rattle.amqp_core.specs.declared.notes.Note.{Note}
-use Rattle.amqp_core.specs.declared.roles.Side.{Side}
 
 pub record CountsLives (side : Side) (notes : List Note) (kept : Lives) : Type 0 where
   pub lives : (channel : ℕ) → (lives_view kept channel).lives ≡ (counted (role_of side) channel (map note_view notes)).lives

@@ -9,8 +9,8 @@ use Rattle.amqp_model.specs.Frame.{Frame}
 use Rattle.amqp_model.specs.Negotiation.{frame_limit}
 use Rattle.amqp_model.specs.Notes.{Role}
 use Rattle.amqp_model.specs.Pieces.{reads_frames}
+use Rattle.amqp_channel.specs.Used.{is_closing_at}
 use Rattle.amqp_core.specs.Stages.{leaves}
-use Rattle.amqp_core.specs.Used.{is_closing_at}
 
 -- The end has put connection.close; or it has closed the channel; or the heartbeat is as it is to be.
 abbrev pub IsDropped : model.Phase → model.Channel → (number : ℕ) → FrameKind → (payload : List ℕ) → Type 0

@@ -4,7 +4,7 @@ use Rattle.amqp_model.specs.Asks as asks
 use Rattle.amqp_model.specs.Asks.{Refusal, refusal_number}
 use Rattle.amqp_model.specs.Events as events
 use Rattle.amqp_model.specs.Fitting as fitting
-use Rattle.amqp_core.specs.Closes.{code_view}
+use Rattle.amqp_channel.specs.Closes.{code_view}
 use Rattle.amqp_core.specs.declared.faults.CoreFault.{CoreFault}
 use Rattle.amqp_core.specs.declared.faults.CoreFault.TheVariants as core
 use Rattle.amqp_core.specs.declared.faults.ConfigFault.{ConfigFault}

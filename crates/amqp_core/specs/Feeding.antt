@@ -1,22 +1,12 @@
 -- What comes of a piece that an end is fed, beside what the definitions say.
-use Rattle.std.specs.Prelude.{◌≡◌, cond, ℕ, [], Option, Result, Ok, Err}
+use Rattle.std.specs.Prelude.{◌≡◌, cond, ℕ, [], Result, Ok, Err}
 use Rattle.amqp_model.specs.Endpoint as model
 use Rattle.amqp_model.specs.Endpoint.{Outcome, Feeding}
 use Rattle.amqp_model.specs.Machine.{as_failed}
 use Rattle.amqp_core.specs.Answering.{Tells, Reports, ran_out}
-use Rattle.amqp_core.specs.EventView.{event_there}
-use Rattle.amqp_core.specs.NewsView.{news_there}
 use Rattle.amqp_core.specs.Outcomes.{SameEnd}
-use Rattle.amqp_core.specs.declared.events.Taken.{Taken}
+use Rattle.amqp_core.specs.declared.taken.Taken.{Taken}
 use Rattle.amqp_core.specs.declared.faults.CoreFault.{CoreFault}
-use Rattle.amqp_core.specs.declared.news.News.{News}
-
--- the answer to a frame, as an answer to the piece in which so many octets end it
-abbrev pub IsInPiece : (octets : ℕ) → Result (Option News) CoreFault → Result Taken CoreFault → Type 0
-IsInPiece octets (Ok news) (Ok taken) = (taken.octets ≡ octets) × (event_there taken.event ≡ news_there news)
-IsInPiece octets (Ok news) (Err fault) = ⊥
-IsInPiece octets (Err fault) (Ok taken) = ⊥
-IsInPiece octets (Err fault) (Err told) = told ≡ fault
 
 -- what is answered to a piece
 abbrev pub AnswersPiece : Result Taken CoreFault → Outcome → Type 0

@@ -9,11 +9,11 @@ use Rattle.amqp_model.specs.EndVerdict.{goes_on}
 use Rattle.amqp_model.specs.Machine.{set_channel, taken_verdict, end_after_taken, end_after_put}
 use Rattle.amqp_model.specs.Negotiation.{Config}
 use Rattle.amqp_model.specs.Readings.{Reading, payload_of, reading}
-use Rattle.amqp_core.specs.Puts.{after_payloads}
-use Rattle.amqp_core.specs.Roles.{role_of}
-use Rattle.amqp_core.specs.VerdictView.{verdict_view, Decides, LeavesAfter}
-use Rattle.amqp_core.specs.declared.verdict.Site.{Site}
-use Rattle.amqp_core.specs.declared.verdict.Verdict.{Verdict}
+use Rattle.amqp_channel.specs.Puts.{after_payloads}
+use Rattle.amqp_channel.specs.Roles.{role_of}
+use Rattle.amqp_channel.specs.VerdictView.{verdict_view, Decides, LeavesAfter}
+use Rattle.amqp_channel.specs.declared.verdict.Site.{Site}
+use Rattle.amqp_channel.specs.declared.verdict.Verdict.{Verdict}
 
 -- an end whose connection is Running
 abbrev pub running_end : Site → (frame_max : ℕ) → (ℕ → Channel) → End

@@ -7,12 +7,12 @@ use Rattle.amqp_model.specs.Notes.{Role, Client, Server}
 use Rattle.amqp_model.specs.Readings.{Calls, kind_of}
 use Rattle.amqp_model.specs.Sent.{Telling}
 use Rattle.amqp_model.specs.Traces.{Close, CloseOk, FlowOk, IsPut, Noted, OpenOk, Other, Word, telling_above, telling_at, word_of}
+use Rattle.amqp_channel.specs.declared.verdict.Reply.{Reply}
+use Rattle.amqp_channel.specs.declared.verdict.Reply.TheVariants as reply
 use Rattle.amqp_core.specs.LifeCounts.{counted}
 use Rattle.amqp_core.specs.NoteView.{noted_as}
 use Rattle.amqp_core.specs.declared.owed.Owed.{Owed}
 use Rattle.amqp_core.specs.declared.owed.Owed.TheVariants as owed
-use Rattle.amqp_core.specs.declared.verdict.Reply.{Reply}
-use Rattle.amqp_core.specs.declared.verdict.Reply.TheVariants as reply
 
 -- the note of a method that is put
 abbrev pub noted_owed : closes.Owed → Noted

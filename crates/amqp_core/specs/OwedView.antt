@@ -6,10 +6,10 @@ use Rattle.amqp_model.specs.Closes.{connection_close, connection_close_ok, chann
 use Rattle.amqp_model.specs.FrameVerdict.{on_zero, on_channel}
 use Rattle.amqp_model.specs.Negotiation.{Config, start, start_ok, tune, tune_ok, connection_open, connection_open_ok}
 use Rattle.amqp_model.specs.Notes.{Role, Client, Server}
-use Rattle.amqp_core.specs.Closes.{code_view}
-use Rattle.amqp_core.specs.EventView.{agreed_view}
+use Rattle.amqp_channel.specs.Closes.{code_view}
+use Rattle.amqp_channel.specs.EventView.{agreed_view}
+use Rattle.amqp_channel.specs.VerdictView.{reply_kind}
 use Rattle.amqp_core.specs.Settings.{role_for, config_view}
-use Rattle.amqp_core.specs.VerdictView.{reply_kind}
 use Rattle.amqp_core.specs.declared.owed.Owed.{Owed}
 use Rattle.amqp_core.specs.declared.owed.Owed.TheVariants as code
 use Rattle.amqp_core.specs.declared.settings.Settings.{Settings}

@@ -2,9 +2,9 @@
 use Rattle.amqp_value.specs.Tables.{table_view}
 use Rattle.amqp_model.specs.Negotiation as model
 use Rattle.amqp_model.specs.Notes.{Role}
-use Rattle.amqp_core.specs.Roles.{role_of}
-use Rattle.amqp_core.specs.declared.roles.Side.{Side}
-use Rattle.amqp_core.specs.declared.roles.Side.TheVariants as side
+use Rattle.amqp_channel.specs.Roles.{role_of}
+use Rattle.amqp_channel.specs.declared.side.Side.{Side}
+use Rattle.amqp_channel.specs.declared.side.Side.TheVariants as side
 use Rattle.amqp_core.specs.declared.settings.ClientHello.{ClientHello}
 use Rattle.amqp_core.specs.declared.settings.ServerHello.{ServerHello}
 use Rattle.amqp_core.specs.declared.settings.Hello.{Hello}

@@ -4,25 +4,25 @@ ghost use Rattle.amqp_model.specs.Traces.{IsTaken, noted};
 ghost use Rattle.amqp_core.specs.CoreView.{frame_at};
 
 use crate::faults::OutOfMemory;
-use crate::news::News;
 use crate::notes::Note;
 use crate::one_end::Fault;
 use crate::owed::Owed;
 use crate::tellings::Item;
+use amqp_channel::News;
 use amqp_frame::FrameKind;
 use std::alloc::Global;
 
 /// What came of a piece. The note of its frame and a copy of what the frame told are made only where they are wanted, since
 /// both may take memory.
-#[derive(Debug, Drop)]
+#[derive(Drop)]
 pub(crate) struct Account {
     pub(crate) wanted: bool,
     /// how many octets were taken, also where a fault was found
     pub(crate) octets: usize,
     /// the note of the frame that was taken, if one was
     pub(crate) took: Option<Note>,
-    /// the item that the frame told, if it told one
-    pub(crate) item: Option<Item>,
+    /// the item that the frame told, if it told one; it is large, and most ends keep none
+    pub(crate) item: Option<Box<Item>>,
     /// what was put in reply
     pub(crate) owed: Owed,
 }
@@ -65,23 +65,32 @@ impl Account {
         Ok(())
     }
 
-    /// A copy of what came of a frame. It is large, and stands apart, so that who wants none makes no room for it.
+    /// A copy of what came of a frame. It stands apart, so that who wants none makes no room for it.
     #[inline(never)]
-    fn copy_item(&mut self, told: &Result<Option<News>, Fault>) -> Result<(), OutOfMemory>
+    fn copy_item(
+        &mut self,
+        alloc: Global,
+        told: &Result<Option<News>, Fault>,
+    ) -> Result<(), OutOfMemory>
         requires { self.old.item ≡ None }
         ensures item { OnOk result (TellsItem told.now self.new) }
         ensures octets { self.new.octets ≡ self.old.octets }
         ensures took { self.new.took ≡ self.old.took }
     {
-        if let Ok(news) = told {
-            self.item = Item::of_news(news)?;
-        }
+        let Ok(news) = told else {
+            return Ok(());
+        };
+        let Some(item) = Item::of_news(news)? else {
+            return Ok(());
+        };
+        self.item = Some(Box::new(alloc, item)?);
         Ok(())
     }
 
     /// What came of a frame, as it is reported to the application.
     pub(crate) fn keep_item(
         &mut self,
+        alloc: Global,
         told: &Result<Option<News>, Fault>,
     ) -> Result<(), OutOfMemory>
         requires { self.old.item ≡ None }
@@ -91,7 +100,7 @@ impl Account {
         ensures took { self.new.took ≡ self.old.took }
     {
         if self.wanted {
-            return self.copy_item(told);
+            return self.copy_item(alloc, told);
         }
         Ok(())
     }

@@ -8,13 +8,12 @@ ghost use Rattle.amqp_core.specs.AskView.{lent_view};
 ghost use Rattle.amqp_core.specs.Asked.{IsAllowed, IsRefusal};
 
 use crate::asks::LentAsk;
-use crate::events::Agreed;
 use crate::faults::AskFault;
 use crate::one_end::Core;
-use crate::roles::Side;
+use amqp_channel::{Agreed, Side};
 
 /// Where the frames of an ask go.
-#[derive(Clone, Copy, Debug)]
+#[derive(Clone, Copy)]
 pub(crate) struct Place {
     /// their channel
     pub(crate) channel: u16,

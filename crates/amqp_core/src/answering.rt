@@ -11,7 +11,7 @@ ghost use Rattle.amqp_model.specs.FrameVerdict.{methods_put};
 ghost use Rattle.amqp_model.specs.Traces.{IsTaken, noted};
 ghost use Rattle.amqp_outbox.specs.OutboxView.{only};
 ghost use Rattle.amqp_core.specs.AccountView.{item_in_outcome, note_there};
-ghost use Rattle.amqp_core.specs.NoteView.{item_there};
+ghost use Rattle.amqp_core.specs.NoteView.{item_kept};
 ghost use Rattle.amqp_core.specs.Answering.{Answers, EndsAs, PutsAs, Reports, is_out_of_memory, ran_out, stopped};
 ghost use Rattle.amqp_core.specs.CoreView.{core_end, fault_of, frame_at, told_view};
 ghost use Rattle.amqp_core.specs.Dropping.{IsDropped};
@@ -22,14 +22,13 @@ ghost use Rattle.amqp_core.specs.Settings.{config_view, role_for};
 ghost use Rattle.amqp_core.specs.Stages.{agreed_at, phase_at};
 
 use crate::account::Account;
-use crate::codes::CloseCode;
 use crate::faults::{CoreFault, OutOfMemory};
-use crate::news::News;
 use crate::one_end::{Core, Fault, Outcome};
 use crate::owed::Owed;
 use crate::settings::Settings;
 use crate::stage::Stage;
 use crate::taking::owed_at;
+use amqp_channel::{CloseCode, News};
 use amqp_frame::{FrameFaultKind, FrameKind};
 use amqp_outbox::Outbox;
 use std::alloc::Global;
@@ -126,7 +125,7 @@ impl Core {
         ensures alone { account.old.wanted ≡ false → IsDropped (phase_at self.old.stage) ((core_end self.old).channels number) number kind payload.now → IsOk result }
         ensures octets { account.new.octets ≡ account.old.octets }
         ensures took { account.old.wanted ≡ true → ran_out result ≡ false → note_there account.new.took ≡ Some (noted IsTaken (frame_at number kind payload.now)) }
-        ensures item { account.old.wanted ≡ true → ran_out result ≡ false → item_there account.new.item ≡ item_in_outcome (outcome_of (facts_at (config_view self.old.settings) (core_end self.old) number) (end_verdict (config_view self.old.settings) (core_end self.old) (frame_at number kind payload.now))) }
+        ensures item { account.old.wanted ≡ true → ran_out result ≡ false → item_kept account.new.item ≡ item_in_outcome (outcome_of (facts_at (config_view self.old.settings) (core_end self.old) number) (end_verdict (config_view self.old.settings) (core_end self.old) (frame_at number kind payload.now))) }
         ensures owed { ran_out result ≡ false → owed_view self.old.settings account.new.owed ≡ methods_put (facts_at (config_view self.old.settings) (core_end self.old) number) (end_verdict (config_view self.old.settings) (core_end self.old) (frame_at number kind payload.now)) }
         ensures settings { self.new.settings ≡ self.old.settings }
     {
@@ -140,7 +139,7 @@ impl Core {
             return Err(CoreFault::OutOfMemory);
         };
         let Outcome { told, owed } = outcome;
-        let Ok(()) = account.keep_item(&told) else {
+        let Ok(()) = account.keep_item(self.alloc, &told) else {
             drop(told);
             self.fail_at(before);
             return Err(CoreFault::OutOfMemory);

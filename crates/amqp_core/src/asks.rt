@@ -1,8 +1,8 @@
 //! What an application asks of an end.
 ghost use Rattle.std.specs.Prelude.{◌≡◌, ◌<◌, IfOk};
 ghost use Rattle.amqp_method.specs.MessageView.{message_view};
+ghost use Rattle.amqp_channel.specs.Messages.{message_of};
 ghost use Rattle.amqp_core.specs.AskNoting.{count_asked, frames_of_message};
-ghost use Rattle.amqp_core.specs.Messages.{message_of};
 ghost use Rattle.amqp_core.specs.AskView.{ask_view, lent_view};
 
 use crate::faults::OutOfMemory;

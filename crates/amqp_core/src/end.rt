@@ -23,28 +23,29 @@ ghost use Rattle.amqp_core.specs.Bounded.{IsBounded};
 ghost use Rattle.amqp_core.specs.Configs.{settings_of};
 ghost use Rattle.amqp_core.specs.EndpointView.{role_at};
 ghost use Rattle.std.proofs.Props.{props};
+ghost use Rattle.amqp_channel.specs.EventView.{agreed_there};
+ghost use Rattle.amqp_channel.specs.Messages.{message_of};
+ghost use Rattle.amqp_channel.specs.Roles.{role_of};
+ghost use Rattle.amqp_channel.specs.StateView.{state_view};
 ghost use Rattle.amqp_core.specs.Kept.{IsKept, agreed_prop};
 ghost use Rattle.amqp_core.specs.Faults.{config_fault_view};
 ghost use Rattle.amqp_core.specs.Dropping.{DropsInPlace};
 ghost use Rattle.amqp_core.specs.Feeding.{IsFed};
 ghost use Rattle.amqp_core.specs.Following.{GoesOn};
-ghost use Rattle.amqp_core.specs.EventView.{agreed_there};
-ghost use Rattle.amqp_core.specs.Messages.{message_of};
+ghost use Rattle.amqp_core.specs.Hearing.{IsHeard};
 ghost use Rattle.amqp_core.specs.Settings.{config_view, role_for};
-ghost use Rattle.amqp_core.specs.Roles.{role_of};
 ghost use Rattle.amqp_core.specs.Stages.{phase_name};
-ghost use Rattle.amqp_core.specs.StateView.{state_view};
 
 use crate::account::Account;
 use crate::allowing::Place;
 use crate::asks::{Ask, LentAsk};
 use crate::config::Config;
 use crate::endpoint::Endpoint;
-use crate::events::{Agreed, Taken};
 use crate::faults::{AskFault, ConfigFault, CoreFault};
-use crate::queries::ChannelState;
-use crate::roles::{Role, Side};
+use crate::roles::Role;
 use crate::stage::Phase;
+use crate::taken::{Heard, Taken, told};
+use amqp_channel::{Agreed, ChannelState, Side};
 use amqp_method::{Kind, Message};
 use amqp_model::{bounds, octets, one_end, traces};
 use amqp_value::ShortStr;
@@ -120,19 +121,19 @@ impl<R: Role> End<R> {
         ensures settings { settings_at self.new ≡ settings_at self.old }
     {
         let mut account = Account::new(false);
-        self.advance(piece, &mut account)
+        told(self.advance(piece, &mut account))
     }
 
-    /// Takes octets as [`End::feed`] does, with an account of what came of them.
+    /// Takes octets as [`End::feed`] does, with an account of what came of them, and makes no event yet.
     pub(crate) fn advance(
         &mut self,
         piece: &[u8],
         account: &mut Account,
-    ) -> Result<Taken, CoreFault>
+    ) -> Result<Heard, CoreFault>
         requires { IsFresh account.old }
-        ensures fed { IsFed result (endpoint_of self.old) (after_feed (role_played self.old) (config_at self.old) (endpoint_of self.old) piece.now) (endpoint_of self.new) }
-        ensures within { IfOk result (λ taken. taken.octets ≤ length piece.now) }
-        ensures progress { IfOk result (λ taken. piece.now ≢ [] → 0 < taken.octets) }
+        ensures fed { IsHeard result (endpoint_of self.old) (after_feed (role_played self.old) (config_at self.old) (endpoint_of self.old) piece.now) (endpoint_of self.new) }
+        ensures within { IfOk result (λ heard. heard.octets ≤ length piece.now) }
+        ensures progress { IfOk result (λ heard. piece.now ≢ [] → 0 < heard.octets) }
         ensures in_place { account.old.wanted ≡ false → DropsInPlace (role_played self.old) (endpoint_of self.old) piece.now → IsOk result }
         ensures history { (history : History) (fed written : List ℕ) → EndpointStandsFor (role_played self.old) (config_at self.old) (endpoint_of self.old) history fed written
             → ∥ GoesOn (role_played self.old) (config_at self.old) (ran_out result) (endpoint_of self.old) history fed written piece.now (after_feed (role_played self.old) (config_at self.old) (endpoint_of self.old) piece.now) (endpoint_of self.new) ∥₁ }

@@ -13,6 +13,7 @@ ghost use Rattle.amqp_model.specs.Octets.{opening_written};
 ghost use Rattle.amqp_model.specs.Outputs.{output_octets};
 ghost use Rattle.amqp_model.specs.Pieces.{reads_frames};
 ghost use Rattle.amqp_outbox.specs.OutboxView.{begins_with};
+ghost use Rattle.amqp_channel.specs.Roles.{role_of};
 ghost use Rattle.amqp_core.specs.AccountView.{IsFresh};
 ghost use Rattle.amqp_core.specs.AskNoting.{IsChannelOf, IsSizeOf};
 ghost use Rattle.amqp_core.specs.AskView.{lent_view};
@@ -20,23 +21,22 @@ ghost use Rattle.amqp_core.specs.Asked.{number_taken};
 ghost use Rattle.amqp_core.specs.Asking.{AcceptsAsk, RefusesAsk};
 ghost use Rattle.amqp_core.specs.Answering.{ran_out};
 ghost use Rattle.amqp_core.specs.Dropping.{DropsInPlace};
-ghost use Rattle.amqp_core.specs.Feeding.{IsFed, IsInPiece, SameEndpoint, ran_out_of};
-ghost use Rattle.amqp_core.specs.Roles.{role_of};
+ghost use Rattle.amqp_core.specs.Feeding.{SameEndpoint, ran_out_of};
+ghost use Rattle.amqp_core.specs.Hearing.{IsHeard, IsInPiece};
 ghost use Rattle.amqp_core.specs.Settings.{config_view, role_for};
 ghost use Rattle.amqp_core.specs.Stages.{agreed_at, phase_at};
 
 use crate::account::Account;
 use crate::allowing::Place;
 use crate::asks::LentAsk;
-use crate::events::{Event, Taken};
 use crate::faults::{AskFault, CoreFault, OutOfMemory};
-use crate::news::News;
 use crate::one_end::Core;
 use crate::opening::going_on;
 use crate::owed::Owed;
-use crate::roles::Side;
 use crate::settings::Settings;
 use crate::stage::Stage;
+use crate::taken::Heard;
+use amqp_channel::{News, Side};
 use amqp_frame::{PROTOCOL_HEADER, Splitter, faults_are_judged, one_frame_at_start};
 use amqp_model::{bounds, fitting, octets, pieces};
 use amqp_outbox::Outbox;
@@ -67,44 +67,15 @@ fn tune(splitter: &mut Splitter, stage: Stage)
     }
 }
 
-/// The answer to a piece of which so many octets were taken, and no event came.
-///
-/// An answer to a piece has room for an event, which is large. So of frames it is made here and in [`telling`] alone, which
-/// stand apart, and what comes before them clears no room for it.
-#[inline(never)]
-fn telling_nothing(octets: usize) -> Result<Taken, CoreFault>
-    ensures { result ≡ Ok (record { octets = octets; event = None }) }
-{
-    Ok(Taken {
-        octets,
-        event: None,
-    })
-}
-
-/// The same, and this came.
-#[inline(never)]
-fn telling(octets: usize, news: News) -> Result<Taken, CoreFault>
-    ensures { IsInPiece octets (Ok (Some news)) result }
-{
-    Ok(Taken {
-        octets,
-        event: Some(news.into_event()),
-    })
-}
-
 /// The answer to the frame that so many octets of a piece end.
-fn after_octets(octets: usize, answer: Result<Option<News>, CoreFault>) -> Result<Taken, CoreFault>
+fn after_octets(octets: usize, answer: Result<Option<News>, CoreFault>) -> Result<Heard, CoreFault>
     ensures piece { IsInPiece octets answer result }
     ensures ok { IsOk answer → IsOk result }
 {
-    let told = match answer {
-        Ok(told) => told,
-        Err(fault) => return Err(fault),
-    };
-    let Some(news) = told else {
-        return telling_nothing(octets);
-    };
-    telling(octets, news)
+    match answer {
+        Ok(news) => Ok(Heard { octets, news }),
+        Err(fault) => Err(fault),
+    }
 }
 
 /// What an end of a side has to write as it begins.
@@ -128,11 +99,11 @@ impl Endpoint {
 
     /// Octets of the protocol header, at a server that awaits it.
     #[inline(never)]
-    fn hear(&mut self, piece: &[u8], account: &mut Account) -> Result<Taken, CoreFault>
+    fn hear(&mut self, piece: &[u8], account: &mut Account) -> Result<Heard, CoreFault>
         requires sound { IsSound self.old }
         requires fresh { IsFresh account.old }
         requires awaits { awaits_opening (role_at self.old) (phase_at self.old.core.stage) ≡ true }
-        ensures fed { IsFed result (endpoint_view self.old) (after_feed (role_at self.old) (config_view self.old.core.settings) (endpoint_view self.old) piece.now) (endpoint_view self.new) }
+        ensures fed { IsHeard result (endpoint_view self.old) (after_feed (role_at self.old) (config_view self.old.core.settings) (endpoint_view self.old) piece.now) (endpoint_view self.new) }
         ensures account { account.old.wanted ≡ true → ran_out result ≡ false → IsAccount (role_at self.old) (config_view self.old.core.settings) (endpoint_view self.old) piece.now (after_feed (role_at self.old) (config_view self.old.core.settings) (endpoint_view self.old) piece.now) account.new.octets (came_by self.old.core.settings account.new) }
         ensures grows { GrowsLittle (endpoint_view self.old).output (endpoint_view self.new).output }
         ensures sound { IsSound self.new }
@@ -148,16 +119,16 @@ impl Endpoint {
                 return Err(CoreFault::OutOfMemory);
             };
             account.owed = Owed::Start;
-            return Ok(Taken {
+            return Ok(Heard {
                 octets: same,
-                event: Some(Event::Quiet),
+                news: Some(News::Quiet),
             });
         }
         if same == piece.len() {
             self.heard += same;
-            return Ok(Taken {
+            return Ok(Heard {
                 octets: same,
-                event: None,
+                news: None,
             });
         }
         account.octets = same + 1;
@@ -171,11 +142,11 @@ impl Endpoint {
 
     /// Octets of frames.
     #[inline(never)]
-    fn read(&mut self, piece: &[u8], account: &mut Account) -> Result<Taken, CoreFault>
+    fn read(&mut self, piece: &[u8], account: &mut Account) -> Result<Heard, CoreFault>
         requires sound { IsSound self.old }
         requires fresh { IsFresh account.old }
         requires reads { reads_frames (role_at self.old) (phase_at self.old.core.stage) ≡ true }
-        ensures fed { IsFed result (endpoint_view self.old) (after_feed (role_at self.old) (config_view self.old.core.settings) (endpoint_view self.old) piece.now) (endpoint_view self.new) }
+        ensures fed { IsHeard result (endpoint_view self.old) (after_feed (role_at self.old) (config_view self.old.core.settings) (endpoint_view self.old) piece.now) (endpoint_view self.new) }
         // A frame that is dropped takes no memory, where it lies whole in the piece.
         ensures in_place { account.old.wanted ≡ false → DropsInPlace (role_at self.old) (endpoint_view self.old) piece.now → IsOk result }
         ensures account { account.old.wanted ≡ true → ran_out result ≡ false → IsAccount (role_at self.old) (config_view self.old.core.settings) (endpoint_view self.old) piece.now (after_feed (role_at self.old) (config_view self.old.core.settings) (endpoint_view self.old) piece.now) account.new.octets (came_by self.old.core.settings account.new) }
@@ -201,7 +172,7 @@ impl Endpoint {
         let octets = fed.taken;
         account.octets = octets;
         let Some(frame) = fed.frame else {
-            return telling_nothing(octets);
+            return Ok(Heard { octets, news: None });
         };
         let answer = self.core.answer(
             &mut self.outbox,
@@ -233,15 +204,15 @@ impl Endpoint {
     }
 
     /// Takes octets up to the end of the next frame, or of the protocol header at a server that awaits it.
-    pub(crate) fn feed(&mut self, piece: &[u8], account: &mut Account) -> Result<Taken, CoreFault>
+    pub(crate) fn feed(&mut self, piece: &[u8], account: &mut Account) -> Result<Heard, CoreFault>
         requires sound { IsSound self.old }
         requires fresh { IsFresh account.old }
-        ensures fed { IsFed result (endpoint_view self.old) (after_feed (role_at self.old) (config_view self.old.core.settings) (endpoint_view self.old) piece.now) (endpoint_view self.new) }
+        ensures fed { IsHeard result (endpoint_view self.old) (after_feed (role_at self.old) (config_view self.old.core.settings) (endpoint_view self.old) piece.now) (endpoint_view self.new) }
         ensures memory { ran_out result ≡ true → takes_octets (phase_at self.old.core.stage) ≡ true }
         // A frame that is dropped takes no memory, where it lies whole in the piece.
         ensures in_place { account.old.wanted ≡ false → DropsInPlace (role_at self.old) (endpoint_view self.old) piece.now → IsOk result }
-        ensures within { IfOk result (λ taken. taken.octets ≤ length piece.now) }
-        ensures progress { IfOk result (λ taken. piece.now ≢ [] → 0 < taken.octets) }
+        ensures within { IfOk result (λ heard. heard.octets ≤ length piece.now) }
+        ensures progress { IfOk result (λ heard. piece.now ≢ [] → 0 < heard.octets) }
         ensures account { account.old.wanted ≡ true → takes_octets (phase_at self.old.core.stage) ≡ true → ran_out result ≡ false → IsAccount (role_at self.old) (config_view self.old.core.settings) (endpoint_view self.old) piece.now (after_feed (role_at self.old) (config_view self.old.core.settings) (endpoint_view self.old) piece.now) account.new.octets (came_by self.old.core.settings account.new) }
         ensures grows { GrowsLittle (endpoint_view self.old).output (endpoint_view self.new).output }
         ensures sound { IsSound self.new }

@@ -6,7 +6,7 @@ ghost use Rattle.amqp_core.specs.declared.faults.ConfigFault.TheVariants as conf
 ghost use Rattle.amqp_core.specs.declared.faults.AskFault.TheVariants as ask_faults;
 ghost use Rattle.amqp_core.specs.Faults.{core_fault_number, config_fault_number, ask_fault_number};
 
-use crate::codes::CloseCode;
+use amqp_channel::CloseCode;
 use amqp_outbox::StageFault;
 use std::alloc::{AllocError, AllocFailed};
 use thiserror::Error;
@@ -36,6 +36,12 @@ impl From<amqp_value::OutOfMemory> for OutOfMemory {
 
 impl From<amqp_method::OutOfMemory> for OutOfMemory {
     fn from(_: amqp_method::OutOfMemory) -> OutOfMemory {
+        OutOfMemory
+    }
+}
+
+impl From<amqp_channel::OutOfMemory> for OutOfMemory {
+    fn from(_: amqp_channel::OutOfMemory) -> OutOfMemory {
         OutOfMemory
     }
 }

@@ -7,20 +7,17 @@ ghost use Rattle.amqp_method.specs.MethodView.{method_view};
 ghost use Rattle.amqp_model.specs.EndVerdict.{takes_frames};
 ghost use Rattle.amqp_model.specs.Negotiation.{smaller as smaller_limit};
 ghost use Rattle.amqp_model.specs.Readings.{Calls};
+ghost use Rattle.amqp_channel.specs.Roles.{role_of};
 ghost use Rattle.amqp_core.specs.Handshakes.{answered_in, awaits_at, is_in_handshake, within};
-ghost use Rattle.amqp_core.specs.Roles.{role_of};
 ghost use Rattle.amqp_core.specs.Stages.{phase_at, leaves};
 
-use crate::codes::CloseCode;
-use crate::events::{Agreed, blocked_reason, reason_of};
 use crate::faults::OutOfMemory;
-use crate::news::News;
 use crate::one_end::{Core, Decision, Fault, closes_with};
 use crate::owed::Owed;
-use crate::roles::Side;
 use crate::settings::{FRAME_MIN, Settings};
 use crate::stage::Stage;
-use crate::words::{is_of_connection, number_at, same};
+use amqp_channel::words::{is_of_connection, number_at, same};
+use amqp_channel::{Agreed, CloseCode, News, Side, blocked_reason, reason_of};
 use amqp_method::{Kind, Method};
 
 /// The smaller of two limits, where the other end's 0 means none.

@@ -6,12 +6,12 @@ ghost use Rattle.amqp_model.specs.Channels.{Channel};
 ghost use Rattle.amqp_model.specs.Contents.{Payload};
 ghost use Rattle.amqp_model.specs.Negotiation.{Config};
 ghost use Rattle.amqp_model.specs.Readings.{Reading};
+ghost use Rattle.amqp_channel.specs.declared.verdict.Site.{Site};
+ghost use Rattle.amqp_channel.specs.declared.verdict.Verdict.{Verdict};
 ghost use Rattle.amqp_core.specs.Laws.{PutsAsEnd, StepsAsEnd};
-ghost use Rattle.amqp_core.specs.declared.verdict.Site.{Site};
-ghost use Rattle.amqp_core.specs.declared.verdict.Verdict.{Verdict};
 ghost use Rattle.amqp_model.specs.Methods.{MethodKind};
 ghost use Rattle.amqp_model.specs.Notes.{Role};
-ghost use Rattle.amqp_core.specs.Roles.{SentIsTaken, role_of};
+ghost use Rattle.amqp_channel.specs.Roles.{SentIsTaken, role_of};
 ghost use Rattle.amqp_core.specs.Tracing.{Kept, StandsUnlessFailed};
 ghost use Rattle.amqp_model.specs.Histories.{History};
 

@@ -6,13 +6,13 @@ ghost use Rattle.std.specs.HashMap.{spare};
 ghost use Rattle.std.proofs.Props.{props};
 ghost use Rattle.amqp_model.specs.Traces as traces;
 ghost use Rattle.amqp_model.specs.Traces.{IsPut, telling_at};
+ghost use Rattle.amqp_channel.specs.Roles.{role_of};
 ghost use Rattle.amqp_core.specs.AccountView.{note_there};
 ghost use Rattle.amqp_core.specs.AskNoting.{count_asked, notes_asked};
 ghost use Rattle.amqp_core.specs.AskView.{lent_view};
 ghost use Rattle.amqp_core.specs.CountsLives.{CountsLives};
-ghost use Rattle.amqp_core.specs.NoteView.{item_there, note_view, noted_as, word_view};
+ghost use Rattle.amqp_core.specs.NoteView.{item_kept, item_there, note_view, noted_as, word_view};
 ghost use Rattle.amqp_core.specs.Noting.{lives_in, notes_owed, said_by_owed, told_by, word_of_reply as reply_word};
-ghost use Rattle.amqp_core.specs.Roles.{role_of};
 
 use crate::account::Account;
 use crate::allowing::Place;
@@ -21,9 +21,8 @@ use crate::faults::OutOfMemory;
 use crate::lives::Lives;
 use crate::notes::{Note, Word};
 use crate::owed::Owed;
-use crate::roles::Side;
 use crate::tellings::{Item, Telling};
-use crate::verdict::Reply;
+use amqp_channel::{Reply, Side};
 use std::alloc::Global;
 
 /// How many channels a call notes something of, at most.
@@ -287,9 +286,9 @@ impl Ledger {
     }
 
     /// An item is acted on, if there is one.
-    fn tell(&mut self, channel: u16, item: Option<Item>)
+    fn tell(&mut self, channel: u16, item: Option<Box<Item>>)
         requires room { vec_len self.old.told < vec_capacity self.old.told }
-        ensures told { told_in self.new ≡ told_in self.old ++ telling_at channel (lives_in (role_of self.old.side) (notes_in self.old) channel) (item_there item) }
+        ensures told { told_in self.new ≡ told_in self.old ++ telling_at channel (lives_in (role_of self.old.side) (notes_in self.old) channel) (item_kept item) }
         ensures notes_same { self.new.notes ≡ self.old.notes }
         ensures lives_same { self.new.lives ≡ self.old.lives }
         ensures said_same { self.new.said ≡ self.old.said }
@@ -304,7 +303,7 @@ impl Ledger {
                 Telling {
                     channel,
                     life,
-                    item,
+                    item: Box::into_inner(item),
                 },
             );
         }
@@ -314,7 +313,7 @@ impl Ledger {
     pub(crate) fn enter(&mut self, octets: &[u8], account: Account)
         requires { HasRoom self.old 3 (length octets.now) }
         ensures notes { notes_in self.new ≡ notes_in self.old ++ (option_to_list (note_there account.took) ++ notes_owed (role_of self.old.side) account.owed) }
-        ensures told { told_in self.new ≡ told_in self.old ++ told_by (lives_in (role_of self.old.side) (notes_in self.old)) (note_there account.took) (item_there account.item) }
+        ensures told { told_in self.new ≡ told_in self.old ++ told_by (lives_in (role_of self.old.side) (notes_in self.old)) (note_there account.took) (item_kept account.item) }
         ensures said { said_in self.new ≡ said_in self.old ++ said_by_owed (lives_in (role_of self.old.side) (notes_in self.old ++ option_to_list (note_there account.took))) account.owed }
         ensures fed { self.new.fed.items ≡ self.old.fed.items ++ octets.now }
         ensures written_same { self.new.written ≡ self.old.written }

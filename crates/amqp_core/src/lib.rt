@@ -2,7 +2,8 @@
 //! applications ask. No socket is touched and no thread started.
 //!
 //! [`End`] is one end of a connection, [`Traced`] one that is kept with its history. What each call does is stated by its contract,
-//! with the definitions of `amqp_model`; the laws of these can be named from [`laws`].
+//! with the definitions of `amqp_model`; the laws of these can be named from [`laws`]. What is kept of the channels, and what comes of
+//! the frames there, is `amqp_channel`; the output is `amqp_outbox`.
 #![tactic(auto)]
 
 mod account;
@@ -10,53 +11,41 @@ mod allowing;
 mod answering;
 mod asking;
 mod asks;
-mod carrier;
-mod channel;
-mod channels;
-mod codes;
 mod config;
-mod display;
 mod end;
 mod endpoint;
-mod events;
 mod faults;
-mod gathering;
 mod greeting;
 mod handshake;
 pub mod laws;
 mod ledger;
-mod life;
 mod lives;
-mod news;
 mod notes;
 mod one_end;
 mod opening;
 mod owed;
 mod queries;
-mod read;
 mod refusing;
 mod replies;
 mod roles;
 mod sending;
 mod settings;
 mod stage;
+mod taken;
 mod taking;
 mod tellings;
 mod traced;
 mod tracing;
-mod verdict;
-mod words;
 
 pub use crate::asks::Ask;
-pub use crate::codes::CloseCode;
 pub use crate::config::Config;
 pub use crate::end::End;
-pub use crate::events::{Agreed, Event, Reason, Taken};
 pub use crate::faults::{AskFault, ConfigFault, CoreFault, OutOfMemory};
 pub use crate::notes::{Direction, Note, Word};
-pub use crate::queries::ChannelState;
-pub use crate::roles::{Client, Role, Server, Side};
+pub use crate::roles::{Client, Role, Server};
 pub use crate::settings::{ClientHello, Hello, ServerHello};
 pub use crate::stage::Phase;
+pub use crate::taken::Taken;
 pub use crate::tellings::{Item, Telling};
 pub use crate::traced::Traced;
+pub use amqp_channel::{Agreed, ChannelState, CloseCode, Event, Reason, Side};

@@ -3,18 +3,18 @@
 //! A life begins with the open that a client puts, or that a server takes while it doesn't wait for close-ok.
 ghost use Rattle.std.specs.Prelude.{◌≡◌, ◌<◌, ◌≤◌, ◌+◌, ◌^◌, ℕ, suc, OnOk, OnErr};
 ghost use Rattle.std.specs.HashMap.{spare};
+ghost use Rattle.amqp_channel.specs.Roles.{role_of};
 ghost use Rattle.amqp_core.specs.LifeCounts.{after_word, counted_with, nothing_counted};
 ghost use Rattle.amqp_core.specs.NoteView.{note_view};
-ghost use Rattle.amqp_core.specs.Roles.{role_of};
 
 use crate::faults::OutOfMemory;
 use crate::notes::{Direction, Note, Word};
-use crate::roles::Side;
+use amqp_channel::Side;
 use std::alloc::Global;
 use std::collections::HashMap;
 
 /// What is counted of a channel.
-#[derive(Clone, Copy, Debug)]
+#[derive(Clone, Copy)]
 pub(crate) struct Count {
     /// how many lives began
     lives: u64,

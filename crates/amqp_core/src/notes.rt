@@ -8,7 +8,7 @@ ghost use Rattle.amqp_core.specs.CoreView.{frame_at};
 ghost use Rattle.amqp_core.specs.NoteView.{note_view, noted_as, word_view};
 
 use crate::faults::OutOfMemory;
-use crate::read::read_call;
+use amqp_channel::read_call;
 use amqp_frame::FrameKind;
 use amqp_method::{Kind, Method};
 use std::alloc::Global;

@@ -8,23 +8,16 @@ ghost use Rattle.amqp_model.specs.EndVerdict.{takes_frames};
 ghost use Rattle.amqp_model.specs.Machine.{as_failed, new_end};
 ghost use Rattle.amqp_model.specs.Methods.{method_at, header_at};
 ghost use Rattle.amqp_model.specs.Readings.{Calls, Beat, BodyOf, method_reading, header_reading};
-ghost use Rattle.amqp_core.specs.Closes.{code_view};
+ghost use Rattle.amqp_channel.specs.declared.news.News.TheVariants.{Discarded};
 ghost use Rattle.amqp_core.specs.Stages.{phase_at, leaves};
-ghost use Rattle.amqp_core.specs.Unreads.{unread_code};
-ghost use Rattle.amqp_core.specs.declared.news.News.TheVariants.{Discarded};
 ghost use Rattle.amqp_core.specs.declared.stage.Stage.TheVariants.{Running};
 
-use crate::channels::Channels;
-use crate::codes::CloseCode;
-use crate::events::Agreed;
 use crate::faults::OutOfMemory;
-use crate::news::News;
 use crate::owed::Owed;
-use crate::read::read_content_header;
 use crate::settings::Settings;
 use crate::stage::Stage;
-use crate::verdict::{Site, Unread, Verdict};
-use crate::words::same;
+use amqp_channel::words::same;
+use amqp_channel::{Agreed, Channels, CloseCode, News, Site, Verdict, read_content_header};
 use amqp_method::{Kind, Method};
 use std::alloc::Global;
 
@@ -38,7 +31,7 @@ pub(crate) struct Core {
 }
 
 /// Why an end can't go on with what it took.
-#[derive(Clone, Copy, Debug)]
+#[derive(Clone, Copy)]
 pub(crate) enum Fault {
     /// The connection is closed with this code.
     Peer(CloseCode),
@@ -47,7 +40,7 @@ pub(crate) enum Fault {
 }
 
 /// What comes of a frame by the rule that applies.
-#[derive(Debug, Drop)]
+#[derive(Drop)]
 pub(crate) enum Decision {
     Proceeds(Option<News>, Owed),
     /// The content is refused at its header, which costs the channel.
@@ -56,7 +49,7 @@ pub(crate) enum Decision {
 }
 
 /// The event of a frame for the application, and what the end owes.
-#[derive(Debug, Drop)]
+#[derive(Drop)]
 pub(crate) struct Outcome {
     pub(crate) told: Result<Option<News>, Fault>,
     pub(crate) owed: Owed,
@@ -76,26 +69,13 @@ pub(crate) fn closes_with(code: CloseCode) -> Decision
     Decision::Faults(Fault::Peer(code))
 }
 
-impl Unread {
-    /// The code of a method that can't be read.
-    pub(crate) fn code(self) -> CloseCode
-        ensures { code_view result ≡ unread_code self }
-    {
-        match self {
-            Unread::UnknownMethod => CloseCode::NotImplemented,
-            Unread::MalformedMethod => CloseCode::SyntaxError,
-            Unread::MalformedHeader => CloseCode::SyntaxError,
-        }
-    }
-}
-
 impl Core {
-    ghost use Rattle.amqp_core.specs.ChannelsView.{channels_view};
+    ghost use Rattle.amqp_channel.specs.ChannelsView.{channels_view};
+    ghost use Rattle.amqp_channel.specs.Used.{is_closing_at};
+    ghost use Rattle.amqp_channel.specs.VerdictView.{verdict_view};
     ghost use Rattle.amqp_core.specs.CoreView.{core_end, IsVerdict, LeavesEnd, site_at, decision_view};
     ghost use Rattle.amqp_core.specs.Owing.{OwesNothing};
     ghost use Rattle.amqp_core.specs.Settings.{config_view, role_for};
-    ghost use Rattle.amqp_core.specs.Used.{is_closing_at};
-    ghost use Rattle.amqp_core.specs.VerdictView.{verdict_view};
     ghost use Rattle.amqp_core.specs.declared.settings.Settings.{Settings};
 
     /// An end as it begins.
@@ -217,8 +197,8 @@ impl Core {
         let site = self.site(number, agreed.channel_max);
         let read = read_content_header(self.alloc, payload)?;
         match read {
-            Some(header) => {
-                let verdict = self.channels.take_header(self.alloc, site, header);
+            Some(parts) => {
+                let verdict = self.channels.take_header(site, parts);
                 Ok(Core::decide(number, verdict))
             }
             None => {

@@ -3,24 +3,22 @@ ghost use Rattle.std.specs.Prelude.{◌≡◌, [], ◌∷◌, map, Some, OnOk, O
 ghost use Rattle.amqp_model.specs.Closes.{frame_of, reply_to, channel_close, connection_close};
 ghost use Rattle.amqp_model.specs.FrameVerdict.{on_channel};
 ghost use Rattle.amqp_outbox.specs.OutboxView.{with_staged};
-ghost use Rattle.amqp_core.specs.Closes.{code_view};
-ghost use Rattle.amqp_core.specs.EventView.{agreed_view};
+ghost use Rattle.amqp_channel.specs.Closes.{code_view};
+ghost use Rattle.amqp_channel.specs.EventView.{agreed_view};
+ghost use Rattle.amqp_channel.specs.VerdictView.{reply_kind};
 ghost use Rattle.amqp_core.specs.OwedView.{owed_view, starts, answers_start, tunes, answers_tune};
 ghost use Rattle.amqp_core.specs.Settings.{role_for, config_view};
-ghost use Rattle.amqp_core.specs.VerdictView.{reply_kind};
 
-use crate::codes::CloseCode;
-use crate::events::Agreed;
 use crate::greeting::{open, tune};
 use crate::replies::{bare, close, flow_ok, tune_ok};
 use crate::settings::{Hello, Settings};
-use crate::verdict::Reply;
+use amqp_channel::{Agreed, CloseCode, Reply};
 use amqp_method::Kind;
 use amqp_outbox::{Outbox, StageFault};
 use std::alloc::Global;
 
 /// What an end owes in reply to a frame, or as it begins.
-#[derive(Clone, Copy, Debug)]
+#[derive(Clone, Copy)]
 pub(crate) enum Owed {
     Nothing,
     Start,

@@ -8,19 +8,16 @@ ghost use Rattle.amqp_method.specs.Properties.{header};
 ghost use Rattle.amqp_model.specs.Asks.{is_pausable as is_paused_with, is_sendable as is_sent_as_message, Refusal};
 ghost use Rattle.amqp_model.specs.Methods.{plain_method, plain_header};
 ghost use Rattle.amqp_value.specs.Lengths.{capped};
-ghost use Rattle.amqp_core.specs.LifeView.{life_view, IsOther};
-ghost use Rattle.amqp_core.specs.Messages.{message_of};
+ghost use Rattle.amqp_channel.specs.LifeView.{life_view, IsOther};
+ghost use Rattle.amqp_channel.specs.Messages.{message_of};
+ghost use Rattle.amqp_channel.specs.Roles.{role_of};
 ghost use Rattle.amqp_core.specs.Refusals.{refusal_there, refusal_in, reply_refusal, passes as is_passed, is_too_large as is_longer};
-ghost use Rattle.amqp_core.specs.Roles.{role_of};
 
-use crate::channel::Channel;
-use crate::events::Agreed;
 use crate::faults::AskFault;
-use crate::life::Life;
 use crate::one_end::Core;
-use crate::roles::Side;
 use crate::stage::Stage;
-use crate::words::{answers_first, same};
+use amqp_channel::words::{answers_first, same};
+use amqp_channel::{Agreed, Channel, Life, Side};
 use amqp_method::{Kind, Message, Method, Properties};
 
 /// A payload of so many octets is too long for a frame, in which eight octets stand around it.
@@ -128,13 +125,13 @@ impl Core {
     ghost use Rattle.amqp_model.specs.Asks.{is_free, is_running, lowest_free, refusal};
     ghost use Rattle.amqp_model.specs.Notes.{Client, Role, Server};
     ghost use Rattle.amqp_model.specs.Readings.{Calls, kind_of};
+    ghost use Rattle.amqp_channel.specs.ChannelsView.{channels_view};
+    ghost use Rattle.amqp_channel.specs.Used.{is_open_at};
     ghost use Rattle.amqp_core.specs.Asked.{IsAllowed, IsRefusal};
-    ghost use Rattle.amqp_core.specs.ChannelsView.{channels_view};
     ghost use Rattle.amqp_core.specs.CoreView.{core_end};
     ghost use Rattle.amqp_core.specs.Faults.{refusal_view};
     ghost use Rattle.amqp_core.specs.Refusals.{refused_on, IsOpenIn};
     ghost use Rattle.amqp_core.specs.Settings.{role_for};
-    ghost use Rattle.amqp_core.specs.Used.{is_open_at};
     ghost use Rattle.amqp_core.specs.declared.stage.Stage.TheVariants.{Running};
 
     /// What was agreed on a connection that is Running.

@@ -4,12 +4,11 @@ ghost use Rattle.amqp_method.specs.Arguments.{call, Fits};
 ghost use Rattle.amqp_method.specs.MethodView.{method_view};
 ghost use Rattle.amqp_model.specs.Closes.{close_as, flow_as, number_of, text_of, without_arguments};
 ghost use Rattle.amqp_model.specs.Negotiation as negotiation;
-ghost use Rattle.amqp_core.specs.Closes.{code_view};
-ghost use Rattle.amqp_core.specs.EventView.{agreed_view};
+ghost use Rattle.amqp_channel.specs.Closes.{code_view};
+ghost use Rattle.amqp_channel.specs.EventView.{agreed_view};
 
-use crate::codes::CloseCode;
-use crate::events::Agreed;
 use crate::faults::OutOfMemory;
+use amqp_channel::{Agreed, CloseCode};
 use amqp_method::{Arg, Kind, Method};
 use amqp_value::ShortStr;
 use std::alloc::Global;

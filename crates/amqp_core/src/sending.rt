@@ -17,9 +17,9 @@ ghost use Rattle.amqp_model.specs.Methods.{ReadsBack};
 ghost use Rattle.amqp_model.specs.ReadingBack.{AskReadsBack};
 ghost use Rattle.amqp_outbox.specs.OutboxFrames.{header_frame, body_frame, HeaderReadsBack};
 ghost use Rattle.amqp_outbox.specs.OutboxView.{with_staged};
+ghost use Rattle.amqp_channel.specs.Messages.{message_of};
+ghost use Rattle.amqp_channel.specs.Reasons.{IsClose};
 ghost use Rattle.amqp_core.specs.Faults.{refusal_view};
-ghost use Rattle.amqp_core.specs.Messages.{message_of};
-ghost use Rattle.amqp_core.specs.Reasons.{IsClose};
 
 use crate::faults::AskFault;
 use amqp_method::{Arg, Header, Kind, Message, Method, Properties};

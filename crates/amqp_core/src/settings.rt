@@ -8,7 +8,7 @@ ghost use Rattle.amqp_core.specs.HandshakeMethods.{IsStartLength, IsStartOkLengt
 ghost use Rattle.amqp_core.specs.Settings.{client_hello_view, server_hello_view, hello_view, side_in};
 
 use crate::faults::{ConfigFault, OutOfMemory};
-use crate::roles::Side;
+use amqp_channel::Side;
 use amqp_method::{encoded_is_read, write_method};
 use amqp_value::{ShortStr, Table};
 use std::alloc::Global;
@@ -137,7 +137,7 @@ fn fits_field(octets: &[u8])
 {}
 
 /// What an end is set up with, whichever side it is.
-#[derive(Debug, Drop)]
+#[derive(Drop)]
 pub(crate) struct Settings {
     pub(crate) frame_max: u32,
     pub(crate) channel_max: u16,

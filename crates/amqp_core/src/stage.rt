@@ -3,12 +3,11 @@ ghost use Rattle.std.specs.Prelude.{◌≡◌, ◌≢◌, true, false, None};
 ghost use Rattle.amqp_model.specs.Channels as model;
 ghost use Rattle.amqp_model.specs.EndVerdict.{takes_octets};
 ghost use Rattle.amqp_model.specs.Machine.{new_end};
-ghost use Rattle.amqp_core.specs.Roles.{role_of};
-ghost use Rattle.amqp_core.specs.EventView.{agreed_there};
+ghost use Rattle.amqp_channel.specs.Roles.{role_of};
+ghost use Rattle.amqp_channel.specs.EventView.{agreed_there};
 ghost use Rattle.amqp_core.specs.Stages.{agreed_at, phase_at, phase_name, leaves};
 
-use crate::events::Agreed;
-use crate::roles::Side;
+use amqp_channel::{Agreed, Side};
 
 /// The phase of a connection.
 #[derive(Clone, Copy, PartialEq, Eq, Debug)]
@@ -23,7 +22,7 @@ pub enum Phase {
 }
 
 /// What an end awaits in the handshake, and how far it is afterwards. What was agreed is known from tune-ok on.
-#[derive(Clone, Copy, PartialEq, Eq, Debug)]
+#[derive(Clone, Copy, PartialEq, Eq)]
 pub(crate) enum Stage {
     AwaitsProtocolHeader,
     AwaitsStart,

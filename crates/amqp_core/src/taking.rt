@@ -11,22 +11,19 @@ ghost use Rattle.amqp_model.specs.FrameVerdict.{methods_put};
 ghost use Rattle.amqp_model.specs.Machine.{end_after_taken};
 ghost use Rattle.amqp_model.specs.Methods.{method_at, header_at};
 ghost use Rattle.amqp_model.specs.Readings.{Calls, Beat, BodyOf, method_reading, header_reading, reading};
+ghost use Rattle.amqp_channel.specs.Unreads.{unread_view, IsOfMethod};
+ghost use Rattle.amqp_channel.specs.Used.{is_closing_at};
 ghost use Rattle.amqp_core.specs.CoreView.{fault_of, frame_at};
 ghost use Rattle.amqp_core.specs.Outcomes.{owed_for};
 ghost use Rattle.amqp_core.specs.OwedView.{owed_view};
 ghost use Rattle.amqp_core.specs.declared.settings.Settings.{Settings};
 ghost use Rattle.amqp_core.specs.Stages.{phase_at, leaves};
-ghost use Rattle.amqp_core.specs.Unreads.{unread_view, IsOfMethod};
-ghost use Rattle.amqp_core.specs.Used.{is_closing_at};
 
-use crate::codes::CloseCode;
 use crate::faults::OutOfMemory;
-use crate::news::News;
 use crate::one_end::{Core, Decision, Fault, Outcome, closes_with, discards};
 use crate::owed::Owed;
-use crate::read::read_call;
 use crate::stage::Stage;
-use crate::verdict::Unread;
+use amqp_channel::{CloseCode, News, Unread, read_call};
 use amqp_frame::FrameKind;
 use amqp_method::Method;
 
@@ -55,7 +52,7 @@ fn is_empty_beat(payload: &[u8]) -> bool
 }
 
 impl Core {
-    ghost use Rattle.amqp_core.specs.ChannelsView.{channels_view};
+    ghost use Rattle.amqp_channel.specs.ChannelsView.{channels_view};
     ghost use Rattle.amqp_core.specs.CoreView.{core_end, decision_view, told_view, IsVerdict, LeavesEnd};
     ghost use Rattle.amqp_core.specs.Dropping.{IsDropped};
     ghost use Rattle.amqp_core.specs.Owing.{DecidesAlone, EndsAlone, OwesNothing, TakesAlone};

@@ -1,14 +1,14 @@
 //! What an end told its application, and what it said to the other end: items, each in a life of its channel.
 ghost use Rattle.std.specs.Prelude.{◌≡◌, IfOk};
 ghost use Rattle.amqp_model.specs.Traces.{item_in_event};
+ghost use Rattle.amqp_channel.specs.NewsView.{news_there};
 ghost use Rattle.amqp_core.specs.AskNoting.{item_asked};
 ghost use Rattle.amqp_core.specs.AskView.{lent_view};
-ghost use Rattle.amqp_core.specs.NewsView.{news_there};
 ghost use Rattle.amqp_core.specs.NoteView.{item_there, item_view};
 
 use crate::asks::LentAsk;
 use crate::faults::OutOfMemory;
-use crate::news::News;
+use amqp_channel::News;
 use amqp_method::Message;
 
 /// What an application sends or receives on a channel.

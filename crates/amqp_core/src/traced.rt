@@ -8,32 +8,32 @@ ghost use Rattle.amqp_model.specs.Fitting.{ConfigWrites};
 ghost use Rattle.amqp_model.specs.Histories.{History};
 ghost use Rattle.amqp_model.specs.LawfulHistories.{then_put};
 ghost use Rattle.amqp_model.specs.Outputs.{output_octets};
+ghost use Rattle.amqp_channel.specs.EventView.{agreed_there};
+ghost use Rattle.amqp_channel.specs.Roles.{role_of};
+ghost use Rattle.amqp_channel.specs.StateView.{state_view};
 ghost use Rattle.amqp_core.specs.Answering.{ran_out};
 ghost use Rattle.amqp_core.specs.AskView.{ask_view};
 ghost use Rattle.amqp_core.specs.Asked.{number_taken};
 ghost use Rattle.amqp_core.specs.Asking.{AcceptsAsk, RefusesAsk};
 ghost use Rattle.amqp_core.specs.EndView as ends;
-ghost use Rattle.amqp_core.specs.EventView.{agreed_there};
 ghost use Rattle.amqp_core.specs.Feeding.{IsFed};
 ghost use Rattle.amqp_core.specs.LedgerView.{HasRoom};
 ghost use Rattle.amqp_core.specs.NoteView.{note_view, telling_view};
-ghost use Rattle.amqp_core.specs.Roles.{role_of};
 ghost use Rattle.amqp_core.specs.Stages.{phase_name};
-ghost use Rattle.amqp_core.specs.StateView.{state_view};
 ghost use Rattle.amqp_core.specs.TracedFields.{kept_of};
 ghost use Rattle.amqp_core.specs.Tracing.{IsTraceOf, FedGrows, SameLists, TraceGoesOn};
 
 use crate::asks::Ask;
 use crate::end::End;
-use crate::events::{Agreed, Taken};
 use crate::faults::{AskFault, CoreFault, OutOfMemory};
 use crate::ledger::Ledger;
 use crate::notes::Note;
-use crate::queries::ChannelState;
 use crate::roles::Role;
 use crate::stage::Phase;
+use crate::taken::{Taken, told};
 use crate::tellings::Telling;
 use crate::tracing::{make_room, put, room_for_ask, take};
+use amqp_channel::{Agreed, ChannelState};
 use amqp_method::Kind;
 use amqp_model::{arrangement, octets, one_end, traces};
 
@@ -105,7 +105,7 @@ impl<R: Role> Traced<R> {
             self.end.run_out();
             return Err(CoreFault::OutOfMemory);
         }
-        take(&mut self.end, &mut self.ledger, piece)
+        told(take(&mut self.end, &mut self.ledger, piece))
     }
 
     /// Does what an application asks, as [`End::ask`] does. Out of memory, nothing has changed.

@@ -6,17 +6,17 @@ ghost use Rattle.amqp_model.specs.EndVerdict.{takes_octets};
 ghost use Rattle.amqp_model.specs.Histories.{History};
 ghost use Rattle.amqp_model.specs.LawfulHistories.{then_put};
 ghost use Rattle.amqp_model.specs.Outputs.{output_octets};
+ghost use Rattle.amqp_channel.specs.Roles.{role_of};
 ghost use Rattle.amqp_core.specs.Answering.{ran_out};
 ghost use Rattle.amqp_core.specs.AskNoting.{GrowsByFrames, IsChannelOf, IsSizeOf, count_asked, item_asked};
 ghost use Rattle.amqp_core.specs.AskView.{ask_view};
 ghost use Rattle.amqp_core.specs.Asked.{number_taken};
 ghost use Rattle.amqp_core.specs.Asking.{AcceptsAsk, RefusesAsk};
 ghost use Rattle.amqp_core.specs.EndView.{config_at, endpoint_of, role_played, settings_at};
-ghost use Rattle.amqp_core.specs.Feeding.{IsFed};
 ghost use Rattle.amqp_core.specs.Growth.{GrowsLittle};
+ghost use Rattle.amqp_core.specs.Hearing.{IsHeard};
 ghost use Rattle.amqp_core.specs.LedgerView.{HasRoom};
 ghost use Rattle.amqp_core.specs.NoteView.{item_there};
-ghost use Rattle.amqp_core.specs.Roles.{role_of};
 ghost use Rattle.amqp_core.specs.TracedFields.{kept_of};
 ghost use Rattle.amqp_core.specs.Tracing.{FedGrows, IsTraceOf, SameLists, TraceGoesOn};
 ghost use Rattle.amqp_model.specs.Negotiation as negotiation;
@@ -25,10 +25,10 @@ use crate::account::Account;
 use crate::allowing::Place;
 use crate::asks::Ask;
 use crate::end::End;
-use crate::events::Taken;
 use crate::faults::{AskFault, CoreFault, OutOfMemory};
 use crate::ledger::Ledger;
 use crate::roles::Role;
+use crate::taken::Heard;
 use crate::tellings::Item;
 use amqp_model::{fitting, octets, one_end, traces};
 
@@ -53,7 +53,7 @@ pub(crate) fn make_room<R: Role>(
     ledger.reserve(frames, fed, written)
 }
 
-fn is_out_of_memory(answer: &Result<Taken, CoreFault>) -> bool
+fn is_out_of_memory(answer: &Result<Heard, CoreFault>) -> bool
     ensures { result ≡ ran_out answer.now }
 {
     match answer {
@@ -68,16 +68,16 @@ pub(crate) fn take<R: Role>(
     end: &mut End<R>,
     ledger: &mut Ledger,
     piece: &[u8],
-) -> Result<Taken, CoreFault>
+) -> Result<Heard, CoreFault>
     requires room { HasRoom ledger.old 3 (length piece.now) }
     requires takes { takes_octets (endpoint_of end.old).end.phase ≡ true }
     requires plays { role_of ledger.old.side ≡ role_played end.old }
-    ensures fed { IsFed result (endpoint_of end.old) (after_feed (role_played end.old) (config_at end.old) (endpoint_of end.old) piece.now) (endpoint_of end.new) }
+    ensures fed { IsHeard result (endpoint_of end.old) (after_feed (role_played end.old) (config_at end.old) (endpoint_of end.old) piece.now) (endpoint_of end.new) }
     ensures octets { FedGrows (ran_out result) piece.now (after_feed (role_played end.old) (config_at end.old) (endpoint_of end.old) piece.now) (kept_of end.old ledger.old) (kept_of end.new ledger.new) }
     ensures history { (history : History) → IsTraceOf (role_played end.old) (config_at end.old) (kept_of end.old ledger.old) history
         → ∥ TraceGoesOn (role_played end.old) (config_at end.old) (ran_out result) (endpoint_of end.old) piece.now (after_feed (role_played end.old) (config_at end.old) (endpoint_of end.old) piece.now) history (kept_of end.new ledger.new) ∥₁ }
-    ensures within { IfOk result (λ taken. taken.octets ≤ length piece.now) }
-    ensures progress { IfOk result (λ taken. piece.now ≢ [] → 0 < taken.octets) }
+    ensures within { IfOk result (λ heard. heard.octets ≤ length piece.now) }
+    ensures progress { IfOk result (λ heard. piece.now ≢ [] → 0 < heard.octets) }
     ensures grows { GrowsLittle (endpoint_of end.old).output (endpoint_of end.new).output }
     ensures written { ledger.new.written ≡ ledger.old.written }
     ensures settings { settings_at end.new ≡ settings_at end.old }

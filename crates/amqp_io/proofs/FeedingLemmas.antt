@@ -5,7 +5,7 @@ use Rattle.amqp_model.specs.Endpoint.{Endpoint}
 use Rattle.amqp_model.specs.Negotiation.{Config}
 use Rattle.amqp_model.specs.Notes.{Role}
 use Rattle.amqp_core.specs.Settings.{config_view, role_for}
-use Rattle.amqp_core.specs.declared.events.Taken.{Taken}
+use Rattle.amqp_core.specs.declared.taken.Taken.{Taken}
 use Rattle.amqp_core.specs.declared.faults.CoreFault.{CoreFault}
 use Rattle.amqp_core.specs.declared.settings.Settings.{Settings}
 use Rattle.amqp_io.specs.Intakes.{Intake, Feeds, FeedsOn, FeedsAll, once_more, after_taking}

@@ -8,8 +8,8 @@ use Rattle.amqp_model.specs.OctetLaws.{EndpointStandsFor}
 use Rattle.amqp_core.specs.Answering.{ran_out}
 use Rattle.amqp_core.specs.Feeding.{IsFed}
 use Rattle.amqp_core.specs.Following.{GoesOn}
-use Rattle.amqp_core.specs.declared.events.Event.{Event}
-use Rattle.amqp_core.specs.declared.events.Taken.{Taken}
+use Rattle.amqp_core.specs.Events.{Event}
+use Rattle.amqp_core.specs.declared.taken.Taken.{Taken}
 use Rattle.amqp_core.specs.declared.faults.CoreFault.{CoreFault}
 
 -- An end, the octets that were read and not fed to it, and the events that were not handed out, oldest first.

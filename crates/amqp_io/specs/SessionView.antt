@@ -4,7 +4,7 @@ use Rattle.amqp_model.specs.Negotiation.{Config}
 use Rattle.amqp_model.specs.Notes.{Role}
 use Rattle.amqp_core.specs.EndView.{config_at, endpoint_of, role_played, settings_at}
 use Rattle.amqp_core.specs.declared.end.End.{End}
-use Rattle.amqp_core.specs.declared.events.Event.{Event}
+use Rattle.amqp_core.specs.Events.{Event}
 use Rattle.amqp_core.specs.declared.roles.Role.{Ghosts}
 use Rattle.amqp_core.specs.declared.settings.Settings.{Settings}
 use Rattle.amqp_io.specs.Intakes.{Intake}

@@ -6,7 +6,7 @@ ghost use Rattle.amqp_io.specs.Reading.{Gives};
 use crate::stream::Stream;
 
 /// What a read gave.
-#[derive(Clone, Copy, PartialEq, Eq, Debug)]
+#[derive(Clone, Copy, PartialEq, Eq)]
 pub(crate) enum Arrival {
     /// So many octets, at the start of the buffer: at least 1.
     Octets(usize),

@@ -6,7 +6,7 @@ ghost use Rattle.amqp_io.specs.Streams.{Marks};
 use crate::stream::Stream;
 
 /// How far a run of octets was written.
-#[derive(Clone, Copy, PartialEq, Eq, Debug)]
+#[derive(Clone, Copy, PartialEq, Eq)]
 pub(crate) struct Written {
     /// how many octets the stream took, from the start
     pub(crate) octets: usize,

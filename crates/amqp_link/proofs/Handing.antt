@@ -5,7 +5,7 @@ use Rattle.std.proofs.lemmas.List.{length-take-le}
 use Rattle.amqp_model.specs.Notes.{Role}
 use Rattle.amqp_model.specs.OctetLaws.{IsOctet}
 use Rattle.amqp_core.specs.Answering.{is_out_of_memory}
-use Rattle.amqp_core.specs.declared.events.Taken.{Taken}
+use Rattle.amqp_core.specs.declared.taken.Taken.{Taken}
 use Rattle.amqp_core.specs.declared.faults.CoreFault.{CoreFault}
 use Rattle.amqp_core.specs.declared.faults.CoreFault.TheVariants as core
 use Rattle.amqp_link.specs.JoinLaws.{Laws}

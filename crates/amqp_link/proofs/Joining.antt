@@ -24,7 +24,7 @@ use Rattle.amqp_model.specs.Pairs.{NewEndsPair, config_of}
 use Rattle.amqp_core.specs.Answering.{Reports, is_out_of_memory}
 use Rattle.amqp_core.specs.Feeding.{IsFed}
 use Rattle.amqp_core.specs.Tracing.{IsTraceOf, Kept, SameLists, TraceGrows}
-use Rattle.amqp_core.specs.declared.events.Taken.{Taken}
+use Rattle.amqp_core.specs.declared.taken.Taken.{Taken}
 use Rattle.amqp_core.specs.declared.faults.CoreFault.{CoreFault}
 use Rattle.amqp_core.specs.declared.faults.CoreFault.TheVariants as core
 use Rattle.amqp_link.specs.JoinLaws.{JoinLaws, Laws}

@@ -12,7 +12,7 @@ use Rattle.amqp_core.specs.Asking.{AcceptsAsk}
 use Rattle.amqp_core.specs.Faults.{refusal_view}
 use Rattle.amqp_core.specs.Feeding.{IsFed}
 use Rattle.amqp_core.specs.Tracing.{FedGrows, IsTraceOf, TraceGoesOn}
-use Rattle.amqp_core.specs.declared.events.Taken.{Taken}
+use Rattle.amqp_core.specs.declared.taken.Taken.{Taken}
 use Rattle.amqp_core.specs.declared.faults.CoreFault.{CoreFault}
 use Rattle.amqp_core.specs.declared.faults.CoreFault.TheVariants as core
 use Rattle.amqp_link.specs.Seats.{Seated}

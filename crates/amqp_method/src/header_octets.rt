@@ -202,7 +202,7 @@ fn read_bare(body_size: u64, octets: &[u8], end: usize) -> Result<Header, Method
     read_end(octets, end)?;
     Ok(Header {
         body_size,
-        properties: Properties::none(),
+        properties: Properties::default(),
     })
 }
 

@@ -1,10 +1,10 @@
 //! Content headers.
-ghost use Rattle.std.specs.Prelude.{◌≡◌, ℕ, length, map, None, IfOk};
+ghost use Rattle.std.specs.Prelude.{◌≡◌, ℕ, length, IfOk};
 ghost use Rattle.amqp_value.specs.Lengths.{capped};
 ghost use Rattle.amqp_method.specs.Arguments.{short_string};
 ghost use Rattle.amqp_method.specs.HeaderView.{present, table_argument, properties_view, header_view};
 ghost use Rattle.amqp_method.specs.Plain.{plain_header};
-ghost use Rattle.amqp_method.specs.Properties.{header, property_kinds};
+ghost use Rattle.amqp_method.specs.Properties.{header};
 
 use crate::faults::OutOfMemory;
 use crate::lengths::properties_length;
@@ -72,28 +72,6 @@ impl Header {
 }
 
 impl Properties {
-    /// No property at all.
-    pub(crate) fn none() -> Properties
-        ensures { properties_view result ≡ map (λ kind. None) property_kinds }
-    {
-        Properties {
-            content_type: None,
-            content_encoding: None,
-            headers: None,
-            delivery_mode: None,
-            priority: None,
-            correlation_id: None,
-            reply_to: None,
-            expiration: None,
-            message_id: None,
-            timestamp: None,
-            type_name: None,
-            user_id: None,
-            app_id: None,
-            cluster_id: None,
-        }
-    }
-
     /// How many octets a header with these properties is written in: the same for every size of a body. `u64::MAX` stands
     /// for every number from there on, which no properties in memory reach.
     pub fn header_length(&self) -> u64
@@ -106,21 +84,21 @@ impl Properties {
     pub fn copy(&self) -> Result<Properties, OutOfMemory>
         ensures { IfOk result (λ p. properties_view p ≡ properties_view self.now) }
     {
-        Ok(Properties {
-            content_type: copy_text(&self.content_type)?,
-            content_encoding: copy_text(&self.content_encoding)?,
-            headers: copy_table(&self.headers)?,
-            delivery_mode: self.delivery_mode,
-            priority: self.priority,
-            correlation_id: copy_text(&self.correlation_id)?,
-            reply_to: copy_text(&self.reply_to)?,
-            expiration: copy_text(&self.expiration)?,
-            message_id: copy_text(&self.message_id)?,
-            timestamp: self.timestamp,
-            type_name: copy_text(&self.type_name)?,
-            user_id: copy_text(&self.user_id)?,
-            app_id: copy_text(&self.app_id)?,
-            cluster_id: copy_text(&self.cluster_id)?,
-        })
+        let mut copy = Properties::default();
+        copy.content_type = copy_text(&self.content_type)?;
+        copy.content_encoding = copy_text(&self.content_encoding)?;
+        copy.headers = copy_table(&self.headers)?;
+        copy.delivery_mode = self.delivery_mode;
+        copy.priority = self.priority;
+        copy.correlation_id = copy_text(&self.correlation_id)?;
+        copy.reply_to = copy_text(&self.reply_to)?;
+        copy.expiration = copy_text(&self.expiration)?;
+        copy.message_id = copy_text(&self.message_id)?;
+        copy.timestamp = self.timestamp;
+        copy.type_name = copy_text(&self.type_name)?;
+        copy.user_id = copy_text(&self.user_id)?;
+        copy.app_id = copy_text(&self.app_id)?;
+        copy.cluster_id = copy_text(&self.cluster_id)?;
+        Ok(copy)
     }
 }

@@ -2,10 +2,10 @@ use Rattle.std.proofs.Common.{rules, ◌≡◌, ◌&&◌, true, false, ap, sym, 
 use Rattle.amqp_method.specs.MessageView.{message_view}
 use Rattle.amqp_model.specs.Asks.{is_pausable, is_sendable}
 use Rattle.amqp_model.specs.Events.{method_of}
-use Rattle.amqp_core.specs.LifeView.{life_view}
-use Rattle.amqp_core.specs.Messages.{message_of}
+use Rattle.amqp_channel.specs.LifeView.{life_view}
+use Rattle.amqp_channel.specs.Messages.{message_of}
+use Rattle.amqp_channel.specs.Roles.{role_of}
 use Rattle.amqp_core.specs.Refusals.{is_too_large, reply_refusal}
-use Rattle.amqp_core.specs.Roles.{role_of}
 use Rattle.amqp_core.proofs.RefusalLemmas.{method_is, by_turn_alone}
 use Rattle.amqp_core.proofs.refusing.refusal_of_message.Goals as goal
 

@@ -2,9 +2,9 @@
 use Rattle.std.proofs.Common.{false, map}
 use Rattle.std.proofs.Math.Logic.{∥∥₁_map}
 use Rattle.amqp_model.specs.Asks.{frames_asked}
+use Rattle.amqp_channel.specs.Roles.{role_of}
 use Rattle.amqp_core.specs.AskView.{ask_view, lent_view}
 use Rattle.amqp_core.specs.EndView.{config_at, endpoint_of, role_played}
-use Rattle.amqp_core.specs.Roles.{role_of}
 use Rattle.amqp_core.specs.TracedFields.{kept_of}
 use Rattle.amqp_core.specs.NoteView.{item_there, telling_view}
 use Rattle.amqp_core.proofs.AskTrace.{accepted-grows, ask-kept, traced-asked}

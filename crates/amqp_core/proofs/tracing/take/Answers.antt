@@ -2,12 +2,12 @@
 use Rattle.std.proofs.Common.{◌≡◌, ◌≤◌, length, false, refl, sym, ◌∙◌, subst}
 use Rattle.std.proofs.lemmas.List.{length-take-le}
 use Rattle.amqp_model.specs.Endpoint.{after_feed}
+use Rattle.amqp_channel.specs.Roles.{role_of}
 use Rattle.amqp_core.specs.EndView.{config_at, endpoint_of, role_played, settings_at}
-use Rattle.amqp_core.specs.Roles.{role_of}
 use Rattle.amqp_core.specs.TracedFields.{kept_of}
 use Rattle.amqp_core.specs.Answering.{ran_out}
 use Rattle.amqp_core.specs.AccountView.{note_there}
-use Rattle.amqp_core.specs.NoteView.{item_there}
+use Rattle.amqp_core.specs.NoteView.{item_kept}
 use Rattle.amqp_core.proofs.TracedLemmas.{lists-grow, trace-laws, traced-ran-out, traced-took}
 use Rattle.amqp_core.proofs.tracing.take.Goals as goal
 
@@ -36,12 +36,12 @@ returns-clause-history g c = λ history traced.
     let fed = after_feed role config (endpoint_of end) c.args.piece.now in
     let account = c.advance-answer.new.account in
     let went : ran_out c.advance-answer.result ≡ false = sym c.is_out_of_memory.ensures ∙ c.if-is_out_of_memory.false in
-    traced-took settings (ran_out c.advance-answer.result) old new c.args.piece.now fed account.octets (note_there account.took) (item_there account.item) account.owed history
+    traced-took settings (ran_out c.advance-answer.result) old new c.args.piece.now fed account.octets (note_there account.took) (item_kept account.item) account.owed history
     went
     (trace-laws role config c.frames_are_noted.ensures.put (c.events_are_told.ensures.event role config) (c.events_are_told.ensures.put role config) (c.messages_are_said.ensures.method role)
     (c.verdict_is_of_history.ensures role config false) (c.owed_read_back.ensures.all role config) end.kept.writes)
     c.requires.takes
-    (lists-grow (role_of ledger.side) role old new (note_there account.took) (item_there account.item) account.owed c.requires.plays
+    (lists-grow (role_of ledger.side) role old new (note_there account.took) (item_kept account.item) account.owed c.requires.plays
     (record { notes = c.enter.ensures.notes; told = c.enter.ensures.told; said = c.enter.ensures.said }))
     (c.advance-answer.ensures.account c.new-account.ensures.wanted c.requires.takes went)
     c.enter.ensures.fed (λ i. (c.enter.ensures.written_same i).items)

@@ -7,8 +7,8 @@ use Rattle.amqp_model.specs.Endpoint.{output_of}
 use Rattle.amqp_model.specs.Octets.{opening_written}
 use Rattle.amqp_model.specs.Pieces.{HoldsUnfinished}
 use Rattle.amqp_outbox.specs.OutboxView.{Outgoing}
+use Rattle.amqp_channel.specs.Roles.{role_of}
 use Rattle.amqp_core.specs.CoreView.{core_end}
-use Rattle.amqp_core.specs.Roles.{role_of}
 use Rattle.amqp_core.specs.Settings.{config_view, role_for}
 use Rattle.amqp_core.proofs.EndpointNew.{new_is, fields_begin}
 use Rattle.amqp_core.proofs.FeedLemmas.{sound_with}

@@ -4,7 +4,6 @@ use Rattle.std.proofs.lemmas.Bool.{false≢true}
 use Rattle.amqp_frame.specs.Frame.{lent}
 use Rattle.amqp_frame.specs.Splitter.{Completes, Waits, after_feed_ref, place_after}
 use Rattle.amqp_frame.specs.Stream.{Stream}
-use Rattle.amqp_model.specs.Endpoint.{after_feed}
 use Rattle.amqp_model.specs.EndVerdict.{facts_at}
 use Rattle.amqp_model.specs.Readings.{reading}
 use Rattle.amqp_outbox.specs.OutboxView.{Outgoing}
@@ -12,8 +11,7 @@ use Rattle.amqp_core.specs.AccountView.{note_there}
 use Rattle.amqp_core.specs.Answering.{is_out_of_memory, ran_out}
 use Rattle.amqp_core.specs.CoreView.{core_end}
 use Rattle.amqp_core.specs.EndpointView.{endpoint_view, role_at, unfinished_of}
-use Rattle.amqp_core.specs.Feeding.{IsFed}
-use Rattle.amqp_core.specs.NoteView.{item_there}
+use Rattle.amqp_core.specs.NoteView.{item_kept}
 use Rattle.amqp_core.specs.Settings.{config_view}
 use Rattle.amqp_core.proofs.AccountLemmas.{account_of_frame, account_of_rest, account_of_stop, came_fresh, rest_of, whole_of}
 use Rattle.amqp_core.proofs.GrowthLemmas.{frame_grows, stop_grows}
@@ -39,9 +37,8 @@ returns-in_default-clause-fed c =
     let by = fed_by (role_at old) (core_end old.core) old.heard old.splitter old.outbox.output c.args.piece.now c.requires.reads c.requires.sound.fields c.requires.sound.holds (λ i. omega (arith, c.type_inv.piece i)) in
     let after = after_rest old.splitter c.args.piece.now c.feed_ref.result c.in-Ok.fed c.feed_ref.follows.lender-at-none c.feed_ref.follows.holds-at-none c.in-Ok.is c.in_default.is in
     let waits : Waits old.splitter c.args.piece.now c.in-Ok.fed.taken = subst (λ o. IfNone o (Waits old.splitter c.args.piece.now c.in-Ok.fed.taken)) c.in_default.is c.in-Ok.ensures.rest in
-    subst (λ r. IsFed r (endpoint_view old) (after_feed (role_at old) (config_view old.core.settings) (endpoint_view old) c.args.piece.now) (endpoint_view (record old { splitter = c.feed_ref.follows.lender-at-none }))) (sym c.telling_nothing.ensures)
-    (rest_fed (role_at old) (config_view old.core.settings) (endpoint_view old) old.splitter c.args.piece.now c.in-Ok.fed.taken (unfinished_of old.heard c.feed_ref.follows.lender-at-none.pending) (c.pieces_are_split.ensures.rest (role_at old) (config_view old.core.settings) (endpoint_view old) old.splitter c.args.piece.now c.in-Ok.fed.taken) by waits
-    (rest_unfinished old.heard (place_after old.splitter.taken c.in-Ok.fed.taken) old.splitter c.feed_ref.follows.lender-at-none c.args.piece.now none after))
+    rest_fed (role_at old) (config_view old.core.settings) (endpoint_view old) old.splitter c.args.piece.now c.in-Ok.fed.taken (unfinished_of old.heard c.feed_ref.follows.lender-at-none.pending) (c.pieces_are_split.ensures.rest (role_at old) (config_view old.core.settings) (endpoint_view old) old.splitter c.args.piece.now c.in-Ok.fed.taken) by waits
+    (rest_unfinished old.heard (place_after old.splitter.taken c.in-Ok.fed.taken) old.splitter c.feed_ref.follows.lender-at-none c.args.piece.now none after)
 
 pub returns-in_default-clause-sound : goal.returns-in_default-clause-sound
 returns-in_default-clause-sound c =
@@ -151,7 +148,7 @@ returns-in-Err-clause-account c = λ wanted ran.
     account_of_stop (role_at old) (config_view old.core.settings) (endpoint_view old) old.splitter c.args.piece.now c.in-Err.fault.kind c.in-Err.fault.at _ _ c.judged_is_said.ensures.one
     (c.pieces_are_split.ensures.fault (role_at old) (config_view old.core.settings) (endpoint_view old) (record old.splitter { taken = 0 }) c.args.piece.now) c.faults_are_judged.ensures.judged by short (λ e. false≢true (sym ran ∙ c.stop.ensures.memory e))
     (first_fault old.splitter c.args.piece.now c.in-Err.fault (c.requires.sound.fields.ready r.octets).running c.in-Err.ensures.fault) (c.stop.ensures.octets ∙ (c.taken_to_fault-account.ensures ∙ after))
-    (λ i. record { took = (ap note_there c.stop.ensures.took ∙ ap note_there c.requires.fresh.took) i; item = (ap item_there c.stop.ensures.item ∙ ap item_there c.requires.fresh.item) i; owed = c.stop.ensures.owed ran i })
+    (λ i. record { took = (ap note_there c.stop.ensures.took ∙ ap note_there c.requires.fresh.took) i; item = (ap item_kept c.stop.ensures.item ∙ ap item_kept c.requires.fresh.item) i; owed = c.stop.ensures.owed ran i })
 
 pub returns-in-Err-clause-grows : goal.returns-in-Err-clause-grows
 returns-in-Err-clause-grows c =

@@ -5,17 +5,17 @@ use Rattle.amqp_model.specs.Asks as asks
 use Rattle.amqp_model.specs.Asks.{refusal}
 use Rattle.amqp_model.specs.Channels.{Life}
 use Rattle.amqp_model.specs.Events.{Message}
+use Rattle.amqp_channel.specs.EventView.{agreed_view}
+use Rattle.amqp_channel.specs.LifeView.{life_view}
+use Rattle.amqp_channel.specs.Messages.{message_of}
+use Rattle.amqp_channel.specs.Roles.{role_of}
+use Rattle.amqp_channel.specs.declared.events.Agreed.{Agreed}
+use Rattle.amqp_channel.specs.declared.side.Side.{Side}
 use Rattle.amqp_core.specs.CoreView.{core_end}
-use Rattle.amqp_core.specs.EventView.{agreed_view}
-use Rattle.amqp_core.specs.LifeView.{life_view}
-use Rattle.amqp_core.specs.Messages.{message_of}
 use Rattle.amqp_core.specs.Refusals.{IsOpenIn, refusal_in}
-use Rattle.amqp_core.specs.Roles.{role_of}
 use Rattle.amqp_core.specs.Settings.{role_for, side_in}
 use Rattle.amqp_core.specs.Stages.{agreed_at}
-use Rattle.amqp_core.specs.declared.events.Agreed.{Agreed}
 use Rattle.amqp_core.specs.declared.one_end.Core.{Core}
-use Rattle.amqp_core.specs.declared.roles.Side.{Side}
 use Rattle.amqp_core.specs.declared.stage.Stage.TheVariants as stages
 use Rattle.amqp_core.proofs.RefusalLemmas.{message_refusal, sent_is_other, sent_has_room}
 use Rattle.amqp_core.proofs.one_end.Core.allow_send.Goals as goal

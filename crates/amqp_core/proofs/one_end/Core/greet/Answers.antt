@@ -1,6 +1,6 @@
 -- The end awaits start-ok.
 use Rattle.std.proofs.Common.{sym}
-use Rattle.amqp_core.specs.ChannelsView.{channels_view}
+use Rattle.amqp_channel.specs.ChannelsView.{channels_view}
 use Rattle.amqp_core.specs.Settings.{config_view, role_for}
 use Rattle.amqp_core.proofs.OpeningLemmas.{greets}
 use Rattle.amqp_core.proofs.one_end.Core.greet.Goals as goal

@@ -1,7 +1,7 @@
 use Rattle.std.proofs.Common.{ap, ◌∙◌}
 use Rattle.amqp_model.specs.Machine.{new_end}
-use Rattle.amqp_core.specs.ChannelsView.{channels_view}
-use Rattle.amqp_core.specs.Roles.{role_of}
+use Rattle.amqp_channel.specs.ChannelsView.{channels_view}
+use Rattle.amqp_channel.specs.Roles.{role_of}
 use Rattle.amqp_core.specs.Settings.{role_for}
 use Rattle.amqp_core.specs.Stages.{phase_at, agreed_at}
 use Rattle.amqp_core.proofs.NewLemmas.{new_is}

@@ -1,6 +1,6 @@
 use Rattle.std.proofs.Common.{refl}
 use Rattle.amqp_model.specs.Readings.{BodyOf}
-use Rattle.amqp_core.specs.ChannelsView.{channels_view}
+use Rattle.amqp_channel.specs.ChannelsView.{channels_view}
 use Rattle.amqp_core.specs.CoreView.{core_end}
 use Rattle.amqp_core.proofs.CoreLemmas.{end_at, running_decides, running_stays, channel_leaves}
 use Rattle.amqp_core.proofs.one_end.Core.on_body.Goals as goal

@@ -2,8 +2,8 @@ use Rattle.std.proofs.Common.{◌≡◌, ap, sym, ◌∙◌, subst}
 use Rattle.amqp_method.specs.MethodView.{method_view}
 use Rattle.amqp_model.specs.Methods.{method_at}
 use Rattle.amqp_model.specs.Readings.{Reading, Calls, method_reading}
+use Rattle.amqp_channel.specs.Reads.{call_reading}
 use Rattle.amqp_core.specs.CoreView.{core_end, IsVerdict}
-use Rattle.amqp_core.specs.Reads.{call_reading}
 use Rattle.amqp_core.proofs.one_end.Core.on_call_closing.Goals as goal
 
 pub returns-in-Ok-clause-verdict : goal.returns-in-Ok-clause-verdict

@@ -1,7 +1,7 @@
 use Rattle.std.proofs.Common.{refl}
 use Rattle.amqp_method.specs.MethodView.{method_view}
 use Rattle.amqp_model.specs.Readings.{Calls}
-use Rattle.amqp_core.specs.ChannelsView.{channels_view}
+use Rattle.amqp_channel.specs.ChannelsView.{channels_view}
 use Rattle.amqp_core.specs.CoreView.{core_end}
 use Rattle.amqp_core.proofs.CoreLemmas.{end_at, running_decides, running_stays, channel_leaves}
 use Rattle.amqp_core.proofs.one_end.Core.on_channel.Goals as goal

@@ -2,12 +2,12 @@ use Rattle.std.proofs.Common.{◌≡◌, Some, None, ap, sym, subst}
 use Rattle.amqp_method.specs.MethodView.{method_view}
 use Rattle.amqp_model.specs.Notes.{Server}
 use Rattle.amqp_model.specs.Readings.{Calls}
-use Rattle.amqp_core.specs.ChannelsView.{channels_view}
+use Rattle.amqp_channel.specs.ChannelsView.{channels_view}
+use Rattle.amqp_channel.specs.Roles.{role_of}
+use Rattle.amqp_channel.specs.declared.news.News.TheVariants as events
 use Rattle.amqp_core.specs.CoreView.{IsVerdict}
-use Rattle.amqp_core.specs.Roles.{role_of}
 use Rattle.amqp_core.specs.Settings.{config_view, role_for}
 use Rattle.amqp_core.specs.declared.one_end.Decision.TheVariants as decisions
-use Rattle.amqp_core.specs.declared.news.News.TheVariants as events
 use Rattle.amqp_core.specs.declared.owed.Owed.TheVariants as owed
 use Rattle.amqp_core.specs.declared.stage.Stage.{Stage}
 use Rattle.amqp_core.proofs.CoreLemmas.{end_at}

@@ -3,12 +3,12 @@ use Rattle.amqp_method.specs.MethodView.{method_view}
 use Rattle.amqp_model.specs.Negotiation.{smaller, tunes_too_small}
 use Rattle.amqp_model.specs.Notes.{Client}
 use Rattle.amqp_model.specs.Readings.{Calls}
-use Rattle.amqp_core.specs.ChannelsView.{channels_view}
+use Rattle.amqp_channel.specs.ChannelsView.{channels_view}
+use Rattle.amqp_channel.specs.Roles.{role_of}
+use Rattle.amqp_channel.specs.declared.news.News.TheVariants as events
 use Rattle.amqp_core.specs.CoreView.{IsVerdict, LeavesEnd}
-use Rattle.amqp_core.specs.Roles.{role_of}
 use Rattle.amqp_core.specs.Settings.{config_view, role_for}
 use Rattle.amqp_core.specs.declared.one_end.Decision.TheVariants as decisions
-use Rattle.amqp_core.specs.declared.news.News.TheVariants as events
 use Rattle.amqp_core.specs.declared.owed.Owed.TheVariants as owed
 use Rattle.amqp_core.specs.declared.stage.Stage.{Stage}
 use Rattle.amqp_core.specs.declared.stage.Stage.TheVariants as stages

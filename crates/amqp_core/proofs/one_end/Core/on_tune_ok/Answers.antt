@@ -4,14 +4,14 @@ use Rattle.amqp_model.specs.Events.{Fatal}
 use Rattle.amqp_model.specs.Negotiation.{agreed_in}
 use Rattle.amqp_model.specs.Notes.{Server}
 use Rattle.amqp_model.specs.Readings.{Calls}
-use Rattle.amqp_core.specs.ChannelsView.{channels_view}
+use Rattle.amqp_channel.specs.ChannelsView.{channels_view}
+use Rattle.amqp_channel.specs.Roles.{role_of}
+use Rattle.amqp_channel.specs.declared.news.News.TheVariants as events
 use Rattle.amqp_core.specs.CoreView.{IsVerdict, LeavesEnd}
 use Rattle.amqp_core.specs.Handshakes.{within}
-use Rattle.amqp_core.specs.Roles.{role_of}
 use Rattle.amqp_core.specs.Settings.{config_view, role_for}
 use Rattle.amqp_core.specs.declared.one_end.Decision.TheVariants as decisions
 use Rattle.amqp_core.specs.declared.one_end.Fault.TheVariants as faults
-use Rattle.amqp_core.specs.declared.news.News.TheVariants as events
 use Rattle.amqp_core.specs.declared.owed.Owed.TheVariants as owed
 use Rattle.amqp_core.specs.declared.stage.Stage.{Stage}
 use Rattle.amqp_core.specs.declared.stage.Stage.TheVariants as stages

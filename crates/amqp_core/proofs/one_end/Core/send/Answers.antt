@@ -1,6 +1,6 @@
 use Rattle.amqp_method.specs.MessageView.{message_view}
-use Rattle.amqp_core.specs.ChannelsView.{channels_view}
-use Rattle.amqp_core.specs.Messages.{message_of}
+use Rattle.amqp_channel.specs.ChannelsView.{channels_view}
+use Rattle.amqp_channel.specs.Messages.{message_of}
 use Rattle.amqp_core.proofs.AskLemmas.{all_are_put, message_put, message_made}
 use Rattle.amqp_core.proofs.one_end.Core.send.Goals as goal
 

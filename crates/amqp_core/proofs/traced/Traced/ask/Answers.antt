@@ -3,10 +3,10 @@ use Rattle.std.proofs.Common.{◌+◌, ◌*◌, ◌≤◌, length, vec_len, vec_
 use Rattle.amqp_model.specs.Asks.{frames_asked}
 use Rattle.amqp_model.specs.LawfulHistories.{then_put}
 use Rattle.amqp_model.specs.Outputs.{output_octets}
+use Rattle.amqp_channel.specs.Roles.{role_of}
 use Rattle.amqp_core.specs.AskNoting.{count_asked}
 use Rattle.amqp_core.specs.AskView.{ask_view}
 use Rattle.amqp_core.specs.EndView.{config_at, endpoint_of, role_played, settings_at}
-use Rattle.amqp_core.specs.Roles.{role_of}
 use Rattle.amqp_core.specs.Settings.{role_for}
 use Rattle.amqp_core.specs.TracedFields.{kept_of}
 use Rattle.amqp_core.specs.declared.settings.Settings.{Settings}

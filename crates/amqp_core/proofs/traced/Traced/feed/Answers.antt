@@ -1,13 +1,15 @@
 -- The lists go on with what came of the piece, or, out of memory, stay as they are.
-use Rattle.std.proofs.Common.{◌≡◌, ◌+◌, ◌≤◌, length, vec_len, vec_capacity, refl, ap, sym, ◌∙◌, subst, arith}
+use Rattle.std.proofs.Common.{◌≡◌, ◌≢◌, ◌+◌, ◌<◌, ◌≤◌, [], length, vec_len, vec_capacity, refl, ap, sym, ◌∙◌, subst, arith}
 use Rattle.amqp_model.specs.Endpoint.{after_feed}
 use Rattle.amqp_model.specs.Outputs.{Output, output_octets}
+use Rattle.amqp_channel.specs.Roles.{role_of}
 use Rattle.amqp_core.specs.Answering.{ran_out}
 use Rattle.amqp_core.specs.EndView.{config_at, endpoint_of, role_played, settings_at}
-use Rattle.amqp_core.specs.Roles.{role_of}
 use Rattle.amqp_core.specs.Settings.{role_for}
 use Rattle.amqp_core.specs.TracedFields.{kept_of}
+use Rattle.amqp_core.specs.Tracing.{TraceGoesOn}
 use Rattle.amqp_core.specs.declared.settings.Settings.{Settings}
+use Rattle.amqp_core.proofs.TakenLemmas.{fed-told, octets-told, ran-told}
 use Rattle.amqp_core.proofs.TracedLemmas.{not-err, over-feed, traced-out, traced-same, traces-kept, traces-on, traces-same}
 use Rattle.amqp_core.proofs.traced.Traced.feed.Goals as goal
 
@@ -82,3 +84,25 @@ invariant_of-self-2 g c =
           (traces-on role config (ran_out c.take.result) ready new c.args.piece.now (after_feed role config (endpoint_of end) c.args.piece.now)
           (traces-same role config old ready (λ history traced. traced-same role config old ready history refl lists traced) self.traces) c.take.ensures.history);
     }
+
+pub returns-clause-fed : goal.returns-clause-fed
+returns-clause-fed g c =
+    let self = c.args.self.now in
+    let old = endpoint_of self.end in
+    fed-told c.take.result c.told.result old (after_feed (role_played self.end) (config_at self.end) old c.args.piece.now) (endpoint_of c.take.new.end) c.told.ensures c.take.ensures.fed
+
+pub returns-clause-within : goal.returns-clause-within
+returns-clause-within g c = octets-told (λ n. n ≤ length c.args.piece.now) c.take.result c.told.result c.told.ensures c.take.ensures.within
+
+pub returns-clause-progress : goal.returns-clause-progress
+returns-clause-progress g c = octets-told (λ n. c.args.piece.now ≢ [] → 0 < n) c.take.result c.told.result c.told.ensures c.take.ensures.progress
+
+pub returns-clause-history : goal.returns-clause-history
+returns-clause-history g c = λ history traced.
+    let self = c.args.self.now in
+    let role = role_played self.end in
+    let config = config_at self.end in
+    let old = endpoint_of self.end in
+    subst (λ b. ∥ TraceGoesOn role config b old c.args.piece.now (after_feed role config old c.args.piece.now) history (kept_of c.take.new.end c.take.new.ledger) ∥₁)
+    (ran-told c.take.result c.told.result c.told.ensures)
+    (c.take.ensures.history history (traced-same role config (kept_of self.end self.ledger) (kept_of self.end c.make_room-room.new.ledger) history refl c.make_room-room.ensures.same traced))

@@ -1,7 +1,7 @@
 -- A new end is the trace of nothing.
 use Rattle.std.proofs.Common.{[], length, ap, ◌∙◌, arith}
+use Rattle.amqp_channel.specs.Roles.{role_of}
 use Rattle.amqp_core.specs.EndView.{config_at, role_played}
-use Rattle.amqp_core.specs.Roles.{role_of}
 use Rattle.amqp_core.specs.TracedFields.{kept_of}
 use Rattle.amqp_core.proofs.TracedLemmas.{traced-new}
 use Rattle.amqp_core.proofs.traced.Traced.new.Goals as goal

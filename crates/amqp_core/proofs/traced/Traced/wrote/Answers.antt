@@ -3,9 +3,9 @@ use Rattle.std.proofs.Common.{◌≡◌, ◌+◌, ◌-◌, ◌≤◌, ◌++◌, 
 use Rattle.std.proofs.lemmas.List.{length-drop, length-take-le}
 use Rattle.amqp_model.specs.Endpoint.{Endpoint}
 use Rattle.amqp_model.specs.Outputs.{output_octets}
+use Rattle.amqp_channel.specs.Roles.{role_of}
 use Rattle.amqp_core.specs.EndView.{config_at, endpoint_of, role_played, settings_at}
 use Rattle.amqp_core.specs.NoteView.{note_view, telling_view}
-use Rattle.amqp_core.specs.Roles.{role_of}
 use Rattle.amqp_core.specs.Settings.{role_for}
 use Rattle.amqp_core.specs.TracedFields.{kept_of}
 use Rattle.amqp_core.specs.declared.settings.Settings.{Settings}

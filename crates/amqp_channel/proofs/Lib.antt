@@ -1,0 +1,6 @@
+pub mod ArgumentLemmas
+pub mod VerdictLemmas
+pub mod PartLemmas
+pub mod UsedLemmas
+pub mod PutLemmas
+pub mod FreeLemmas

@@ -1,0 +1,19 @@
+-- What the code keeps of an Open channel stands for this in the model.
+use Rattle.std.specs.Prelude.{◌≡◌}
+use Rattle.amqp_model.specs.Channels as model
+use Rattle.amqp_model.specs.Gathering as gathering
+use Rattle.amqp_model.specs.Notes.{Kind, Other}
+use Rattle.amqp_channel.specs.GatheringView.{gathering_view}
+use Rattle.amqp_channel.specs.declared.life.Life.{Life}
+
+abbrev pub life_view : Life → model.Life
+life_view life = record { content = gathering_view life.content; paused = life.paused; awaits = life.awaits; requests = life.requests.items }
+
+-- no content is under way
+abbrev pub IsIdle : Life → Type 0
+IsIdle life = gathering_view life.content ≡ gathering.Nothing
+
+-- neither opens nor closes the channel, nor asks for a flow or answers one
+abbrev pub IsOther : Kind → Type 0
+IsOther (Other begins_content) = Unit {0}
+IsOther kind = ⊥

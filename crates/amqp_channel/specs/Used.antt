@@ -1,0 +1,36 @@
+-- The channels in use, by number, in the words of the model.
+use Rattle.std.specs.Prelude.{◌≡◌, ◌<◌, Bool, true, false, nat_eq, ℕ, zero, suc, Option, Some, None}
+use Rattle.std.specs.declared.hash.FoldHasher.{FoldHasher}
+use Rattle.std.specs.declared.hash.BuildHasherDefault.{BuildHasherDefault}
+use Rattle.std.specs.HashMap.{get, HashMap}
+use Rattle.amqp_model.specs.Asks.{is_free}
+use Rattle.amqp_model.specs.Channels as model
+use Rattle.amqp_channel.specs.ChannelView.{channel_view}
+use Rattle.amqp_channel.specs.declared.channel.Channel.{Channel}
+
+abbrev pub Used : Type 0
+Used = HashMap ℕ Channel (BuildHasherDefault FoldHasher)
+
+-- what isn't kept is free
+abbrev pub kept_at : Option Channel → model.Channel
+kept_at None = model.Free
+kept_at (Some channel) = channel_view channel
+
+-- channel 0 is none
+abbrev pub used_view : Used → ℕ → model.Channel
+used_view used zero = model.Free
+used_view used (suc n) = kept_at (get nat_eq used (suc n))
+
+-- no number from 1 up to this one is free
+abbrev pub NoneFreeBelow : Used → ℕ → Type 0
+NoneFreeBelow used low = (j : ℕ) → suc j < low → is_free (used_view used (suc j)) ≡ false
+
+-- this end has put a close of the channel
+abbrev pub is_closing_at : model.Channel → Bool
+is_closing_at model.Closing = true
+is_closing_at channel = false
+
+-- the channel is Open
+abbrev pub is_open_at : model.Channel → Bool
+is_open_at (model.Open life) = true
+is_open_at channel = false

@@ -1,0 +1,84 @@
+//! Contents: a method that a content follows, and what is there of the content.
+ghost use Rattle.std.specs.Prelude.{◌≡◌, true};
+ghost use Rattle.amqp_method.specs.Kinds.{has_content};
+ghost use Rattle.amqp_method.specs.MethodView.{method_view};
+
+use crate::faults::OutOfMemory;
+use amqp_method::{Header, Kind, Message, Method};
+
+/// A method that a content follows.
+#[derive(Drop)]
+pub struct Carrier {
+    method: Method,
+    pub ghost carries: { has_content (method_view method).kind ≡ true },
+}
+
+/// The header of a content, and what was taken of its body.
+#[derive(Drop)]
+pub struct Parts {
+    pub(crate) header: Header,
+    pub(crate) body: Vec<u8>,
+}
+
+/// A method, and what was taken of its content, which is large, so that only the box moves.
+#[derive(Drop)]
+pub struct Content {
+    pub(crate) method: Carrier,
+    pub(crate) parts: Box<Parts>,
+}
+
+impl Carrier {
+    ghost use Rattle.std.specs.Prelude.{◌≡◌, true};
+    ghost use Rattle.amqp_method.specs.Kinds.{has_content};
+    ghost use Rattle.amqp_method.specs.MethodView.{method_view};
+    ghost use Rattle.amqp_channel.specs.CarrierView.{carrier_view};
+
+    pub(crate) fn new(method: Method) -> Carrier
+        requires { has_content (method_view method).kind ≡ true }
+        ensures { carrier_view result ≡ method_view method }
+    {
+        Carrier { method }
+    }
+
+    fn kind(&self) -> Kind
+        ensures { result ≡ (carrier_view self.now).kind }
+    {
+        self.method.kind()
+    }
+}
+
+impl Content {
+    ghost use Rattle.std.specs.Prelude.{◌≡◌, IfOk};
+    ghost use Rattle.amqp_method.specs.MessageView.{message_view};
+    ghost use Rattle.amqp_model.specs.Events.{Whole};
+    ghost use Rattle.amqp_channel.specs.CarrierView.{content_view};
+    ghost use Rattle.amqp_channel.specs.Messages.{message_of};
+
+    pub(crate) fn kind(&self) -> Kind
+        ensures { result ≡ (content_view self.now).method.kind }
+    {
+        self.method.kind()
+    }
+
+    /// The message that a whole content makes. It is large, and stands apart, so that who makes none makes no room for it.
+    #[inline(never)]
+    pub(crate) fn into_message(self) -> Message
+        ensures { message_of (message_view result) ≡ Whole (content_view self) }
+    {
+        let Content { method, parts } = self;
+        let Parts { header, body } = Box::into_inner(parts);
+        let Header { properties, .. } = header;
+        Message::content(method.method, properties, body)
+    }
+
+    /// An equal message.
+    pub fn copy_message(&self) -> Result<Message, OutOfMemory>
+        ensures { IfOk result (λ message. message_of (message_view message) ≡ Whole (content_view self.now)) }
+    {
+        let method = self.method.method.copy()?;
+        let properties = self.parts.header.properties.copy()?;
+        let body = &self.parts.body;
+        let body = Vec::from_slice(*body.allocator(), body)?;
+        Ok(Message::content(method, properties, body))
+    }
+}

@@ -1,0 +1,323 @@
+//! What an end keeps of a channel, and what it does with the frames that it takes there.
+//!
+//! A channel's number is Free, then Opening at a client whose open-ok is due, then Open, then Closing at the end that
+//! put the close, and Free again:
+//!
+//!     Free --open put--> Opening --open-ok--> Open --close put--> Closing --close-ok--> Free
+//!     Free --open taken--> Open --close taken--> Free
+ghost use Rattle.std.specs.Prelude.{◌≡◌, ◌≢◌, ◌<◌, false, ℕ, List, IfOk, OnOk, OnErr};
+ghost use Rattle.amqp_method.specs.HeaderView.{properties_view};
+ghost use Rattle.amqp_method.specs.MethodView.{method_view};
+ghost use Rattle.amqp_model.specs.Frame.{Frame};
+ghost use Rattle.amqp_model.specs.FrameVerdict.{as_lives, fault};
+ghost use Rattle.amqp_model.specs.Readings.{Calls, HeaderOf, MalformedHeader, BodyOf, kind_of};
+ghost use Rattle.amqp_model.specs.Verdict.{when_closing, when_free, when_opening};
+ghost use Rattle.amqp_channel.specs.ChannelView.{channel_view, IsFree, IsOpening, IsClosing, IsOpen};
+ghost use Rattle.amqp_channel.specs.LifeView.{IsOther};
+ghost use Rattle.amqp_channel.specs.Reads.{IsBegun};
+ghost use Rattle.amqp_channel.specs.Roles.{role_of};
+ghost use Rattle.amqp_channel.specs.VerdictView.{verdict_view, open_verdict, Decides, LeavesAfter};
+
+use crate::carrier::Parts;
+use crate::codes::CloseCode;
+use crate::events::reason_of;
+use crate::faults::OutOfMemory;
+use crate::life::Life;
+use crate::news::News;
+use crate::side::Side;
+use crate::verdict::{Reply, Site, Unread, Verdict};
+use crate::words::is_of_connection;
+use amqp_method::{Kind, Message, Method};
+use std::alloc::Global;
+
+/// What is kept of a channel.
+#[derive(Drop)]
+pub enum Channel {
+    Free,
+    Opening,
+    Closing,
+    Open(Life),
+}
+
+impl Channel {
+    ghost use Rattle.amqp_model.specs.Asks.{is_free};
+    ghost use Rattle.amqp_model.specs.Channels.{Closing};
+    ghost use Rattle.amqp_channel.specs.Used.{is_closing_at};
+    ghost use Rattle.amqp_model.specs.Closes.{close_as, flow_as, without_arguments};
+    ghost use Rattle.amqp_model.specs.Histories.{PutHere};
+    ghost use Rattle.amqp_model.specs.Machine.{channel_after};
+    ghost use Rattle.amqp_model.specs.Notes.{Client};
+    ghost use Rattle.amqp_channel.specs.Closes.{code_view};
+    ghost use Rattle.amqp_method.specs.MessageView.{message_view};
+    ghost use Rattle.amqp_model.specs.Asks.{message_payloads};
+    ghost use Rattle.amqp_channel.specs.Messages.{message_of};
+    ghost use Rattle.amqp_channel.specs.Puts.{after_payloads};
+    ghost use Rattle.amqp_channel.specs.Unreads.{unread_view};
+
+    pub(crate) fn is_free(&self) -> bool
+        ensures { result ≡ is_free (channel_view self.now) }
+    {
+        match self {
+            Channel::Free => true,
+            Channel::Opening => false,
+            Channel::Closing => false,
+            Channel::Open(_) => false,
+        }
+    }
+
+    pub(crate) fn is_closing(&self) -> bool
+        ensures { result ≡ is_closing_at (channel_view self.now) }
+    {
+        match self {
+            Channel::Closing => true,
+            Channel::Free => false,
+            Channel::Opening => false,
+            Channel::Open(_) => false,
+        }
+    }
+
+    /// A method on a number whose close-ok is due.
+    pub(crate) fn take_closing(&mut self, site: Site, method: &Method) -> Verdict
+        requires { IsClosing self.old }
+        ensures verdict { verdict_view site.number result ≡ as_lives site.number (Calls (method_view method.now)) (when_closing (kind_of (Calls (method_view method.now)))) }
+        ensures after { (frame : Frame) → LeavesAfter (role_of site.side) site.number frame (Calls (method_view method.now)) (verdict_view site.number result) (channel_view self.old) (channel_view self.new) }
+    {
+        match method.kind() {
+            Kind::ChannelClose => Verdict::Proceeds(Some(News::Quiet), Some(Reply::CloseOk)),
+            Kind::ChannelCloseOk => {
+                *self = Channel::Free;
+                Verdict::Proceeds(Some(News::ChannelClosed(site.number, None)), None)
+            }
+            _ => Verdict::Proceeds(Some(News::Discarded(site.number)), None),
+        }
+    }
+
+    /// A method on a number that is free, which the other end may put.
+    fn take_free(&mut self, alloc: Global, site: Site, method: &Method) -> Verdict
+        requires { IsFree self.old }
+        ensures verdict { verdict_view site.number result ≡ as_lives site.number (Calls (method_view method.now)) (when_free (role_of site.side) (kind_of (Calls (method_view method.now)))) }
+        ensures after { (frame : Frame) → LeavesAfter (role_of site.side) site.number frame (Calls (method_view method.now)) (verdict_view site.number result) (channel_view self.old) (channel_view self.new) }
+    {
+        match (site.side, method.kind()) {
+            (Side::Server, Kind::ChannelOpen) => {
+                *self = Channel::Open(Life::new(alloc));
+                Verdict::Proceeds(Some(News::Opened(site.number)), Some(Reply::OpenOk))
+            }
+            (Side::Server, Kind::ChannelOpenOk) | (Side::Client, Kind::ChannelOpen) => {
+                Verdict::Faults(CloseCode::CommandInvalid)
+            }
+            _ => Verdict::Faults(CloseCode::ChannelError),
+        }
+    }
+
+    /// A method on a number whose open-ok is due.
+    fn take_opening(
+        &mut self,
+        alloc: Global,
+        site: Site,
+        method: &Method,
+    ) -> Result<Verdict, OutOfMemory>
+        requires { IsOpening self.old }
+        ensures verdict { IfOk result (λ v. verdict_view site.number v ≡ as_lives site.number (Calls (method_view method.now)) (when_opening (role_of site.side) (kind_of (Calls (method_view method.now))))) }
+        ensures after { IfOk result (λ v. (frame : Frame) → LeavesAfter (role_of site.side) site.number frame (Calls (method_view method.now)) (verdict_view site.number v) (channel_view self.old) (channel_view self.new)) }
+        ensures err { OnErr result (channel_view self.new ≡ channel_view self.old) }
+    {
+        match (site.side, method.kind()) {
+            (_, Kind::ChannelClose) => {
+                let reason = reason_of(method)?;
+                *self = Channel::Free;
+                Ok(Verdict::Proceeds(
+                    Some(News::ChannelClosed(site.number, Some(reason))),
+                    Some(Reply::CloseOk),
+                ))
+            }
+            (Side::Client, Kind::ChannelOpenOk) => {
+                *self = Channel::Open(Life::new(alloc));
+                Ok(Verdict::Proceeds(Some(News::Opened(site.number)), None))
+            }
+            (Side::Server, Kind::ChannelOpenOk) | (Side::Client, Kind::ChannelOpen) => {
+                Ok(Verdict::Faults(CloseCode::CommandInvalid))
+            }
+            _ => Ok(Verdict::Faults(CloseCode::ChannelError)),
+        }
+    }
+
+    /// A method on a channel that is Open. A close ends the life at any place; no other method stands inside a content.
+    fn take_open(&mut self, site: Site, method: Method) -> Result<Verdict, OutOfMemory>
+        requires { IsOpen self.old }
+        ensures verdict { IfOk result (λ v. verdict_view site.number v ≡ open_verdict (role_of site.side) site.number (channel_view self.old) (method_view method)) }
+        ensures after { IfOk result (λ v. (frame : Frame) → LeavesAfter (role_of site.side) site.number frame (Calls (method_view method)) (verdict_view site.number v) (channel_view self.old) (channel_view self.new)) }
+        ensures err { OnErr result (channel_view self.new ≡ channel_view self.old) }
+    {
+        if method.kind() == Kind::ChannelClose {
+            let reason = reason_of(&method)?;
+            *self = Channel::Free;
+            return Ok(Verdict::Proceeds(
+                Some(News::ChannelClosed(site.number, Some(reason))),
+                Some(Reply::CloseOk),
+            ));
+        }
+        match self {
+            Channel::Open(life) => life.take_method(site, method),
+            Channel::Free => unreachable!(),
+            Channel::Opening => unreachable!(),
+            Channel::Closing => unreachable!(),
+        }
+    }
+
+    /// A method of any kind.
+    pub(crate) fn take_method(
+        &mut self,
+        alloc: Global,
+        site: Site,
+        method: Method,
+    ) -> Result<Verdict, OutOfMemory>
+        requires { 0 < site.number }
+        ensures verdict { IfOk result (λ v. Decides site (channel_view self.old) (Calls (method_view method)) (verdict_view site.number v)) }
+        ensures after { IfOk result (λ v. (frame : Frame) → LeavesAfter (role_of site.side) site.number frame (Calls (method_view method)) (verdict_view site.number v) (channel_view self.old) (channel_view self.new)) }
+        ensures err { OnErr result (channel_view self.new ≡ channel_view self.old) }
+    {
+        if let Channel::Closing = self {
+            return Ok(self.take_closing(site, &method));
+        }
+        if is_of_connection(method.kind()) || !site.side.may_take(method.kind()) {
+            return Ok(Verdict::Faults(CloseCode::CommandInvalid));
+        }
+        if site.channel_max < site.number {
+            return Ok(Verdict::Faults(CloseCode::ChannelError));
+        }
+        match self {
+            Channel::Free => Ok(self.take_free(alloc, site, &method)),
+            Channel::Opening => self.take_opening(alloc, site, &method),
+            Channel::Open(_) => self.take_open(site, method),
+            Channel::Closing => Ok(self.take_closing(site, &method)),
+        }
+    }
+
+    /// A content header.
+    pub(crate) fn take_header(&mut self, site: Site, parts: Box<Parts>) -> Verdict
+        requires above { 0 < site.number }
+        requires begun { IsBegun parts }
+        ensures verdict { Decides site (channel_view self.old) (HeaderOf parts.value.header.body_size (properties_view parts.value.header.properties)) (verdict_view site.number result) }
+        ensures after { (frame : Frame) → LeavesAfter (role_of site.side) site.number frame (HeaderOf parts.value.header.body_size (properties_view parts.value.header.properties)) (verdict_view site.number result) (channel_view self.old) (channel_view self.new) }
+    {
+        match self {
+            Channel::Closing => Verdict::Proceeds(Some(News::Discarded(site.number)), None),
+            Channel::Free => Verdict::Faults(CloseCode::ChannelError),
+            Channel::Opening => Verdict::Faults(CloseCode::ChannelError),
+            Channel::Open(life) => {
+                if site.channel_max < site.number {
+                    return Verdict::Faults(CloseCode::ChannelError);
+                }
+                if life.refuses(site, parts.header.body_size) {
+                    *self = Channel::Closing;
+                    return Verdict::RefusesContent;
+                }
+                life.take_header(site, parts)
+            }
+        }
+    }
+
+    /// A part of a body.
+    pub(crate) fn take_body(&mut self, site: Site, octets: &[u8]) -> Result<Verdict, OutOfMemory>
+        requires { 0 < site.number }
+        ensures verdict { IfOk result (λ v. Decides site (channel_view self.old) (BodyOf octets.now) (verdict_view site.number v)) }
+        ensures after { IfOk result (λ v. (frame : Frame) → LeavesAfter (role_of site.side) site.number frame (BodyOf octets.now) (verdict_view site.number v) (channel_view self.old) (channel_view self.new)) }
+        ensures err { OnErr result (channel_view self.new ≡ channel_view self.old) }
+    {
+        match self {
+            Channel::Closing => Ok(Verdict::Proceeds(Some(News::Discarded(site.number)), None)),
+            Channel::Free => Ok(Verdict::Faults(CloseCode::ChannelError)),
+            Channel::Opening => Ok(Verdict::Faults(CloseCode::ChannelError)),
+            Channel::Open(life) => {
+                if site.channel_max < site.number {
+                    return Ok(Verdict::Faults(CloseCode::ChannelError));
+                }
+                life.take_body(site, octets)
+            }
+        }
+    }
+
+    /// A payload that can't be read. The channel stays as it is.
+    pub(crate) fn take_unread(&self, site: Site, unread: Unread) -> Verdict
+        requires { 0 < site.number }
+        ensures verdict { Decides site (channel_view self.now) (unread_view unread) (verdict_view site.number result) }
+        ensures after { (frame : Frame) → LeavesAfter (role_of site.side) site.number frame (unread_view unread) (verdict_view site.number result) (channel_view self.now) (channel_view self.now) }
+    {
+        if let Channel::Closing = self {
+            return Verdict::Proceeds(Some(News::Discarded(site.number)), None);
+        }
+        match unread {
+            Unread::UnknownMethod => Verdict::Faults(CloseCode::NotImplemented),
+            Unread::MalformedMethod => Verdict::Faults(CloseCode::SyntaxError),
+            Unread::MalformedHeader => Verdict::Faults(self.malformed_header(site)),
+        }
+    }
+
+    /// The fault of a header that can't be read: the place where it stands comes first.
+    fn malformed_header(&self, site: Site) -> CloseCode
+        requires above { 0 < site.number }
+        requires stays { channel_view self.now ≢ Closing }
+        ensures { Decides site (channel_view self.now) MalformedHeader (fault (code_view result)) }
+    {
+        if site.channel_max < site.number {
+            return CloseCode::ChannelError;
+        }
+        match self {
+            Channel::Open(life) => {
+                if life.content.awaits_header() {
+                    CloseCode::SyntaxError
+                } else {
+                    CloseCode::UnexpectedFrame
+                }
+            }
+            Channel::Free => CloseCode::ChannelError,
+            Channel::Opening => CloseCode::ChannelError,
+            Channel::Closing => CloseCode::ChannelError,
+        }
+    }
+
+    /// An open that a client puts.
+    pub(crate) fn put_open(&mut self)
+        requires { IsFree self.old }
+        ensures { (frame : Frame) → channel_view self.new ≡ channel_after Client (PutHere (Calls (without_arguments Kind.ChannelOpen)) frame) (channel_view self.old) }
+    {
+        *self = Channel::Opening;
+    }
+
+    /// A close that an end puts, with any code and text.
+    pub(crate) fn put_close(&mut self, site: Site)
+        requires { IsOpen self.old }
+        ensures taken { is_free (channel_view self.new) ≡ false }
+        ensures after { (code : ℕ) (text : List ℕ) (frame : Frame) → channel_view self.new ≡ channel_after (role_of site.side) (PutHere (Calls (close_as Kind.ChannelClose code text)) frame) (channel_view self.old) }
+    {
+        *self = Channel::Closing;
+    }
+
+    /// A flow that an end puts.
+    pub(crate) fn put_flow(&mut self, site: Site, active: bool)
+        requires { IsOpen self.old }
+        ensures taken { is_free (channel_view self.new) ≡ false }
+        ensures after { (frame : Frame) → channel_view self.new ≡ channel_after (role_of site.side) (PutHere (Calls (flow_as Kind.ChannelFlow active)) frame) (channel_view self.old) }
+    {
+        if let Channel::Open(life) = self {
+            life.awaits = true;
+        }
+    }
+
+    /// A message that an end puts, in frames of any size. Out of memory, the channel stays as it was.
+    pub(crate) fn put_message(&mut self, site: Site, message: &Message) -> Result<(), OutOfMemory>
+        requires is_open { IsOpen self.old }
+        requires other { IsOther (kind_of (Calls (message_view message.now).call)) }
+        ensures taken { is_free (channel_view self.new) ≡ false }
+        ensures ok { OnOk result ((frame_max : ℕ) → channel_view self.new ≡ after_payloads (role_of site.side) site.number (message_payloads frame_max (message_of (message_view message.now))) (channel_view self.old)) }
+        ensures err { OnErr result (channel_view self.new ≡ channel_view self.old) }
+    {
+        match self {
+            Channel::Open(life) => life.put_method(site, message.method()),
+            Channel::Free => unreachable!(),
+            Channel::Opening => unreachable!(),
+            Channel::Closing => unreachable!(),
+        }
+    }
+}

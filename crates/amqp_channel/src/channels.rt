@@ -1,0 +1,276 @@
+//! The channels of a connection, by number.
+//!
+//! A channel is kept from its open to its end, so memory is bounded by the channels in use, whatever their numbers are.
+ghost use Rattle.std.specs.Prelude.{◌≡◌, ◌≢◌, ◌+◌, ◌<◌, ◌≤◌, true, false, not, ℕ, suc, IfOk, IfSome, OnErr, OnOk, MatchOption, None};
+ghost use Rattle.amqp_method.specs.HeaderView.{properties_view};
+ghost use Rattle.amqp_method.specs.MethodView.{method_view};
+ghost use Rattle.amqp_model.specs.Asks.{is_free, first_free};
+ghost use Rattle.amqp_model.specs.Channels.{Free};
+ghost use Rattle.amqp_model.specs.Frame.{Frame};
+ghost use Rattle.amqp_model.specs.Readings.{Calls, HeaderOf, MalformedHeader, BodyOf, kind_of};
+ghost use Rattle.amqp_model.specs.FrameVerdict.{as_lives};
+ghost use Rattle.amqp_model.specs.Verdict.{when_closing};
+ghost use Rattle.amqp_channel.specs.ChannelView.{channel_view};
+ghost use Rattle.amqp_channel.specs.Reads.{IsBegun};
+ghost use Rattle.amqp_channel.specs.Used.{is_closing_at, used_view, NoneFreeBelow};
+ghost use Rattle.amqp_channel.specs.Roles.{role_of};
+ghost use Rattle.amqp_channel.specs.VerdictView.{verdict_view, Decides, LeavesAfter};
+
+mod puts;
+
+use crate::carrier::Parts;
+use crate::channel::Channel;
+use crate::codes::CloseCode;
+use crate::faults::OutOfMemory;
+use crate::verdict::{Site, Unread, Verdict};
+use amqp_method::Method;
+use std::alloc::Global;
+use std::collections::HashMap;
+
+/// The channels that are in use.
+#[derive(Drop)]
+pub struct Channels {
+    used: HashMap<u16, Channel>,
+    /// No number from 1 up to this one, which is not among them, is free.
+    low: u16,
+    ghost low_is_least: { 1 ≤ low },
+    ghost taken_below: { NoneFreeBelow used low },
+}
+
+/// Takes out a channel that is Free. The answer is a number below which none is Free.
+///
+/// It stands apart, since few frames end a channel.
+#[inline(never)]
+fn take_out(used: &mut HashMap<u16, Channel>, low: u16, number: u16) -> u16
+    requires above { 0 < number }
+    requires free { is_free (used_view used.old number) ≡ true }
+    requires least { 1 ≤ low }
+    requires taken { (j : ℕ) → suc j < low → suc j ≢ number → is_free (used_view used.old (suc j)) ≡ false }
+    ensures same { (other : ℕ) → used_view used.new other ≡ used_view used.old other }
+    ensures least { 1 ≤ result }
+    ensures taken { NoneFreeBelow used.new result }
+{
+    let _ = used.remove(&number);
+    if number < low { number } else { low }
+}
+
+/// Takes a channel out if it is Free. The answer is a number below which none is Free.
+fn tidy(used: &mut HashMap<u16, Channel>, low: u16, number: u16, over: bool) -> u16
+    requires above { 0 < number }
+    requires free { over ≡ is_free (used_view used.old number) }
+    requires least { 1 ≤ low }
+    requires taken { (j : ℕ) → suc j < low → suc j ≢ number → is_free (used_view used.old (suc j)) ≡ false }
+    ensures same { (other : ℕ) → used_view used.new other ≡ used_view used.old other }
+    ensures least { 1 ≤ result }
+    ensures taken { NoneFreeBelow used.new result }
+{
+    if !over {
+        return low;
+    }
+    take_out(used, low, number)
+}
+
+impl Channels {
+    ghost use Rattle.amqp_channel.specs.ChannelsView.{channels_view, OnlyAt};
+
+    /// A connection begins with no channel in use.
+    pub fn new(alloc: Global) -> Channels
+        ensures { (number : ℕ) → channels_view result number ≡ Free }
+    {
+        Channels {
+            used: HashMap::new(alloc),
+            low: 1,
+        }
+    }
+
+    /// The channel of this number, if it is in use.
+    pub fn get(&self, number: u16) -> Option<&Channel>
+        requires { 0 < number }
+        ensures { MatchOption result (channels_view self.now number ≡ Free) (λ channel. channels_view self.now number ≡ channel_view channel.now) }
+    {
+        self.used.get(&number)
+    }
+
+    /// Whether this end has put a close of the channel.
+    pub fn is_closing(&self, number: u16) -> bool
+        requires { 0 < number }
+        ensures { result ≡ is_closing_at (channels_view self.now number) }
+    {
+        match self.used.get(&number) {
+            Some(channel) => channel.is_closing(),
+            None => false,
+        }
+    }
+
+    /// Sets a channel that isn't Free.
+    pub(crate) fn set(&mut self, number: u16, channel: Channel) -> Result<(), OutOfMemory>
+        requires { 0 < number }
+        ensures at { OnOk result (channels_view self.new number ≡ channel_view channel) }
+        ensures others { OnOk result (OnlyAt number (channels_view self.old) (channels_view self.new)) }
+        ensures err { OnErr result ((other : ℕ) → channels_view self.new other ≡ channels_view self.old other) }
+    {
+        if channel.is_free() {
+            let _ = self.used.remove(&number);
+            if number < self.low {
+                self.low = number;
+            }
+            return Ok(());
+        }
+        self.used.insert(number, channel)?;
+        Ok(())
+    }
+
+    /// A method that a channel takes.
+    pub fn take_method(
+        &mut self,
+        alloc: Global,
+        site: Site,
+        method: Method,
+    ) -> Result<Verdict, OutOfMemory>
+        requires { 0 < site.number }
+        ensures verdict { IfOk result (λ v. Decides site (channels_view self.old site.number) (Calls (method_view method)) (verdict_view site.number v)) }
+        ensures after { IfOk result (λ v. (frame : Frame) → LeavesAfter (role_of site.side) site.number frame (Calls (method_view method)) (verdict_view site.number v) (channels_view self.old site.number) (channels_view self.new site.number)) }
+        ensures others { OnlyAt site.number (channels_view self.old) (channels_view self.new) }
+        ensures err { OnErr result (channels_view self.new site.number ≡ channels_view self.old site.number) }
+    {
+        let number = site.number;
+        match self.used.get_mut(&number) {
+            Some(channel) => {
+                let verdict = channel.take_method(alloc, site, method)?;
+                let over = channel.is_free();
+                self.low = tidy(&mut self.used, self.low, number, over);
+                Ok(verdict)
+            }
+            None => {
+                let mut channel = Channel::Free;
+                let verdict = channel.take_method(alloc, site, method)?;
+                self.set(number, channel)?;
+                Ok(verdict)
+            }
+        }
+    }
+
+    /// A content header that a channel takes.
+    pub fn take_header(&mut self, site: Site, parts: Box<Parts>) -> Verdict
+        requires above { 0 < site.number }
+        requires begun { IsBegun parts }
+        ensures verdict { Decides site (channels_view self.old site.number) (HeaderOf parts.value.header.body_size (properties_view parts.value.header.properties)) (verdict_view site.number result) }
+        ensures after { (frame : Frame) → LeavesAfter (role_of site.side) site.number frame (HeaderOf parts.value.header.body_size (properties_view parts.value.header.properties)) (verdict_view site.number result) (channels_view self.old site.number) (channels_view self.new site.number) }
+        ensures others { OnlyAt site.number (channels_view self.old) (channels_view self.new) }
+    {
+        let number = site.number;
+        match self.used.get_mut(&number) {
+            Some(channel) => {
+                let verdict = channel.take_header(site, parts);
+                let over = channel.is_free();
+                self.low = tidy(&mut self.used, self.low, number, over);
+                verdict
+            }
+            None => Verdict::Faults(CloseCode::ChannelError),
+        }
+    }
+
+    /// A part of a body that a channel takes.
+    pub fn take_body(&mut self, site: Site, octets: &[u8]) -> Result<Verdict, OutOfMemory>
+        requires { 0 < site.number }
+        ensures verdict { IfOk result (λ v. Decides site (channels_view self.old site.number) (BodyOf octets.now) (verdict_view site.number v)) }
+        ensures after { IfOk result (λ v. (frame : Frame) → LeavesAfter (role_of site.side) site.number frame (BodyOf octets.now) (verdict_view site.number v) (channels_view self.old site.number) (channels_view self.new site.number)) }
+        ensures others { OnlyAt site.number (channels_view self.old) (channels_view self.new) }
+        ensures err { OnErr result (channels_view self.new site.number ≡ channels_view self.old site.number) }
+    {
+        let number = site.number;
+        match self.used.get_mut(&number) {
+            Some(channel) => {
+                let verdict = channel.take_body(site, octets)?;
+                let over = channel.is_free();
+                self.low = tidy(&mut self.used, self.low, number, over);
+                Ok(verdict)
+            }
+            None => Ok(Verdict::Faults(CloseCode::ChannelError)),
+        }
+    }
+
+    /// A header that can't be read.
+    pub fn take_unread_header(&self, site: Site) -> Verdict
+        requires { 0 < site.number }
+        ensures verdict { Decides site (channels_view self.now site.number) MalformedHeader (verdict_view site.number result) }
+        ensures after { (frame : Frame) → LeavesAfter (role_of site.side) site.number frame MalformedHeader (verdict_view site.number result) (channels_view self.now site.number) (channels_view self.now site.number) }
+    {
+        match self.used.get(&site.number) {
+            Some(channel) => channel.take_unread(site, Unread::MalformedHeader),
+            None => Verdict::Faults(CloseCode::ChannelError),
+        }
+    }
+
+    /// A method on a channel whose close-ok is due.
+    pub fn take_closing(&mut self, site: Site, method: &Method) -> Verdict
+        requires above { 0 < site.number }
+        requires closing { is_closing_at (channels_view self.old site.number) ≡ true }
+        ensures verdict { verdict_view site.number result ≡ as_lives site.number (Calls (method_view method.now)) (when_closing (kind_of (Calls (method_view method.now)))) }
+        ensures after { (frame : Frame) → LeavesAfter (role_of site.side) site.number frame (Calls (method_view method.now)) (verdict_view site.number result) (channels_view self.old site.number) (channels_view self.new site.number) }
+        ensures others { OnlyAt site.number (channels_view self.old) (channels_view self.new) }
+    {
+        let number = site.number;
+        match self.used.get_mut(&number) {
+            Some(channel) => {
+                let verdict = channel.take_closing(site, method);
+                let over = channel.is_free();
+                self.low = tidy(&mut self.used, self.low, number, over);
+                verdict
+            }
+            None => unreachable!(),
+        }
+    }
+
+    /// Whether a channel is in use.
+    fn is_taken(&self, number: u16) -> bool
+        requires { 0 < number }
+        ensures { result ≡ not (is_free (channels_view self.now number)) }
+    {
+        match self.used.get(&number) {
+            Some(channel) => !channel.is_free(),
+            None => false,
+        }
+    }
+
+    /// The lowest number that is free, up to the greatest.
+    pub fn first_free(&self, most: u16) -> Option<u16>
+        ensures lowest { result ≡ first_free (channels_view self.now) most 1 }
+    {
+        self.find_free(most)
+    }
+
+    /// The same, with what is known of the numbers below.
+    fn find_free(&self, most: u16) -> Option<u16>
+        ensures lowest { result ≡ first_free (channels_view self.now) most 1 }
+        ensures above { IfSome result (λ number. (0 < number) × NoneFreeBelow self.now.used number) }
+        ensures free { IfSome result (λ number. is_free (channels_view self.now number) ≡ true) }
+        ensures none { result ≡ None → NoneFreeBelow self.now.used (most + 1) }
+    {
+        for number in self.low..=most {
+            if !self.is_taken(number) {
+                return Some(number);
+            }
+        }
+        None
+    }
+
+    /// The lowest number that is free, up to the greatest. Of those below, none is looked at again while they stay in use.
+    pub fn lowest_free(&mut self, most: u16) -> Option<u16>
+        ensures lowest { result ≡ first_free (channels_view self.old) most 1 }
+        ensures above { IfSome result (λ number. 0 < number) }
+        ensures free { IfSome result (λ number. is_free (channels_view self.old number) ≡ true) }
+        ensures same { (number : ℕ) → channels_view self.new number ≡ channels_view self.old number }
+    {
+        let found = self.find_free(most);
+        match found {
+            Some(number) => self.low = number,
+            None => {
+                if self.low < most {
+                    self.low = most;
+                }
+            }
+        }
+        found
+    }
+}

@@ -1,0 +1,79 @@
+//! What an end puts on its channels.
+ghost use Rattle.std.specs.Prelude.{◌≡◌, ◌<◌, true, ℕ, List, OnOk, OnErr};
+ghost use Rattle.amqp_method.specs.MessageView.{message_view};
+ghost use Rattle.amqp_model.specs.Asks.{is_free, message_payloads};
+ghost use Rattle.amqp_model.specs.Closes.{close_as, flow_as, without_arguments};
+ghost use Rattle.amqp_model.specs.Frame.{Frame};
+ghost use Rattle.amqp_model.specs.Histories.{PutHere};
+ghost use Rattle.amqp_model.specs.Machine.{channel_after};
+ghost use Rattle.amqp_model.specs.Notes.{Client};
+ghost use Rattle.amqp_model.specs.Readings.{Calls, kind_of};
+ghost use Rattle.amqp_channel.specs.LifeView.{IsOther};
+ghost use Rattle.amqp_channel.specs.Messages.{message_of};
+ghost use Rattle.amqp_channel.specs.Puts.{after_payloads};
+ghost use Rattle.amqp_channel.specs.Roles.{role_of};
+ghost use Rattle.amqp_channel.specs.Used.{is_open_at};
+
+use crate::channel::Channel;
+use crate::channels::Channels;
+use crate::faults::OutOfMemory;
+use crate::verdict::Site;
+use amqp_method::{Kind, Message};
+
+impl Channels {
+    ghost use Rattle.amqp_channel.specs.ChannelsView.{channels_view, OnlyAt};
+
+    /// An open that a client puts.
+    pub fn put_open(&mut self, number: u16) -> Result<(), OutOfMemory>
+        requires above { 0 < number }
+        requires free { is_free (channels_view self.old number) ≡ true }
+        ensures at { OnOk result ((frame : Frame) → channels_view self.new number ≡ channel_after Client (PutHere (Calls (without_arguments Kind.ChannelOpen)) frame) (channels_view self.old number)) }
+        ensures others { OnOk result (OnlyAt number (channels_view self.old) (channels_view self.new)) }
+        ensures err { OnErr result ((other : ℕ) → channels_view self.new other ≡ channels_view self.old other) }
+    {
+        let mut channel = Channel::Free;
+        channel.put_open();
+        self.set(number, channel)
+    }
+
+    /// A close that this end puts, with any code and text.
+    pub fn put_close(&mut self, site: Site)
+        requires above { 0 < site.number }
+        requires open { is_open_at (channels_view self.old site.number) ≡ true }
+        ensures at { (code : ℕ) (text : List ℕ) (frame : Frame) → channels_view self.new site.number ≡ channel_after (role_of site.side) (PutHere (Calls (close_as Kind.ChannelClose code text)) frame) (channels_view self.old site.number) }
+        ensures others { OnlyAt site.number (channels_view self.old) (channels_view self.new) }
+    {
+        match self.used.get_mut(&site.number) {
+            Some(channel) => channel.put_close(site),
+            None => unreachable!(),
+        }
+    }
+
+    /// A flow that this end puts.
+    pub fn put_flow(&mut self, site: Site, active: bool)
+        requires above { 0 < site.number }
+        requires open { is_open_at (channels_view self.old site.number) ≡ true }
+        ensures at { (frame : Frame) → channels_view self.new site.number ≡ channel_after (role_of site.side) (PutHere (Calls (flow_as Kind.ChannelFlow active)) frame) (channels_view self.old site.number) }
+        ensures others { OnlyAt site.number (channels_view self.old) (channels_view self.new) }
+    {
+        match self.used.get_mut(&site.number) {
+            Some(channel) => channel.put_flow(site, active),
+            None => unreachable!(),
+        }
+    }
+
+    /// A message that this end puts, in frames of any size.
+    pub fn put_message(&mut self, site: Site, message: &Message) -> Result<(), OutOfMemory>
+        requires above { 0 < site.number }
+        requires open { is_open_at (channels_view self.old site.number) ≡ true }
+        requires other { IsOther (kind_of (Calls (message_view message.now).call)) }
+        ensures at { OnOk result ((frame_max : ℕ) → channels_view self.new site.number ≡ after_payloads (role_of site.side) site.number (message_payloads frame_max (message_of (message_view message.now))) (channels_view self.old site.number)) }
+        ensures others { OnlyAt site.number (channels_view self.old) (channels_view self.new) }
+        ensures err { OnErr result (channels_view self.new site.number ≡ channels_view self.old site.number) }
+    {
+        match self.used.get_mut(&site.number) {
+            Some(channel) => channel.put_message(site, message),
+            None => unreachable!(),
+        }
+    }
+}

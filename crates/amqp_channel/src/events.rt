@@ -1,0 +1,119 @@
+//! What an end tells its application, and the closes that it puts of itself.
+ghost use Rattle.std.specs.Prelude.{◌≡◌, Some, IfOk};
+ghost use Rattle.amqp_method.specs.Arguments.{kind_of};
+ghost use Rattle.amqp_method.specs.Views.{arg_view, args_view};
+ghost use Rattle.amqp_method.specs.Places.{number_in, octets_in};
+ghost use Rattle.amqp_model.specs.Methods.{octets_at};
+ghost use Rattle.amqp_method.specs.MethodView.{method_view};
+ghost use Rattle.amqp_model.specs.Events.{reason_in};
+ghost use Rattle.amqp_channel.specs.Reasons.{reason_view, IsClose, AreOfClose, BeginsWithText};
+
+use crate::faults::OutOfMemory;
+use amqp_method::{Arg, FieldKind, Kind, Message, Method};
+use amqp_value::ShortStr;
+
+/// What tune-ok settles.
+#[derive(Clone, Copy, PartialEq, Eq, Debug)]
+pub struct Agreed {
+    /// The greatest channel number.
+    pub channel_max: u16,
+    /// The greatest length of a frame, all its octets counted.
+    pub frame_max: u32,
+}
+
+/// The code and the text of a close.
+#[derive(PartialEq, Eq, Debug, Drop)]
+pub struct Reason {
+    pub code: u16,
+    pub text: ShortStr,
+}
+
+/// What an end tells of what it takes.
+#[derive(PartialEq, Eq, Debug, Drop)]
+pub enum Event {
+    /// The handshake is over.
+    Negotiated(Agreed),
+    /// A channel's life begins.
+    Opened(u16),
+    /// A method without content, or a content that is whole now.
+    Told(u16, Message),
+    /// The other end asks that contents be sent, or no more of them.
+    Flow(u16, bool),
+    /// The other end answers a flow.
+    FlowOk(u16, bool),
+    /// A channel's life ended: by the other end's close, which has a reason, or with close-ok.
+    ChannelClosed(u16, Option<Reason>),
+    /// The connection ended, likewise.
+    ConnectionClosed(Option<Reason>),
+    /// A frame was dropped after this end's close, or a content was refused at its header.
+    Discarded(u16),
+    /// The server takes no more contents, for this reason.
+    Blocked(ShortStr),
+    /// The server takes contents again.
+    Unblocked,
+    /// A step of the handshake, a heartbeat, or a close that crosses this end's own.
+    Quiet,
+}
+
+/// The number that an argument of 16 bits is.
+fn held_short(arg: &Arg) -> u16
+    requires { kind_of (arg_view arg.now) ≡ FieldKind.Short }
+    ensures { result ≡ number_in (Some (arg_view arg.now)) }
+{
+    match arg {
+        Arg::Short(number) => *number,
+        _ => unreachable!(),
+    }
+}
+
+/// The text that an argument of the kind short string is.
+fn held_text(arg: &Arg) -> &ShortStr
+    requires { kind_of (arg_view arg.now) ≡ FieldKind.ShortStr }
+    ensures { result.now ≡ octets_in (Some (arg_view arg.now)) }
+{
+    match arg {
+        Arg::ShortStr(text) => text,
+        _ => unreachable!(),
+    }
+}
+
+/// The arguments of a close of a channel or of the connection: code and text come first.
+fn close_args(method: &Method) -> &[Arg]
+    requires { IsClose (method_view method.now).kind }
+    ensures args { args_view result.now ≡ (method_view method.now).args }
+    ensures close { AreOfClose result.now }
+{
+    method.args()
+}
+
+/// The reason in a close of a channel or of the connection.
+#[tactic(auto, using(crate::proofs::ArgumentLemmas::arguments))]
+pub fn reason_of(method: &Method) -> Result<Reason, OutOfMemory>
+    requires { IsClose (method_view method.now).kind }
+    ensures { IfOk result (λ r. reason_view r ≡ reason_in (method_view method.now)) }
+{
+    let args = close_args(method);
+    let code = held_short(&args[0]);
+    let text = held_text(&args[1]).copy()?;
+    Ok(Reason { code, text })
+}
+
+/// The arguments of connection.blocked: the reason comes first.
+fn blocked_args(method: &Method) -> &[Arg]
+    requires { (method_view method.now).kind ≡ Kind.ConnectionBlocked }
+    ensures args { args_view result.now ≡ (method_view method.now).args }
+    ensures text { BeginsWithText result.now }
+{
+    method.args()
+}
+
+/// The reason in connection.blocked.
+#[tactic(auto, using(crate::proofs::ArgumentLemmas::arguments))]
+pub fn blocked_reason(method: &Method) -> Result<ShortStr, OutOfMemory>
+    requires { (method_view method.now).kind ≡ Kind.ConnectionBlocked }
+    ensures { IfOk result (λ text. text ≡ octets_at 0 (method_view method.now)) }
+{
+    let args = blocked_args(method);
+    let text = held_text(&args[0]).copy()?;
+    Ok(text)
+}

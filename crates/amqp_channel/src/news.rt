@@ -1,0 +1,94 @@
+//! What comes of a frame for the application, before its event is made.
+//!
+//! A message with a content is large, whether or not it has properties, and so is every event. So what a channel tells goes up
+//! through the rules as its parts, which move cheaply, and is made an event once, at the end.
+ghost use Rattle.std.specs.Prelude.{◌≡◌, false};
+ghost use Rattle.amqp_method.specs.Kinds.{has_content};
+ghost use Rattle.amqp_method.specs.MethodView.{method_view};
+
+use crate::carrier::Content;
+use crate::events::{Agreed, Event, Reason};
+use crate::faults::OutOfMemory;
+use amqp_method::{Message, Method};
+use amqp_value::ShortStr;
+
+/// A method that no content follows.
+#[derive(Drop)]
+pub struct Lone {
+    method: Method,
+    pub ghost alone: { has_content (method_view method).kind ≡ false },
+}
+
+/// An event to be: a message is still in its parts, and all else is as in [`Event`].
+#[derive(Drop)]
+pub enum News {
+    Negotiated(Agreed),
+    Opened(u16),
+    Method(u16, Lone),
+    Content(u16, Content),
+    Flow(u16, bool),
+    FlowOk(u16, bool),
+    ChannelClosed(u16, Option<Reason>),
+    ConnectionClosed(Option<Reason>),
+    Discarded(u16),
+    Blocked(ShortStr),
+    Unblocked,
+    Quiet,
+}
+
+impl Lone {
+    ghost use Rattle.std.specs.Prelude.{◌≡◌, false, IfOk};
+    ghost use Rattle.amqp_method.specs.Kinds.{has_content};
+    ghost use Rattle.amqp_method.specs.MessageView.{message_view};
+    ghost use Rattle.amqp_method.specs.MethodView.{method_view};
+    ghost use Rattle.amqp_model.specs.Events.{Plain};
+    ghost use Rattle.amqp_channel.specs.Messages.{message_of};
+    ghost use Rattle.amqp_channel.specs.NewsView.{lone_view};
+
+    pub(crate) fn new(method: Method) -> Lone
+        requires { has_content (method_view method).kind ≡ false }
+        ensures { lone_view result ≡ method_view method }
+    {
+        Lone { method }
+    }
+
+    /// The message that the method makes.
+    fn into_message(self) -> Message
+        ensures { message_of (message_view result) ≡ Plain (lone_view self) }
+    {
+        Message::plain(self.method)
+    }
+
+    /// An equal message.
+    pub fn copy_message(&self) -> Result<Message, OutOfMemory>
+        ensures { IfOk result (λ message. message_of (message_view message) ≡ Plain (lone_view self.now)) }
+    {
+        let method = self.method.copy()?;
+        Ok(Message::plain(method))
+    }
+}
+
+impl News {
+    ghost use Rattle.amqp_channel.specs.EventView.{event_view};
+    ghost use Rattle.amqp_channel.specs.NewsView.{news_view};
+
+    /// The event.
+    pub fn into_event(self) -> Event
+        ensures { event_view result ≡ news_view self }
+    {
+        match self {
+            News::Negotiated(agreed) => Event::Negotiated(agreed),
+            News::Opened(channel) => Event::Opened(channel),
+            News::Method(channel, lone) => Event::Told(channel, lone.into_message()),
+            News::Content(channel, content) => Event::Told(channel, content.into_message()),
+            News::Flow(channel, active) => Event::Flow(channel, active),
+            News::FlowOk(channel, active) => Event::FlowOk(channel, active),
+            News::ChannelClosed(channel, reason) => Event::ChannelClosed(channel, reason),
+            News::ConnectionClosed(reason) => Event::ConnectionClosed(reason),
+            News::Discarded(channel) => Event::Discarded(channel),
+            News::Blocked(reason) => Event::Blocked(reason),
+            News::Unblocked => Event::Unblocked,
+            News::Quiet => Event::Quiet,
+        }
+    }
+}

@@ -1,0 +1,63 @@
+//! What comes of a frame that is taken on a channel.
+
+use crate::codes::CloseCode;
+use crate::news::News;
+use crate::side::Side;
+
+/// What an end owes in reply, on the same channel.
+#[derive(Clone, Copy)]
+pub enum Reply {
+    OpenOk,
+    CloseOk,
+    FlowOk(bool),
+}
+
+/// What comes of a frame.
+#[derive(Drop)]
+pub enum Verdict {
+    /// The end goes on, with an event and a reply.
+    Proceeds(Option<News>, Option<Reply>),
+    /// The content is refused at its header: the channel is closed with its code.
+    RefusesContent,
+    /// The connection is closed with this code.
+    Faults(CloseCode),
+}
+
+/// The channel of a frame, and what the verdict on it rests on beside what is kept of the channel.
+#[derive(Clone, Copy)]
+pub struct Site {
+    /// The side that this end plays.
+    pub side: Side,
+    /// The channel's number.
+    pub number: u16,
+    /// The greatest channel number, as it was agreed.
+    pub channel_max: u16,
+    /// The greatest body that this end takes.
+    pub max_body: u64,
+}
+
+/// A payload that can't be read.
+#[derive(Clone, Copy)]
+pub enum Unread {
+    /// No method has these ids.
+    UnknownMethod,
+    MalformedMethod,
+    MalformedHeader,
+}
+
+impl Unread {
+    ghost use Rattle.std.specs.Prelude.{◌≡◌};
+    ghost use Rattle.amqp_channel.specs.Closes.{code_view};
+    ghost use Rattle.amqp_channel.specs.Unreads.{unread_code};
+
+    /// The code of a method that can't be read.
+    pub fn code(self) -> CloseCode
+        ensures { code_view result ≡ unread_code self }
+    {
+        match self {
+            Unread::UnknownMethod => CloseCode::NotImplemented,
+            Unread::MalformedMethod => CloseCode::SyntaxError,
+            Unread::MalformedHeader => CloseCode::SyntaxError,
+        }
+    }
+}
