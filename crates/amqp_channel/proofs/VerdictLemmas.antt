@@ -1,5 +1,5 @@
 -- How the verdict on a method comes down to a few words.
-use Rattle.std.proofs.Common.{◌≡◌, ℕ, ◌<◌, ◌≤◌, ◌==◌, ◌||◌, nat_lt, cond, Bool, true, false, Result, Ok, Err, IfOk, Some, None, [], ◌∷◌, refl, arith, sym, ◌∙◌, subst}
+use Rattle.std.proofs.Common.{◌≡◌, ℕ, ◌<◌, ◌≤◌, ◌==◌, ◌||◌, nat_lt, cond, Bool, true, false, Result, Ok, Err, IfOk, Option, Some, None, [], ◌∷◌, refl, arith, sym, ◌∙◌, subst}
 use Rattle.std.proofs.lemmas.Bool.Decides.{nat_tests}
 use Rattle.amqp_model.specs.Channels.{Life, Channel, Open}
 use Rattle.amqp_model.specs.Contents.{Header}
@@ -14,6 +14,7 @@ use Rattle.amqp_model.specs.Readings.{Calls, HeaderOf, kind_of}
 use Rattle.amqp_channel.specs.LifeView.{IsOther}
 use Rattle.amqp_channel.specs.Roles.{role_of, taken_by}
 use Rattle.amqp_channel.specs.VerdictView.{verdict_view, Decides, flow_verdict, life_verdict, verdict_by_kind, open_verdict, refuses_at, facts_here}
+use Rattle.amqp_channel.specs.declared.news.News.{News}
 use Rattle.amqp_channel.specs.declared.verdict.Site.{Site}
 use Rattle.amqp_channel.specs.declared.verdict.Verdict.{Verdict}
 
@@ -42,12 +43,12 @@ open_decides site config frame_max life method above within class taken =
     ∙ open_by_kind site config frame_max life method (kind_of (Calls method)) refl
 
 -- the same of a call's result
-pub open_carries : {E : Type 0} (site : Site) (before : Channel) (life : Life) (method : Method) (result : Result Verdict E) → before ≡ Open life → 0 < site.number → site.number ≤ site.channel_max → (class_of method.kind == 10) ≡ false → taken_by (role_of site.side) method.kind ≡ true → IfOk result (λ v. verdict_view site.number v ≡ open_verdict (role_of site.side) site.number before method) → IfOk result (λ v. Decides site before (Calls method) (verdict_view site.number v))
-open_carries site before life method (Ok v) e above within class taken h =
+pub open_carries : {E : Type 0} (site : Site) (before : Channel) (life : Life) (method : Method) (news : Option News) (result : Result Verdict E) → before ≡ Open life → 0 < site.number → site.number ≤ site.channel_max → (class_of method.kind == 10) ≡ false → taken_by (role_of site.side) method.kind ≡ true → IfOk result (λ v. verdict_view site.number news v ≡ open_verdict (role_of site.side) site.number before method) → IfOk result (λ v. Decides site before (Calls method) (verdict_view site.number news v))
+open_carries site before life method news (Ok v) e above within class taken h =
     λ config frame_max most.
     let P : Channel → Type 0 = λ b. verdict_on (facts_here site config frame_max b) (Calls method) ≡ open_verdict (role_of site.side) site.number b method in
     h ∙ sym (subst P (sym e) (open_decides site config frame_max life method above within class taken))
-open_carries site before life method (Err failed) e above within class taken h = h
+open_carries site before life method news (Err failed) e above within class taken h = h
 
 by_content : (site : Site) (config : Config (role_of site.side)) (frame_max : ℕ) (channel : Channel) (kept : Gathering) (size : ℕ) (properties : Properties) → config.max_body ≡ site.max_body → refuses_at kept site.max_body size ≡ false → on_part (facts_here site config frame_max channel) kept (HeaderOf size properties) ≡ after_part site.number (step kept (Header size properties))
 by_content site config frame_max channel (HeaderDue method) size properties most fits = rw (most, fits) refl

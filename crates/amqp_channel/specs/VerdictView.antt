@@ -18,6 +18,7 @@ use Rattle.amqp_model.specs.Verdict.{when_open}
 use Rattle.amqp_channel.specs.Closes.{code_view}
 use Rattle.amqp_channel.specs.NewsView.{news_there}
 use Rattle.amqp_channel.specs.Roles.{role_of}
+use Rattle.amqp_channel.specs.declared.news.News.{News}
 use Rattle.amqp_channel.specs.declared.verdict.Reply.{Reply}
 use Rattle.amqp_channel.specs.declared.verdict.Reply.TheVariants.{OpenOk, CloseOk, FlowOk}
 use Rattle.amqp_channel.specs.declared.verdict.Site.{Site}
@@ -33,11 +34,11 @@ abbrev pub reply_there : Option Reply → Option notes.Kind
 reply_there None = None
 reply_there (Some reply) = Some (reply_kind reply)
 
--- the verdict on a frame of the channel with this number
-abbrev pub verdict_view : (number : ℕ) → Verdict → FrameVerdict
-verdict_view number (code.Proceeds news reply) = Proceeds (news_there news) (map (on_channel number) (reply_to (reply_there reply)))
-verdict_view number code.RefusesContent = RefusesContent
-verdict_view number (code.Faults fault) = Faults (Peer (code_view fault))
+-- the verdict on a frame of the channel with this number, which tells these news
+abbrev pub verdict_view : (number : ℕ) → Option News → Verdict → FrameVerdict
+verdict_view number news (code.Proceeds reply) = Proceeds (news_there news) (map (on_channel number) (reply_to (reply_there reply)))
+verdict_view number news code.RefusesContent = RefusesContent
+verdict_view number news (code.Faults fault) = Faults (Peer (code_view fault))
 
 -- the channel after the methods that are owed on it
 abbrev pub after_owed : Role → List Owed → Channel → Channel

@@ -5,9 +5,10 @@
 //!
 //!     Free --open put--> Opening --open-ok--> Open --close put--> Closing --close-ok--> Free
 //!     Free --open taken--> Open --close taken--> Free
-ghost use Rattle.std.specs.Prelude.{◌≡◌, ◌≢◌, ◌<◌, false, ℕ, List, IfOk, OnOk, OnErr};
+ghost use Rattle.std.specs.Prelude.{◌≡◌, ◌≢◌, ◌<◌, false, ℕ, List, [], None, Some, IfOk, OnOk, OnErr};
 ghost use Rattle.amqp_method.specs.HeaderView.{properties_view};
 ghost use Rattle.amqp_method.specs.MethodView.{method_view};
+ghost use Rattle.amqp_model.specs.Events.{Discarded, Proceeds};
 ghost use Rattle.amqp_model.specs.Frame.{Frame};
 ghost use Rattle.amqp_model.specs.FrameVerdict.{as_lives, fault};
 ghost use Rattle.amqp_model.specs.Readings.{Calls, HeaderOf, MalformedHeader, BodyOf, kind_of};
@@ -29,6 +30,14 @@ use crate::verdict::{Reply, Site, Unread, Verdict};
 use crate::words::is_of_connection;
 use amqp_method::{Kind, Message, Method};
 use std::alloc::Global;
+
+/// A frame that is dropped, which the application is told.
+fn discards(site: Site, news: &mut Option<News>) -> Verdict
+    ensures { verdict_view site.number news.new result ≡ Proceeds (Some (Discarded site.number)) [] }
+{
+    News::Discarded(site.number).put_in(news);
+    Verdict::Proceeds(None)
+}
 
 /// What is kept of a channel.
 #[derive(Drop)]
@@ -77,31 +86,47 @@ impl Channel {
     }
 
     /// A method on a number whose close-ok is due.
-    pub(crate) fn take_closing(&mut self, site: Site, method: &Method) -> Verdict
+    pub(crate) fn take_closing(
+        &mut self,
+        site: Site,
+        method: &Method,
+        news: &mut Option<News>,
+    ) -> Verdict
         requires { IsClosing self.old }
-        ensures verdict { verdict_view site.number result ≡ as_lives site.number (Calls (method_view method.now)) (when_closing (kind_of (Calls (method_view method.now)))) }
-        ensures after { (frame : Frame) → LeavesAfter (role_of site.side) site.number frame (Calls (method_view method.now)) (verdict_view site.number result) (channel_view self.old) (channel_view self.new) }
+        ensures verdict { verdict_view site.number news.new result ≡ as_lives site.number (Calls (method_view method.now)) (when_closing (kind_of (Calls (method_view method.now)))) }
+        ensures after { (frame : Frame) → LeavesAfter (role_of site.side) site.number frame (Calls (method_view method.now)) (verdict_view site.number news.new result) (channel_view self.old) (channel_view self.new) }
     {
         match method.kind() {
-            Kind::ChannelClose => Verdict::Proceeds(Some(News::Quiet), Some(Reply::CloseOk)),
+            Kind::ChannelClose => {
+                News::Quiet.put_in(news);
+                Verdict::Proceeds(Some(Reply::CloseOk))
+            }
             Kind::ChannelCloseOk => {
                 *self = Channel::Free;
-                Verdict::Proceeds(Some(News::ChannelClosed(site.number, None)), None)
+                News::ChannelClosed(site.number, None).put_in(news);
+                Verdict::Proceeds(None)
             }
-            _ => Verdict::Proceeds(Some(News::Discarded(site.number)), None),
+            _ => discards(site, news),
         }
     }
 
     /// A method on a number that is free, which the other end may put.
-    fn take_free(&mut self, alloc: Global, site: Site, method: &Method) -> Verdict
+    fn take_free(
+        &mut self,
+        alloc: Global,
+        site: Site,
+        method: &Method,
+        news: &mut Option<News>,
+    ) -> Verdict
         requires { IsFree self.old }
-        ensures verdict { verdict_view site.number result ≡ as_lives site.number (Calls (method_view method.now)) (when_free (role_of site.side) (kind_of (Calls (method_view method.now)))) }
-        ensures after { (frame : Frame) → LeavesAfter (role_of site.side) site.number frame (Calls (method_view method.now)) (verdict_view site.number result) (channel_view self.old) (channel_view self.new) }
+        ensures verdict { verdict_view site.number news.new result ≡ as_lives site.number (Calls (method_view method.now)) (when_free (role_of site.side) (kind_of (Calls (method_view method.now)))) }
+        ensures after { (frame : Frame) → LeavesAfter (role_of site.side) site.number frame (Calls (method_view method.now)) (verdict_view site.number news.new result) (channel_view self.old) (channel_view self.new) }
     {
         match (site.side, method.kind()) {
             (Side::Server, Kind::ChannelOpen) => {
                 *self = Channel::Open(Life::new(alloc));
-                Verdict::Proceeds(Some(News::Opened(site.number)), Some(Reply::OpenOk))
+                News::Opened(site.number).put_in(news);
+                Verdict::Proceeds(Some(Reply::OpenOk))
             }
             (Side::Server, Kind::ChannelOpenOk) | (Side::Client, Kind::ChannelOpen) => {
                 Verdict::Faults(CloseCode::CommandInvalid)
@@ -116,24 +141,24 @@ impl Channel {
         alloc: Global,
         site: Site,
         method: &Method,
+        news: &mut Option<News>,
     ) -> Result<Verdict, OutOfMemory>
         requires { IsOpening self.old }
-        ensures verdict { IfOk result (λ v. verdict_view site.number v ≡ as_lives site.number (Calls (method_view method.now)) (when_opening (role_of site.side) (kind_of (Calls (method_view method.now))))) }
-        ensures after { IfOk result (λ v. (frame : Frame) → LeavesAfter (role_of site.side) site.number frame (Calls (method_view method.now)) (verdict_view site.number v) (channel_view self.old) (channel_view self.new)) }
+        ensures verdict { IfOk result (λ v. verdict_view site.number news.new v ≡ as_lives site.number (Calls (method_view method.now)) (when_opening (role_of site.side) (kind_of (Calls (method_view method.now))))) }
+        ensures after { IfOk result (λ v. (frame : Frame) → LeavesAfter (role_of site.side) site.number frame (Calls (method_view method.now)) (verdict_view site.number news.new v) (channel_view self.old) (channel_view self.new)) }
         ensures err { OnErr result (channel_view self.new ≡ channel_view self.old) }
     {
         match (site.side, method.kind()) {
             (_, Kind::ChannelClose) => {
                 let reason = reason_of(method)?;
                 *self = Channel::Free;
-                Ok(Verdict::Proceeds(
-                    Some(News::ChannelClosed(site.number, Some(reason))),
-                    Some(Reply::CloseOk),
-                ))
+                News::ChannelClosed(site.number, Some(reason)).put_in(news);
+                Ok(Verdict::Proceeds(Some(Reply::CloseOk)))
             }
             (Side::Client, Kind::ChannelOpenOk) => {
                 *self = Channel::Open(Life::new(alloc));
-                Ok(Verdict::Proceeds(Some(News::Opened(site.number)), None))
+                News::Opened(site.number).put_in(news);
+                Ok(Verdict::Proceeds(None))
             }
             (Side::Server, Kind::ChannelOpenOk) | (Side::Client, Kind::ChannelOpen) => {
                 Ok(Verdict::Faults(CloseCode::CommandInvalid))
@@ -143,22 +168,26 @@ impl Channel {
     }
 
     /// A method on a channel that is Open. A close ends the life at any place; no other method stands inside a content.
-    fn take_open(&mut self, site: Site, method: Method) -> Result<Verdict, OutOfMemory>
-        requires { IsOpen self.old }
-        ensures verdict { IfOk result (λ v. verdict_view site.number v ≡ open_verdict (role_of site.side) site.number (channel_view self.old) (method_view method)) }
-        ensures after { IfOk result (λ v. (frame : Frame) → LeavesAfter (role_of site.side) site.number frame (Calls (method_view method)) (verdict_view site.number v) (channel_view self.old) (channel_view self.new)) }
+    fn take_open(
+        &mut self,
+        site: Site,
+        method: Method,
+        news: &mut Option<News>,
+    ) -> Result<Verdict, OutOfMemory>
+        requires is_open { IsOpen self.old }
+        requires none { news.old ≡ None }
+        ensures verdict { IfOk result (λ v. verdict_view site.number news.new v ≡ open_verdict (role_of site.side) site.number (channel_view self.old) (method_view method)) }
+        ensures after { IfOk result (λ v. (frame : Frame) → LeavesAfter (role_of site.side) site.number frame (Calls (method_view method)) (verdict_view site.number news.new v) (channel_view self.old) (channel_view self.new)) }
         ensures err { OnErr result (channel_view self.new ≡ channel_view self.old) }
     {
         if method.kind() == Kind::ChannelClose {
             let reason = reason_of(&method)?;
             *self = Channel::Free;
-            return Ok(Verdict::Proceeds(
-                Some(News::ChannelClosed(site.number, Some(reason))),
-                Some(Reply::CloseOk),
-            ));
+            News::ChannelClosed(site.number, Some(reason)).put_in(news);
+            return Ok(Verdict::Proceeds(Some(Reply::CloseOk)));
         }
         match self {
-            Channel::Open(life) => life.take_method(site, method),
+            Channel::Open(life) => life.take_method(site, method, news),
             Channel::Free => unreachable!(),
             Channel::Opening => unreachable!(),
             Channel::Closing => unreachable!(),
@@ -171,14 +200,16 @@ impl Channel {
         alloc: Global,
         site: Site,
         method: Method,
+        news: &mut Option<News>,
     ) -> Result<Verdict, OutOfMemory>
-        requires { 0 < site.number }
-        ensures verdict { IfOk result (λ v. Decides site (channel_view self.old) (Calls (method_view method)) (verdict_view site.number v)) }
-        ensures after { IfOk result (λ v. (frame : Frame) → LeavesAfter (role_of site.side) site.number frame (Calls (method_view method)) (verdict_view site.number v) (channel_view self.old) (channel_view self.new)) }
+        requires above { 0 < site.number }
+        requires none { news.old ≡ None }
+        ensures verdict { IfOk result (λ v. Decides site (channel_view self.old) (Calls (method_view method)) (verdict_view site.number news.new v)) }
+        ensures after { IfOk result (λ v. (frame : Frame) → LeavesAfter (role_of site.side) site.number frame (Calls (method_view method)) (verdict_view site.number news.new v) (channel_view self.old) (channel_view self.new)) }
         ensures err { OnErr result (channel_view self.new ≡ channel_view self.old) }
     {
         if let Channel::Closing = self {
-            return Ok(self.take_closing(site, &method));
+            return Ok(self.take_closing(site, &method, news));
         }
         if is_of_connection(method.kind()) || !site.side.may_take(method.kind()) {
             return Ok(Verdict::Faults(CloseCode::CommandInvalid));
@@ -187,22 +218,28 @@ impl Channel {
             return Ok(Verdict::Faults(CloseCode::ChannelError));
         }
         match self {
-            Channel::Free => Ok(self.take_free(alloc, site, &method)),
-            Channel::Opening => self.take_opening(alloc, site, &method),
-            Channel::Open(_) => self.take_open(site, method),
-            Channel::Closing => Ok(self.take_closing(site, &method)),
+            Channel::Free => Ok(self.take_free(alloc, site, &method, news)),
+            Channel::Opening => self.take_opening(alloc, site, &method, news),
+            Channel::Open(_) => self.take_open(site, method, news),
+            Channel::Closing => Ok(self.take_closing(site, &method, news)),
         }
     }
 
     /// A content header.
-    pub(crate) fn take_header(&mut self, site: Site, parts: Box<Parts>) -> Verdict
+    pub(crate) fn take_header(
+        &mut self,
+        site: Site,
+        parts: Box<Parts>,
+        news: &mut Option<News>,
+    ) -> Verdict
         requires above { 0 < site.number }
         requires begun { IsBegun parts }
-        ensures verdict { Decides site (channel_view self.old) (HeaderOf parts.value.header.body_size (properties_view parts.value.header.properties)) (verdict_view site.number result) }
-        ensures after { (frame : Frame) → LeavesAfter (role_of site.side) site.number frame (HeaderOf parts.value.header.body_size (properties_view parts.value.header.properties)) (verdict_view site.number result) (channel_view self.old) (channel_view self.new) }
+        requires none { news.old ≡ None }
+        ensures verdict { Decides site (channel_view self.old) (HeaderOf parts.value.header.body_size (properties_view parts.value.header.properties)) (verdict_view site.number news.new result) }
+        ensures after { (frame : Frame) → LeavesAfter (role_of site.side) site.number frame (HeaderOf parts.value.header.body_size (properties_view parts.value.header.properties)) (verdict_view site.number news.new result) (channel_view self.old) (channel_view self.new) }
     {
         match self {
-            Channel::Closing => Verdict::Proceeds(Some(News::Discarded(site.number)), None),
+            Channel::Closing => discards(site, news),
             Channel::Free => Verdict::Faults(CloseCode::ChannelError),
             Channel::Opening => Verdict::Faults(CloseCode::ChannelError),
             Channel::Open(life) => {
@@ -213,39 +250,45 @@ impl Channel {
                     *self = Channel::Closing;
                     return Verdict::RefusesContent;
                 }
-                life.take_header(site, parts)
+                life.take_header(site, parts, news)
             }
         }
     }
 
     /// A part of a body.
-    pub(crate) fn take_body(&mut self, site: Site, octets: &[u8]) -> Result<Verdict, OutOfMemory>
-        requires { 0 < site.number }
-        ensures verdict { IfOk result (λ v. Decides site (channel_view self.old) (BodyOf octets.now) (verdict_view site.number v)) }
-        ensures after { IfOk result (λ v. (frame : Frame) → LeavesAfter (role_of site.side) site.number frame (BodyOf octets.now) (verdict_view site.number v) (channel_view self.old) (channel_view self.new)) }
+    pub(crate) fn take_body(
+        &mut self,
+        site: Site,
+        octets: &[u8],
+        news: &mut Option<News>,
+    ) -> Result<Verdict, OutOfMemory>
+        requires above { 0 < site.number }
+        requires none { news.old ≡ None }
+        ensures verdict { IfOk result (λ v. Decides site (channel_view self.old) (BodyOf octets.now) (verdict_view site.number news.new v)) }
+        ensures after { IfOk result (λ v. (frame : Frame) → LeavesAfter (role_of site.side) site.number frame (BodyOf octets.now) (verdict_view site.number news.new v) (channel_view self.old) (channel_view self.new)) }
         ensures err { OnErr result (channel_view self.new ≡ channel_view self.old) }
     {
         match self {
-            Channel::Closing => Ok(Verdict::Proceeds(Some(News::Discarded(site.number)), None)),
+            Channel::Closing => Ok(discards(site, news)),
             Channel::Free => Ok(Verdict::Faults(CloseCode::ChannelError)),
             Channel::Opening => Ok(Verdict::Faults(CloseCode::ChannelError)),
             Channel::Open(life) => {
                 if site.channel_max < site.number {
                     return Ok(Verdict::Faults(CloseCode::ChannelError));
                 }
-                life.take_body(site, octets)
+                life.take_body(site, octets, news)
             }
         }
     }
 
     /// A payload that can't be read. The channel stays as it is.
-    pub(crate) fn take_unread(&self, site: Site, unread: Unread) -> Verdict
+    pub(crate) fn take_unread(&self, site: Site, unread: Unread, news: &mut Option<News>) -> Verdict
         requires { 0 < site.number }
-        ensures verdict { Decides site (channel_view self.now) (unread_view unread) (verdict_view site.number result) }
-        ensures after { (frame : Frame) → LeavesAfter (role_of site.side) site.number frame (unread_view unread) (verdict_view site.number result) (channel_view self.now) (channel_view self.now) }
+        ensures verdict { Decides site (channel_view self.now) (unread_view unread) (verdict_view site.number news.new result) }
+        ensures after { (frame : Frame) → LeavesAfter (role_of site.side) site.number frame (unread_view unread) (verdict_view site.number news.new result) (channel_view self.now) (channel_view self.now) }
     {
         if let Channel::Closing = self {
-            return Verdict::Proceeds(Some(News::Discarded(site.number)), None);
+            return discards(site, news);
         }
         match unread {
             Unread::UnknownMethod => Verdict::Faults(CloseCode::NotImplemented),

@@ -22,6 +22,7 @@ use crate::carrier::Parts;
 use crate::channel::Channel;
 use crate::codes::CloseCode;
 use crate::faults::OutOfMemory;
+use crate::news::News;
 use crate::verdict::{Site, Unread, Verdict};
 use amqp_method::Method;
 use std::alloc::Global;
@@ -120,30 +121,32 @@ impl Channels {
         Ok(())
     }
 
-    /// A method that a channel takes.
+    /// A method that a channel takes. What it tells goes where the caller has room for it.
     pub fn take_method(
         &mut self,
         alloc: Global,
         site: Site,
         method: Method,
+        news: &mut Option<News>,
     ) -> Result<Verdict, OutOfMemory>
-        requires { 0 < site.number }
-        ensures verdict { IfOk result (λ v. Decides site (channels_view self.old site.number) (Calls (method_view method)) (verdict_view site.number v)) }
-        ensures after { IfOk result (λ v. (frame : Frame) → LeavesAfter (role_of site.side) site.number frame (Calls (method_view method)) (verdict_view site.number v) (channels_view self.old site.number) (channels_view self.new site.number)) }
+        requires above { 0 < site.number }
+        requires none { news.old ≡ None }
+        ensures verdict { IfOk result (λ v. Decides site (channels_view self.old site.number) (Calls (method_view method)) (verdict_view site.number news.new v)) }
+        ensures after { IfOk result (λ v. (frame : Frame) → LeavesAfter (role_of site.side) site.number frame (Calls (method_view method)) (verdict_view site.number news.new v) (channels_view self.old site.number) (channels_view self.new site.number)) }
         ensures others { OnlyAt site.number (channels_view self.old) (channels_view self.new) }
         ensures err { OnErr result (channels_view self.new site.number ≡ channels_view self.old site.number) }
     {
         let number = site.number;
         match self.used.get_mut(&number) {
             Some(channel) => {
-                let verdict = channel.take_method(alloc, site, method)?;
+                let verdict = channel.take_method(alloc, site, method, news)?;
                 let over = channel.is_free();
                 self.low = tidy(&mut self.used, self.low, number, over);
                 Ok(verdict)
             }
             None => {
                 let mut channel = Channel::Free;
-                let verdict = channel.take_method(alloc, site, method)?;
+                let verdict = channel.take_method(alloc, site, method, news)?;
                 self.set(number, channel)?;
                 Ok(verdict)
             }
@@ -151,17 +154,18 @@ impl Channels {
     }
 
     /// A content header that a channel takes.
-    pub fn take_header(&mut self, site: Site, parts: Box<Parts>) -> Verdict
+    pub fn take_header(&mut self, site: Site, parts: Box<Parts>, news: &mut Option<News>) -> Verdict
         requires above { 0 < site.number }
         requires begun { IsBegun parts }
-        ensures verdict { Decides site (channels_view self.old site.number) (HeaderOf parts.value.header.body_size (properties_view parts.value.header.properties)) (verdict_view site.number result) }
-        ensures after { (frame : Frame) → LeavesAfter (role_of site.side) site.number frame (HeaderOf parts.value.header.body_size (properties_view parts.value.header.properties)) (verdict_view site.number result) (channels_view self.old site.number) (channels_view self.new site.number) }
+        requires none { news.old ≡ None }
+        ensures verdict { Decides site (channels_view self.old site.number) (HeaderOf parts.value.header.body_size (properties_view parts.value.header.properties)) (verdict_view site.number news.new result) }
+        ensures after { (frame : Frame) → LeavesAfter (role_of site.side) site.number frame (HeaderOf parts.value.header.body_size (properties_view parts.value.header.properties)) (verdict_view site.number news.new result) (channels_view self.old site.number) (channels_view self.new site.number) }
         ensures others { OnlyAt site.number (channels_view self.old) (channels_view self.new) }
     {
         let number = site.number;
         match self.used.get_mut(&number) {
             Some(channel) => {
-                let verdict = channel.take_header(site, parts);
+                let verdict = channel.take_header(site, parts, news);
                 let over = channel.is_free();
                 self.low = tidy(&mut self.used, self.low, number, over);
                 verdict
@@ -171,17 +175,23 @@ impl Channels {
     }
 
     /// A part of a body that a channel takes.
-    pub fn take_body(&mut self, site: Site, octets: &[u8]) -> Result<Verdict, OutOfMemory>
-        requires { 0 < site.number }
-        ensures verdict { IfOk result (λ v. Decides site (channels_view self.old site.number) (BodyOf octets.now) (verdict_view site.number v)) }
-        ensures after { IfOk result (λ v. (frame : Frame) → LeavesAfter (role_of site.side) site.number frame (BodyOf octets.now) (verdict_view site.number v) (channels_view self.old site.number) (channels_view self.new site.number)) }
+    pub fn take_body(
+        &mut self,
+        site: Site,
+        octets: &[u8],
+        news: &mut Option<News>,
+    ) -> Result<Verdict, OutOfMemory>
+        requires above { 0 < site.number }
+        requires none { news.old ≡ None }
+        ensures verdict { IfOk result (λ v. Decides site (channels_view self.old site.number) (BodyOf octets.now) (verdict_view site.number news.new v)) }
+        ensures after { IfOk result (λ v. (frame : Frame) → LeavesAfter (role_of site.side) site.number frame (BodyOf octets.now) (verdict_view site.number news.new v) (channels_view self.old site.number) (channels_view self.new site.number)) }
         ensures others { OnlyAt site.number (channels_view self.old) (channels_view self.new) }
         ensures err { OnErr result (channels_view self.new site.number ≡ channels_view self.old site.number) }
     {
         let number = site.number;
         match self.used.get_mut(&number) {
             Some(channel) => {
-                let verdict = channel.take_body(site, octets)?;
+                let verdict = channel.take_body(site, octets, news)?;
                 let over = channel.is_free();
                 self.low = tidy(&mut self.used, self.low, number, over);
                 Ok(verdict)
@@ -191,29 +201,29 @@ impl Channels {
     }
 
     /// A header that can't be read.
-    pub fn take_unread_header(&self, site: Site) -> Verdict
+    pub fn take_unread_header(&self, site: Site, news: &mut Option<News>) -> Verdict
         requires { 0 < site.number }
-        ensures verdict { Decides site (channels_view self.now site.number) MalformedHeader (verdict_view site.number result) }
-        ensures after { (frame : Frame) → LeavesAfter (role_of site.side) site.number frame MalformedHeader (verdict_view site.number result) (channels_view self.now site.number) (channels_view self.now site.number) }
+        ensures verdict { Decides site (channels_view self.now site.number) MalformedHeader (verdict_view site.number news.new result) }
+        ensures after { (frame : Frame) → LeavesAfter (role_of site.side) site.number frame MalformedHeader (verdict_view site.number news.new result) (channels_view self.now site.number) (channels_view self.now site.number) }
     {
         match self.used.get(&site.number) {
-            Some(channel) => channel.take_unread(site, Unread::MalformedHeader),
+            Some(channel) => channel.take_unread(site, Unread::MalformedHeader, news),
             None => Verdict::Faults(CloseCode::ChannelError),
         }
     }
 
     /// A method on a channel whose close-ok is due.
-    pub fn take_closing(&mut self, site: Site, method: &Method) -> Verdict
+    pub fn take_closing(&mut self, site: Site, method: &Method, news: &mut Option<News>) -> Verdict
         requires above { 0 < site.number }
         requires closing { is_closing_at (channels_view self.old site.number) ≡ true }
-        ensures verdict { verdict_view site.number result ≡ as_lives site.number (Calls (method_view method.now)) (when_closing (kind_of (Calls (method_view method.now)))) }
-        ensures after { (frame : Frame) → LeavesAfter (role_of site.side) site.number frame (Calls (method_view method.now)) (verdict_view site.number result) (channels_view self.old site.number) (channels_view self.new site.number) }
+        ensures verdict { verdict_view site.number news.new result ≡ as_lives site.number (Calls (method_view method.now)) (when_closing (kind_of (Calls (method_view method.now)))) }
+        ensures after { (frame : Frame) → LeavesAfter (role_of site.side) site.number frame (Calls (method_view method.now)) (verdict_view site.number news.new result) (channels_view self.old site.number) (channels_view self.new site.number) }
         ensures others { OnlyAt site.number (channels_view self.old) (channels_view self.new) }
     {
         let number = site.number;
         match self.used.get_mut(&number) {
             Some(channel) => {
-                let verdict = channel.take_closing(site, method);
+                let verdict = channel.take_closing(site, method, news);
                 let over = channel.is_free();
                 self.low = tidy(&mut self.used, self.low, number, over);
                 verdict

@@ -1,5 +1,5 @@
 //! The life of a channel that is Open: what is kept of it, and what comes of the frames that belong to it.
-ghost use Rattle.std.specs.Prelude.{◌≡◌, ◌≢◌, IfOk, OnOk, OnErr};
+ghost use Rattle.std.specs.Prelude.{◌≡◌, ◌≢◌, None, IfOk, OnOk, OnErr};
 ghost use Rattle.amqp_method.specs.HeaderView.{properties_view};
 ghost use Rattle.amqp_method.specs.MethodView.{method_view};
 ghost use Rattle.amqp_model.specs.Channels.{Open, new_life};
@@ -59,10 +59,16 @@ impl Life {
     }
 
     /// A method that doesn't close the channel.
-    pub(crate) fn take_method(&mut self, site: Site, method: Method) -> Result<Verdict, OutOfMemory>
-        requires { (method_view method).kind ≢ Kind.ChannelClose }
-        ensures verdict { IfOk result (λ v. verdict_view site.number v ≡ life_verdict (role_of site.side) site.number (life_view self.old) (method_view method)) }
-        ensures after { IfOk result (λ v. (frame : Frame) → LeavesAfter (role_of site.side) site.number frame (Calls (method_view method)) (verdict_view site.number v) (Open (life_view self.old)) (Open (life_view self.new))) }
+    pub(crate) fn take_method(
+        &mut self,
+        site: Site,
+        method: Method,
+        news: &mut Option<News>,
+    ) -> Result<Verdict, OutOfMemory>
+        requires goes_on { (method_view method).kind ≢ Kind.ChannelClose }
+        requires none { news.old ≡ None }
+        ensures verdict { IfOk result (λ v. verdict_view site.number news.new v ≡ life_verdict (role_of site.side) site.number (life_view self.old) (method_view method)) }
+        ensures after { IfOk result (λ v. (frame : Frame) → LeavesAfter (role_of site.side) site.number frame (Calls (method_view method)) (verdict_view site.number news.new v) (Open (life_view self.old)) (Open (life_view self.new))) }
         ensures err { OnErr result (life_view self.new ≡ life_view self.old) }
     {
         if self.content.is_under_way() {
@@ -72,17 +78,16 @@ impl Life {
             Kind::ChannelFlow => {
                 let active = bit_at(0, &method);
                 self.paused = !active;
-                Ok(Verdict::Proceeds(
-                    Some(News::Flow(site.number, active)),
-                    Some(Reply::FlowOk(active)),
-                ))
+                News::Flow(site.number, active).put_in(news);
+                Ok(Verdict::Proceeds(Some(Reply::FlowOk(active))))
             }
             Kind::ChannelFlowOk => {
                 if !self.awaits {
                     return Ok(Verdict::Faults(CloseCode::CommandInvalid));
                 }
                 self.awaits = false;
-                Ok(Verdict::Proceeds(Some(News::FlowOk(site.number, bit_at(0, &method))), None))
+                News::FlowOk(site.number, bit_at(0, &method)).put_in(news);
+                Ok(Verdict::Proceeds(None))
             }
             Kind::ChannelOpen => Ok(Verdict::Faults(match site.side {
                 Side::Client => CloseCode::CommandInvalid,
@@ -91,23 +96,25 @@ impl Life {
             Kind::ChannelOpenOk | Kind::ChannelCloseOk => {
                 Ok(Verdict::Faults(CloseCode::CommandInvalid))
             }
-            _ => self.take_message(site, method),
+            _ => self.take_message(site, method, news),
         }
     }
 
     /// What comes of a part of a content, of which the content under way says no more. A client's reply takes its request
     /// away.
-    fn conclude(&mut self, site: Site, part: Part) -> Verdict
-        ensures verdict { verdict_view site.number result ≡ after_part site.number (step_view part self.old.content) }
+    fn conclude(&mut self, site: Site, part: Part, news: &mut Option<News>) -> Verdict
+        requires { news.old ≡ None }
+        ensures verdict { verdict_view site.number news.new result ≡ after_part site.number (step_view part self.old.content) }
         ensures after { life_view self.new ≡ without_answered (role_of site.side) (step_view part self.old.content) (life_view self.old) }
     {
         match part {
-            Part::Kept => Verdict::Proceeds(None, None),
+            Part::Kept => Verdict::Proceeds(None),
             Part::Completed(content) => {
                 if site.side.is_client() && content.kind().is_reply() {
                     let _ = self.requests.pop_front();
                 }
-                Verdict::Proceeds(Some(News::Content(site.number, content)), None)
+                News::Content(site.number, content).put_in(news);
+                Verdict::Proceeds(None)
             }
             Part::Misfits(Misfit::PastSize) => Verdict::Faults(CloseCode::FrameError),
             Part::Misfits(Misfit::NothingBegun) => Verdict::Faults(CloseCode::UnexpectedFrame),
@@ -146,46 +153,65 @@ impl Life {
     }
 
     /// A content header whose body is not too large.
-    pub(crate) fn take_header(&mut self, site: Site, parts: Box<Parts>) -> Verdict
-        requires { IsBegun parts }
-        ensures verdict { verdict_view site.number result ≡ after_part site.number (step (life_view self.old).content (HeaderPart parts.value.header.body_size (properties_view parts.value.header.properties))) }
-        ensures after { (frame : Frame) → LeavesAfter (role_of site.side) site.number frame (HeaderOf parts.value.header.body_size (properties_view parts.value.header.properties)) (verdict_view site.number result) (Open (life_view self.old)) (Open (life_view self.new)) }
+    pub(crate) fn take_header(
+        &mut self,
+        site: Site,
+        parts: Box<Parts>,
+        news: &mut Option<News>,
+    ) -> Verdict
+        requires begun { IsBegun parts }
+        requires none { news.old ≡ None }
+        ensures verdict { verdict_view site.number news.new result ≡ after_part site.number (step (life_view self.old).content (HeaderPart parts.value.header.body_size (properties_view parts.value.header.properties))) }
+        ensures after { (frame : Frame) → LeavesAfter (role_of site.side) site.number frame (HeaderOf parts.value.header.body_size (properties_view parts.value.header.properties)) (verdict_view site.number news.new result) (Open (life_view self.old)) (Open (life_view self.new)) }
     {
         let part = self.content.take_header(parts);
-        self.conclude(site, part)
+        self.conclude(site, part, news)
     }
 
     /// A part of a body.
-    pub(crate) fn take_body(&mut self, site: Site, octets: &[u8]) -> Result<Verdict, OutOfMemory>
-        ensures verdict { IfOk result (λ v. verdict_view site.number v ≡ after_part site.number (step (life_view self.old).content (BodyPart octets.now))) }
-        ensures after { IfOk result (λ v. (frame : Frame) → LeavesAfter (role_of site.side) site.number frame (BodyOf octets.now) (verdict_view site.number v) (Open (life_view self.old)) (Open (life_view self.new))) }
+    pub(crate) fn take_body(
+        &mut self,
+        site: Site,
+        octets: &[u8],
+        news: &mut Option<News>,
+    ) -> Result<Verdict, OutOfMemory>
+        requires { news.old ≡ None }
+        ensures verdict { IfOk result (λ v. verdict_view site.number news.new v ≡ after_part site.number (step (life_view self.old).content (BodyPart octets.now))) }
+        ensures after { IfOk result (λ v. (frame : Frame) → LeavesAfter (role_of site.side) site.number frame (BodyOf octets.now) (verdict_view site.number news.new v) (Open (life_view self.old)) (Open (life_view self.new))) }
         ensures err { OnErr result (life_view self.new ≡ life_view self.old) }
     {
         let part = self.content.take_body(octets)?;
-        Ok(self.conclude(site, part))
+        Ok(self.conclude(site, part, news))
     }
 
     /// A method that neither opens nor closes the channel nor asks for a flow or answers one, where no content is under
     /// way.
-    fn take_message(&mut self, site: Site, method: Method) -> Result<Verdict, OutOfMemory>
+    fn take_message(
+        &mut self,
+        site: Site,
+        method: Method,
+        news: &mut Option<News>,
+    ) -> Result<Verdict, OutOfMemory>
         requires idle { IsIdle self.old }
+        requires none { news.old ≡ None }
         requires other { IsOther (kind_of (Calls (method_view method))) }
-        ensures verdict { IfOk result (λ v. verdict_view site.number v ≡ on_matched (role_of site.side) site.number (life_view self.old).requests (method_view method)) }
-        ensures after { IfOk result (λ v. (frame : Frame) → LeavesAfter (role_of site.side) site.number frame (Calls (method_view method)) (verdict_view site.number v) (Open (life_view self.old)) (Open (life_view self.new))) }
+        ensures verdict { IfOk result (λ v. verdict_view site.number news.new v ≡ on_matched (role_of site.side) site.number (life_view self.old).requests (method_view method)) }
+        ensures after { IfOk result (λ v. (frame : Frame) → LeavesAfter (role_of site.side) site.number frame (Calls (method_view method)) (verdict_view site.number news.new v) (Open (life_view self.old)) (Open (life_view self.new))) }
         ensures err { OnErr result (life_view self.new ≡ life_view self.old) }
     {
         match site.side {
-            Side::Client => Ok(self.take_reply(site, method)),
-            Side::Server => self.take_request(site, method),
+            Side::Client => Ok(self.take_reply(site, method, news)),
+            Side::Server => self.take_request(site, method, news),
         }
     }
 
     /// What a client takes: a reply has to be to the request that waits.
-    fn take_reply(&mut self, site: Site, method: Method) -> Verdict
+    fn take_reply(&mut self, site: Site, method: Method, news: &mut Option<News>) -> Verdict
         requires idle { IsIdle self.old }
+        requires none { news.old ≡ None }
         requires other { IsOther (kind_of (Calls (method_view method))) }
-        ensures verdict { verdict_view site.number result ≡ on_matched Client site.number (life_view self.old).requests (method_view method) }
-        ensures after { (frame : Frame) → LeavesAfter Client site.number frame (Calls (method_view method)) (verdict_view site.number result) (Open (life_view self.old)) (Open (life_view self.new)) }
+        ensures verdict { verdict_view site.number news.new result ≡ on_matched Client site.number (life_view self.old).requests (method_view method) }
+        ensures after { (frame : Frame) → LeavesAfter Client site.number frame (Calls (method_view method)) (verdict_view site.number news.new result) (Open (life_view self.old)) (Open (life_view self.new)) }
     {
         let replies = method.kind().is_reply();
         if replies && !answers_first(method.kind(), &self.requests) {
@@ -193,20 +219,27 @@ impl Life {
         }
         if carries_content(&method) {
             self.content = Gathering::HeaderDue(Carrier::new(method));
-            return Verdict::Proceeds(None, None);
+            return Verdict::Proceeds(None);
         }
         if replies {
             let _ = self.requests.pop_front();
         }
-        Verdict::Proceeds(Some(News::Method(site.number, Lone::new(method))), None)
+        News::Method(site.number, Lone::new(method)).put_in(news);
+        Verdict::Proceeds(None)
     }
 
     /// What a server takes: so many requests are kept, and no more.
-    fn take_request(&mut self, site: Site, method: Method) -> Result<Verdict, OutOfMemory>
+    fn take_request(
+        &mut self,
+        site: Site,
+        method: Method,
+        news: &mut Option<News>,
+    ) -> Result<Verdict, OutOfMemory>
         requires idle { IsIdle self.old }
+        requires none { news.old ≡ None }
         requires other { IsOther (kind_of (Calls (method_view method))) }
-        ensures verdict { IfOk result (λ v. verdict_view site.number v ≡ on_matched Server site.number (life_view self.old).requests (method_view method)) }
-        ensures after { IfOk result (λ v. (frame : Frame) → LeavesAfter Server site.number frame (Calls (method_view method)) (verdict_view site.number v) (Open (life_view self.old)) (Open (life_view self.new))) }
+        ensures verdict { IfOk result (λ v. verdict_view site.number news.new v ≡ on_matched Server site.number (life_view self.old).requests (method_view method)) }
+        ensures after { IfOk result (λ v. (frame : Frame) → LeavesAfter Server site.number frame (Calls (method_view method)) (verdict_view site.number news.new v) (Open (life_view self.old)) (Open (life_view self.new))) }
         ensures err { OnErr result (life_view self.new ≡ life_view self.old) }
     {
         let asks = method.is_request();
@@ -218,8 +251,9 @@ impl Life {
         }
         if carries_content(&method) {
             self.content = Gathering::HeaderDue(Carrier::new(method));
-            return Ok(Verdict::Proceeds(None, None));
+            return Ok(Verdict::Proceeds(None));
         }
-        Ok(Verdict::Proceeds(Some(News::Method(site.number, Lone::new(method))), None))
+        News::Method(site.number, Lone::new(method)).put_in(news);
+        Ok(Verdict::Proceeds(None))
     }
 }

@@ -69,8 +69,16 @@ impl Lone {
 }
 
 impl News {
+    ghost use Rattle.std.specs.Prelude.{◌≡◌, Some};
     ghost use Rattle.amqp_channel.specs.EventView.{event_view};
     ghost use Rattle.amqp_channel.specs.NewsView.{news_view};
+
+    /// Puts these where the caller has room for news.
+    pub fn put_in(self, news: &mut Option<News>)
+        ensures { news.new ≡ Some self }
+    {
+        *news = Some(self);
+    }
 
     /// The event.
     pub fn into_event(self) -> Event

@@ -8,7 +8,7 @@ ghost use Rattle.amqp_channel.specs.Unreads.{IsOfMethod};
 use crate::carrier::Parts;
 use crate::faults::OutOfMemory;
 use crate::verdict::Unread;
-use amqp_method::{Method, MethodFaultKind, read_header, read_method};
+use amqp_method::{Header, Method, MethodFaultKind, read_header_into, read_method};
 use std::alloc::Global;
 
 /// The method that a payload encodes, or why there is none.
@@ -30,18 +30,17 @@ pub fn read_call(alloc: Global, payload: &[u8]) -> Result<Result<Method, Unread>
     }
 }
 
-/// The parts of a content, with nothing of its body yet, if a payload encodes its header.
+/// The parts of a content, with nothing of its body yet, if a payload encodes its header, which is read into its box.
 #[tactic(auto, unfolding(amqp_model::specs::Methods::header_at))]
 pub fn read_content_header(alloc: Global, payload: &[u8]) -> Result<Option<Box<Parts>>, OutOfMemory>
     ensures header { IfOk result (λ read. header_seen read ≡ header_reading (header_at payload.now)) }
     ensures begun { IfOk result (λ read. IfSome read IsBegun) }
 {
-    match read_header(alloc, payload) {
-        Ok(header) => {
-            let body = Vec::new(alloc);
-            let parts = Box::new(alloc, Parts { header, body })?;
-            Ok(Some(parts))
-        }
+    let header = Header::default();
+    let body = Vec::new(alloc);
+    let mut parts = Box::new(alloc, Parts { header, body })?;
+    match read_header_into(alloc, payload, &mut parts.header) {
+        Ok(()) => Ok(Some(parts)),
         Err(fault) => match fault.kind {
             MethodFaultKind::OutOfMemory => Err(OutOfMemory),
             MethodFaultKind::UnknownMethod

@@ -1,7 +1,6 @@
 //! What comes of a frame that is taken on a channel.
 
 use crate::codes::CloseCode;
-use crate::news::News;
 use crate::side::Side;
 
 /// What an end owes in reply, on the same channel.
@@ -12,11 +11,11 @@ pub enum Reply {
     FlowOk(bool),
 }
 
-/// What comes of a frame.
-#[derive(Drop)]
+/// What comes of a frame, beside what it tells the application: that goes where the caller has room for it.
+#[derive(Clone, Copy)]
 pub enum Verdict {
-    /// The end goes on, with an event and a reply.
-    Proceeds(Option<News>, Option<Reply>),
+    /// The end goes on, and owes a reply.
+    Proceeds(Option<Reply>),
     /// The content is refused at its header: the channel is closed with its code.
     RefusesContent,
     /// The connection is closed with this code.

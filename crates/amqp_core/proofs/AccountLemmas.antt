@@ -21,6 +21,7 @@ use Rattle.amqp_model.specs.Negotiation.{Config, frame_limit}
 use Rattle.amqp_model.specs.Notes.{Role, Client, Server}
 use Rattle.amqp_model.specs.OctetLaws.{OneIsSaid, IsWhole, TellsLast}
 use Rattle.amqp_model.specs.Pieces.{IsFedBy, SplitsFor, FeedFindsFault, with_taken, reads_frames}
+use Rattle.amqp_channel.specs.declared.news.News.{News}
 use Rattle.amqp_channel.specs.declared.news.News.TheVariants as news
 use Rattle.amqp_core.specs.AccountView.{Came, IsAccount, IsFresh, came_by, came_of_frame, note_there, puts_alone}
 use Rattle.amqp_core.specs.Answering.{Reports}
@@ -241,21 +242,21 @@ quiet_found Unfinished says e = none_is_some says
 quiet_found (Finished told) says e = false≢true (ap is_found e)
 quiet_found (Found fault) says e = absurd says
 
-pub account_of_part : (role : Role) (config : Config role) (old new : Endpoint) (piece : List ℕ) (count octets : ℕ) (came : Came)
-    → awaits_opening role old.end.phase ≡ true → IsHeard (Ok (record { octets = count; news = None })) old (after_feed role config old piece) new → octets ≡ count → came ≡ puts_alone []
+pub account_of_part : (role : Role) (config : Config role) (told : Option News) (old new : Endpoint) (piece : List ℕ) (count octets : ℕ) (came : Came)
+    → awaits_opening role old.end.phase ≡ true → told ≡ None → IsHeard (Ok count) told old (after_feed role config old piece) new → octets ≡ count → came ≡ puts_alone []
     → IsAccount role config old piece (after_feed role config old piece) octets came
-account_of_part role config old new piece count octets came awaits fed octets_are came_is =
-    account_of_opening role config old piece (after_feed role config old piece) octets came awaits (octets_are ∙ fed.taken) (λ e. came_is) (λ e. absurd (nothing_finished (after_feed role config old piece).outcome fed.answer e)) (λ e. came_is)
+account_of_part role config told old new piece count octets came awaits none fed octets_are came_is =
+    account_of_opening role config old piece (after_feed role config old piece) octets came awaits (octets_are ∙ fed.taken) (λ e. came_is) (λ e. absurd (nothing_finished (after_feed role config old piece).outcome (subst (λ n. Hears n (after_feed role config old piece).outcome) none fed.answer) e)) (λ e. came_is)
 
-pub account_of_other : (role : Role) (config : Config role) (old new : Endpoint) (piece : List ℕ) (octets : ℕ) (came : Came)
-    → awaits_opening role old.end.phase ≡ true → IsHeard (Err core.Fatal) old (after_feed role config old piece) new → octets ≡ (after_feed role config old piece).taken → came ≡ puts_alone []
+pub account_of_other : (role : Role) (config : Config role) (told : Option News) (old new : Endpoint) (piece : List ℕ) (octets : ℕ) (came : Came)
+    → awaits_opening role old.end.phase ≡ true → IsHeard (Err core.Fatal) told old (after_feed role config old piece) new → octets ≡ (after_feed role config old piece).taken → came ≡ puts_alone []
     → IsAccount role config old piece (after_feed role config old piece) octets came
-account_of_other role config old new piece octets came awaits fed octets_are came_is =
+account_of_other role config told old new piece octets came awaits fed octets_are came_is =
     account_of_opening role config old piece (after_feed role config old piece) octets came awaits octets_are (λ e. came_is) (λ e. absurd (fault_finished (after_feed role config old piece).outcome fed.answer e)) (λ e. came_is)
 
 -- the same of an end that has put start
 pub account_of_whole : (role : Role) (config : Config role) (old new : Endpoint) (piece : List ℕ) (count octets : ℕ) (came : Came)
-    → awaits_opening role old.end.phase ≡ true → IsHeard (Ok (record { octets = count; news = Some news.Quiet })) old (after_feed role config old piece) new → octets ≡ count → came ≡ puts_alone (greeting role config)
+    → awaits_opening role old.end.phase ≡ true → IsHeard (Ok count) (Some news.Quiet) old (after_feed role config old piece) new → octets ≡ count → came ≡ puts_alone (greeting role config)
     → IsAccount role config old piece (after_feed role config old piece) octets came
 account_of_whole role config old new piece count octets came awaits fed octets_are came_is =
     account_of_opening role config old piece (after_feed role config old piece) octets came awaits (octets_are ∙ fed.taken)

@@ -3,26 +3,23 @@ use Rattle.std.proofs.Common.{◌≡◌, ◌<◌, ◌==◌, ◌&&◌, Bool, true
 use Rattle.std.proofs.lemmas.Bool.{eqb-true, eqb-false}
 use Rattle.std.proofs.lemmas.Bool.Decides.{nat_tests}
 use Rattle.amqp_method.specs.declared.kinds.Kind.TheVariants as kinds
-use Rattle.amqp_model.specs.Channels as channels
 use Rattle.amqp_model.specs.Channels.{Channel, End, Phase, Handshake, Running, Closing, Closed, Failed, HandshakeStep, AwaitsProtocolHeader, AwaitsStart, AwaitsStartOk, AwaitsTune, AwaitsTuneOk, AwaitsOpen, AwaitsOpenOk, Agreed}
 use Rattle.amqp_model.specs.Closes.{ContentTooLarge, FrameError, close_as, number_of, text_of, reply_to}
 use Rattle.amqp_model.specs.EndVerdict.{takes_frames}
 use Rattle.amqp_model.specs.Events.{Fault, FrameVerdict, Proceeds, Faults, Discarded, Quiet}
-use Rattle.amqp_model.specs.FrameVerdict.{fault, leaving_on, as_lives, verdict_on}
+use Rattle.amqp_model.specs.FrameVerdict.{fault, leaving_on, verdict_on}
 use Rattle.amqp_model.specs.Histories.{TookHere}
 use Rattle.amqp_model.specs.Machine.{set_channel, taken_verdict, end_after}
-use Rattle.amqp_model.specs.Methods.{Method}
 use Rattle.amqp_model.specs.Negotiation.{Config}
 use Rattle.amqp_model.specs.Frame.{Frame}
 use Rattle.amqp_model.specs.Notes.{Role}
-use Rattle.amqp_model.specs.Readings.{Reading, Calls, Beat, kind_of}
-use Rattle.amqp_model.specs.Verdict.{when_closing}
+use Rattle.amqp_model.specs.Readings.{Reading, Beat}
 use Rattle.amqp_channel.specs.ChannelsView.{OnlyAt}
 use Rattle.amqp_channel.specs.EventView.{agreed_view}
 use Rattle.amqp_channel.specs.Roles.{role_of}
-use Rattle.amqp_channel.specs.Used.{is_closing_at}
 use Rattle.amqp_channel.specs.VerdictView.{verdict_view, reply_there, Decides, LeavesAfter}
 use Rattle.amqp_channel.specs.declared.events.Agreed as code_agreed
+use Rattle.amqp_channel.specs.declared.news.News.{News}
 use Rattle.amqp_channel.specs.declared.verdict.Site.{Site}
 use Rattle.amqp_channel.specs.declared.verdict.Verdict.{Verdict}
 use Rattle.amqp_channel.specs.declared.verdict.Verdict.TheVariants as code
@@ -49,34 +46,34 @@ same_end before after number phase agreed only =
     ∙ (ap (λ a. record { phase = before.phase; agreed = a; channels = after.channels }) agreed
     ∙ ap (λ c. record { phase = before.phase; agreed = before.agreed; channels = c }) (set_only number before.channels after.channels only))
 
-left_by : (role : Role) (config : Config role) (number : ℕ) (reading : Reading) (verdict : Verdict) (before after : End) → 0 < number → leaves before.phase ≡ false → after.phase ≡ before.phase → after.agreed ≡ before.agreed → OnlyAt number before.channels after.channels → ((frame : Frame) → LeavesAfter role number frame reading (verdict_view number verdict) (before.channels number) (after.channels number)) → EndLeft config number reading (verdict_view number verdict) before after
-left_by role config number reading (code.Proceeds event reply) before after h stays phase agreed only leaves = λ kind payload.
+left_by : (role : Role) (config : Config role) (number : ℕ) (reading : Reading) (news : Option News) (verdict : Verdict) (before after : End) → 0 < number → leaves before.phase ≡ false → after.phase ≡ before.phase → after.agreed ≡ before.agreed → OnlyAt number before.channels after.channels → ((frame : Frame) → LeavesAfter role number frame reading (verdict_view number news verdict) (before.channels number) (after.channels number)) → EndLeft config number reading (verdict_view number news verdict) before after
+left_by role config number reading news (code.Proceeds reply) before after h stays phase agreed only leaves = λ kind payload.
     same_end before after number phase agreed only
     ∙ (ap (λ c. with_channel number c before) (leaves (frame_at number kind payload))
     ∙ sym (taken_above role config number (TookHere reading (frame_at number kind payload)) (reply_to (reply_there reply)) before h stays))
-left_by role config number reading code.RefusesContent before after h stays phase agreed only leaves = λ kind payload.
+left_by role config number reading news code.RefusesContent before after h stays phase agreed only leaves = λ kind payload.
     same_end before after number phase agreed only
     ∙ (ap (λ c. with_channel number c before) (leaves (frame_at number kind payload))
     ∙ sym (taken_above role config number (TookHere reading (frame_at number kind payload)) (close_as kinds.ChannelClose (number_of ContentTooLarge) (text_of ContentTooLarge) ∷ []) before h stays))
-left_by role config number reading (code.Faults fault) before after h stays phase agreed only leaves =
+left_by role config number reading news (code.Faults fault) before after h stays phase agreed only leaves =
     ((λ kind payload. agreed ∙ sym (agreed_above role config number (TookHere reading (frame_at number kind payload)) before h)), only 0 (omega arith))
 
 -- what a channel leaves, of a decision that says its verdict
-pub channel_leaves : (settings : Settings) (number channel_max : ℕ) (site : Site) (reading : Reading) (verdict : Verdict) (said : FrameVerdict) (before after : End) → site ≡ site_at settings number channel_max → said ≡ verdict_view number verdict → 0 < number → leaves before.phase ≡ false → after.phase ≡ before.phase → after.agreed ≡ before.agreed → OnlyAt site.number before.channels after.channels → ((frame : Frame) → LeavesAfter (role_of site.side) site.number frame reading (verdict_view site.number verdict) (before.channels site.number) (after.channels site.number)) → EndLeft (config_view settings) number reading said before after
-channel_leaves settings number channel_max site reading verdict said before after site_is said_is h stays phase agreed only leaves =
-    let P : Site → Type 0 = λ s. OnlyAt s.number before.channels after.channels × ((frame : Frame) → LeavesAfter (role_of s.side) s.number frame reading (verdict_view s.number verdict) (before.channels s.number) (after.channels s.number)) in
+pub channel_leaves : (settings : Settings) (number channel_max : ℕ) (site : Site) (reading : Reading) (news : Option News) (verdict : Verdict) (said : FrameVerdict) (before after : End) → site ≡ site_at settings number channel_max → said ≡ verdict_view number news verdict → 0 < number → leaves before.phase ≡ false → after.phase ≡ before.phase → after.agreed ≡ before.agreed → OnlyAt site.number before.channels after.channels → ((frame : Frame) → LeavesAfter (role_of site.side) site.number frame reading (verdict_view site.number news verdict) (before.channels site.number) (after.channels site.number)) → EndLeft (config_view settings) number reading said before after
+channel_leaves settings number channel_max site reading news verdict said before after site_is said_is h stays phase agreed only leaves =
+    let P : Site → Type 0 = λ s. OnlyAt s.number before.channels after.channels × ((frame : Frame) → LeavesAfter (role_of s.side) s.number frame reading (verdict_view s.number news verdict) (before.channels s.number) (after.channels s.number)) in
     let here : P (site_at settings number channel_max) = subst P site_is (only, leaves) in
     let Q : FrameVerdict → Type 0 = λ v. EndLeft (config_view settings) number reading v before after in
-    subst Q (sym said_is) (left_by (role_for settings) (config_view settings) number reading verdict before after h stays phase agreed here.0 here.1)
+    subst Q (sym said_is) (left_by (role_for settings) (config_view settings) number reading news verdict before after h stays phase agreed here.0 here.1)
 
 -- the end of a connection that is Running
 abbrev pub running : code_agreed.Agreed → (ℕ → Channel) → End
 running agreed channels = record { phase = Running; agreed = Some (agreed_view agreed); channels = channels }
 
 -- what a channel decides is the verdict of the end
-pub channel_decides : (settings : Settings) (agreed : code_agreed.Agreed) (number : ℕ) (site : Site) (channels : ℕ → Channel) (reading : Reading) (verdict : Verdict) (said : FrameVerdict) → site ≡ site_at settings number agreed.channel_max → said ≡ verdict_view number verdict → Decides site (channels site.number) reading (verdict_view site.number verdict) → said ≡ taken_verdict (config_view settings) (running agreed channels) number reading
-channel_decides settings agreed number site channels reading verdict said site_is said_is h =
-    let P : Site → Type 0 = λ s. Decides s (channels s.number) reading (verdict_view s.number verdict) in
+pub channel_decides : (settings : Settings) (agreed : code_agreed.Agreed) (number : ℕ) (site : Site) (channels : ℕ → Channel) (reading : Reading) (news : Option News) (verdict : Verdict) (said : FrameVerdict) → site ≡ site_at settings number agreed.channel_max → said ≡ verdict_view number news verdict → Decides site (channels site.number) reading (verdict_view site.number news verdict) → said ≡ taken_verdict (config_view settings) (running agreed channels) number reading
+channel_decides settings agreed number site channels reading news verdict said site_is said_is h =
+    let P : Site → Type 0 = λ s. Decides s (channels s.number) reading (verdict_view s.number news verdict) in
     let here : P (site_at settings number agreed.channel_max) = subst P site_is h in
     said_is ∙ here (config_view settings) agreed.frame_max refl
 
@@ -84,10 +81,10 @@ channel_decides settings agreed number site channels reading verdict said site_i
 abbrev pub end_at : Stage → (ℕ → Channel) → End
 end_at stage channels = record { phase = phase_at stage; agreed = agreed_at stage; channels = channels }
 
-pub running_decides : (settings : Settings) (stage : Stage) (agreed : code_agreed.Agreed) (number : ℕ) (site : Site) (channels : ℕ → Channel) (reading : Reading) (verdict : Verdict) (said : FrameVerdict) → stage ≡ stages.Running agreed → site ≡ site_at settings number agreed.channel_max → said ≡ verdict_view number verdict → Decides site (channels site.number) reading (verdict_view site.number verdict) → said ≡ taken_verdict (config_view settings) (end_at stage channels) number reading
-running_decides settings stage agreed number site channels reading verdict said stage_is site_is said_is h =
+pub running_decides : (settings : Settings) (stage : Stage) (agreed : code_agreed.Agreed) (number : ℕ) (site : Site) (channels : ℕ → Channel) (reading : Reading) (news : Option News) (verdict : Verdict) (said : FrameVerdict) → stage ≡ stages.Running agreed → site ≡ site_at settings number agreed.channel_max → said ≡ verdict_view number news verdict → Decides site (channels site.number) reading (verdict_view site.number news verdict) → said ≡ taken_verdict (config_view settings) (end_at stage channels) number reading
+running_decides settings stage agreed number site channels reading news verdict said stage_is site_is said_is h =
     let P : Stage → Type 0 = λ s. said ≡ taken_verdict (config_view settings) (end_at s channels) number reading in
-    subst P (sym stage_is) (channel_decides settings agreed number site channels reading verdict said site_is said_is h)
+    subst P (sym stage_is) (channel_decides settings agreed number site channels reading news verdict said site_is said_is h)
 
 pub running_stays : (stage : Stage) (agreed : code_agreed.Agreed) → stage ≡ stages.Running agreed → leaves (phase_at stage) ≡ false
 running_stays stage agreed e = ap (λ s. leaves (phase_at s)) e
@@ -153,21 +150,3 @@ unread_agreed role config (suc n) reading frame end h = refl
 
 pub unread_faults : (role : Role) (config : Config role) (number : ℕ) (reading : Reading) (end : End) (fault : Fault) → IsNoCall reading → EndLeft config number reading (Faults fault) end end
 unread_faults role config number reading end fault h = ((λ kind payload. unread_agreed role config number reading (frame_at number kind payload) end h), refl)
-
--- A channel whose close-ok is due.
-
-closing_by : (role : Role) (config : Config role) (phase : Phase) (agreed : Option Agreed) (number : ℕ) (channel : Channel) (method : Method) → takes_frames phase ≡ true → leaves phase ≡ false → is_closing_at channel ≡ true → verdict_on (record { config = config; phase = phase; agreed = agreed; number = number; channel = channel }) (Calls method) ≡ as_lives number (Calls method) (when_closing (kind_of (Calls method)))
-closing_by role config (Handshake step) agreed number channels.Closing method takes stays closing = refl
-closing_by role config Running agreed number channels.Closing method takes stays closing = refl
-closing_by role config Closing agreed number channel method takes stays closing = cc
-closing_by role config Closed agreed number channel method takes stays closing = cc
-closing_by role config Failed agreed number channel method takes stays closing = cc
-closing_by role config phase agreed number channels.Free method takes stays closing = cc
-closing_by role config phase agreed number channels.Opening method takes stays closing = cc
-closing_by role config phase agreed number (channels.Open life) method takes stays closing = cc
-
-pub closing_verdict : (settings : Settings) (number channel_max : ℕ) (site : Site) (end : End) (method : Method) (verdict : Verdict) (said : FrameVerdict) → site ≡ site_at settings number channel_max → said ≡ verdict_view number verdict → takes_frames end.phase ≡ true → leaves end.phase ≡ false → is_closing_at (end.channels number) ≡ true → verdict_view site.number verdict ≡ as_lives site.number (Calls method) (when_closing (kind_of (Calls method))) → said ≡ taken_verdict (config_view settings) end number (Calls method)
-closing_verdict settings number channel_max site end method verdict said site_is said_is takes stays closing h =
-    let P : Site → Type 0 = λ s. verdict_view s.number verdict ≡ as_lives s.number (Calls method) (when_closing (kind_of (Calls method))) in
-    let here : P (site_at settings number channel_max) = subst P site_is h in
-    said_is ∙ (here ∙ sym (closing_by (role_for settings) (config_view settings) end.phase end.agreed number (end.channels number) method takes stays closing))

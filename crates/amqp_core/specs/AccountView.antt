@@ -1,5 +1,5 @@
 -- What came of a piece beside the answer to it, in the words of the model.
-use Rattle.std.specs.Prelude.{◌≡◌, true, ℕ, List, [], Option, Some, None, Result}
+use Rattle.std.specs.Prelude.{◌≡◌, true, ℕ, List, [], Option, Some, None}
 use Rattle.amqp_frame.specs.declared.faults.FrameFaultKind.{FrameFaultKind}
 use Rattle.amqp_model.specs.Channels.{End}
 use Rattle.amqp_model.specs.Closes.{Owed}
@@ -40,8 +40,8 @@ item_in_outcome (Finished event) = item_in_event event
 item_in_outcome outcome = None
 
 -- the account has the item that is told
-abbrev pub TellsItem : Result (Option News) faults.Fault → Account → Type 0
-TellsItem told account = item_kept account.item ≡ item_in_outcome (told_view told)
+abbrev pub TellsItem : Option News → Option faults.Fault → Account → Type 0
+TellsItem news fault account = item_kept account.item ≡ item_in_outcome (told_view news fault)
 
 -- What a piece came to: the frame that was taken, as it is noted, the item that it told, and the methods that were put.
 pub record Came : Type 0 where

@@ -39,9 +39,9 @@ Brings news Unfinished = ⊥
 Brings news (Finished told) = told ≡ news_there news
 Brings news (Found fault) = ⊥
 
-abbrev pub Answers : Result (Option News) CoreFault → Outcome → Type 0
-Answers (Ok news) outcome = Brings news outcome
-Answers (Err fault) outcome = Reports fault outcome
+abbrev pub Answers : {A : Type 0} → Option News → Result A CoreFault → Outcome → Type 0
+Answers news (Ok value) outcome = Brings news outcome
+Answers news (Err fault) outcome = Reports fault outcome
 
 -- memory was refused
 abbrev pub is_out_of_memory : CoreFault → Bool

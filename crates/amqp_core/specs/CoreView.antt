@@ -1,5 +1,5 @@
 -- What the code keeps of a connection, in the words of the model, and what it decides.
-use Rattle.std.specs.Prelude.{◌≡◌, ℕ, List, [], ◌∷◌, Option, Result, Ok, Err}
+use Rattle.std.specs.Prelude.{◌≡◌, ℕ, List, [], ◌∷◌, Option, Some, None}
 use Rattle.amqp_frame.specs.declared.frames.FrameKind.{FrameKind}
 use Rattle.amqp_model.specs.Channels.{End}
 use Rattle.amqp_model.specs.Closes.{ContentTooLarge, channel_close}
@@ -34,14 +34,16 @@ abbrev pub fault_of : Fault → events.Fault
 fault_of (Peer code) = events.Peer (code_view code)
 fault_of Fatal = events.Fatal
 
-abbrev pub decision_view : Settings → Decision → FrameVerdict
-decision_view settings (code.Proceeds news owed) = Proceeds (news_there news) (owed_view settings owed)
-decision_view settings code.RefusesContent = RefusesContent
-decision_view settings (code.Faults fault) = Faults (fault_of fault)
+-- the decision on a frame that tells these news
+abbrev pub decision_view : Settings → Option News → Decision → FrameVerdict
+decision_view settings news (code.Proceeds owed) = Proceeds (news_there news) (owed_view settings owed)
+decision_view settings news code.RefusesContent = RefusesContent
+decision_view settings news (code.Faults fault) = Faults (fault_of fault)
 
-abbrev pub told_view : Result (Option News) Fault → endpoint.Outcome
-told_view (Ok news) = endpoint.Finished (news_there news)
-told_view (Err fault) = endpoint.Found (fault_of fault)
+-- what comes of a frame that tells these news, and with which fault is found or not
+abbrev pub told_view : Option News → Option Fault → endpoint.Outcome
+told_view news None = endpoint.Finished (news_there news)
+told_view news (Some fault) = endpoint.Found (fault_of fault)
 
 -- the channel of a frame, where so many channels were agreed
 abbrev pub site_at : Settings → (number channel_max : ℕ) → Site
@@ -51,8 +53,8 @@ abbrev pub frame_at : (number : ℕ) → FrameKind → List ℕ → Frame
 frame_at number kind payload = record { kind = kind; channel = number; payload = payload }
 
 -- the decision is the verdict of the end
-abbrev pub IsVerdict : Settings → End → (number : ℕ) → Reading → Decision → Type 0
-IsVerdict settings before number reading decision = decision_view settings decision ≡ taken_verdict (config_view settings) before number reading
+abbrev pub IsVerdict : Settings → End → (number : ℕ) → Reading → Option News → Decision → Type 0
+IsVerdict settings before number reading news decision = decision_view settings news decision ≡ taken_verdict (config_view settings) before number reading
 
 -- Where the end goes on, it is left as the frame taken and the methods owed leave it. Of an end that has found fault only
 -- what was agreed and channel 0 are looked at any more.
@@ -64,5 +66,5 @@ EndLeft {role} config number reading RefusesContent before after =
 EndLeft {role} config number reading (Faults fault) before after =
     ((kind : FrameKind) (payload : List ℕ) → after.agreed ≡ (end_after role config number (TookHere reading (frame_at number kind payload)) before).agreed) × (after.channels 0 ≡ before.channels 0)
 
-abbrev pub LeavesEnd : Settings → (number : ℕ) → Reading → Decision → (before after : End) → Type 0
-LeavesEnd settings number reading decision before after = EndLeft (config_view settings) number reading (decision_view settings decision) before after
+abbrev pub LeavesEnd : Settings → (number : ℕ) → Reading → Option News → Decision → (before after : End) → Type 0
+LeavesEnd settings number reading news decision before after = EndLeft (config_view settings) number reading (decision_view settings news decision) before after

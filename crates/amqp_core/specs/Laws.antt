@@ -1,5 +1,5 @@
 -- What is decided and left on one channel is what the whole end decides and keeps: the statement.
-use Rattle.std.specs.Prelude.{◌≡◌, ◌<◌, true, ℕ, List, [], ◌∷◌, map, Some}
+use Rattle.std.specs.Prelude.{◌≡◌, ◌<◌, true, ℕ, List, [], ◌∷◌, map, Option, Some}
 use Rattle.amqp_frame.specs.declared.frames.FrameKind.{FrameKind}
 use Rattle.amqp_model.specs.Asks.{payload_frame}
 use Rattle.amqp_model.specs.Channels.{Channel, Running, End}
@@ -12,6 +12,7 @@ use Rattle.amqp_model.specs.Readings.{Reading, payload_of, reading}
 use Rattle.amqp_channel.specs.Puts.{after_payloads}
 use Rattle.amqp_channel.specs.Roles.{role_of}
 use Rattle.amqp_channel.specs.VerdictView.{verdict_view, Decides, LeavesAfter}
+use Rattle.amqp_channel.specs.declared.news.News.{News}
 use Rattle.amqp_channel.specs.declared.verdict.Site.{Site}
 use Rattle.amqp_channel.specs.declared.verdict.Verdict.{Verdict}
 
@@ -23,16 +24,16 @@ abbrev pub frame_here : Site → FrameKind → List ℕ → Frame
 frame_here site kind payload = record { kind = kind; channel = site.number; payload = payload }
 
 -- the verdict is the end's, and the end keeps the channel that is left, and all else as it was
-pub record IsStepOfEnd (site : Site) (config : Config (role_of site.side)) (frame_max : ℕ) (channels : ℕ → Channel) (frame : Frame) (reading : Reading) (verdict : Verdict) (after : Channel) : Type 0 where
-  pub verdict_is : taken_verdict config (running_end site frame_max channels) site.number reading ≡ verdict_view site.number verdict
+pub record IsStepOfEnd (site : Site) (config : Config (role_of site.side)) (frame_max : ℕ) (channels : ℕ → Channel) (frame : Frame) (reading : Reading) (news : Option News) (verdict : Verdict) (after : Channel) : Type 0 where
+  pub verdict_is : taken_verdict config (running_end site frame_max channels) site.number reading ≡ verdict_view site.number news verdict
   pub end_is : end_after_taken (role_of site.side) config (running_end site frame_max channels) reading frame ≡ running_end site frame_max (set_channel site.number after channels)
 
-abbrev pub StepsAsEnd : (site : Site) → Config (role_of site.side) → (frame_max : ℕ) → (ℕ → Channel) → FrameKind → List ℕ → Reading → Verdict → Channel → Type 0
-StepsAsEnd site config frame_max channels kind payload reading verdict after =
-    0 < site.number → config.max_body ≡ site.max_body → Decides site (channels site.number) reading (verdict_view site.number verdict)
-    → LeavesAfter (role_of site.side) site.number (frame_here site kind payload) reading (verdict_view site.number verdict) (channels site.number) after
-    → goes_on (verdict_view site.number verdict) ≡ true
-    → IsStepOfEnd site config frame_max channels (frame_here site kind payload) reading verdict after
+abbrev pub StepsAsEnd : (site : Site) → Config (role_of site.side) → (frame_max : ℕ) → (ℕ → Channel) → FrameKind → List ℕ → Reading → Option News → Verdict → Channel → Type 0
+StepsAsEnd site config frame_max channels kind payload reading news verdict after =
+    0 < site.number → config.max_body ≡ site.max_body → Decides site (channels site.number) reading (verdict_view site.number news verdict)
+    → LeavesAfter (role_of site.side) site.number (frame_here site kind payload) reading (verdict_view site.number news verdict) (channels site.number) after
+    → goes_on (verdict_view site.number news verdict) ≡ true
+    → IsStepOfEnd site config frame_max channels (frame_here site kind payload) reading news verdict after
 
 -- an end writes such a payload
 abbrev pub IsWritten : Payload → Type 0

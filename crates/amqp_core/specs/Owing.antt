@@ -1,5 +1,5 @@
 -- What is decided of a frame owes nothing.
-use Rattle.std.specs.Prelude.{Result, Ok, Err, IsOk}
+use Rattle.std.specs.Prelude.{◌≡◌, None, Result, Ok, Err}
 use Rattle.amqp_core.specs.declared.one_end.Decision.{Decision}
 use Rattle.amqp_core.specs.declared.one_end.Decision.TheVariants.{Proceeds, RefusesContent, Faults}
 use Rattle.amqp_core.specs.declared.one_end.Outcome.{Outcome}
@@ -13,7 +13,7 @@ IsNothing other = ⊥
 
 -- the decision is there, goes on, and owes nothing
 abbrev pub OwesNothing : Decision → Type 0
-OwesNothing (Proceeds event owed) = IsNothing owed
+OwesNothing (Proceeds owed) = IsNothing owed
 OwesNothing RefusesContent = ⊥
 OwesNothing (Faults fault) = ⊥
 
@@ -23,7 +23,7 @@ DecidesAlone (Err fault) = ⊥
 
 -- nothing is owed, and no fault found
 abbrev pub EndsAlone : Outcome → Type 0
-EndsAlone outcome = IsNothing outcome.owed × IsOk outcome.told
+EndsAlone outcome = IsNothing outcome.owed × (outcome.fault ≡ None)
 
 -- the outcome is there, and such
 abbrev pub TakesAlone : Result Outcome OutOfMemory → Type 0

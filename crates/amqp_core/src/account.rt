@@ -70,16 +70,17 @@ impl Account {
     fn copy_item(
         &mut self,
         alloc: Global,
-        told: &Result<Option<News>, Fault>,
+        fault: Option<Fault>,
+        news: &Option<News>,
     ) -> Result<(), OutOfMemory>
         requires { self.old.item ≡ None }
-        ensures item { OnOk result (TellsItem told.now self.new) }
+        ensures item { OnOk result (TellsItem news.now fault self.new) }
         ensures octets { self.new.octets ≡ self.old.octets }
         ensures took { self.new.took ≡ self.old.took }
     {
-        let Ok(news) = told else {
+        if fault.is_some() {
             return Ok(());
-        };
+        }
         let Some(item) = Item::of_news(news)? else {
             return Ok(());
         };
@@ -91,16 +92,17 @@ impl Account {
     pub(crate) fn keep_item(
         &mut self,
         alloc: Global,
-        told: &Result<Option<News>, Fault>,
+        fault: Option<Fault>,
+        news: &Option<News>,
     ) -> Result<(), OutOfMemory>
         requires { self.old.item ≡ None }
-        ensures item { self.old.wanted ≡ true → OnOk result (TellsItem told.now self.new) }
+        ensures item { self.old.wanted ≡ true → OnOk result (TellsItem news.now fault self.new) }
         ensures unwanted { self.old.wanted ≡ false → IsOk result }
         ensures octets { self.new.octets ≡ self.old.octets }
         ensures took { self.new.took ≡ self.old.took }
     {
         if self.wanted {
-            return self.copy_item(alloc, told);
+            return self.copy_item(alloc, fault, news);
         }
         Ok(())
     }

@@ -1,5 +1,5 @@
 //! A frame is taken, and what the end owes is put: both, or, out of memory, nothing.
-ghost use Rattle.std.specs.Prelude.{◌≡◌, cond, true, false, [], map, Some, None, IsOk, OnOk, OnErr};
+ghost use Rattle.std.specs.Prelude.{◌≡◌, cond, true, false, [], map, Option, Some, None, IsOk, OnOk, OnErr};
 ghost use Rattle.amqp_model.specs.Channels.{End, Free};
 ghost use Rattle.amqp_model.specs.Closes.{frame_of};
 ghost use Rattle.amqp_model.specs.EndVerdict.{end_puts, end_verdict, facts_at, takes_frames};
@@ -10,6 +10,7 @@ ghost use Rattle.amqp_model.specs.Readings.{reading};
 ghost use Rattle.amqp_model.specs.FrameVerdict.{methods_put};
 ghost use Rattle.amqp_model.specs.Traces.{IsTaken, noted};
 ghost use Rattle.amqp_outbox.specs.OutboxView.{only};
+ghost use Rattle.amqp_channel.specs.declared.news.News.{News};
 ghost use Rattle.amqp_core.specs.AccountView.{item_in_outcome, note_there};
 ghost use Rattle.amqp_core.specs.NoteView.{item_kept};
 ghost use Rattle.amqp_core.specs.Answering.{Answers, EndsAs, PutsAs, Reports, is_out_of_memory, ran_out, stopped};
@@ -46,15 +47,15 @@ impl Fault {
     }
 }
 
-/// What a frame tells, as the application sees it.
-fn report(told: Result<Option<News>, Fault>) -> Result<Option<News>, CoreFault>
-    ensures says { Answers result (told_view told) }
+/// What is answered to a frame, whatever it tells.
+fn report(fault: Option<Fault>) -> Result<(), CoreFault>
+    ensures says { (news : Option News) → Answers news result (told_view news fault) }
     ensures memory { ran_out result ≡ false }
-    ensures ok { IsOk told → IsOk result }
+    ensures ok { fault ≡ None → IsOk result }
 {
-    match told {
-        Ok(news) => Ok(news),
-        Err(fault) => Err(fault.reported()),
+    match fault {
+        None => Ok(()),
+        Some(fault) => Err(fault.reported()),
     }
 }
 
@@ -107,7 +108,8 @@ impl Core {
         self.stage = Stage::Failed(before.agreed());
     }
 
-    /// Takes a frame, and puts what the end owes. Out of memory, the end fails, and nothing is put.
+    /// Takes a frame, and puts what the end owes. What the frame tells goes where the caller has room for it. Out of memory, the
+    /// end fails, and nothing is put.
     pub(crate) fn answer(
         &mut self,
         outbox: &mut Outbox,
@@ -115,11 +117,13 @@ impl Core {
         number: u16,
         payload: &[u8],
         account: &mut Account,
-    ) -> Result<Option<News>, CoreFault>
+        news: &mut Option<News>,
+    ) -> Result<(), CoreFault>
         requires taking { takes_frames (phase_at self.old.stage) ≡ true }
         requires staged { outbox.old.staged ≡ [] }
         requires none { account.old.item ≡ None }
-        ensures said { Answers result (outcome_of (facts_at (config_view self.old.settings) (core_end self.old) number) (end_verdict (config_view self.old.settings) (core_end self.old) (frame_at number kind payload.now))) }
+        requires quiet { news.old ≡ None }
+        ensures said { Answers news.new result (outcome_of (facts_at (config_view self.old.settings) (core_end self.old) number) (end_verdict (config_view self.old.settings) (core_end self.old) (frame_at number kind payload.now))) }
         ensures end { EndsAs result (core_end self.old) (end_after_taken (role_for self.old.settings) (config_view self.old.settings) (core_end self.old) (reading (frame_at number kind payload.now)) (frame_at number kind payload.now)) (core_end self.new) }
         ensures output { PutsAs result outbox.old.output (after_puts (end_puts (config_view self.old.settings) (core_end self.old) (frame_at number kind payload.now)) outbox.old.output) outbox.new }
         ensures alone { account.old.wanted ≡ false → IsDropped (phase_at self.old.stage) ((core_end self.old).channels number) number kind payload.now → IsOk result }
@@ -134,23 +138,21 @@ impl Core {
             self.fail_at(before);
             return Err(CoreFault::OutOfMemory);
         };
-        let Ok(outcome) = self.take(kind, number, payload) else {
+        let Ok(outcome) = self.take(kind, number, payload, news) else {
             self.fail_at(before);
             return Err(CoreFault::OutOfMemory);
         };
-        let Outcome { told, owed } = outcome;
-        let Ok(()) = account.keep_item(self.alloc, &told) else {
-            drop(told);
+        let Outcome { fault, owed } = outcome;
+        let Ok(()) = account.keep_item(self.alloc, fault, news) else {
             self.fail_at(before);
             return Err(CoreFault::OutOfMemory);
         };
         let Ok(()) = put_owed(self.alloc, &self.settings, owed, outbox) else {
-            drop(told);
             self.fail_at(before);
             return Err(CoreFault::OutOfMemory);
         };
         account.owed = owed;
-        report(told)
+        report(fault)
     }
 
     /// Octets are no frame: one above the limit is answered with a close of the connection, and to the others there is no

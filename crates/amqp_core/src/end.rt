@@ -44,8 +44,8 @@ use crate::endpoint::Endpoint;
 use crate::faults::{AskFault, ConfigFault, CoreFault};
 use crate::roles::Role;
 use crate::stage::Phase;
-use crate::taken::{Heard, Taken, told};
-use amqp_channel::{Agreed, ChannelState, Side};
+use crate::taken::{Taken, told};
+use amqp_channel::{Agreed, ChannelState, News, Side};
 use amqp_method::{Kind, Message};
 use amqp_model::{bounds, octets, one_end, traces};
 use amqp_value::ShortStr;
@@ -121,19 +121,24 @@ impl<R: Role> End<R> {
         ensures settings { settings_at self.new ≡ settings_at self.old }
     {
         let mut account = Account::new(false);
-        told(self.advance(piece, &mut account))
+        let mut news = None;
+        let answer = self.advance(piece, &mut account, &mut news);
+        told(answer, news)
     }
 
-    /// Takes octets as [`End::feed`] does, with an account of what came of them, and makes no event yet.
+    /// Takes octets as [`End::feed`] does, and answers how many, with an account of what came of them. What they tell goes where
+    /// the caller has room for it, and is no event yet.
     pub(crate) fn advance(
         &mut self,
         piece: &[u8],
         account: &mut Account,
-    ) -> Result<Heard, CoreFault>
-        requires { IsFresh account.old }
-        ensures fed { IsHeard result (endpoint_of self.old) (after_feed (role_played self.old) (config_at self.old) (endpoint_of self.old) piece.now) (endpoint_of self.new) }
-        ensures within { IfOk result (λ heard. heard.octets ≤ length piece.now) }
-        ensures progress { IfOk result (λ heard. piece.now ≢ [] → 0 < heard.octets) }
+        news: &mut Option<News>,
+    ) -> Result<usize, CoreFault>
+        requires fresh { IsFresh account.old }
+        requires none { news.old ≡ None }
+        ensures fed { IsHeard result news.new (endpoint_of self.old) (after_feed (role_played self.old) (config_at self.old) (endpoint_of self.old) piece.now) (endpoint_of self.new) }
+        ensures within { IfOk result (λ octets. octets ≤ length piece.now) }
+        ensures progress { IfOk result (λ octets. piece.now ≢ [] → 0 < octets) }
         ensures in_place { account.old.wanted ≡ false → DropsInPlace (role_played self.old) (endpoint_of self.old) piece.now → IsOk result }
         ensures history { (history : History) (fed written : List ℕ) → EndpointStandsFor (role_played self.old) (config_at self.old) (endpoint_of self.old) history fed written
             → ∥ GoesOn (role_played self.old) (config_at self.old) (ran_out result) (endpoint_of self.old) history fed written piece.now (after_feed (role_played self.old) (config_at self.old) (endpoint_of self.old) piece.now) (endpoint_of self.new) ∥₁ }
@@ -145,7 +150,7 @@ impl<R: Role> End<R> {
         octets::octets_follow();
         one_end::failed_follows();
         traces::memory_runs_out();
-        self.inner.feed(piece, account)
+        self.inner.feed(piece, account, news)
     }
 
     /// Out of memory: the end has failed, and what it has put can still be sent.

@@ -35,7 +35,6 @@ use crate::opening::going_on;
 use crate::owed::Owed;
 use crate::settings::Settings;
 use crate::stage::Stage;
-use crate::taken::Heard;
 use amqp_channel::{News, Side};
 use amqp_frame::{PROTOCOL_HEADER, Splitter, faults_are_judged, one_frame_at_start};
 use amqp_model::{bounds, fitting, octets, pieces};
@@ -68,12 +67,12 @@ fn tune(splitter: &mut Splitter, stage: Stage)
 }
 
 /// The answer to the frame that so many octets of a piece end.
-fn after_octets(octets: usize, answer: Result<Option<News>, CoreFault>) -> Result<Heard, CoreFault>
+fn after_octets(octets: usize, answer: Result<(), CoreFault>) -> Result<usize, CoreFault>
     ensures piece { IsInPiece octets answer result }
     ensures ok { IsOk answer → IsOk result }
 {
     match answer {
-        Ok(news) => Ok(Heard { octets, news }),
+        Ok(()) => Ok(octets),
         Err(fault) => Err(fault),
     }
 }
@@ -99,11 +98,17 @@ impl Endpoint {
 
     /// Octets of the protocol header, at a server that awaits it.
     #[inline(never)]
-    fn hear(&mut self, piece: &[u8], account: &mut Account) -> Result<Heard, CoreFault>
+    fn hear(
+        &mut self,
+        piece: &[u8],
+        account: &mut Account,
+        news: &mut Option<News>,
+    ) -> Result<usize, CoreFault>
         requires sound { IsSound self.old }
         requires fresh { IsFresh account.old }
+        requires none { news.old ≡ None }
         requires awaits { awaits_opening (role_at self.old) (phase_at self.old.core.stage) ≡ true }
-        ensures fed { IsHeard result (endpoint_view self.old) (after_feed (role_at self.old) (config_view self.old.core.settings) (endpoint_view self.old) piece.now) (endpoint_view self.new) }
+        ensures fed { IsHeard result news.new (endpoint_view self.old) (after_feed (role_at self.old) (config_view self.old.core.settings) (endpoint_view self.old) piece.now) (endpoint_view self.new) }
         ensures account { account.old.wanted ≡ true → ran_out result ≡ false → IsAccount (role_at self.old) (config_view self.old.core.settings) (endpoint_view self.old) piece.now (after_feed (role_at self.old) (config_view self.old.core.settings) (endpoint_view self.old) piece.now) account.new.octets (came_by self.old.core.settings account.new) }
         ensures grows { GrowsLittle (endpoint_view self.old).output (endpoint_view self.new).output }
         ensures sound { IsSound self.new }
@@ -119,17 +124,12 @@ impl Endpoint {
                 return Err(CoreFault::OutOfMemory);
             };
             account.owed = Owed::Start;
-            return Ok(Heard {
-                octets: same,
-                news: Some(News::Quiet),
-            });
+            News::Quiet.put_in(news);
+            return Ok(same);
         }
         if same == piece.len() {
             self.heard += same;
-            return Ok(Heard {
-                octets: same,
-                news: None,
-            });
+            return Ok(same);
         }
         account.octets = same + 1;
         self.heard = 0;
@@ -142,11 +142,17 @@ impl Endpoint {
 
     /// Octets of frames.
     #[inline(never)]
-    fn read(&mut self, piece: &[u8], account: &mut Account) -> Result<Heard, CoreFault>
+    fn read(
+        &mut self,
+        piece: &[u8],
+        account: &mut Account,
+        news: &mut Option<News>,
+    ) -> Result<usize, CoreFault>
         requires sound { IsSound self.old }
         requires fresh { IsFresh account.old }
+        requires none { news.old ≡ None }
         requires reads { reads_frames (role_at self.old) (phase_at self.old.core.stage) ≡ true }
-        ensures fed { IsHeard result (endpoint_view self.old) (after_feed (role_at self.old) (config_view self.old.core.settings) (endpoint_view self.old) piece.now) (endpoint_view self.new) }
+        ensures fed { IsHeard result news.new (endpoint_view self.old) (after_feed (role_at self.old) (config_view self.old.core.settings) (endpoint_view self.old) piece.now) (endpoint_view self.new) }
         // A frame that is dropped takes no memory, where it lies whole in the piece.
         ensures in_place { account.old.wanted ≡ false → DropsInPlace (role_at self.old) (endpoint_view self.old) piece.now → IsOk result }
         ensures account { account.old.wanted ≡ true → ran_out result ≡ false → IsAccount (role_at self.old) (config_view self.old.core.settings) (endpoint_view self.old) piece.now (after_feed (role_at self.old) (config_view self.old.core.settings) (endpoint_view self.old) piece.now) account.new.octets (came_by self.old.core.settings account.new) }
@@ -172,7 +178,7 @@ impl Endpoint {
         let octets = fed.taken;
         account.octets = octets;
         let Some(frame) = fed.frame else {
-            return Ok(Heard { octets, news: None });
+            return Ok(octets);
         };
         let answer = self.core.answer(
             &mut self.outbox,
@@ -180,6 +186,7 @@ impl Endpoint {
             frame.channel,
             frame.payload,
             account,
+            news,
         );
         tune(&mut self.splitter, self.core.stage);
         after_octets(octets, answer)
@@ -203,16 +210,23 @@ impl Endpoint {
         })
     }
 
-    /// Takes octets up to the end of the next frame, or of the protocol header at a server that awaits it.
-    pub(crate) fn feed(&mut self, piece: &[u8], account: &mut Account) -> Result<Heard, CoreFault>
+    /// Takes octets up to the end of the next frame, or of the protocol header at a server that awaits it, and answers how many.
+    /// What they tell goes where the caller has room for it.
+    pub(crate) fn feed(
+        &mut self,
+        piece: &[u8],
+        account: &mut Account,
+        news: &mut Option<News>,
+    ) -> Result<usize, CoreFault>
         requires sound { IsSound self.old }
         requires fresh { IsFresh account.old }
-        ensures fed { IsHeard result (endpoint_view self.old) (after_feed (role_at self.old) (config_view self.old.core.settings) (endpoint_view self.old) piece.now) (endpoint_view self.new) }
+        requires none { news.old ≡ None }
+        ensures fed { IsHeard result news.new (endpoint_view self.old) (after_feed (role_at self.old) (config_view self.old.core.settings) (endpoint_view self.old) piece.now) (endpoint_view self.new) }
         ensures memory { ran_out result ≡ true → takes_octets (phase_at self.old.core.stage) ≡ true }
         // A frame that is dropped takes no memory, where it lies whole in the piece.
         ensures in_place { account.old.wanted ≡ false → DropsInPlace (role_at self.old) (endpoint_view self.old) piece.now → IsOk result }
-        ensures within { IfOk result (λ heard. heard.octets ≤ length piece.now) }
-        ensures progress { IfOk result (λ heard. piece.now ≢ [] → 0 < heard.octets) }
+        ensures within { IfOk result (λ octets. octets ≤ length piece.now) }
+        ensures progress { IfOk result (λ octets. piece.now ≢ [] → 0 < octets) }
         ensures account { account.old.wanted ≡ true → takes_octets (phase_at self.old.core.stage) ≡ true → ran_out result ≡ false → IsAccount (role_at self.old) (config_view self.old.core.settings) (endpoint_view self.old) piece.now (after_feed (role_at self.old) (config_view self.old.core.settings) (endpoint_view self.old) piece.now) account.new.octets (came_by self.old.core.settings account.new) }
         ensures grows { GrowsLittle (endpoint_view self.old).output (endpoint_view self.new).output }
         ensures sound { IsSound self.new }
@@ -226,9 +240,9 @@ impl Endpoint {
             return Err(CoreFault::Failed);
         }
         if self.awaits_header() {
-            return self.hear(piece, account);
+            return self.hear(piece, account, news);
         }
-        self.read(piece, account)
+        self.read(piece, account, news)
     }
 
     /// Out of memory: the end has failed, and keeps no unfinished octets.

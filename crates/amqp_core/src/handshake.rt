@@ -94,79 +94,88 @@ impl Core {
     ghost use Rattle.amqp_core.specs.Settings.{role_for, side_in};
 
     /// The other end closes the connection.
-    fn on_close(&mut self, method: &Method) -> Result<Decision, OutOfMemory>
+    fn on_close(
+        &mut self,
+        method: &Method,
+        news: &mut Option<News>,
+    ) -> Result<Decision, OutOfMemory>
         requires running { leaves (phase_at self.old.stage) ≡ false }
         requires going { takes_frames (phase_at self.old.stage) ≡ true }
         requires close { (method_view method.now).kind ≡ Kind.ConnectionClose }
-        ensures verdict { IfOk result (λ d. IsVerdict self.old.settings (core_end self.old) 0 (Calls (method_view method.now)) d) }
-        ensures after { IfOk result (λ d. LeavesEnd self.old.settings 0 (Calls (method_view method.now)) d (core_end self.old) (core_end self.new)) }
+        ensures verdict { IfOk result (λ d. IsVerdict self.old.settings (core_end self.old) 0 (Calls (method_view method.now)) news.new d) }
+        ensures after { IfOk result (λ d. LeavesEnd self.old.settings 0 (Calls (method_view method.now)) news.new d (core_end self.old) (core_end self.new)) }
         ensures settings { self.new.settings ≡ self.old.settings }
         ensures err { OnErr result (self.new.stage ≡ self.old.stage) }
     {
         let reason = reason_of(method)?;
         self.stage = Stage::Closed(self.stage.agreed());
-        Ok(Decision::Proceeds(Some(News::ConnectionClosed(Some(reason))), Owed::CloseOk))
+        News::ConnectionClosed(Some(reason)).put_in(news);
+        Ok(Decision::Proceeds(Owed::CloseOk))
     }
 
     /// A client answers start with start-ok.
-    fn on_start(&mut self, method: &Method) -> Decision
+    fn on_start(&mut self, method: &Method, news: &mut Option<News>) -> Decision
         requires stage { self.old.stage ≡ Stage.AwaitsStart }
         requires side { side_in self.old.settings.hello ≡ Side.Client }
         requires kind { (method_view method.now).kind ≡ Kind.ConnectionStart }
-        ensures verdict { IsVerdict self.old.settings (core_end self.old) 0 (Calls (method_view method.now)) result }
-        ensures after { LeavesEnd self.old.settings 0 (Calls (method_view method.now)) result (core_end self.old) (core_end self.new) }
+        ensures verdict { IsVerdict self.old.settings (core_end self.old) 0 (Calls (method_view method.now)) news.new result }
+        ensures after { LeavesEnd self.old.settings 0 (Calls (method_view method.now)) news.new result (core_end self.old) (core_end self.new) }
         ensures settings { self.new.settings ≡ self.old.settings }
     {
         self.stage = Stage::AwaitsTune;
-        Decision::Proceeds(Some(News::Quiet), Owed::StartOk)
+        News::Quiet.put_in(news);
+        Decision::Proceeds(Owed::StartOk)
     }
 
     /// A server answers start-ok with tune.
-    fn on_start_ok(&mut self, method: &Method) -> Decision
+    fn on_start_ok(&mut self, method: &Method, news: &mut Option<News>) -> Decision
         requires stage { self.old.stage ≡ Stage.AwaitsStartOk }
         requires side { side_in self.old.settings.hello ≡ Side.Server }
         requires kind { (method_view method.now).kind ≡ Kind.ConnectionStartOk }
-        ensures verdict { IsVerdict self.old.settings (core_end self.old) 0 (Calls (method_view method.now)) result }
-        ensures after { LeavesEnd self.old.settings 0 (Calls (method_view method.now)) result (core_end self.old) (core_end self.new) }
+        ensures verdict { IsVerdict self.old.settings (core_end self.old) 0 (Calls (method_view method.now)) news.new result }
+        ensures after { LeavesEnd self.old.settings 0 (Calls (method_view method.now)) news.new result (core_end self.old) (core_end self.new) }
         ensures settings { self.new.settings ≡ self.old.settings }
     {
         self.stage = Stage::AwaitsTuneOk;
-        Decision::Proceeds(Some(News::Quiet), Owed::Tune)
+        News::Quiet.put_in(news);
+        Decision::Proceeds(Owed::Tune)
     }
 
     /// A server answers open with open-ok, and the connection is Running.
-    fn on_open(&mut self, agreed: Agreed, method: &Method) -> Decision
+    fn on_open(&mut self, agreed: Agreed, method: &Method, news: &mut Option<News>) -> Decision
         requires stage { self.old.stage ≡ Stage.AwaitsOpen agreed }
         requires side { side_in self.old.settings.hello ≡ Side.Server }
         requires kind { (method_view method.now).kind ≡ Kind.ConnectionOpen }
-        ensures verdict { IsVerdict self.old.settings (core_end self.old) 0 (Calls (method_view method.now)) result }
-        ensures after { LeavesEnd self.old.settings 0 (Calls (method_view method.now)) result (core_end self.old) (core_end self.new) }
+        ensures verdict { IsVerdict self.old.settings (core_end self.old) 0 (Calls (method_view method.now)) news.new result }
+        ensures after { LeavesEnd self.old.settings 0 (Calls (method_view method.now)) news.new result (core_end self.old) (core_end self.new) }
         ensures settings { self.new.settings ≡ self.old.settings }
     {
         self.stage = Stage::Running(agreed);
-        Decision::Proceeds(Some(News::Negotiated(agreed)), Owed::OpenOk)
+        News::Negotiated(agreed).put_in(news);
+        Decision::Proceeds(Owed::OpenOk)
     }
 
     /// At a client the connection is Running with open-ok.
-    fn on_open_ok(&mut self, agreed: Agreed, method: &Method) -> Decision
+    fn on_open_ok(&mut self, agreed: Agreed, method: &Method, news: &mut Option<News>) -> Decision
         requires stage { self.old.stage ≡ Stage.AwaitsOpenOk agreed }
         requires side { side_in self.old.settings.hello ≡ Side.Client }
         requires kind { (method_view method.now).kind ≡ Kind.ConnectionOpenOk }
-        ensures verdict { IsVerdict self.old.settings (core_end self.old) 0 (Calls (method_view method.now)) result }
-        ensures after { LeavesEnd self.old.settings 0 (Calls (method_view method.now)) result (core_end self.old) (core_end self.new) }
+        ensures verdict { IsVerdict self.old.settings (core_end self.old) 0 (Calls (method_view method.now)) news.new result }
+        ensures after { LeavesEnd self.old.settings 0 (Calls (method_view method.now)) news.new result (core_end self.old) (core_end self.new) }
         ensures settings { self.new.settings ≡ self.old.settings }
     {
         self.stage = Stage::Running(agreed);
-        Decision::Proceeds(Some(News::Negotiated(agreed)), Owed::Nothing)
+        News::Negotiated(agreed).put_in(news);
+        Decision::Proceeds(Owed::Nothing)
     }
 
     /// A client settles on the smaller of its own limits and the server's, and opens the connection at once.
-    fn on_tune(&mut self, method: &Method) -> Decision
+    fn on_tune(&mut self, method: &Method, news: &mut Option<News>) -> Decision
         requires stage { self.old.stage ≡ Stage.AwaitsTune }
         requires side { side_in self.old.settings.hello ≡ Side.Client }
         requires kind { (method_view method.now).kind ≡ Kind.ConnectionTune }
-        ensures verdict { IsVerdict self.old.settings (core_end self.old) 0 (Calls (method_view method.now)) result }
-        ensures after { LeavesEnd self.old.settings 0 (Calls (method_view method.now)) result (core_end self.old) (core_end self.new) }
+        ensures verdict { IsVerdict self.old.settings (core_end self.old) 0 (Calls (method_view method.now)) news.new result }
+        ensures after { LeavesEnd self.old.settings 0 (Calls (method_view method.now)) news.new result (core_end self.old) (core_end self.new) }
         ensures settings { self.new.settings ≡ self.old.settings }
     {
         let channels = number_at(0, method);
@@ -179,16 +188,17 @@ impl Core {
             frame_max: smaller(self.settings.frame_max as u64, frame) as u32,
         };
         self.stage = Stage::AwaitsOpenOk(agreed);
-        Decision::Proceeds(Some(News::Quiet), Owed::TuneOkAndOpen(agreed))
+        News::Quiet.put_in(news);
+        Decision::Proceeds(Owed::TuneOkAndOpen(agreed))
     }
 
     /// A server takes a tune-ok within its own limits.
-    fn on_tune_ok(&mut self, method: &Method) -> Decision
+    fn on_tune_ok(&mut self, method: &Method, news: &mut Option<News>) -> Decision
         requires stage { self.old.stage ≡ Stage.AwaitsTuneOk }
         requires side { side_in self.old.settings.hello ≡ Side.Server }
         requires kind { (method_view method.now).kind ≡ Kind.ConnectionTuneOk }
-        ensures verdict { IsVerdict self.old.settings (core_end self.old) 0 (Calls (method_view method.now)) result }
-        ensures after { LeavesEnd self.old.settings 0 (Calls (method_view method.now)) result (core_end self.old) (core_end self.new) }
+        ensures verdict { IsVerdict self.old.settings (core_end self.old) 0 (Calls (method_view method.now)) news.new result }
+        ensures after { LeavesEnd self.old.settings 0 (Calls (method_view method.now)) news.new result (core_end self.old) (core_end self.new) }
         ensures settings { self.new.settings ≡ self.old.settings }
     {
         let channels = number_at(0, method);
@@ -200,25 +210,26 @@ impl Core {
             channel_max: channels as u16,
             frame_max: frame as u32,
         });
-        Decision::Proceeds(Some(News::Quiet), Owed::Nothing)
+        News::Quiet.put_in(news);
+        Decision::Proceeds(Owed::Nothing)
     }
 
     /// The method that the stage awaits.
     #[tactic(auto, using(crate::proofs::HandshakeLemmas::awaited_kinds))]
-    fn on_awaited(&mut self, method: &Method) -> Decision
+    fn on_awaited(&mut self, method: &Method, news: &mut Option<News>) -> Decision
         requires awaited { awaits_at self.old.stage (method_view method.now).kind ≡ true }
         requires answered { answered_in (role_for self.old.settings) (phase_at self.old.stage) ≡ true }
-        ensures verdict { IsVerdict self.old.settings (core_end self.old) 0 (Calls (method_view method.now)) result }
-        ensures after { LeavesEnd self.old.settings 0 (Calls (method_view method.now)) result (core_end self.old) (core_end self.new) }
+        ensures verdict { IsVerdict self.old.settings (core_end self.old) 0 (Calls (method_view method.now)) news.new result }
+        ensures after { LeavesEnd self.old.settings 0 (Calls (method_view method.now)) news.new result (core_end self.old) (core_end self.new) }
         ensures settings { self.new.settings ≡ self.old.settings }
     {
         match self.stage {
-            Stage::AwaitsStart => self.on_start(method),
-            Stage::AwaitsStartOk => self.on_start_ok(method),
-            Stage::AwaitsTune => self.on_tune(method),
-            Stage::AwaitsTuneOk => self.on_tune_ok(method),
-            Stage::AwaitsOpen(agreed) => self.on_open(agreed, method),
-            Stage::AwaitsOpenOk(agreed) => self.on_open_ok(agreed, method),
+            Stage::AwaitsStart => self.on_start(method, news),
+            Stage::AwaitsStartOk => self.on_start_ok(method, news),
+            Stage::AwaitsTune => self.on_tune(method, news),
+            Stage::AwaitsTuneOk => self.on_tune_ok(method, news),
+            Stage::AwaitsOpen(agreed) => self.on_open(agreed, method, news),
+            Stage::AwaitsOpenOk(agreed) => self.on_open_ok(agreed, method, news),
             Stage::AwaitsProtocolHeader => unreachable!(),
             Stage::Running(_) => unreachable!(),
             Stage::Closing(_) => unreachable!(),
@@ -229,17 +240,21 @@ impl Core {
 
     /// A method of the handshake on channel 0.
     #[tactic(auto, using(crate::proofs::HandshakeLemmas::awaited_kinds))]
-    pub(crate) fn on_handshake(&mut self, method: &Method) -> Result<Decision, OutOfMemory>
+    pub(crate) fn on_handshake(
+        &mut self,
+        method: &Method,
+        news: &mut Option<News>,
+    ) -> Result<Decision, OutOfMemory>
         requires handshake { is_in_handshake (phase_at self.old.stage) ≡ true }
         requires going { takes_frames (phase_at self.old.stage) ≡ true }
-        ensures verdict { IfOk result (λ d. IsVerdict self.old.settings (core_end self.old) 0 (Calls (method_view method.now)) d) }
-        ensures after { IfOk result (λ d. LeavesEnd self.old.settings 0 (Calls (method_view method.now)) d (core_end self.old) (core_end self.new)) }
+        ensures verdict { IfOk result (λ d. IsVerdict self.old.settings (core_end self.old) 0 (Calls (method_view method.now)) news.new d) }
+        ensures after { IfOk result (λ d. LeavesEnd self.old.settings 0 (Calls (method_view method.now)) news.new d (core_end self.old) (core_end self.new)) }
         ensures settings { self.new.settings ≡ self.old.settings }
         ensures err { OnErr result (self.new.stage ≡ self.old.stage) }
     {
         let kind = method.kind();
         if same(kind, Kind::ConnectionClose) {
-            return self.on_close(method);
+            return self.on_close(method, news);
         }
         let side = self.settings.hello.side();
         if side.is_client() && same(kind, Kind::ConnectionSecure) {
@@ -251,7 +266,7 @@ impl Core {
         if !self.stage.is_answered_by(side) {
             return Ok(closes_with(CloseCode::CommandInvalid));
         }
-        Ok(self.on_awaited(method))
+        Ok(self.on_awaited(method, news))
     }
 
     /// A method on channel 0 of a connection that is Running: the other end's close, and the server's blocked and unblocked.
@@ -260,16 +275,17 @@ impl Core {
         &mut self,
         agreed: Agreed,
         method: &Method,
+        news: &mut Option<News>,
     ) -> Result<Decision, OutOfMemory>
         requires running { self.old.stage ≡ Stage.Running agreed }
-        ensures verdict { IfOk result (λ d. IsVerdict self.old.settings (core_end self.old) 0 (Calls (method_view method.now)) d) }
-        ensures after { IfOk result (λ d. LeavesEnd self.old.settings 0 (Calls (method_view method.now)) d (core_end self.old) (core_end self.new)) }
+        ensures verdict { IfOk result (λ d. IsVerdict self.old.settings (core_end self.old) 0 (Calls (method_view method.now)) news.new d) }
+        ensures after { IfOk result (λ d. LeavesEnd self.old.settings 0 (Calls (method_view method.now)) news.new d (core_end self.old) (core_end self.new)) }
         ensures settings { self.new.settings ≡ self.old.settings }
         ensures err { OnErr result (self.new.stage ≡ self.old.stage) }
     {
         let kind = method.kind();
         if same(kind, Kind::ConnectionClose) {
-            return self.on_close(method);
+            return self.on_close(method, news);
         }
         let side = self.settings.hello.side();
         if side.is_client() && same(kind, Kind::ConnectionSecure) {
@@ -277,10 +293,12 @@ impl Core {
         }
         if side.is_client() && same(kind, Kind::ConnectionBlocked) {
             let reason = blocked_reason(method)?;
-            return Ok(Decision::Proceeds(Some(News::Blocked(reason)), Owed::Nothing));
+            News::Blocked(reason).put_in(news);
+            return Ok(Decision::Proceeds(Owed::Nothing));
         }
         if side.is_client() && same(kind, Kind::ConnectionUnblocked) {
-            return Ok(Decision::Proceeds(Some(News::Unblocked), Owed::Nothing));
+            News::Unblocked.put_in(news);
+            return Ok(Decision::Proceeds(Owed::Nothing));
         }
         if is_of_connection(kind) {
             return Ok(closes_with(CloseCode::CommandInvalid));

@@ -1,13 +1,14 @@
 //! One end of a connection, frame by frame: the rules in their order, of which the first that applies decides.
 //!
 //! A header or a body is read only where no rule before drops the frame, so a frame that is dropped takes no memory.
-ghost use Rattle.std.specs.Prelude.{◌≡◌, ◌⊎◌, ◌<◌, ℕ, true, false, Some, IfOk};
+ghost use Rattle.std.specs.Prelude.{◌≡◌, ◌⊎◌, ◌<◌, ℕ, true, false, Option, Some, None, IfOk};
 ghost use Rattle.amqp_method.specs.MethodView.{method_view};
 ghost use Rattle.amqp_model.specs.Channels.{End};
 ghost use Rattle.amqp_model.specs.EndVerdict.{takes_frames};
 ghost use Rattle.amqp_model.specs.Machine.{as_failed, new_end};
 ghost use Rattle.amqp_model.specs.Methods.{method_at, header_at};
 ghost use Rattle.amqp_model.specs.Readings.{Calls, Beat, BodyOf, method_reading, header_reading};
+ghost use Rattle.amqp_channel.specs.declared.news.News.{News};
 ghost use Rattle.amqp_channel.specs.declared.news.News.TheVariants.{Discarded};
 ghost use Rattle.amqp_core.specs.Stages.{phase_at, leaves};
 ghost use Rattle.amqp_core.specs.declared.stage.Stage.TheVariants.{Running};
@@ -39,27 +40,30 @@ pub(crate) enum Fault {
     Fatal,
 }
 
-/// What comes of a frame by the rule that applies.
-#[derive(Drop)]
+/// What comes of a frame by the rule that applies, beside what it tells the application: that goes where the caller has room
+/// for it.
+#[derive(Clone, Copy)]
 pub(crate) enum Decision {
-    Proceeds(Option<News>, Owed),
+    Proceeds(Owed),
     /// The content is refused at its header, which costs the channel.
     RefusesContent,
     Faults(Fault),
 }
 
-/// The event of a frame for the application, and what the end owes.
-#[derive(Drop)]
+/// Whether an end goes on after a frame, and what it owes.
+#[derive(Clone, Copy)]
 pub(crate) struct Outcome {
-    pub(crate) told: Result<Option<News>, Fault>,
+    pub(crate) fault: Option<Fault>,
     pub(crate) owed: Owed,
 }
 
 /// A frame is dropped.
-pub(crate) fn discards(number: u16) -> Decision
-    ensures { result ≡ Decision.Proceeds (Some (Discarded number)) Owed.Nothing }
+pub(crate) fn discards(number: u16, news: &mut Option<News>) -> Decision
+    ensures decision { result ≡ Decision.Proceeds Owed.Nothing }
+    ensures news { news.new ≡ Some (Discarded number) }
 {
-    Decision::Proceeds(Some(News::Discarded(number)), Owed::Nothing)
+    News::Discarded(number).put_in(news);
+    Decision::Proceeds(Owed::Nothing)
 }
 
 /// The other end broke the protocol.
@@ -114,12 +118,12 @@ impl Core {
 
     /// What comes of a frame that a channel took.
     fn decide(number: u16, verdict: Verdict) -> Decision
-        ensures { (settings : Settings) → decision_view settings result ≡ verdict_view number verdict }
+        ensures { (settings : Settings) (news : Option News) → decision_view settings news result ≡ verdict_view number news verdict }
     {
         match verdict {
-            Verdict::Proceeds(event, reply) => match reply {
-                Some(reply) => Decision::Proceeds(event, Owed::OnChannel(number, reply)),
-                None => Decision::Proceeds(event, Owed::Nothing),
+            Verdict::Proceeds(reply) => match reply {
+                Some(reply) => Decision::Proceeds(Owed::OnChannel(number, reply)),
+                None => Decision::Proceeds(Owed::Nothing),
             },
             Verdict::RefusesContent => Decision::RefusesContent,
             Verdict::Faults(code) => Decision::Faults(Fault::Peer(code)),
@@ -127,17 +131,18 @@ impl Core {
     }
 
     /// A heartbeat, which is to be empty and to stand on channel 0.
-    pub(crate) fn on_heartbeat(&self, number: u16, empty: bool) -> Decision
+    pub(crate) fn on_heartbeat(&self, number: u16, empty: bool, news: &mut Option<News>) -> Decision
         requires { takes_frames (phase_at self.now.stage) ≡ true }
-        ensures verdict { IsVerdict self.now.settings (core_end self.now) number (Beat empty) result }
-        ensures after { LeavesEnd self.now.settings number (Beat empty) result (core_end self.now) (core_end self.now) }
+        ensures verdict { IsVerdict self.now.settings (core_end self.now) number (Beat empty) news.new result }
+        ensures after { LeavesEnd self.now.settings number (Beat empty) news.new result (core_end self.now) (core_end self.now) }
         ensures alone { (leaves (phase_at self.now.stage) ≡ true) ⊎ ((number ≡ 0) × (empty ≡ true)) → OwesNothing result }
     {
         if self.stage.is_closing() {
-            return discards(number);
+            return discards(number, news);
         }
         if number == 0 && empty {
-            return Decision::Proceeds(Some(News::Quiet), Owed::Nothing);
+            News::Quiet.put_in(news);
+            return Decision::Proceeds(Owed::Nothing);
         }
         closes_with(CloseCode::FrameError)
     }
@@ -148,16 +153,18 @@ impl Core {
         agreed: Agreed,
         number: u16,
         method: Method,
+        news: &mut Option<News>,
     ) -> Result<Decision, OutOfMemory>
         requires running { self.old.stage ≡ Running agreed }
         requires above { 0 < number }
-        ensures verdict { IfOk result (λ d. IsVerdict self.old.settings (core_end self.old) number (Calls (method_view method)) d) }
-        ensures after { IfOk result (λ d. LeavesEnd self.old.settings number (Calls (method_view method)) d (core_end self.old) (core_end self.new)) }
+        requires none { news.old ≡ None }
+        ensures verdict { IfOk result (λ d. IsVerdict self.old.settings (core_end self.old) number (Calls (method_view method)) news.new d) }
+        ensures after { IfOk result (λ d. LeavesEnd self.old.settings number (Calls (method_view method)) news.new d (core_end self.old) (core_end self.new)) }
         ensures settings { self.new.settings ≡ self.old.settings }
         ensures stage { self.new.stage ≡ self.old.stage }
     {
         let site = self.site(number, agreed.channel_max);
-        let verdict = self.channels.take_method(self.alloc, site, method)?;
+        let verdict = self.channels.take_method(self.alloc, site, method, news)?;
         Ok(Core::decide(number, verdict))
     }
 
@@ -167,16 +174,18 @@ impl Core {
         agreed: Agreed,
         number: u16,
         octets: &[u8],
+        news: &mut Option<News>,
     ) -> Result<Decision, OutOfMemory>
         requires running { self.old.stage ≡ Running agreed }
         requires above { 0 < number }
-        ensures verdict { IfOk result (λ d. IsVerdict self.old.settings (core_end self.old) number (BodyOf octets.now) d) }
-        ensures after { IfOk result (λ d. LeavesEnd self.old.settings number (BodyOf octets.now) d (core_end self.old) (core_end self.new)) }
+        requires none { news.old ≡ None }
+        ensures verdict { IfOk result (λ d. IsVerdict self.old.settings (core_end self.old) number (BodyOf octets.now) news.new d) }
+        ensures after { IfOk result (λ d. LeavesEnd self.old.settings number (BodyOf octets.now) news.new d (core_end self.old) (core_end self.new)) }
         ensures settings { self.new.settings ≡ self.old.settings }
         ensures stage { self.new.stage ≡ self.old.stage }
     {
         let site = self.site(number, agreed.channel_max);
-        let verdict = self.channels.take_body(site, octets)?;
+        let verdict = self.channels.take_body(site, octets, news)?;
         Ok(Core::decide(number, verdict))
     }
 
@@ -186,11 +195,13 @@ impl Core {
         agreed: Agreed,
         number: u16,
         payload: &[u8],
+        news: &mut Option<News>,
     ) -> Result<Decision, OutOfMemory>
         requires running { self.old.stage ≡ Running agreed }
         requires above { 0 < number }
-        ensures verdict { IfOk result (λ d. IsVerdict self.old.settings (core_end self.old) number (header_reading (header_at payload.now)) d) }
-        ensures after { IfOk result (λ d. LeavesEnd self.old.settings number (header_reading (header_at payload.now)) d (core_end self.old) (core_end self.new)) }
+        requires none { news.old ≡ None }
+        ensures verdict { IfOk result (λ d. IsVerdict self.old.settings (core_end self.old) number (header_reading (header_at payload.now)) news.new d) }
+        ensures after { IfOk result (λ d. LeavesEnd self.old.settings number (header_reading (header_at payload.now)) news.new d (core_end self.old) (core_end self.new)) }
         ensures settings { self.new.settings ≡ self.old.settings }
         ensures stage { self.new.stage ≡ self.old.stage }
     {
@@ -198,48 +209,55 @@ impl Core {
         let read = read_content_header(self.alloc, payload)?;
         match read {
             Some(parts) => {
-                let verdict = self.channels.take_header(site, parts);
+                let verdict = self.channels.take_header(site, parts, news);
                 Ok(Core::decide(number, verdict))
             }
             None => {
-                let verdict = self.channels.take_unread_header(site);
+                let verdict = self.channels.take_unread_header(site, news);
                 Ok(Core::decide(number, verdict))
             }
         }
     }
 
     /// A method on a channel that this end has closed, and whose close-ok is due.
-    pub(crate) fn on_closing(&mut self, number: u16, method: &Method) -> Decision
+    pub(crate) fn on_closing(
+        &mut self,
+        number: u16,
+        method: &Method,
+        news: &mut Option<News>,
+    ) -> Decision
         requires above { 0 < number }
         requires stays { leaves (phase_at self.old.stage) ≡ false }
         requires taking { takes_frames (phase_at self.old.stage) ≡ true }
         requires closing { is_closing_at (channels_view self.old.channels number) ≡ true }
-        ensures verdict { IsVerdict self.old.settings (core_end self.old) number (Calls (method_view method.now)) result }
-        ensures after { LeavesEnd self.old.settings number (Calls (method_view method.now)) result (core_end self.old) (core_end self.new) }
+        ensures verdict { IsVerdict self.old.settings (core_end self.old) number (Calls (method_view method.now)) news.new result }
+        ensures after { LeavesEnd self.old.settings number (Calls (method_view method.now)) news.new result (core_end self.old) (core_end self.new) }
         ensures settings { self.new.settings ≡ self.old.settings }
         ensures stage { self.new.stage ≡ self.old.stage }
     {
         let site = self.site(number, 0);
-        let verdict = self.channels.take_closing(site, method);
+        let verdict = self.channels.take_closing(site, method, news);
         Core::decide(number, verdict)
     }
 
     /// A method on channel 0, where this end has put connection.close: it answers a close that crosses its own, and close-ok
     /// ends the connection.
-    pub(crate) fn on_leaving(&mut self, method: &Method) -> Decision
+    pub(crate) fn on_leaving(&mut self, method: &Method, news: &mut Option<News>) -> Decision
         requires { leaves (phase_at self.old.stage) ≡ true }
-        ensures verdict { IsVerdict self.old.settings (core_end self.old) 0 (Calls (method_view method.now)) result }
-        ensures after { LeavesEnd self.old.settings 0 (Calls (method_view method.now)) result (core_end self.old) (core_end self.new) }
+        ensures verdict { IsVerdict self.old.settings (core_end self.old) 0 (Calls (method_view method.now)) news.new result }
+        ensures after { LeavesEnd self.old.settings 0 (Calls (method_view method.now)) news.new result (core_end self.old) (core_end self.new) }
         ensures settings { self.new.settings ≡ self.old.settings }
     {
         let kind = method.kind();
         if same(kind, Kind::ConnectionClose) {
-            return Decision::Proceeds(Some(News::Quiet), Owed::CloseOk);
+            News::Quiet.put_in(news);
+            return Decision::Proceeds(Owed::CloseOk);
         }
         if same(kind, Kind::ConnectionCloseOk) {
             self.stage = Stage::Closed(self.stage.agreed());
-            return Decision::Proceeds(Some(News::ConnectionClosed(None)), Owed::Nothing);
+            News::ConnectionClosed(None).put_in(news);
+            return Decision::Proceeds(Owed::Nothing);
         }
-        discards(0)
+        discards(0, news)
     }
 }

@@ -15,39 +15,33 @@ pub struct Taken {
     pub event: Option<Event>,
 }
 
-/// The same, before the event is made. An event is large, so it is made once, when all else is done.
-#[derive(Drop)]
-pub(crate) struct Heard {
-    pub(crate) octets: usize,
-    pub(crate) news: Option<News>,
-}
-
-impl Heard {
-    fn into_taken(self) -> Taken
-        ensures octets { result.octets ≡ self.octets }
-        ensures event { event_there result.event ≡ news_there self.news }
-        ensures none { self.news ≡ None → result.event ≡ None }
-    {
-        let Heard { octets, news } = self;
-        let Some(news) = news else {
-            return Taken {
-                octets,
-                event: None,
-            };
-        };
-        Taken {
+/// What was taken, with the event that its news make.
+fn with_event(octets: usize, news: Option<News>) -> Taken
+    ensures octets { result.octets ≡ octets }
+    ensures event { event_there result.event ≡ news_there news }
+    ensures none { news ≡ None → result.event ≡ None }
+{
+    let Some(news) = news else {
+        return Taken {
             octets,
-            event: Some(news.into_event()),
-        }
+            event: None,
+        };
+    };
+    Taken {
+        octets,
+        event: Some(news.into_event()),
     }
 }
 
-/// An answer to a piece, with its event.
-pub(crate) fn told(answer: Result<Heard, CoreFault>) -> Result<Taken, CoreFault>
-    ensures { IsToldAs answer result }
+/// An answer to a piece, with its event. An event is large, so it is made once, when all else is done.
+pub(crate) fn told(answer: Result<usize, CoreFault>, news: Option<News>) -> Result<Taken, CoreFault>
+    ensures { IsToldAs news answer result }
 {
     match answer {
-        Ok(heard) => Ok(heard.into_taken()),
-        Err(fault) => Err(fault),
+        Ok(octets) => Ok(with_event(octets, news)),
+        Err(fault) => {
+            drop(news);
+            Err(fault)
+        }
     }
 }

@@ -3,7 +3,7 @@
 //! An end that has put connection.close drops all but the other end's close and close-ok. A heartbeat stands on channel 0. A
 //! channel that this end has closed drops all but close and close-ok. A method has to be one that there is. Until the handshake
 //! is over nothing but its next method is taken. What is left is for the channel, or for the connection.
-ghost use Rattle.std.specs.Prelude.{◌≡◌, ◌<◌, ℕ, true, false, [], IfOk, OnErr};
+ghost use Rattle.std.specs.Prelude.{◌≡◌, ◌<◌, ℕ, true, false, [], Option, None, IfOk, OnErr};
 ghost use Rattle.amqp_method.specs.MethodView.{method_view};
 ghost use Rattle.amqp_model.specs.EndVerdict.{end_verdict, facts_at, takes_frames};
 ghost use Rattle.amqp_model.specs.Endpoint.{outcome_of};
@@ -12,6 +12,7 @@ ghost use Rattle.amqp_model.specs.Machine.{end_after_taken};
 ghost use Rattle.amqp_model.specs.Methods.{method_at, header_at};
 ghost use Rattle.amqp_model.specs.Readings.{Calls, Beat, BodyOf, method_reading, header_reading, reading};
 ghost use Rattle.amqp_channel.specs.Unreads.{unread_view, IsOfMethod};
+ghost use Rattle.amqp_channel.specs.declared.news.News.{News};
 ghost use Rattle.amqp_channel.specs.Used.{is_closing_at};
 ghost use Rattle.amqp_core.specs.CoreView.{fault_of, frame_at};
 ghost use Rattle.amqp_core.specs.Outcomes.{owed_for};
@@ -61,61 +62,77 @@ impl Core {
 
     /// A method frame where this end has put connection.close. On another channel than 0 it is not read.
     #[tactic(auto, using(crate::proofs::CoreLemmas::drops))]
-    fn on_call_leaving(&mut self, number: u16, payload: &[u8]) -> Result<Decision, OutOfMemory>
+    fn on_call_leaving(
+        &mut self,
+        number: u16,
+        payload: &[u8],
+        news: &mut Option<News>,
+    ) -> Result<Decision, OutOfMemory>
         requires { leaves (phase_at self.old.stage) ≡ true }
-        ensures verdict { IfOk result (λ d. IsVerdict self.old.settings (core_end self.old) number (method_reading (method_at payload.now)) d) }
-        ensures after { IfOk result (λ d. LeavesEnd self.old.settings number (method_reading (method_at payload.now)) d (core_end self.old) (core_end self.new)) }
+        ensures verdict { IfOk result (λ d. IsVerdict self.old.settings (core_end self.old) number (method_reading (method_at payload.now)) news.new d) }
+        ensures after { IfOk result (λ d. LeavesEnd self.old.settings number (method_reading (method_at payload.now)) news.new d (core_end self.old) (core_end self.new)) }
         ensures settings { self.new.settings ≡ self.old.settings }
         ensures err { OnErr result (self.new.stage ≡ self.old.stage) }
     {
         if number != 0 {
-            return Ok(discards(number));
+            return Ok(discards(number, news));
         }
         let read = read_call(self.alloc, payload)?;
         match read {
-            Ok(method) => Ok(self.on_leaving(&method)),
-            Err(_) => Ok(discards(number)),
+            Ok(method) => Ok(self.on_leaving(&method, news)),
+            Err(_) => Ok(discards(number, news)),
         }
     }
 
     /// A method frame on a channel that this end has closed.
-    fn on_call_closing(&mut self, number: u16, payload: &[u8]) -> Result<Decision, OutOfMemory>
+    fn on_call_closing(
+        &mut self,
+        number: u16,
+        payload: &[u8],
+        news: &mut Option<News>,
+    ) -> Result<Decision, OutOfMemory>
         requires above { 0 < number }
         requires stays { leaves (phase_at self.old.stage) ≡ false }
         requires taking { takes_frames (phase_at self.old.stage) ≡ true }
         requires closing { is_closing_at (channels_view self.old.channels number) ≡ true }
-        ensures verdict { IfOk result (λ d. IsVerdict self.old.settings (core_end self.old) number (method_reading (method_at payload.now)) d) }
-        ensures after { IfOk result (λ d. LeavesEnd self.old.settings number (method_reading (method_at payload.now)) d (core_end self.old) (core_end self.new)) }
+        ensures verdict { IfOk result (λ d. IsVerdict self.old.settings (core_end self.old) number (method_reading (method_at payload.now)) news.new d) }
+        ensures after { IfOk result (λ d. LeavesEnd self.old.settings number (method_reading (method_at payload.now)) news.new d (core_end self.old) (core_end self.new)) }
         ensures settings { self.new.settings ≡ self.old.settings }
         ensures err { OnErr result (self.new.stage ≡ self.old.stage) }
     {
         let read = read_call(self.alloc, payload)?;
         match read {
-            Ok(method) => Ok(self.on_closing(number, &method)),
-            Err(_) => Ok(discards(number)),
+            Ok(method) => Ok(self.on_closing(number, &method, news)),
+            Err(_) => Ok(discards(number, news)),
         }
     }
 
     /// A method of the handshake, or on a connection that is Running.
-    fn on_method(&mut self, number: u16, method: Method) -> Result<Decision, OutOfMemory>
+    fn on_method(
+        &mut self,
+        number: u16,
+        method: Method,
+        news: &mut Option<News>,
+    ) -> Result<Decision, OutOfMemory>
         requires stays { leaves (phase_at self.old.stage) ≡ false }
         requires taking { takes_frames (phase_at self.old.stage) ≡ true }
         requires open { is_closing_at (channels_view self.old.channels number) ≡ false }
-        ensures verdict { IfOk result (λ d. IsVerdict self.old.settings (core_end self.old) number (Calls (method_view method)) d) }
-        ensures after { IfOk result (λ d. LeavesEnd self.old.settings number (Calls (method_view method)) d (core_end self.old) (core_end self.new)) }
+        requires none { news.old ≡ None }
+        ensures verdict { IfOk result (λ d. IsVerdict self.old.settings (core_end self.old) number (Calls (method_view method)) news.new d) }
+        ensures after { IfOk result (λ d. LeavesEnd self.old.settings number (Calls (method_view method)) news.new d (core_end self.old) (core_end self.new)) }
         ensures settings { self.new.settings ≡ self.old.settings }
         ensures err { OnErr result (self.new.stage ≡ self.old.stage) }
     {
         if let Stage::Running(agreed) = self.stage {
             if number == 0 {
-                return self.on_connection(agreed, &method);
+                return self.on_connection(agreed, &method, news);
             }
-            return self.on_channel(agreed, number, method);
+            return self.on_channel(agreed, number, method, news);
         }
         if number != 0 {
             return Ok(closes_with(CloseCode::CommandInvalid));
         }
-        self.on_handshake(&method)
+        self.on_handshake(&method, news)
     }
 
     /// A method that can't be read, where it isn't dropped.
@@ -124,77 +141,95 @@ impl Core {
         requires taking { takes_frames (phase_at self.now.stage) ≡ true }
         requires open { is_closing_at (channels_view self.now.channels number) ≡ false }
         requires method { IsOfMethod unread }
-        ensures verdict { IsVerdict self.now.settings (core_end self.now) number (unread_view unread) result }
-        ensures after { LeavesEnd self.now.settings number (unread_view unread) result (core_end self.now) (core_end self.now) }
+        ensures verdict { (news : Option News) → IsVerdict self.now.settings (core_end self.now) number (unread_view unread) news result }
+        ensures after { (news : Option News) → LeavesEnd self.now.settings number (unread_view unread) news result (core_end self.now) (core_end self.now) }
     {
         closes_with(unread.code())
     }
 
     /// A method frame.
-    fn on_call(&mut self, number: u16, payload: &[u8]) -> Result<Decision, OutOfMemory>
+    fn on_call(
+        &mut self,
+        number: u16,
+        payload: &[u8],
+        news: &mut Option<News>,
+    ) -> Result<Decision, OutOfMemory>
         requires taking { takes_frames (phase_at self.old.stage) ≡ true }
-        ensures verdict { IfOk result (λ d. IsVerdict self.old.settings (core_end self.old) number (method_reading (method_at payload.now)) d) }
-        ensures after { IfOk result (λ d. LeavesEnd self.old.settings number (method_reading (method_at payload.now)) d (core_end self.old) (core_end self.new)) }
+        requires none { news.old ≡ None }
+        ensures verdict { IfOk result (λ d. IsVerdict self.old.settings (core_end self.old) number (method_reading (method_at payload.now)) news.new d) }
+        ensures after { IfOk result (λ d. LeavesEnd self.old.settings number (method_reading (method_at payload.now)) news.new d (core_end self.old) (core_end self.new)) }
         ensures settings { self.new.settings ≡ self.old.settings }
         ensures err { OnErr result (self.new.stage ≡ self.old.stage) }
     {
         if self.stage.is_closing() {
-            return self.on_call_leaving(number, payload);
+            return self.on_call_leaving(number, payload, news);
         }
         if number != 0 && self.channels.is_closing(number) {
-            return self.on_call_closing(number, payload);
+            return self.on_call_closing(number, payload, news);
         }
         let read = read_call(self.alloc, payload)?;
         match read {
-            Ok(method) => self.on_method(number, method),
+            Ok(method) => self.on_method(number, method, news),
             Err(unread) => Ok(self.on_unread(number, unread)),
         }
     }
 
     /// A header frame. It is read only where a channel may take it.
-    fn on_header_frame(&mut self, number: u16, payload: &[u8]) -> Result<Decision, OutOfMemory>
+    fn on_header_frame(
+        &mut self,
+        number: u16,
+        payload: &[u8],
+        news: &mut Option<News>,
+    ) -> Result<Decision, OutOfMemory>
         requires taking { takes_frames (phase_at self.old.stage) ≡ true }
-        ensures verdict { IfOk result (λ d. IsVerdict self.old.settings (core_end self.old) number (header_reading (header_at payload.now)) d) }
-        ensures after { IfOk result (λ d. LeavesEnd self.old.settings number (header_reading (header_at payload.now)) d (core_end self.old) (core_end self.new)) }
+        requires none { news.old ≡ None }
+        ensures verdict { IfOk result (λ d. IsVerdict self.old.settings (core_end self.old) number (header_reading (header_at payload.now)) news.new d) }
+        ensures after { IfOk result (λ d. LeavesEnd self.old.settings number (header_reading (header_at payload.now)) news.new d (core_end self.old) (core_end self.new)) }
         ensures settings { self.new.settings ≡ self.old.settings }
         ensures err { OnErr result (self.new.stage ≡ self.old.stage) }
         ensures alone { IsDropped (phase_at self.old.stage) (channels_view self.old.channels number) number FrameKind.Header payload.now → DecidesAlone result }
     {
         if self.stage.is_closing() {
-            return Ok(discards(number));
+            return Ok(discards(number, news));
         }
         if number != 0 && self.channels.is_closing(number) {
-            return Ok(discards(number));
+            return Ok(discards(number, news));
         }
         if let Stage::Running(agreed) = self.stage {
             if number == 0 {
                 return Ok(closes_with(CloseCode::ChannelError));
             }
-            return self.on_header(agreed, number, payload);
+            return self.on_header(agreed, number, payload, news);
         }
         Ok(closes_with(CloseCode::CommandInvalid))
     }
 
     /// A body frame.
-    fn on_body_frame(&mut self, number: u16, payload: &[u8]) -> Result<Decision, OutOfMemory>
+    fn on_body_frame(
+        &mut self,
+        number: u16,
+        payload: &[u8],
+        news: &mut Option<News>,
+    ) -> Result<Decision, OutOfMemory>
         requires taking { takes_frames (phase_at self.old.stage) ≡ true }
-        ensures verdict { IfOk result (λ d. IsVerdict self.old.settings (core_end self.old) number (BodyOf payload.now) d) }
-        ensures after { IfOk result (λ d. LeavesEnd self.old.settings number (BodyOf payload.now) d (core_end self.old) (core_end self.new)) }
+        requires none { news.old ≡ None }
+        ensures verdict { IfOk result (λ d. IsVerdict self.old.settings (core_end self.old) number (BodyOf payload.now) news.new d) }
+        ensures after { IfOk result (λ d. LeavesEnd self.old.settings number (BodyOf payload.now) news.new d (core_end self.old) (core_end self.new)) }
         ensures settings { self.new.settings ≡ self.old.settings }
         ensures err { OnErr result (self.new.stage ≡ self.old.stage) }
         ensures alone { IsDropped (phase_at self.old.stage) (channels_view self.old.channels number) number FrameKind.Body payload.now → DecidesAlone result }
     {
         if self.stage.is_closing() {
-            return Ok(discards(number));
+            return Ok(discards(number, news));
         }
         if number != 0 && self.channels.is_closing(number) {
-            return Ok(discards(number));
+            return Ok(discards(number, news));
         }
         if let Stage::Running(agreed) = self.stage {
             if number == 0 {
                 return Ok(closes_with(CloseCode::ChannelError));
             }
-            return self.on_body(agreed, number, payload);
+            return self.on_body(agreed, number, payload, news);
         }
         Ok(closes_with(CloseCode::CommandInvalid))
     }
@@ -205,58 +240,68 @@ impl Core {
         kind: FrameKind,
         number: u16,
         payload: &[u8],
+        news: &mut Option<News>,
     ) -> Result<Decision, OutOfMemory>
         requires taking { takes_frames (phase_at self.old.stage) ≡ true }
-        ensures verdict { IfOk result (λ d. IsVerdict self.old.settings (core_end self.old) number (reading (frame_at number kind payload.now)) d) }
-        ensures after { IfOk result (λ d. LeavesEnd self.old.settings number (reading (frame_at number kind payload.now)) d (core_end self.old) (core_end self.new)) }
+        requires none { news.old ≡ None }
+        ensures verdict { IfOk result (λ d. IsVerdict self.old.settings (core_end self.old) number (reading (frame_at number kind payload.now)) news.new d) }
+        ensures after { IfOk result (λ d. LeavesEnd self.old.settings number (reading (frame_at number kind payload.now)) news.new d (core_end self.old) (core_end self.new)) }
         ensures settings { self.new.settings ≡ self.old.settings }
         ensures err { OnErr result (self.new.stage ≡ self.old.stage) }
         ensures alone { IsDropped (phase_at self.old.stage) (channels_view self.old.channels number) number kind payload.now → DecidesAlone result }
     {
         match kind {
-            FrameKind::Heartbeat => Ok(self.on_heartbeat(number, is_empty_beat(payload))),
-            FrameKind::Method => self.on_call(number, payload),
-            FrameKind::Header => self.on_header_frame(number, payload),
-            FrameKind::Body => self.on_body_frame(number, payload),
+            FrameKind::Heartbeat => Ok(self.on_heartbeat(number, is_empty_beat(payload), news)),
+            FrameKind::Method => self.on_call(number, payload, news),
+            FrameKind::Header => self.on_header_frame(number, payload, news),
+            FrameKind::Body => self.on_body_frame(number, payload, news),
         }
     }
 
-    /// The event for the application, and what the end owes. Connection.close is put once.
-    fn conclude(&mut self, closing: bool, number: u16, decision: Decision) -> Outcome
-        ensures owed { owed_view self.old.settings result.owed ≡ owed_by closing number (decision_view self.old.settings decision) }
-        ensures told { told_view result.told ≡ told_by number (decision_view self.old.settings decision) }
-        ensures after { core_end self.new ≡ ended_by (decision_view self.old.settings decision) (core_end self.old) }
+    /// What an end owes after a frame, and whether it goes on. Connection.close is put once.
+    fn conclude(
+        &mut self,
+        closing: bool,
+        number: u16,
+        decision: Decision,
+        news: &mut Option<News>,
+    ) -> Outcome
+        ensures owed { owed_view self.old.settings result.owed ≡ owed_by closing number (decision_view self.old.settings news.old decision) }
+        ensures told { told_view news.new result.fault ≡ told_by number (decision_view self.old.settings news.old decision) }
+        ensures after { core_end self.new ≡ ended_by (decision_view self.old.settings news.old decision) (core_end self.old) }
         ensures alone { OwesNothing decision → EndsAlone result }
         ensures settings { self.new.settings ≡ self.old.settings }
     {
         match decision {
-            Decision::Proceeds(event, owed) => Outcome {
-                told: Ok(event),
-                owed,
-            },
-            Decision::RefusesContent => Outcome {
-                told: Ok(Some(News::Discarded(number))),
-                owed: Owed::ChannelClose(number, CloseCode::ContentTooLarge),
-            },
+            Decision::Proceeds(owed) => Outcome { fault: None, owed },
+            Decision::RefusesContent => {
+                News::Discarded(number).put_in(news);
+                Outcome {
+                    fault: None,
+                    owed: Owed::ChannelClose(number, CloseCode::ContentTooLarge),
+                }
+            }
             Decision::Faults(fault) => {
                 self.stage = Stage::Failed(self.stage.agreed());
                 Outcome {
-                    told: Err(fault),
+                    fault: Some(fault),
                     owed: owed_at(closing, fault),
                 }
             }
         }
     }
 
-    /// Takes a frame: the event for the application, and what the end owes.
+    /// Takes a frame: what it tells the application, which goes where the caller has room for it, and what the end owes.
     pub(crate) fn take(
         &mut self,
         kind: FrameKind,
         number: u16,
         payload: &[u8],
+        news: &mut Option<News>,
     ) -> Result<Outcome, OutOfMemory>
         requires taking { takes_frames (phase_at self.old.stage) ≡ true }
-        ensures told { IfOk result (λ o. told_view o.told ≡ outcome_of (facts_at (config_view self.old.settings) (core_end self.old) number) (end_verdict (config_view self.old.settings) (core_end self.old) (frame_at number kind payload.now))) }
+        requires none { news.old ≡ None }
+        ensures told { IfOk result (λ o. told_view news.new o.fault ≡ outcome_of (facts_at (config_view self.old.settings) (core_end self.old) number) (end_verdict (config_view self.old.settings) (core_end self.old) (frame_at number kind payload.now))) }
         ensures owed { IfOk result (λ o. owed_view self.old.settings o.owed ≡ methods_put (facts_at (config_view self.old.settings) (core_end self.old) number) (end_verdict (config_view self.old.settings) (core_end self.old) (frame_at number kind payload.now))) }
         ensures after { IfOk result (λ o. SameEnd (end_after_taken (role_for self.old.settings) (config_view self.old.settings) (core_end self.old) (reading (frame_at number kind payload.now)) (frame_at number kind payload.now)) (core_end self.new)) }
         ensures settings { self.new.settings ≡ self.old.settings }
@@ -264,7 +309,7 @@ impl Core {
         ensures alone { IsDropped (phase_at self.old.stage) (channels_view self.old.channels number) number kind payload.now → TakesAlone result }
     {
         let closing = self.stage.is_closing();
-        let decision = self.decide_frame(kind, number, payload)?;
-        Ok(self.conclude(closing, number, decision))
+        let decision = self.decide_frame(kind, number, payload, news)?;
+        Ok(self.conclude(closing, number, decision, news))
     }
 }

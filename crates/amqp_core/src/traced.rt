@@ -105,7 +105,9 @@ impl<R: Role> Traced<R> {
             self.end.run_out();
             return Err(CoreFault::OutOfMemory);
         }
-        told(take(&mut self.end, &mut self.ledger, piece))
+        let mut news = None;
+        let answer = take(&mut self.end, &mut self.ledger, piece, &mut news);
+        told(answer, news)
     }
 
     /// Does what an application asks, as [`End::ask`] does. Out of memory, nothing has changed.

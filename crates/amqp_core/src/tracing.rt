@@ -1,5 +1,5 @@
 //! What an end does, and what is kept of it beside the end: both, or, out of memory, neither.
-ghost use Rattle.std.specs.Prelude.{◌≡◌, ◌≢◌, ◌+◌, ◌*◌, ◌<◌, ◌≤◌, ℕ, true, false, [], length, vec_len, vec_capacity, IfOk, IfErr, OnOk, OnErr};
+ghost use Rattle.std.specs.Prelude.{◌≡◌, ◌≢◌, ◌+◌, ◌*◌, ◌<◌, ◌≤◌, ℕ, true, false, [], length, vec_len, vec_capacity, None, IfOk, IfErr, OnOk, OnErr};
 ghost use Rattle.amqp_model.specs.Asks.{frames_asked, refusal};
 ghost use Rattle.amqp_model.specs.Endpoint.{after_feed};
 ghost use Rattle.amqp_model.specs.EndVerdict.{takes_octets};
@@ -28,8 +28,8 @@ use crate::end::End;
 use crate::faults::{AskFault, CoreFault, OutOfMemory};
 use crate::ledger::Ledger;
 use crate::roles::Role;
-use crate::taken::Heard;
 use crate::tellings::Item;
+use amqp_channel::News;
 use amqp_model::{fitting, octets, one_end, traces};
 
 /// Makes room for so many frames, so many octets that are fed, and as many that are written as the output has and may get.
@@ -53,7 +53,7 @@ pub(crate) fn make_room<R: Role>(
     ledger.reserve(frames, fed, written)
 }
 
-fn is_out_of_memory(answer: &Result<Heard, CoreFault>) -> bool
+fn is_out_of_memory(answer: &Result<usize, CoreFault>) -> bool
     ensures { result ≡ ran_out answer.now }
 {
     match answer {
@@ -63,21 +63,23 @@ fn is_out_of_memory(answer: &Result<Heard, CoreFault>) -> bool
     }
 }
 
-/// Takes octets, for which there is room.
+/// Takes octets, for which there is room, and answers how many. What they tell goes where the caller has room for it.
 pub(crate) fn take<R: Role>(
     end: &mut End<R>,
     ledger: &mut Ledger,
     piece: &[u8],
-) -> Result<Heard, CoreFault>
+    news: &mut Option<News>,
+) -> Result<usize, CoreFault>
     requires room { HasRoom ledger.old 3 (length piece.now) }
     requires takes { takes_octets (endpoint_of end.old).end.phase ≡ true }
     requires plays { role_of ledger.old.side ≡ role_played end.old }
-    ensures fed { IsHeard result (endpoint_of end.old) (after_feed (role_played end.old) (config_at end.old) (endpoint_of end.old) piece.now) (endpoint_of end.new) }
+    requires none { news.old ≡ None }
+    ensures fed { IsHeard result news.new (endpoint_of end.old) (after_feed (role_played end.old) (config_at end.old) (endpoint_of end.old) piece.now) (endpoint_of end.new) }
     ensures octets { FedGrows (ran_out result) piece.now (after_feed (role_played end.old) (config_at end.old) (endpoint_of end.old) piece.now) (kept_of end.old ledger.old) (kept_of end.new ledger.new) }
     ensures history { (history : History) → IsTraceOf (role_played end.old) (config_at end.old) (kept_of end.old ledger.old) history
         → ∥ TraceGoesOn (role_played end.old) (config_at end.old) (ran_out result) (endpoint_of end.old) piece.now (after_feed (role_played end.old) (config_at end.old) (endpoint_of end.old) piece.now) history (kept_of end.new ledger.new) ∥₁ }
-    ensures within { IfOk result (λ heard. heard.octets ≤ length piece.now) }
-    ensures progress { IfOk result (λ heard. piece.now ≢ [] → 0 < heard.octets) }
+    ensures within { IfOk result (λ octets. octets ≤ length piece.now) }
+    ensures progress { IfOk result (λ octets. piece.now ≢ [] → 0 < octets) }
     ensures grows { GrowsLittle (endpoint_of end.old).output (endpoint_of end.new).output }
     ensures written { ledger.new.written ≡ ledger.old.written }
     ensures settings { settings_at end.new ≡ settings_at end.old }
@@ -93,7 +95,7 @@ pub(crate) fn take<R: Role>(
     traces::messages_are_said();
     fitting::owed_read_back();
     let mut account = Account::new(true);
-    let answer = end.advance(piece, &mut account);
+    let answer = end.advance(piece, &mut account, news);
     if is_out_of_memory(&answer) {
         drop(account);
         return answer;

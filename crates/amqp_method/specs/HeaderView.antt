@@ -4,7 +4,6 @@ use Rattle.amqp_value.specs.Tables.{table_view}
 use Rattle.amqp_value.specs.declared.tables.Table.{Table}
 use Rattle.amqp_method.specs.Arguments.{Argument, octet, long_long, short_string, table}
 use Rattle.amqp_method.specs.Properties.{ContentHeader, header}
-use Rattle.amqp_method.specs.declared.header_octets.LaterProperties.{LaterProperties}
 use Rattle.amqp_method.specs.declared.headers.Header.{Header}
 use Rattle.amqp_method.specs.declared.headers.Properties.{Properties}
 
@@ -25,17 +24,6 @@ properties_view p =
     present octet p.priority ∷
     present short_string p.correlation_id ∷
     present short_string p.reply_to ∷
-    present short_string p.expiration ∷
-    present short_string p.message_id ∷
-    present long_long p.timestamp ∷
-    present short_string p.type_name ∷
-    present short_string p.user_id ∷
-    present short_string p.app_id ∷
-    present short_string p.cluster_id ∷ []
-
--- the seven that come last
-abbrev pub later_view : LaterProperties → List (Option Argument)
-later_view p =
     present short_string p.expiration ∷
     present short_string p.message_id ∷
     present long_long p.timestamp ∷

@@ -1,6 +1,6 @@
 -- The properties of a content, and which octets encode a content header: AMQP 0-9-1 specification, 4.2.6.1, and the fields of the class
 -- basic in `amqp0-9-1.xml`. The last property, which the standard reserves, bears the name that RabbitMQ gave it.
-use Rattle.std.specs.Prelude.{◌≡◌, ℕ, ◌+◌, ◌^◌, List, [], ◌∷◌, ◌++◌, length, map, drop, Option, Some, None, codes}
+use Rattle.std.specs.Prelude.{◌≡◌, ℕ, ◌+◌, ◌^◌, List, [], ◌∷◌, ◌++◌, length, map, Option, Some, None, codes}
 use Rattle.amqp_value.specs.Fields.{EncodesNumber}
 use Rattle.amqp_method.specs.Arguments.{Argument, kind_of}
 use Rattle.amqp_method.specs.Encoding.{EncodesArgument}
@@ -34,10 +34,6 @@ property_rows =
 
 abbrev pub property_kinds : List FieldKind
 property_kinds = map (λ (p : PropertyRow). p.kind) property_rows
-
--- the seven that come last
-abbrev pub later_kinds : List FieldKind
-later_kinds = drop 7 property_kinds
 
 -- a content header apart from where it lies in memory: the body's size, and each property, if it is there
 pub record ContentHeader : Type 0 where

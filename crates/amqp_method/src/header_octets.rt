@@ -4,10 +4,10 @@ ghost use Rattle.amqp_method.specs.EarlyFaults.{fault_of_start};
 ghost use Rattle.amqp_method.specs.Arguments.{octet, long_long, short_string};
 ghost use Rattle.amqp_method.specs.Faults.{out_of_memory, too_long};
 ghost use Rattle.amqp_method.specs.FirstFault.{FirstFaultOfHeader};
-ghost use Rattle.amqp_method.specs.HeaderReading.{has_flag as is_set, optional_at, properties_at, with_properties_at, header_at};
-ghost use Rattle.amqp_method.specs.HeaderView.{present, table_argument, later_view, properties_view, header_view};
+ghost use Rattle.amqp_method.specs.HeaderReading.{has_flag as is_set, optional_at, properties_at, header_at};
+ghost use Rattle.amqp_method.specs.HeaderView.{present, table_argument, properties_view, header_view};
 ghost use Rattle.amqp_method.specs.Plain.{plain_start, plain_header, CountsPresentFit};
-ghost use Rattle.amqp_method.specs.Properties.{ContentHeader, EncodesHeader, property_kinds, later_kinds};
+ghost use Rattle.amqp_method.specs.Properties.{ContentHeader, EncodesHeader, property_kinds};
 ghost use Rattle.amqp_method.specs.Reading.{Gives};
 ghost use Rattle.amqp_method.specs.Writing.{PresentFitting};
 ghost use Rattle.amqp_method.specs.declared.fields.FieldKind.TheVariants as kinds;
@@ -28,204 +28,135 @@ const BASIC: u16 = 60;
 /// How many octets stand before the properties: class, weight, body size and flags.
 const FRONT_LENGTH: usize = 14;
 
-/// Whether a bit of the flags is set.
-fn has_flag(flags: u16, bit: u32) -> bool
-    requires { bit < 16 }
-    ensures { result ≡ is_set bit flags }
-{
-    (flags >> bit) % 2 == 1
-}
-
-#[tactic(auto, unfolding(crate::specs::HeaderReading::optional_at, crate::specs::Reading::field_at))]
-fn optional_short_string(
-    alloc: Global,
-    there: bool,
-    octets: &[u8],
-    end: usize,
-) -> Result<(Option<ShortStr>, &[u8]), MethodFault>
-    requires { length octets.now ≤ end }
-    ensures read { Gives (λ x. (present short_string x.0, x.1.now)) result (optional_at there kinds.ShortStr end octets.now) }
-    ensures within { IfOk result (λ x. length x.1.now ≤ length octets.now) }
-{
-    if !there {
-        return Ok((None, octets));
-    }
-    let (value, after) = read_short_string(alloc, octets, end)?;
-    Ok((Some(value), after))
-}
-
-#[tactic(auto, unfolding(crate::specs::HeaderReading::optional_at, crate::specs::Reading::field_at))]
-fn optional_table(
-    alloc: Global,
-    there: bool,
-    octets: &[u8],
-    end: usize,
-) -> Result<(Option<Table>, &[u8]), MethodFault>
-    requires { length octets.now ≤ end }
-    ensures read { Gives (λ x. (present table_argument x.0, x.1.now)) result (optional_at there kinds.Table end octets.now) }
-    ensures within { IfOk result (λ x. length x.1.now ≤ length octets.now) }
-{
-    if !there {
-        return Ok((None, octets));
-    }
-    let (value, after) = read_field_table(alloc, octets, end)?;
-    Ok((Some(value), after))
-}
-
-#[tactic(auto, unfolding(crate::specs::HeaderReading::optional_at, crate::specs::Reading::field_at))]
-fn optional_octet(
-    there: bool,
-    octets: &[u8],
-    end: usize,
-) -> Result<(Option<u8>, &[u8]), MethodFault>
-    requires { length octets.now ≤ end }
-    ensures read { Gives (λ x. (present octet x.0, x.1.now)) result (optional_at there kinds.Octet end octets.now) }
-    ensures within { IfOk result (λ x. length x.1.now ≤ length octets.now) }
-{
-    if !there {
-        return Ok((None, octets));
-    }
-    let (value, after) = read_octet(octets, end)?;
-    Ok((Some(value), after))
-}
-
-#[tactic(auto, unfolding(crate::specs::HeaderReading::optional_at, crate::specs::Reading::field_at))]
-fn optional_long_long(
-    there: bool,
-    octets: &[u8],
-    end: usize,
-) -> Result<(Option<u64>, &[u8]), MethodFault>
-    requires { length octets.now ≤ end }
-    ensures read { Gives (λ x. (present long_long x.0, x.1.now)) result (optional_at there kinds.LongLong end octets.now) }
-    ensures within { IfOk result (λ x. length x.1.now ≤ length octets.now) }
-{
-    if !there {
-        return Ok((None, octets));
-    }
-    let (value, after) = read_long_long(octets, end)?;
-    Ok((Some(value), after))
-}
-
-/// The seven properties that come last.
-#[derive(Drop)]
-struct LaterProperties {
-    expiration: Option<ShortStr>,
-    message_id: Option<ShortStr>,
-    timestamp: Option<u64>,
-    type_name: Option<ShortStr>,
-    user_id: Option<ShortStr>,
-    app_id: Option<ShortStr>,
-    cluster_id: Option<ShortStr>,
-}
-
-/// The last seven properties, those whose flags are set, and the octets after them.
-#[tactic(auto, unfolding(crate::specs::HeaderReading::properties_at))]
-fn read_later_properties(
+/// What says which properties are there, and where the payload ends.
+#[derive(Clone, Copy)]
+struct Flagged {
     alloc: Global,
     flags: u16,
-    octets: &[u8],
     end: usize,
-) -> Result<(LaterProperties, &[u8]), MethodFault>
-    requires { length octets.now ≤ end }
-    ensures read { Gives (λ x. (later_view x.0, x.1.now)) result (properties_at later_kinds flags end octets.now) }
-    ensures within { IfOk result (λ x. length x.1.now ≤ length octets.now) }
-{
-    let (expiration, octets) = optional_short_string(alloc, has_flag(flags, 8), octets, end)?;
-    let (message_id, octets) = optional_short_string(alloc, has_flag(flags, 7), octets, end)?;
-    let (timestamp, octets) = optional_long_long(has_flag(flags, 6), octets, end)?;
-    let (type_name, octets) = optional_short_string(alloc, has_flag(flags, 5), octets, end)?;
-    let (user_id, octets) = optional_short_string(alloc, has_flag(flags, 4), octets, end)?;
-    let (app_id, octets) = optional_short_string(alloc, has_flag(flags, 3), octets, end)?;
-    let (cluster_id, octets) = optional_short_string(alloc, has_flag(flags, 2), octets, end)?;
-    let later = LaterProperties {
-        expiration,
-        message_id,
-        timestamp,
-        type_name,
-        user_id,
-        app_id,
-        cluster_id,
-    };
-    Ok((later, octets))
 }
 
-/// The properties whose flags are set, and the octets after them.
-#[tactic(auto, unfolding(crate::specs::HeaderReading::properties_at))]
-fn read_properties(
-    alloc: Global,
-    flags: u16,
-    octets: &[u8],
-    end: usize,
-) -> Result<(Properties, &[u8]), MethodFault>
-    requires { length octets.now ≤ end }
-    ensures read { Gives (λ x. (properties_view x.0, x.1.now)) result (properties_at property_kinds flags end octets.now) }
-    ensures within { IfOk result (λ x. length x.1.now ≤ length octets.now) }
-{
-    let (content_type, octets) = optional_short_string(alloc, has_flag(flags, 15), octets, end)?;
-    let (content_encoding, octets) = optional_short_string(
-        alloc,
-        has_flag(flags, 14),
-        octets,
-        end,
-    )?;
-    let (headers, octets) = optional_table(alloc, has_flag(flags, 13), octets, end)?;
-    let (delivery_mode, octets) = optional_octet(has_flag(flags, 12), octets, end)?;
-    let (priority, octets) = optional_octet(has_flag(flags, 11), octets, end)?;
-    let (correlation_id, octets) = optional_short_string(alloc, has_flag(flags, 10), octets, end)?;
-    let (reply_to, octets) = optional_short_string(alloc, has_flag(flags, 9), octets, end)?;
-    let (later, octets) = read_later_properties(alloc, flags, octets, end)?;
-    let properties = Properties {
-        content_type,
-        content_encoding,
-        headers,
-        delivery_mode,
-        priority,
-        correlation_id,
-        reply_to,
-        expiration: later.expiration,
-        message_id: later.message_id,
-        timestamp: later.timestamp,
-        type_name: later.type_name,
-        user_id: later.user_id,
-        app_id: later.app_id,
-        cluster_id: later.cluster_id,
-    };
-    Ok((properties, octets))
-}
+/// Each reads a property into its place, if its flag is set; otherwise there is none. The answer is the octets after it.
+impl Flagged {
+    /// Whether a bit of the flags is set.
+    fn has(self, bit: u32) -> bool
+        requires { bit < 16 }
+        ensures { result ≡ is_set bit self.flags }
+    {
+        (self.flags >> bit) % 2 == 1
+    }
 
-/// A header of a body of this size without properties, after which no octet is left.
-#[tactic(auto, using(crate::proofs::HeaderLemmas::none_there))]
-fn read_bare(body_size: u64, octets: &[u8], end: usize) -> Result<Header, MethodFault>
-    requires { length octets.now ≤ end }
-    ensures { Gives header_view result (with_properties_at body_size 0 end octets.now) }
-{
-    read_end(octets, end)?;
-    Ok(Header {
-        body_size,
-        properties: Properties::default(),
-    })
-}
+    #[tactic(auto, unfolding(crate::specs::HeaderReading::optional_at, crate::specs::Reading::field_at))]
+    fn short_string<'a>(
+        self,
+        bit: u32,
+        octets: &'a [u8],
+        place: &mut Option<ShortStr>,
+    ) -> Result<&'a [u8], MethodFault>
+        requires bit { bit < 16 }
+        requires within { length octets.now ≤ self.end }
+        ensures read { Gives (λ after. (present short_string place.new, after.now)) result (optional_at (is_set bit self.flags) kinds.ShortStr self.end octets.now) }
+        ensures within { IfOk result (λ after. length after.now ≤ length octets.now) }
+    {
+        if !self.has(bit) {
+            *place = None;
+            return Ok(octets);
+        }
+        let (value, after) = read_short_string(self.alloc, octets, self.end)?;
+        *place = Some(value);
+        Ok(after)
+    }
 
-/// A header of a body of this size with the properties whose flags are set, after which no octet is left.
-///
-/// It stands apart, so that a header without properties makes no room for any.
-#[inline(never)]
-fn read_flagged(
-    alloc: Global,
-    body_size: u64,
-    flags: u16,
-    octets: &[u8],
-    end: usize,
-) -> Result<Header, MethodFault>
-    requires { length octets.now ≤ end }
-    ensures { Gives header_view result (with_properties_at body_size flags end octets.now) }
-{
-    let (properties, after) = read_properties(alloc, flags, octets, end)?;
-    read_end(after, end)?;
-    Ok(Header {
-        body_size,
-        properties,
-    })
+    #[tactic(auto, unfolding(crate::specs::HeaderReading::optional_at, crate::specs::Reading::field_at))]
+    fn table<'a>(
+        self,
+        bit: u32,
+        octets: &'a [u8],
+        place: &mut Option<Table>,
+    ) -> Result<&'a [u8], MethodFault>
+        requires bit { bit < 16 }
+        requires within { length octets.now ≤ self.end }
+        ensures read { Gives (λ after. (present table_argument place.new, after.now)) result (optional_at (is_set bit self.flags) kinds.Table self.end octets.now) }
+        ensures within { IfOk result (λ after. length after.now ≤ length octets.now) }
+    {
+        if !self.has(bit) {
+            *place = None;
+            return Ok(octets);
+        }
+        let (value, after) = read_field_table(self.alloc, octets, self.end)?;
+        *place = Some(value);
+        Ok(after)
+    }
+
+    #[tactic(auto, unfolding(crate::specs::HeaderReading::optional_at, crate::specs::Reading::field_at))]
+    fn octet<'a>(
+        self,
+        bit: u32,
+        octets: &'a [u8],
+        place: &mut Option<u8>,
+    ) -> Result<&'a [u8], MethodFault>
+        requires bit { bit < 16 }
+        requires within { length octets.now ≤ self.end }
+        ensures read { Gives (λ after. (present octet place.new, after.now)) result (optional_at (is_set bit self.flags) kinds.Octet self.end octets.now) }
+        ensures within { IfOk result (λ after. length after.now ≤ length octets.now) }
+    {
+        if !self.has(bit) {
+            *place = None;
+            return Ok(octets);
+        }
+        let (value, after) = read_octet(octets, self.end)?;
+        *place = Some(value);
+        Ok(after)
+    }
+
+    #[tactic(auto, unfolding(crate::specs::HeaderReading::optional_at, crate::specs::Reading::field_at))]
+    fn long_long<'a>(
+        self,
+        bit: u32,
+        octets: &'a [u8],
+        place: &mut Option<u64>,
+    ) -> Result<&'a [u8], MethodFault>
+        requires bit { bit < 16 }
+        requires within { length octets.now ≤ self.end }
+        ensures read { Gives (λ after. (present long_long place.new, after.now)) result (optional_at (is_set bit self.flags) kinds.LongLong self.end octets.now) }
+        ensures within { IfOk result (λ after. length after.now ≤ length octets.now) }
+    {
+        if !self.has(bit) {
+            *place = None;
+            return Ok(octets);
+        }
+        let (value, after) = read_long_long(octets, self.end)?;
+        *place = Some(value);
+        Ok(after)
+    }
+
+    /// All properties.
+    #[tactic(auto, unfolding(crate::specs::HeaderReading::properties_at))]
+    fn properties<'a>(
+        self,
+        octets: &'a [u8],
+        properties: &mut Properties,
+    ) -> Result<&'a [u8], MethodFault>
+        requires { length octets.now ≤ self.end }
+        ensures read { Gives (λ after. (properties_view properties.new, after.now)) result (properties_at property_kinds self.flags self.end octets.now) }
+        ensures within { IfOk result (λ after. length after.now ≤ length octets.now) }
+    {
+        let octets = self.short_string(15, octets, &mut properties.content_type)?;
+        let octets = self.short_string(14, octets, &mut properties.content_encoding)?;
+        let octets = self.table(13, octets, &mut properties.headers)?;
+        let octets = self.octet(12, octets, &mut properties.delivery_mode)?;
+        let octets = self.octet(11, octets, &mut properties.priority)?;
+        let octets = self.short_string(10, octets, &mut properties.correlation_id)?;
+        let octets = self.short_string(9, octets, &mut properties.reply_to)?;
+        let octets = self.short_string(8, octets, &mut properties.expiration)?;
+        let octets = self.short_string(7, octets, &mut properties.message_id)?;
+        let octets = self.long_long(6, octets, &mut properties.timestamp)?;
+        let octets = self.short_string(5, octets, &mut properties.type_name)?;
+        let octets = self.short_string(4, octets, &mut properties.user_id)?;
+        let octets = self.short_string(3, octets, &mut properties.app_id)?;
+        let octets = self.short_string(2, octets, &mut properties.cluster_id)?;
+        Ok(octets)
+    }
 }
 
 /// The content header that a payload encodes: the class id 60 and the weight 0, 16 bits each, the size of the body in 64
@@ -258,9 +189,25 @@ pub fn read_header(alloc: Global, octets: &[u8]) -> Result<Header, MethodFault>
     exact_header(alloc, octets)
 }
 
-#[tactic(auto, unfolding(crate::specs::HeaderReading::header_at, crate::specs::EarlyFaults::fault_of_start))]
 fn exact_header(alloc: Global, octets: &[u8]) -> Result<Header, MethodFault>
     ensures exact { Gives header_view result (header_at octets.now) }
+    ensures early { (e : MethodFault) → fault_of_start octets.now ≡ Some e → result ≡ Err e }
+{
+    let mut header = Header::default();
+    read_header_into(alloc, octets, &mut header)?;
+    Ok(header)
+}
+
+/// Reads as [`read_header`] does, in a header that is there already: what it was before is gone. After a fault it has some of the properties.
+///
+/// A header is large, so who keeps it in a box reads it there.
+#[tactic(auto, unfolding(crate::specs::HeaderReading::header_at, crate::specs::EarlyFaults::fault_of_start), using(crate::proofs::HeaderLemmas::none_there))]
+pub fn read_header_into(
+    alloc: Global,
+    octets: &[u8],
+    header: &mut Header,
+) -> Result<(), MethodFault>
+    ensures exact { Gives (λ done. header_view header.new) result (header_at octets.now) }
     ensures early { (e : MethodFault) → fault_of_start octets.now ≡ Some e → result ≡ Err e }
 {
     let end = octets.len();
@@ -286,10 +233,11 @@ fn exact_header(alloc: Global, octets: &[u8]) -> Result<Header, MethodFault>
             kind: MethodFaultKind::BadFlags,
         });
     }
-    if flags == 0 {
-        return read_bare(body_size, after, end);
-    }
-    read_flagged(alloc, body_size, flags, after, end)
+    header.body_size = body_size;
+    let flagged = Flagged { alloc, flags, end };
+    let after = flagged.properties(after, &mut header.properties)?;
+    read_end(after, end)?;
+    Ok(())
 }
 
 /// Appends the header's payload: the class id 60, the weight 0, the size of the body, the flags, and the properties that

@@ -32,7 +32,7 @@ mod writing;
 
 pub use crate::faults::{MethodFault, MethodFaultKind, OutOfMemory};
 pub use crate::fields::{Arg, Field, FieldKind};
-pub use crate::header_octets::{read_header, write_header};
+pub use crate::header_octets::{read_header, read_header_into, write_header};
 pub use crate::headers::{Header, Properties};
 pub use crate::kinds::{Kind, schema, sends};
 pub use crate::laws::{

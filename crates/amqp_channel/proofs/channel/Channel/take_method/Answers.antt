@@ -14,4 +14,4 @@ returns-in-Open-clause-verdict c =
     let within : c.args.site.number ≤ c.args.site.channel_max = omega arith in
     let class : (class_of (method_view c.args.method).kind == 10) ≡ false = search rules in
     let taken : taken_by (role_of c.args.site.side) (method_view c.args.method).kind ≡ true = search rules in
-    open_carries c.args.site _ _ (method_view c.args.method) _ is_open c.requires within class taken c.take_open.ensures.verdict
+    open_carries c.args.site _ _ (method_view c.args.method) _ _ is_open c.requires.above within class taken c.take_open.ensures.verdict

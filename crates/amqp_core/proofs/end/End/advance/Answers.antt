@@ -14,7 +14,7 @@ feed-requires-clause-sound g c = kept_sound c.args.self.now.inner c.args.self.no
 pub returns-clause-history : goal.returns-clause-history
 returns-clause-history g c = λ history fed written stands.
     let old = c.args.self.now in
-    piece_goes_on (role_played old) (config_at old) c.feed.result (endpoint_of old) (endpoint_view c.feed.new.self) history fed written c.args.piece.now
+    piece_goes_on (role_played old) (config_at old) c.feed.new.news c.feed.result (endpoint_of old) (endpoint_view c.feed.new.self) history fed written c.args.piece.now
     (c.failed_follows.ensures.read (role_played old) (config_at old))
     (c.memory_runs_out.ensures.stands (role_played old) (config_at old) (endpoint_of old) history fed written)
     (c.octets_follow.ensures.feed (role_played old) (config_at old) (endpoint_of old) history fed written c.args.piece.now)

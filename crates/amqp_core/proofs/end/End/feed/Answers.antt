@@ -9,22 +9,22 @@ use Rattle.amqp_core.proofs.end.End.feed.Goals as goal
 pub returns-clause-fed : goal.returns-clause-fed
 returns-clause-fed g c =
     let old = c.args.self.now in
-    fed-told c.advance.result c.told.result (endpoint_of old) (after_feed (role_played old) (config_at old) (endpoint_of old) c.args.piece.now) (endpoint_of c.advance.new.self) c.told.ensures c.advance.ensures.fed
+    fed-told c.advance-answer.new.news c.advance-answer.result c.told.result (endpoint_of old) (after_feed (role_played old) (config_at old) (endpoint_of old) c.args.piece.now) (endpoint_of c.advance-answer.new.self) c.told.ensures c.advance-answer.ensures.fed
 
 pub returns-clause-within : goal.returns-clause-within
-returns-clause-within g c = octets-told (λ n. n ≤ length c.args.piece.now) c.advance.result c.told.result c.told.ensures c.advance.ensures.within
+returns-clause-within g c = octets-told (λ n. n ≤ length c.args.piece.now) c.advance-answer.new.news c.advance-answer.result c.told.result c.told.ensures c.advance-answer.ensures.within
 
 pub returns-clause-progress : goal.returns-clause-progress
-returns-clause-progress g c = octets-told (λ n. c.args.piece.now ≢ [] → 0 < n) c.advance.result c.told.result c.told.ensures c.advance.ensures.progress
+returns-clause-progress g c = octets-told (λ n. c.args.piece.now ≢ [] → 0 < n) c.advance-answer.new.news c.advance-answer.result c.told.result c.told.ensures c.advance-answer.ensures.progress
 
 pub returns-clause-in_place : goal.returns-clause-in_place
-returns-clause-in_place g c = λ drops. ok-told c.advance.result c.told.result c.told.ensures (c.advance.ensures.in_place c.new-account.ensures.wanted drops)
+returns-clause-in_place g c = λ drops. ok-told c.advance-answer.new.news c.advance-answer.result c.told.result c.told.ensures (c.advance-answer.ensures.in_place c.new-account.ensures.wanted drops)
 
 pub returns-clause-history : goal.returns-clause-history
 returns-clause-history g c = λ history fed written stands.
     let old = c.args.self.now in
-    subst (λ b. ∥ GoesOn (role_played old) (config_at old) b (endpoint_of old) history fed written c.args.piece.now (after_feed (role_played old) (config_at old) (endpoint_of old) c.args.piece.now) (endpoint_of c.advance.new.self) ∥₁)
-    (ran-told c.advance.result c.told.result c.told.ensures) (c.advance.ensures.history history fed written stands)
+    subst (λ b. ∥ GoesOn (role_played old) (config_at old) b (endpoint_of old) history fed written c.args.piece.now (after_feed (role_played old) (config_at old) (endpoint_of old) c.args.piece.now) (endpoint_of c.advance-answer.new.self) ∥₁)
+    (ran-told c.advance-answer.new.news c.advance-answer.result c.told.result c.told.ensures) (c.advance-answer.ensures.history history fed written stands)
 
 pub returns-clause-memory : goal.returns-clause-memory
-returns-clause-memory g c = λ ran. c.advance.ensures.memory (ran-told c.advance.result c.told.result c.told.ensures ∙ ran)
+returns-clause-memory g c = λ ran. c.advance-answer.ensures.memory (ran-told c.advance-answer.new.news c.advance-answer.result c.told.result c.told.ensures ∙ ran)

@@ -14,5 +14,5 @@ pub returns-clause-progress : goal.returns-clause-progress
 returns-clause-progress c =
     let old = c.args.self.now in
     let running : (core_end old.core).phase ≢ Failed = λ failed. true≢false (sym (c.if-is_failed.ensures.takes refl (c.if-is_closed.ensures.not refl)) ∙ ap takes_octets failed) in
-    takes_some c.read.result (endpoint_view old) (after_feed (role_at old) (config_view old.core.settings) (endpoint_view old) c.args.piece.now) _ c.args.piece.now c.read.ensures.fed
+    takes_some c.read.new.news c.read.result (endpoint_view old) (after_feed (role_at old) (config_view old.core.settings) (endpoint_view old) c.args.piece.now) _ c.args.piece.now c.read.ensures.fed
     (c.cut_changes_nothing.ensures.progress (role_at old) (config_view old.core.settings) (endpoint_view old) c.args.piece.now (c.if-is_closed.ensures.not refl) running)

@@ -37,8 +37,8 @@ returns-in_default-clause-fed c =
     let by = fed_by (role_at old) (core_end old.core) old.heard old.splitter old.outbox.output c.args.piece.now c.requires.reads c.requires.sound.fields c.requires.sound.holds (λ i. omega (arith, c.type_inv.piece i)) in
     let after = after_rest old.splitter c.args.piece.now c.feed_ref.result c.in-Ok.fed c.feed_ref.follows.lender-at-none c.feed_ref.follows.holds-at-none c.in-Ok.is c.in_default.is in
     let waits : Waits old.splitter c.args.piece.now c.in-Ok.fed.taken = subst (λ o. IfNone o (Waits old.splitter c.args.piece.now c.in-Ok.fed.taken)) c.in_default.is c.in-Ok.ensures.rest in
-    rest_fed (role_at old) (config_view old.core.settings) (endpoint_view old) old.splitter c.args.piece.now c.in-Ok.fed.taken (unfinished_of old.heard c.feed_ref.follows.lender-at-none.pending) (c.pieces_are_split.ensures.rest (role_at old) (config_view old.core.settings) (endpoint_view old) old.splitter c.args.piece.now c.in-Ok.fed.taken) by waits
-    (rest_unfinished old.heard (place_after old.splitter.taken c.in-Ok.fed.taken) old.splitter c.feed_ref.follows.lender-at-none c.args.piece.now none after)
+    rest_fed (role_at old) (config_view old.core.settings) (endpoint_view old) old.splitter c.args.piece.now c.in-Ok.fed.taken (unfinished_of old.heard c.feed_ref.follows.lender-at-none.pending) c.args.news.now (c.pieces_are_split.ensures.rest (role_at old) (config_view old.core.settings) (endpoint_view old) old.splitter c.args.piece.now c.in-Ok.fed.taken) by waits
+    (rest_unfinished old.heard (place_after old.splitter.taken c.in-Ok.fed.taken) old.splitter c.feed_ref.follows.lender-at-none c.args.piece.now none after) c.requires.none
 
 pub returns-in_default-clause-sound : goal.returns-in_default-clause-sound
 returns-in_default-clause-sound c =
@@ -49,7 +49,7 @@ returns-in_default-clause-sound c =
       writes = c.requires.sound.writes;
       staged = c.requires.sound.staged;
       fields = fields_rest (role_at old) (core_end old.core) old.heard (place_after old.splitter.taken c.in-Ok.fed.taken) (old.splitter.pending ++ c.args.piece.now) old.splitter c.feed_ref.follows.lender-at-none c.requires.reads c.requires.sound.fields after;
-      holds = fed_holds (role_at old) (config_view old.core.settings) (endpoint_view old) _ old.splitter c.args.piece.now _ (c.unfinished_is_held.ensures.feed (role_at old) (config_view old.core.settings) (endpoint_view old) c.args.piece.now) by (returns-in_default-clause-fed c);
+      holds = fed_holds (role_at old) (config_view old.core.settings) (endpoint_view old) _ old.splitter c.args.piece.now _ _ (c.unfinished_is_held.ensures.feed (role_at old) (config_view old.core.settings) (endpoint_view old) c.args.piece.now) by (returns-in_default-clause-fed c);
       bounded = c.requires.sound.bounded;
     }
 
@@ -61,7 +61,7 @@ returns-clause-fed c =
     let after = after_frame old.splitter c.args.piece.now c.feed_ref.result c.in-Ok.fed c.in-Some.frame c.feed_ref.follows.lender-at-none c.feed_ref.follows.holds-at-none c.in-Ok.is c.in-Some.is in
     let completes : Completes old.splitter (take c.in-Ok.fed.taken c.args.piece.now) (lent c.in-Some.frame) = subst (λ o. IfSome o (λ f. Completes old.splitter (take c.in-Ok.fed.taken c.args.piece.now) (lent f))) c.in-Some.is c.in-Ok.ensures.frame in
     let pending : c.tune.new.splitter.pending ≡ [] = ap (λ (s : Stream). s.pending) c.tune.ensures ∙ ap (λ (s : Stream). s.pending) after in
-    frame_fed (role_at old) (config_view old.core.settings) (endpoint_view old) old.splitter c.args.piece.now c.in-Ok.fed.taken (lent c.in-Some.frame) c.answer-answer.result c.after_octets.result (core_end c.answer-answer.new.self) (unfinished_of old.heard c.tune.new.splitter.pending) c.answer-answer.new.outbox
+    frame_fed (role_at old) (config_view old.core.settings) (endpoint_view old) old.splitter c.args.piece.now c.in-Ok.fed.taken (lent c.in-Some.frame) c.answer-answer.new.news c.answer-answer.result c.after_octets.result (core_end c.answer-answer.new.self) (unfinished_of old.heard c.tune.new.splitter.pending) c.answer-answer.new.outbox
     (c.pieces_are_split.ensures.frame (role_at old) (config_view old.core.settings) (endpoint_view old) old.splitter c.args.piece.now c.in-Ok.fed.taken (lent c.in-Some.frame)) by c.in-Ok.ensures.within completes c.after_octets.ensures.piece c.answer-answer.ensures.said c.answer-answer.ensures.end (none_unfinished old.heard c.tune.new.splitter.pending none pending) c.answer-answer.ensures.output
 
 pub returns-clause-sound : goal.returns-clause-sound
@@ -73,7 +73,7 @@ returns-clause-sound c =
     let left = frame_leaves (role_at old) (config_view old.core.settings) (core_end old.core) (core_end c.answer-answer.new.self) (lent c.in-Some.frame) (ran_out c.answer-answer.result) c.requires.sound.writes (c.agreed_is_within.ensures.frame (role_at old) (config_view old.core.settings) (core_end old.core) (lent c.in-Some.frame)) (c.requires.sound.fields.awaited r.opened) c.requires.sound.fields.agreed c.answer-answer.ensures.end in
     sound_with old.core.settings (record { core = c.answer-answer.new.self; splitter = c.tune.new.splitter; heard = old.heard; outbox = c.answer-answer.new.outbox }) c.answer-answer.ensures.settings c.requires.sound.writes (ap (λ (o : Outgoing). o.staged) c.answer-answer.ensures.output)
     (fields_frame (role_at old) (core_end old.core) (core_end c.answer-answer.new.self) old.heard old.splitter c.feed_ref.follows.lender-at-none c.tune.new.splitter (place_after old.splitter.taken c.in-Ok.fed.taken) c.requires.reads c.requires.sound.fields after c.tune.ensures left.0 left.1)
-    (fed_holds (role_at old) (config_view old.core.settings) (endpoint_view old) _ old.splitter c.args.piece.now _ (c.unfinished_is_held.ensures.feed (role_at old) (config_view old.core.settings) (endpoint_view old) c.args.piece.now) by (returns-clause-fed c))
+    (fed_holds (role_at old) (config_view old.core.settings) (endpoint_view old) _ old.splitter c.args.piece.now _ _ (c.unfinished_is_held.ensures.feed (role_at old) (config_view old.core.settings) (endpoint_view old) c.args.piece.now) by (returns-clause-fed c))
     (bounded_frame (role_at old) (config_view old.core.settings) (core_end old.core) (core_end c.answer-answer.new.self) (lent c.in-Some.frame) (ran_out c.answer-answer.result) (c.ends_are_bounded.ensures.frame (role_at old) (config_view old.core.settings) (core_end old.core) (lent c.in-Some.frame)) r.octets c.requires.sound.bounded c.answer-answer.ensures.end)
 
 pub returns-in-Err-clause-fed : goal.returns-in-Err-clause-fed
@@ -83,7 +83,7 @@ returns-in-Err-clause-fed c =
     let none : old.heard ≡ 0 = c.requires.sound.fields.opened r.opened in
     let by = fed_by (role_at old) (core_end old.core) old.heard old.splitter old.outbox.output c.args.piece.now c.requires.reads c.requires.sound.fields c.requires.sound.holds (λ i. omega (arith, c.type_inv.piece i)) in
     let pending = after_stop old.splitter c.args.piece.now c.feed_ref.result c.in-Err.fault c.feed_ref.follows.lender-at-none c.feed_ref.follows.holds-at-none c.in-Err.is in
-    fault_fed (role_at old) (config_view old.core.settings) (endpoint_view old) old.splitter c.args.piece.now c.in-Err.fault.kind c.in-Err.fault.at c.stop.result (core_end c.stop.new.self) (unfinished_of old.heard c.feed_ref.follows.lender-at-none.pending) c.stop.new.outbox
+    fault_fed (role_at old) (config_view old.core.settings) c.args.news.now (endpoint_view old) old.splitter c.args.piece.now c.in-Err.fault.kind c.in-Err.fault.at c.stop.result (core_end c.stop.new.self) (unfinished_of old.heard c.feed_ref.follows.lender-at-none.pending) c.stop.new.outbox
     (c.pieces_are_split.ensures.fault (role_at old) (config_view old.core.settings) (endpoint_view old) old.splitter c.args.piece.now c.in-Err.fault.kind c.in-Err.fault.at) by
     (first_fault old.splitter c.args.piece.now c.in-Err.fault (c.requires.sound.fields.ready r.octets).running c.in-Err.ensures.fault) c.stop.ensures.memory c.stop.ensures.said c.stop.ensures.end (none_unfinished old.heard c.feed_ref.follows.lender-at-none.pending none pending) c.stop.ensures.output
 
@@ -95,7 +95,7 @@ returns-in-Err-clause-sound c =
     let left = stop_leaves (role_at old) (config_view old.core.settings) (core_end old.core) (core_end c.stop.new.self) c.in-Err.fault.kind (is_out_of_memory c.stop.result) c.stop.ensures.end c.requires.sound.fields.agreed in
     sound_with old.core.settings (record { core = c.stop.new.self; splitter = c.feed_ref.follows.lender-at-none; heard = old.heard; outbox = c.stop.new.outbox }) c.stop.ensures.settings c.requires.sound.writes (ap (λ (o : Outgoing). o.staged) c.stop.ensures.output)
     (fields_failed (role_at old) (core_end c.stop.new.self) old.heard c.feed_ref.follows.lender-at-none left.0 left.1 (c.requires.sound.fields.opened r.opened))
-    (fed_holds (role_at old) (config_view old.core.settings) (endpoint_view old) _ old.splitter c.args.piece.now _ (c.unfinished_is_held.ensures.feed (role_at old) (config_view old.core.settings) (endpoint_view old) c.args.piece.now) by (returns-in-Err-clause-fed c))
+    (fed_holds (role_at old) (config_view old.core.settings) (endpoint_view old) _ old.splitter c.args.piece.now _ _ (c.unfinished_is_held.ensures.feed (role_at old) (config_view old.core.settings) (endpoint_view old) c.args.piece.now) by (returns-in-Err-clause-fed c))
     (bounded_failed (role_at old) (config_view old.core.settings) (core_end c.stop.new.self) left.0)
 
 pub returns-clause-in_place : goal.returns-clause-in_place

@@ -1,9 +1,10 @@
-use Rattle.std.proofs.Common.{◌≡◌, Some, None, ap, sym, subst}
+use Rattle.std.proofs.Common.{◌≡◌, Option, Some, None, ap, sym, subst}
 use Rattle.amqp_method.specs.MethodView.{method_view}
 use Rattle.amqp_model.specs.Notes.{Client}
 use Rattle.amqp_model.specs.Readings.{Calls}
 use Rattle.amqp_channel.specs.ChannelsView.{channels_view}
 use Rattle.amqp_channel.specs.Roles.{role_of}
+use Rattle.amqp_channel.specs.declared.news.News.{News}
 use Rattle.amqp_channel.specs.declared.news.News.TheVariants as events
 use Rattle.amqp_core.specs.CoreView.{IsVerdict, LeavesEnd}
 use Rattle.amqp_core.specs.Settings.{config_view, role_for}
@@ -18,11 +19,13 @@ use Rattle.amqp_core.proofs.one_end.Core.on_start.Goals as goal
 pub returns-clause-verdict : goal.returns-clause-verdict
 returns-clause-verdict c =
     let side : role_for c.args.self.now.settings ≡ Client = ap role_of c.requires.side in
-    subst (λ (s : Stage). IsVerdict c.args.self.now.settings (end_at s (channels_view c.args.self.now.channels)) 0 (Calls (method_view c.args.method.now)) (decisions.Proceeds (Some events.Quiet) owed.StartOk)) (sym c.requires.stage)
-    (sym (start_verdict (role_for c.args.self.now.settings) (config_view c.args.self.now.settings) None (method_view c.args.method.now) side c.requires.kind))
+    subst (λ (news : Option News). IsVerdict c.args.self.now.settings (end_at c.args.self.now.stage (channels_view c.args.self.now.channels)) 0 (Calls (method_view c.args.method.now)) news (decisions.Proceeds owed.StartOk)) (sym c.put_in.ensures)
+    (subst (λ (s : Stage). IsVerdict c.args.self.now.settings (end_at s (channels_view c.args.self.now.channels)) 0 (Calls (method_view c.args.method.now)) (Some events.Quiet) (decisions.Proceeds owed.StartOk)) (sym c.requires.stage)
+    (sym (start_verdict (role_for c.args.self.now.settings) (config_view c.args.self.now.settings) None (method_view c.args.method.now) side c.requires.kind)))
 
 pub returns-clause-after : goal.returns-clause-after
 returns-clause-after c =
     let side : role_for c.args.self.now.settings ≡ Client = ap role_of c.requires.side in
-    subst (λ (s : Stage). LeavesEnd c.args.self.now.settings 0 (Calls (method_view c.args.method.now)) (decisions.Proceeds (Some events.Quiet) owed.StartOk) (end_at s (channels_view c.args.self.now.channels)) (end_at stages.AwaitsTune (channels_view c.args.self.now.channels))) (sym c.requires.stage)
-    (start_left (role_for c.args.self.now.settings) (config_view c.args.self.now.settings) None (channels_view c.args.self.now.channels) (method_view c.args.method.now) side c.requires.kind)
+    subst (λ (news : Option News). LeavesEnd c.args.self.now.settings 0 (Calls (method_view c.args.method.now)) news (decisions.Proceeds owed.StartOk) (end_at c.args.self.now.stage (channels_view c.args.self.now.channels)) (end_at stages.AwaitsTune (channels_view c.args.self.now.channels))) (sym c.put_in.ensures)
+    (subst (λ (s : Stage). LeavesEnd c.args.self.now.settings 0 (Calls (method_view c.args.method.now)) (Some events.Quiet) (decisions.Proceeds owed.StartOk) (end_at s (channels_view c.args.self.now.channels)) (end_at stages.AwaitsTune (channels_view c.args.self.now.channels))) (sym c.requires.stage)
+    (start_left (role_for c.args.self.now.settings) (config_view c.args.self.now.settings) None (channels_view c.args.self.now.channels) (method_view c.args.method.now) side c.requires.kind))

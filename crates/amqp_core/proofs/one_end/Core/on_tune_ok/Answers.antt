@@ -1,4 +1,4 @@
-use Rattle.std.proofs.Common.{rules, arith, ◌≡◌, true, false, Some, None, ap, sym, subst}
+use Rattle.std.proofs.Common.{rules, arith, ◌≡◌, true, false, Option, Some, None, ap, sym, subst}
 use Rattle.amqp_method.specs.MethodView.{method_view}
 use Rattle.amqp_model.specs.Events.{Fatal}
 use Rattle.amqp_model.specs.Negotiation.{agreed_in}
@@ -6,6 +6,7 @@ use Rattle.amqp_model.specs.Notes.{Server}
 use Rattle.amqp_model.specs.Readings.{Calls}
 use Rattle.amqp_channel.specs.ChannelsView.{channels_view}
 use Rattle.amqp_channel.specs.Roles.{role_of}
+use Rattle.amqp_channel.specs.declared.news.News.{News}
 use Rattle.amqp_channel.specs.declared.news.News.TheVariants as events
 use Rattle.amqp_core.specs.CoreView.{IsVerdict, LeavesEnd}
 use Rattle.amqp_core.specs.Handshakes.{within}
@@ -23,30 +24,32 @@ pub returns-then-not-is_within-clause-verdict : goal.returns-then-not-is_within-
 returns-then-not-is_within-clause-verdict c =
     let side : role_for c.args.self.now.settings ≡ Server = ap role_of c.requires.side in
     let out : within c.args.self.now.settings.channel_max c.args.self.now.settings.frame_max (agreed_in (method_view c.args.method.now)) ≡ false = search rules in
-    subst (λ (s : Stage). IsVerdict c.args.self.now.settings (end_at s (channels_view c.args.self.now.channels)) 0 (Calls (method_view c.args.method.now)) (decisions.Faults faults.Fatal)) (sym c.requires.stage)
+    subst (λ (s : Stage). IsVerdict c.args.self.now.settings (end_at s (channels_view c.args.self.now.channels)) 0 (Calls (method_view c.args.method.now)) c.args.news.now (decisions.Faults faults.Fatal)) (sym c.requires.stage)
     (sym (tune_ok_fault (role_for c.args.self.now.settings) (config_view c.args.self.now.settings) None (method_view c.args.method.now) side c.requires.kind out))
 
 pub returns-then-not-is_within-clause-after : goal.returns-then-not-is_within-clause-after
 returns-then-not-is_within-clause-after c =
     let side : role_for c.args.self.now.settings ≡ Server = ap role_of c.requires.side in
     let out : within c.args.self.now.settings.channel_max c.args.self.now.settings.frame_max (agreed_in (method_view c.args.method.now)) ≡ false = search rules in
-    subst (λ (s : Stage). LeavesEnd c.args.self.now.settings 0 (Calls (method_view c.args.method.now)) (decisions.Faults faults.Fatal) (end_at s (channels_view c.args.self.now.channels)) (end_at s (channels_view c.args.self.now.channels))) (sym c.requires.stage)
+    subst (λ (s : Stage). LeavesEnd c.args.self.now.settings 0 (Calls (method_view c.args.method.now)) c.args.news.now (decisions.Faults faults.Fatal) (end_at s (channels_view c.args.self.now.channels)) (end_at s (channels_view c.args.self.now.channels))) (sym c.requires.stage)
     (tune_ok_failed (role_for c.args.self.now.settings) (config_view c.args.self.now.settings) (channels_view c.args.self.now.channels) (method_view c.args.method.now) Fatal side c.requires.kind out)
 
 pub returns-clause-verdict : goal.returns-clause-verdict
 returns-clause-verdict c =
     let side : role_for c.args.self.now.settings ≡ Server = ap role_of c.requires.side in
     let fit : within c.args.self.now.settings.channel_max c.args.self.now.settings.frame_max (agreed_in (method_view c.args.method.now)) ≡ true = search rules in
-    subst (λ (s : Stage). IsVerdict c.args.self.now.settings (end_at s (channels_view c.args.self.now.channels)) 0 (Calls (method_view c.args.method.now)) (decisions.Proceeds (Some events.Quiet) owed.Nothing)) (sym c.requires.stage)
-    (sym (tune_ok_verdict (role_for c.args.self.now.settings) (config_view c.args.self.now.settings) None (method_view c.args.method.now) side c.requires.kind fit))
+    subst (λ (news : Option News). IsVerdict c.args.self.now.settings (end_at c.args.self.now.stage (channels_view c.args.self.now.channels)) 0 (Calls (method_view c.args.method.now)) news (decisions.Proceeds owed.Nothing)) (sym c.put_in.ensures)
+    (subst (λ (s : Stage). IsVerdict c.args.self.now.settings (end_at s (channels_view c.args.self.now.channels)) 0 (Calls (method_view c.args.method.now)) (Some events.Quiet) (decisions.Proceeds owed.Nothing)) (sym c.requires.stage)
+    (sym (tune_ok_verdict (role_for c.args.self.now.settings) (config_view c.args.self.now.settings) None (method_view c.args.method.now) side c.requires.kind fit)))
 
 pub returns-clause-after : goal.returns-clause-after
 returns-clause-after c =
     let side : role_for c.args.self.now.settings ≡ Server = ap role_of c.requires.side in
     let fit : within c.args.self.now.settings.channel_max c.args.self.now.settings.frame_max (agreed_in (method_view c.args.method.now)) ≡ true = search rules in
     let said : agreed_in (method_view c.args.method.now) ≡ (record { channel_max = c.number_at-channels.result; frame_max = c.number_at-frame.result }) = cc in
-    subst (λ (s : Stage). LeavesEnd c.args.self.now.settings 0 (Calls (method_view c.args.method.now)) (decisions.Proceeds (Some events.Quiet) owed.Nothing) (end_at s (channels_view c.args.self.now.channels)) (end_at (stages.AwaitsOpen (record { channel_max = c.number_at-channels.result; frame_max = c.number_at-frame.result })) (channels_view c.args.self.now.channels))) (sym c.requires.stage)
-    (rw (← said) (tune_ok_left (role_for c.args.self.now.settings) (config_view c.args.self.now.settings) None (channels_view c.args.self.now.channels) (method_view c.args.method.now) side c.requires.kind fit))
+    subst (λ (news : Option News). LeavesEnd c.args.self.now.settings 0 (Calls (method_view c.args.method.now)) news (decisions.Proceeds owed.Nothing) (end_at c.args.self.now.stage (channels_view c.args.self.now.channels)) (end_at (stages.AwaitsOpen (record { channel_max = c.number_at-channels.result; frame_max = c.number_at-frame.result })) (channels_view c.args.self.now.channels))) (sym c.put_in.ensures)
+    (subst (λ (s : Stage). LeavesEnd c.args.self.now.settings 0 (Calls (method_view c.args.method.now)) (Some events.Quiet) (decisions.Proceeds owed.Nothing) (end_at s (channels_view c.args.self.now.channels)) (end_at (stages.AwaitsOpen (record { channel_max = c.number_at-channels.result; frame_max = c.number_at-frame.result })) (channels_view c.args.self.now.channels))) (sym c.requires.stage)
+    (rw (← said) (tune_ok_left (role_for c.args.self.now.settings) (config_view c.args.self.now.settings) None (channels_view c.args.self.now.channels) (method_view c.args.method.now) side c.requires.kind fit)))
 
 pub overflow_cast-self : goal.overflow_cast-self
 overflow_cast-self c =

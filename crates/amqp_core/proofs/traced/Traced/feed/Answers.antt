@@ -74,28 +74,28 @@ invariant_of-self-2 g c =
     let config = config_at end in
     let old = kept_of end self.ledger in
     let ready = kept_of end c.make_room-room.new.ledger in
-    let new = kept_of c.take.new.end c.take.new.ledger in
+    let new = kept_of c.take-answer.new.end c.take-answer.new.ledger in
     let lists = c.make_room-room.ensures.same in
     let fits = not-err c.make_room-room.result (sym c.is_err.ensures.value ∙ c.if-is_err.false) c.make_room-room.ensures.written in
     record {
-      plays = ap role_of (c.take.ensures.side ∙ c.make_room-room.ensures.side) ∙ (self.plays ∙ sym (ap (λ (s : Settings). role_for s) c.take.ensures.settings));
-      room = subst (λ w. vec_len w + length (output_octets (endpoint_of c.take.new.end).output) ≤ vec_capacity w) (sym c.take.ensures.written) (omega (arith, fits, c.take.ensures.grows));
-      traces = traces-kept (settings_at end) (settings_at c.take.new.end) new c.take.ensures.settings
-          (traces-on role config (ran_out c.take.result) ready new c.args.piece.now (after_feed role config (endpoint_of end) c.args.piece.now)
-          (traces-same role config old ready (λ history traced. traced-same role config old ready history refl lists traced) self.traces) c.take.ensures.history);
+      plays = ap role_of (c.take-answer.ensures.side ∙ c.make_room-room.ensures.side) ∙ (self.plays ∙ sym (ap (λ (s : Settings). role_for s) c.take-answer.ensures.settings));
+      room = subst (λ w. vec_len w + length (output_octets (endpoint_of c.take-answer.new.end).output) ≤ vec_capacity w) (sym c.take-answer.ensures.written) (omega (arith, fits, c.take-answer.ensures.grows));
+      traces = traces-kept (settings_at end) (settings_at c.take-answer.new.end) new c.take-answer.ensures.settings
+          (traces-on role config (ran_out c.take-answer.result) ready new c.args.piece.now (after_feed role config (endpoint_of end) c.args.piece.now)
+          (traces-same role config old ready (λ history traced. traced-same role config old ready history refl lists traced) self.traces) c.take-answer.ensures.history);
     }
 
 pub returns-clause-fed : goal.returns-clause-fed
 returns-clause-fed g c =
     let self = c.args.self.now in
     let old = endpoint_of self.end in
-    fed-told c.take.result c.told.result old (after_feed (role_played self.end) (config_at self.end) old c.args.piece.now) (endpoint_of c.take.new.end) c.told.ensures c.take.ensures.fed
+    fed-told c.take-answer.new.news c.take-answer.result c.told.result old (after_feed (role_played self.end) (config_at self.end) old c.args.piece.now) (endpoint_of c.take-answer.new.end) c.told.ensures c.take-answer.ensures.fed
 
 pub returns-clause-within : goal.returns-clause-within
-returns-clause-within g c = octets-told (λ n. n ≤ length c.args.piece.now) c.take.result c.told.result c.told.ensures c.take.ensures.within
+returns-clause-within g c = octets-told (λ n. n ≤ length c.args.piece.now) c.take-answer.new.news c.take-answer.result c.told.result c.told.ensures c.take-answer.ensures.within
 
 pub returns-clause-progress : goal.returns-clause-progress
-returns-clause-progress g c = octets-told (λ n. c.args.piece.now ≢ [] → 0 < n) c.take.result c.told.result c.told.ensures c.take.ensures.progress
+returns-clause-progress g c = octets-told (λ n. c.args.piece.now ≢ [] → 0 < n) c.take-answer.new.news c.take-answer.result c.told.result c.told.ensures c.take-answer.ensures.progress
 
 pub returns-clause-history : goal.returns-clause-history
 returns-clause-history g c = λ history traced.
@@ -103,6 +103,6 @@ returns-clause-history g c = λ history traced.
     let role = role_played self.end in
     let config = config_at self.end in
     let old = endpoint_of self.end in
-    subst (λ b. ∥ TraceGoesOn role config b old c.args.piece.now (after_feed role config old c.args.piece.now) history (kept_of c.take.new.end c.take.new.ledger) ∥₁)
-    (ran-told c.take.result c.told.result c.told.ensures)
-    (c.take.ensures.history history (traced-same role config (kept_of self.end self.ledger) (kept_of self.end c.make_room-room.new.ledger) history refl c.make_room-room.ensures.same traced))
+    subst (λ b. ∥ TraceGoesOn role config b old c.args.piece.now (after_feed role config old c.args.piece.now) history (kept_of c.take-answer.new.end c.take-answer.new.ledger) ∥₁)
+    (ran-told c.take-answer.new.news c.take-answer.result c.told.result c.told.ensures)
+    (c.take-answer.ensures.history history (traced-same role config (kept_of self.end self.ledger) (kept_of self.end c.make_room-room.new.ledger) history refl c.make_room-room.ensures.same traced))
