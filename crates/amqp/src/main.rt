@@ -25,9 +25,13 @@ mod words;
 
 use crate::arguments::{Request, request_of};
 use crate::notes::Notes;
+use crate::options::Limits;
 use crate::progress::Progress;
+use crate::publishing::Destination;
 use crate::sockets::HERE;
-use std::io::{self, BufWriter, IsTerminal};
+use amqp_text::Load;
+use std::alloc::Global;
+use std::io::{self, BufWriter, IsTerminal, Write};
 use std::process::ExitCode;
 
 fn main(rt: HostRuntime) -> anyhow::Result<ExitCode> {
@@ -40,44 +44,63 @@ fn main(rt: HostRuntime) -> anyhow::Result<ExitCode> {
             return Ok(ExitCode::from(error.exit_code() as u8));
         }
     };
-    let mut output = BufWriter::new(alloc, io::writer(&rt))?;
-    let status = match request {
-        Request::Show(start) => showing::show(alloc, start, &mut rt.reader(), &mut output),
+    let status = answer(&rt, alloc, request)?;
+    Ok(ExitCode::from(status))
+}
+
+/// Does what is asked for, and answers the exit status.
+fn answer(rt: &HostRuntime, alloc: Global, request: Request) -> anyhow::Result<u8> {
+    let mut output = BufWriter::new(alloc, io::writer(rt))?;
+    Ok(run(rt, alloc, request, &mut output))
+}
+
+fn run<W: Write>(rt: &HostRuntime, alloc: Global, request: Request, output: &mut W) -> u8 {
+    match request {
+        Request::Show(start) => showing::show(alloc, start, &mut rt.reader(), output),
         Request::Check(side, limits) => {
-            checking::check_side(alloc, side, limits, &mut rt.reader(), &mut output)
+            checking::check_side(alloc, side, limits, &mut rt.reader(), output)
         }
-        Request::Link(limits) => linking::link(alloc, limits, &mut rt.reader(), &mut output),
+        Request::Link(limits) => linking::link(alloc, limits, &mut rt.reader(), output),
         Request::Serve(address, limits) => {
-            let errors = rt.stderr();
-            sockets::serve_at(&rt, alloc, address.as_str(), limits, &mut output, errors)
+            sockets::serve_at(rt, alloc, address.as_str(), limits, output, rt.stderr())
         }
         Request::Publish(address, destination, limits) => {
-            let mut notes = Notes::new(address.as_str(), rt.stderr());
-            let input = &mut rt.reader();
-            sockets::publish_at(
-                &rt,
-                alloc,
-                address.as_str(),
-                destination,
-                limits,
-                input,
-                &mut output,
-                &mut notes,
-            )
+            publish(rt, alloc, address.as_str(), destination, limits, output)
         }
-        Request::Loop(load, limits) => {
-            let mut notes = Notes::new(HERE, rt.stderr());
-            let mut progress = Progress::new(rt.stderr(), rt.stderr().is_terminal());
-            sockets::loop_here(
-                &rt,
-                alloc,
-                load,
-                limits,
-                &mut output,
-                &mut notes,
-                &mut progress,
-            )
-        }
-    };
-    Ok(ExitCode::from(status))
+        Request::Loop(load, limits) => run_loop(rt, alloc, load, limits, output),
+    }
+}
+
+fn publish<W: Write>(
+    rt: &HostRuntime,
+    alloc: Global,
+    address: &str,
+    destination: Destination,
+    limits: Limits,
+    output: &mut W,
+) -> u8 {
+    let mut notes = Notes::new(address, rt.stderr());
+    let input = &mut rt.reader();
+    sockets::publish_at(
+        rt,
+        alloc,
+        address,
+        destination,
+        limits,
+        input,
+        output,
+        &mut notes,
+    )
+}
+
+fn run_loop<W: Write>(
+    rt: &HostRuntime,
+    alloc: Global,
+    load: Load,
+    limits: Limits,
+    output: &mut W,
+) -> u8 {
+    let mut notes = Notes::new(HERE, rt.stderr());
+    let mut progress = Progress::new(rt.stderr(), rt.stderr().is_terminal());
+    sockets::loop_here(rt, alloc, load, limits, output, &mut notes, &mut progress)
 }

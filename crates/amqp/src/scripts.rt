@@ -77,26 +77,31 @@ fn connection_of(word: &[u8]) -> Result<usize, LineFault> {
     }
 }
 
+/// A word as text, or no text where it is none.
+fn name_of(word: &[u8]) -> &str {
+    str::from_utf8(word).unwrap_or("")
+}
+
 fn side_of(word: &[u8]) -> Result<Side, LineFault> {
-    match word {
-        b"client" => Ok(Side::Client),
-        b"server" => Ok(Side::Server),
+    match name_of(word) {
+        "client" => Ok(Side::Client),
+        "server" => Ok(Side::Server),
         _ => Err(LineFault::NotStep),
     }
 }
 
 fn direction_of(word: &[u8]) -> Result<Direction, LineFault> {
-    match word {
-        b"to-server" => Ok(Direction::ToServer),
-        b"to-client" => Ok(Direction::ToClient),
+    match name_of(word) {
+        "to-server" => Ok(Direction::ToServer),
+        "to-client" => Ok(Direction::ToClient),
         _ => Err(LineFault::NotStep),
     }
 }
 
 fn count_of(word: &[u8]) -> Result<Count, LineFault> {
-    match word {
-        b"all" => Ok(Count::All),
-        digits => Ok(Count::Octets(number_of(digits)?)),
+    match name_of(word) {
+        "all" => Ok(Count::All),
+        _ => Ok(Count::Octets(number_of(word)?)),
     }
 }
 
@@ -190,48 +195,133 @@ fn content_in(alloc: Global, words: [&[u8]; 3]) -> Result<Message, LineFault> {
     }
 }
 
-/// What is asked.
-fn ask_of(alloc: Global, words: &[&[u8]]) -> Result<Ask, LineFault> {
+/// The one word that stands there.
+fn alone<'a>(words: &[&'a [u8]]) -> Result<&'a [u8], LineFault> {
     match words {
-        [b"open"] => Ok(Ask::Open),
-        [b"send", channel, method] => {
-            Ok(Ask::Send(number_of(channel)?, plain_of(alloc, method)?))
+        [word] => Ok(*word),
+        _ => Err(LineFault::NotStep),
+    }
+}
+
+/// The two words that stand there.
+fn pair<'a>(words: &[&'a [u8]]) -> Result<(&'a [u8], &'a [u8]), LineFault> {
+    match words {
+        [first, second] => Ok((*first, *second)),
+        _ => Err(LineFault::NotStep),
+    }
+}
+
+/// The first word, and those after it.
+fn split_first<'a, 'b>(words: &'b [&'a [u8]]) -> Result<(&'a [u8], &'b [&'a [u8]]), LineFault> {
+    match words {
+        [first, rest @ ..] => Ok((*first, rest)),
+        [] => Err(LineFault::NotStep),
+    }
+}
+
+fn send(alloc: Global, words: &[&[u8]]) -> Result<Ask, LineFault> {
+    let (channel, method) = pair(words)?;
+    let channel = number_of(channel)?;
+    let message = plain_of(alloc, method)?;
+    Ok(Ask::Send(channel, message))
+}
+
+fn send_content(alloc: Global, words: &[&[u8]]) -> Result<Ask, LineFault> {
+    match words {
+        [channel, method, header, body] => {
+            let channel = number_of(channel)?;
+            let message = content_in(alloc, [*method, *header, *body])?;
+            Ok(Ask::Send(channel, message))
         }
-        [b"content", channel, method, header, body] => Ok(Ask::Send(
-            number_of(channel)?,
-            content_in(alloc, [method, header, body])?,
-        )),
-        [b"flow", channel, bit] => Ok(Ask::Flow(number_of(channel)?, active_of(bit)?)),
-        [b"close-channel", channel, code, reason] => Ok(Ask::CloseChannel(
-            number_of(channel)?,
-            number_of(code)?,
-            text_of(alloc, reason)?,
-        )),
-        [b"close", code, reason] => Ok(Ask::Close(number_of(code)?, text_of(alloc, reason)?)),
-        [b"blocked", reason] => Ok(Ask::Blocked(text_of(alloc, reason)?)),
-        [b"unblocked"] => Ok(Ask::Unblocked),
+        _ => Err(LineFault::NotStep),
+    }
+}
+
+fn flow(words: &[&[u8]]) -> Result<Ask, LineFault> {
+    let (channel, bit) = pair(words)?;
+    Ok(Ask::Flow(number_of(channel)?, active_of(bit)?))
+}
+
+fn close_channel(alloc: Global, words: &[&[u8]]) -> Result<Ask, LineFault> {
+    let (channel, rest) = split_first(words)?;
+    let (code, reason) = pair(rest)?;
+    let channel = number_of(channel)?;
+    let code = number_of(code)?;
+    let text = text_of(alloc, reason)?;
+    Ok(Ask::CloseChannel(channel, code, text))
+}
+
+fn close(alloc: Global, words: &[&[u8]]) -> Result<Ask, LineFault> {
+    let (code, reason) = pair(words)?;
+    let code = number_of(code)?;
+    let text = text_of(alloc, reason)?;
+    Ok(Ask::Close(code, text))
+}
+
+fn blocked(alloc: Global, words: &[&[u8]]) -> Result<Ask, LineFault> {
+    let text = text_of(alloc, alone(words)?)?;
+    Ok(Ask::Blocked(text))
+}
+
+/// What is asked by a name, with the words after it.
+fn ask_of(alloc: Global, name: &str, rest: &[&[u8]]) -> Result<Ask, LineFault> {
+    match name {
+        "open" if rest.is_empty() => Ok(Ask::Open),
+        "send" => send(alloc, rest),
+        "content" => send_content(alloc, rest),
+        "flow" => flow(rest),
+        "close-channel" => close_channel(alloc, rest),
+        "close" => close(alloc, rest),
+        "blocked" => blocked(alloc, rest),
+        "unblocked" if rest.is_empty() => Ok(Ask::Unblocked),
+        _ => Err(LineFault::NotStep),
+    }
+}
+
+fn ask_in(alloc: Global, words: &[&[u8]]) -> Result<Ask, LineFault> {
+    let (name, rest) = split_first(words)?;
+    ask_of(alloc, name_of(name), rest)
+}
+
+fn ask_line(alloc: Global, words: &[&[u8]]) -> Result<Line, LineFault> {
+    let (place, rest) = split_first(words)?;
+    let (who, rest) = split_first(rest)?;
+    let connection = connection_of(place)?;
+    let side = side_of(who)?;
+    let ask = ask_in(alloc, rest)?;
+    Ok(Line::Ask(connection, side, ask))
+}
+
+fn carry_line(words: &[&[u8]]) -> Result<Line, LineFault> {
+    let (place, rest) = split_first(words)?;
+    let (way, many) = pair(rest)?;
+    let connection = connection_of(place)?;
+    let direction = direction_of(way)?;
+    Ok(Line::Carry(connection, direction, count_of(many)?))
+}
+
+fn drop_line(words: &[&[u8]]) -> Result<Line, LineFault> {
+    let (place, who) = pair(words)?;
+    let connection = connection_of(place)?;
+    Ok(Line::Drop(connection, side_of(who)?))
+}
+
+/// The step that is named so, with the words after it.
+fn step_of(alloc: Global, name: &str, rest: &[&[u8]]) -> Result<Line, LineFault> {
+    match name {
+        "begin" if rest.is_empty() => Ok(Line::Begin),
+        "shake" => Ok(Line::Shake(connection_of(alone(rest)?)?)),
+        "ask" => ask_line(alloc, rest),
+        "carry" => carry_line(rest),
+        "drop" => drop_line(rest),
         _ => Err(LineFault::NotStep),
     }
 }
 
 /// The step that the words of a line are.
-fn step_of(alloc: Global, words: &[&[u8]]) -> Result<Line, LineFault> {
-    match words {
-        [b"begin"] => Ok(Line::Begin),
-        [b"shake", place] => Ok(Line::Shake(connection_of(place)?)),
-        [b"ask", place, who, rest @ ..] => Ok(Line::Ask(
-            connection_of(place)?,
-            side_of(who)?,
-            ask_of(alloc, rest)?,
-        )),
-        [b"carry", place, way, many] => Ok(Line::Carry(
-            connection_of(place)?,
-            direction_of(way)?,
-            count_of(many)?,
-        )),
-        [b"drop", place, who] => Ok(Line::Drop(connection_of(place)?, side_of(who)?)),
-        _ => Err(LineFault::NotStep),
-    }
+fn step_in(alloc: Global, words: &[&[u8]]) -> Result<Line, LineFault> {
+    let (name, rest) = split_first(words)?;
+    step_of(alloc, name_of(name), rest)
 }
 
 /// What a line says. Spaces part its words, and nothing else does: a tab or a carriage return is an octet of a word.
@@ -244,7 +334,7 @@ pub fn line_of(alloc: Global, line: &[u8]) -> Result<Line, LineFault> {
         .filter(|word| !word.is_empty())
         .collect(alloc);
     match words {
-        Ok(words) => step_of(alloc, words.as_slice()),
+        Ok(words) => step_in(alloc, words.as_slice()),
         Err(_) => Err(LineFault::OutOfMemory),
     }
 }

@@ -9,22 +9,25 @@ use Rattle.amqp_model.specs.Histories.{TookHere}
 use Rattle.amqp_model.specs.Machine.{channel_after}
 use Rattle.amqp_model.specs.Methods.{MethodKind}
 use Rattle.amqp_model.specs.Notes.{Role, Client, Server}
-use Rattle.amqp_model.specs.Readings.{Reading, HeaderOf, BodyOf, payload_of}
+use Rattle.amqp_model.specs.Readings.{Reading, HeaderOf, MalformedHeader, BodyOf, payload_of}
 use Rattle.amqp_channel.specs.VerdictView.{LeavesAfter, without_answered}
 
--- a header or a part of a body
+-- a header, also one that can't be read, or a part of a body
 abbrev pub IsPart : Reading → Type 0
 IsPart (HeaderOf size properties) = Unit {0}
+IsPart MalformedHeader = Unit {0}
 IsPart (BodyOf octets) = Unit {0}
 IsPart reading = ⊥
 
-abbrev life_with : Gathering → Life → List MethodKind → Life
+abbrev pub life_with : Gathering → Life → List MethodKind → Life
 life_with content life requests = record { content = content; paused = life.paused; awaits = life.awaits; requests = requests }
 
-left_by_part : (role : Role) (frame : Frame) (reading : Reading) (before : Life) → IsPart reading → Open (without_answered role (step before.content (payload_of reading)) (life_with (remains (step before.content (payload_of reading)) (payload_of reading)) before before.requests)) ≡ channel_after role (TookHere reading frame) (Open before)
+pub left_by_part : (role : Role) (frame : Frame) (reading : Reading) (before : Life) → IsPart reading → Open (without_answered role (step before.content (payload_of reading)) (life_with (remains (step before.content (payload_of reading)) (payload_of reading)) before before.requests)) ≡ channel_after role (TookHere reading frame) (Open before)
 left_by_part Client frame (HeaderOf size properties) before h = refl
+left_by_part Client frame MalformedHeader before h = refl
 left_by_part Client frame (BodyOf octets) before h = refl
 left_by_part Server frame (HeaderOf size properties) before h = refl
+left_by_part Server frame MalformedHeader before h = refl
 left_by_part Server frame (BodyOf octets) before h = refl
 left_by_part role frame reading before h = absurd h
 

@@ -10,15 +10,17 @@ use Rattle.amqp_model.specs.Histories.{PutHere}
 use Rattle.amqp_model.specs.Machine.{channel_after}
 use Rattle.amqp_model.specs.Methods.{Method, Properties}
 use Rattle.amqp_model.specs.Notes.{Role, Client, Server}
-use Rattle.amqp_model.specs.Readings.{Reading, Calls, HeaderOf, BodyOf}
+use Rattle.amqp_model.specs.Readings.{Reading, Calls, HeaderOf, MalformedHeader, BodyOf}
 use Rattle.amqp_channel.proofs.PartLemmas.{IsPart}
 use Rattle.amqp_channel.specs.Messages.{message_by, message_of}
 use Rattle.amqp_channel.specs.Puts.{after_payloads}
 
 part_stays : (role : Role) (frame : Frame) (reading : Reading) (life : Life) → IsPart reading → channel_after role (PutHere reading frame) (Open life) ≡ Open life
 part_stays Client frame (HeaderOf size properties) life h = refl
+part_stays Client frame MalformedHeader life h = refl
 part_stays Client frame (BodyOf octets) life h = refl
 part_stays Server frame (HeaderOf size properties) life h = refl
+part_stays Server frame MalformedHeader life h = refl
 part_stays Server frame (BodyOf octets) life h = refl
 part_stays role frame reading life h = absurd h
 

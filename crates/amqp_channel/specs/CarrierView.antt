@@ -10,4 +10,4 @@ abbrev pub carrier_view : Carrier → Method
 carrier_view carrier = method_view carrier.method
 
 abbrev pub content_view : Content → contents.Content
-content_view content = record { method = carrier_view content.method; properties = properties_view content.parts.value.header.properties; body = content.parts.value.body.items }
+content_view content = record { method = carrier_view content.method; properties = properties_view content.header.properties; body = content.body.items }

@@ -1,5 +1,6 @@
 -- The content of which all is kept.
-use Rattle.std.specs.Prelude.{◌≡◌}
+use Rattle.std.specs.Global.{Global}
+use Rattle.std.specs.Prelude.{◌≡◌, Box}
 use Rattle.amqp_channel.specs.CarrierView.{content_view}
 use Rattle.amqp_channel.specs.declared.carrier.Content.{Content}
 use Rattle.amqp_channel.specs.declared.gathering.Gathering.{Gathering}
@@ -7,10 +8,10 @@ use Rattle.amqp_channel.specs.declared.gathering.Gathering.TheVariants.{Nothing,
 
 abbrev pub IsBodyDue : Gathering → Type 0
 IsBodyDue Nothing = ⊥
-IsBodyDue (HeaderDue method) = ⊥
-IsBodyDue (BodyDue size content) = Unit {0}
+IsBodyDue (HeaderDue content) = ⊥
+IsBodyDue (BodyDue content) = Unit {0}
 
-abbrev pub IsKeptIn : Gathering → Content → Type 0
+abbrev pub IsKeptIn : Gathering → Box Content Global → Type 0
 IsKeptIn Nothing content = ⊥
-IsKeptIn (HeaderDue method) content = ⊥
-IsKeptIn (BodyDue size kept) content = content_view content ≡ content_view kept
+IsKeptIn (HeaderDue kept) content = ⊥
+IsKeptIn (BodyDue kept) content = content_view content.value ≡ content_view kept.value

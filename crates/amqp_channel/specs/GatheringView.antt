@@ -1,5 +1,4 @@
 -- What the code keeps of a content stands for this in the model.
-use Rattle.std.specs.Prelude.{Bool, true, false}
 use Rattle.amqp_model.specs.Gathering as model
 use Rattle.amqp_model.specs.Gathering.{Keeps, Completes, Breaks, Step}
 use Rattle.amqp_channel.specs.CarrierView.{carrier_view, content_view}
@@ -12,21 +11,17 @@ use Rattle.amqp_channel.specs.declared.gathering.Part.TheVariants.{Kept, Complet
 
 abbrev pub gathering_view : Gathering → model.Gathering
 gathering_view Nothing = model.Nothing
-gathering_view (HeaderDue method) = model.HeaderDue (carrier_view method)
-gathering_view (BodyDue size content) = model.BodyDue (content_view content).method size (content_view content).properties (content_view content).body
+gathering_view (HeaderDue content) = model.HeaderDue (carrier_view content.value.method)
+gathering_view (BodyDue content) =
+    model.BodyDue (content_view content.value).method content.value.header.body_size (content_view content.value).properties (content_view content.value).body
 
 abbrev pub misfit_view : Misfit → model.Misfit
 misfit_view misfit.NothingBegun = model.NothingBegun
 misfit_view misfit.HeaderAwaited = model.HeaderAwaited
-misfit_view misfit.BodyAwaited = model.BodyAwaited
 misfit_view misfit.PastSize = model.PastSize
 
 -- what a call answers, together with what is kept after it
 abbrev pub step_view : Part → (after : Gathering) → Step
 step_view Kept after = Keeps (gathering_view after)
-step_view (Completed content) after = Completes (content_view content)
+step_view (Completed content) after = Completes (content_view content.value)
 step_view (Misfits misfit) after = Breaks (misfit_view misfit)
-
-abbrev pub is_header_due : model.Gathering → Bool
-is_header_due (model.HeaderDue method) = true
-is_header_due kept = false

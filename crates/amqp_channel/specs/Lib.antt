@@ -9,12 +9,14 @@ pub mod Reasons
 pub mod EventView
 pub mod NewsView
 pub mod EventTexts
+pub mod StandingView
 pub mod LifeView
 pub mod ChannelView
 pub mod StateView
 pub mod Used
 pub mod ChannelsView
 pub mod VerdictView
+pub mod Headings
 pub mod Unreads
 pub mod Reads
 pub mod Puts

@@ -4,10 +4,11 @@ use Rattle.amqp_model.specs.Channels as model
 use Rattle.amqp_model.specs.Gathering as gathering
 use Rattle.amqp_model.specs.Notes.{Kind, Other}
 use Rattle.amqp_channel.specs.GatheringView.{gathering_view}
+use Rattle.amqp_channel.specs.StandingView.{awaits_in, paused_in, requests_in}
 use Rattle.amqp_channel.specs.declared.life.Life.{Life}
 
 abbrev pub life_view : Life → model.Life
-life_view life = record { content = gathering_view life.content; paused = life.paused; awaits = life.awaits; requests = life.requests.items }
+life_view life = record { content = gathering_view life.content; paused = paused_in life.standing; awaits = awaits_in life.standing; requests = requests_in life.standing }
 
 -- no content is under way
 abbrev pub IsIdle : Life → Type 0

@@ -16,7 +16,7 @@ abbrev pub news_view : News → model.Event
 news_view (news.Negotiated agreed) = model.Negotiated (agreed_view agreed)
 news_view (news.Opened channel) = model.Opened channel
 news_view (news.Method channel lone) = model.Told channel (model.Plain (lone_view lone))
-news_view (news.Content channel content) = model.Told channel (model.Whole (content_view content))
+news_view (news.Content channel content) = model.Told channel (model.Whole (content_view content.value))
 news_view (news.Flow channel active) = model.Flow channel active
 news_view (news.FlowOk channel active) = model.FlowOk channel active
 news_view (news.ChannelClosed channel reason) = model.ChannelClosed channel (reason_there reason)

@@ -1,22 +1,14 @@
--- Payloads that can't be read, in the words of the model.
+-- Methods that can't be read, in the words of the model.
 use Rattle.amqp_model.specs.Closes.{CloseCode, NotImplemented, SyntaxError}
 use Rattle.amqp_model.specs.Readings as model
 use Rattle.amqp_channel.specs.declared.verdict.Unread.{Unread}
-use Rattle.amqp_channel.specs.declared.verdict.Unread.TheVariants.{UnknownMethod, MalformedMethod, MalformedHeader}
+use Rattle.amqp_channel.specs.declared.verdict.Unread.TheVariants.{UnknownMethod, MalformedMethod}
 
 abbrev pub unread_view : Unread → model.Reading
 unread_view UnknownMethod = model.UnknownMethod
 unread_view MalformedMethod = model.MalformedMethod
-unread_view MalformedHeader = model.MalformedHeader
 
 -- the code with which a method that can't be read is answered
 abbrev pub unread_code : Unread → CloseCode
 unread_code UnknownMethod = NotImplemented
 unread_code MalformedMethod = SyntaxError
-unread_code MalformedHeader = SyntaxError
-
--- it is a method that can't be read
-abbrev pub IsOfMethod : Unread → Type 0
-IsOfMethod UnknownMethod = Unit {0}
-IsOfMethod MalformedMethod = Unit {0}
-IsOfMethod MalformedHeader = ⊥

@@ -1,11 +1,11 @@
 -- The verdicts of the code, in the words of the model, and the channel that they leave.
-use Rattle.std.specs.Prelude.{◌≡◌, Bool, false, ℕ, nat_lt, cond, drop, List, [], ◌∷◌, map, Option, Some, None}
+use Rattle.std.specs.Prelude.{◌≡◌, ℕ, cond, drop, List, [], ◌∷◌, map, Option, Some, None}
 use Rattle.amqp_model.specs.Channels.{Channel, Life, Open, Running}
 use Rattle.amqp_model.specs.Closes.{Owed, ChannelError, ContentTooLarge, UnexpectedFrame, channel_close, reply_to, frame_of}
 use Rattle.amqp_model.specs.Events.{Peer, FrameVerdict, Proceeds, RefusesContent, Faults}
 use Rattle.amqp_model.specs.Frame.{Frame}
 use Rattle.amqp_model.specs.FrameVerdict.{Facts, on_channel, on_matched, as_lives, is_gathering, fault, verdict_on}
-use Rattle.amqp_model.specs.Gathering.{Gathering, HeaderDue, Step}
+use Rattle.amqp_model.specs.Gathering.{Step}
 use Rattle.amqp_model.specs.Histories.{PutHere, TookHere}
 use Rattle.amqp_model.specs.Machine.{channel_after}
 use Rattle.amqp_model.specs.Methods.{Method}
@@ -81,8 +81,3 @@ Decides site channel reading verdict =
 abbrev pub without_answered : Role → Step → Life → Life
 without_answered notes.Client step life = record { content = life.content; paused = life.paused; awaits = life.awaits; requests = drop (one_if (completes_reply step)) life.requests }
 without_answered notes.Server step life = life
-
--- a header is due, and says a body that is too large
-abbrev pub refuses_at : Gathering → (most size : ℕ) → Bool
-refuses_at (HeaderDue method) most size = nat_lt most size
-refuses_at kept most size = false

@@ -5,6 +5,7 @@ ghost use Rattle.amqp_method.specs.MethodView.{method_view};
 
 use crate::faults::OutOfMemory;
 use amqp_method::{Header, Kind, Message, Method};
+use std::alloc::Global;
 
 /// A method that a content follows.
 #[derive(Drop)]
@@ -13,18 +14,12 @@ pub struct Carrier {
     pub ghost carries: { has_content (method_view method).kind ≡ true },
 }
 
-/// The header of a content, and what was taken of its body.
-#[derive(Drop)]
-pub struct Parts {
-    pub(crate) header: Header,
-    pub(crate) body: Vec<u8>,
-}
-
-/// A method, and what was taken of its content, which is large, so that only the box moves.
+/// A content: the method that it follows, its header, and what was taken of its body. It is large, so it is kept in a box.
 #[derive(Drop)]
 pub struct Content {
     pub(crate) method: Carrier,
-    pub(crate) parts: Box<Parts>,
+    pub(crate) header: Header,
+    pub(crate) body: Vec<u8>,
 }
 
 impl Carrier {
@@ -51,8 +46,25 @@ impl Content {
     ghost use Rattle.std.specs.Prelude.{◌≡◌, IfOk};
     ghost use Rattle.amqp_method.specs.MessageView.{message_view};
     ghost use Rattle.amqp_model.specs.Events.{Whole};
-    ghost use Rattle.amqp_channel.specs.CarrierView.{content_view};
+    ghost use Rattle.amqp_channel.specs.CarrierView.{carrier_view, content_view};
     ghost use Rattle.amqp_channel.specs.Messages.{message_of};
+
+    /// A content of which the method alone was taken.
+    pub(crate) fn begun(alloc: Global, method: Carrier) -> Result<Box<Content>, OutOfMemory>
+        ensures { IfOk result (λ content. carrier_view content.value.method ≡ carrier_view method) }
+    {
+        let header = Header::default();
+        let body = Vec::new(alloc);
+        let content = Box::new(
+            alloc,
+            Content {
+                method,
+                header,
+                body,
+            },
+        )?;
+        Ok(content)
+    }
 
     pub(crate) fn kind(&self) -> Kind
         ensures { result ≡ (content_view self.now).method.kind }
@@ -62,11 +74,14 @@ impl Content {
 
     /// The message that a whole content makes. It is large, and stands apart, so that who makes none makes no room for it.
     #[inline(never)]
-    pub(crate) fn into_message(self) -> Message
-        ensures { message_of (message_view result) ≡ Whole (content_view self) }
+    pub(crate) fn into_message(content: Box<Content>) -> Message
+        ensures { message_of (message_view result) ≡ Whole (content_view content.value) }
     {
-        let Content { method, parts } = self;
-        let Parts { header, body } = Box::into_inner(parts);
+        let Content {
+            method,
+            header,
+            body,
+        } = Box::into_inner(content);
         let Header { properties, .. } = header;
         Message::content(method.method, properties, body)
     }
@@ -76,9 +91,8 @@ impl Content {
         ensures { IfOk result (λ message. message_of (message_view message) ≡ Whole (content_view self.now)) }
     {
         let method = self.method.method.copy()?;
-        let properties = self.parts.header.properties.copy()?;
-        let body = &self.parts.body;
-        let body = Vec::from_slice(*body.allocator(), body)?;
+        let properties = self.header.properties.copy()?;
+        let body = Vec::from_slice(*self.body.allocator(), &self.body)?;
         Ok(Message::content(method, properties, body))
     }
 }

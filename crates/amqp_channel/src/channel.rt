@@ -5,28 +5,26 @@
 //!
 //!     Free --open put--> Opening --open-ok--> Open --close put--> Closing --close-ok--> Free
 //!     Free --open taken--> Open --close taken--> Free
-ghost use Rattle.std.specs.Prelude.{◌≡◌, ◌≢◌, ◌<◌, false, ℕ, List, [], None, Some, IfOk, OnOk, OnErr};
-ghost use Rattle.amqp_method.specs.HeaderView.{properties_view};
+ghost use Rattle.std.specs.Prelude.{◌≡◌, ◌<◌, false, ℕ, List, [], None, Some, IfOk, OnOk, OnErr};
 ghost use Rattle.amqp_method.specs.MethodView.{method_view};
 ghost use Rattle.amqp_model.specs.Events.{Discarded, Proceeds};
 ghost use Rattle.amqp_model.specs.Frame.{Frame};
-ghost use Rattle.amqp_model.specs.FrameVerdict.{as_lives, fault};
-ghost use Rattle.amqp_model.specs.Readings.{Calls, HeaderOf, MalformedHeader, BodyOf, kind_of};
+ghost use Rattle.amqp_model.specs.FrameVerdict.{as_lives};
+ghost use Rattle.amqp_model.specs.Methods.{header_at};
+ghost use Rattle.amqp_model.specs.Readings.{Calls, BodyOf, header_reading, kind_of};
 ghost use Rattle.amqp_model.specs.Verdict.{when_closing, when_free, when_opening};
 ghost use Rattle.amqp_channel.specs.ChannelView.{channel_view, IsFree, IsOpening, IsClosing, IsOpen};
 ghost use Rattle.amqp_channel.specs.LifeView.{IsOther};
-ghost use Rattle.amqp_channel.specs.Reads.{IsBegun};
 ghost use Rattle.amqp_channel.specs.Roles.{role_of};
 ghost use Rattle.amqp_channel.specs.VerdictView.{verdict_view, open_verdict, Decides, LeavesAfter};
 
-use crate::carrier::Parts;
 use crate::codes::CloseCode;
 use crate::events::reason_of;
 use crate::faults::OutOfMemory;
 use crate::life::Life;
 use crate::news::News;
 use crate::side::Side;
-use crate::verdict::{Reply, Site, Unread, Verdict};
+use crate::verdict::{Reply, Site, Verdict};
 use crate::words::is_of_connection;
 use amqp_method::{Kind, Message, Method};
 use std::alloc::Global;
@@ -50,18 +48,15 @@ pub enum Channel {
 
 impl Channel {
     ghost use Rattle.amqp_model.specs.Asks.{is_free};
-    ghost use Rattle.amqp_model.specs.Channels.{Closing};
     ghost use Rattle.amqp_channel.specs.Used.{is_closing_at};
     ghost use Rattle.amqp_model.specs.Closes.{close_as, flow_as, without_arguments};
     ghost use Rattle.amqp_model.specs.Histories.{PutHere};
     ghost use Rattle.amqp_model.specs.Machine.{channel_after};
     ghost use Rattle.amqp_model.specs.Notes.{Client};
-    ghost use Rattle.amqp_channel.specs.Closes.{code_view};
     ghost use Rattle.amqp_method.specs.MessageView.{message_view};
     ghost use Rattle.amqp_model.specs.Asks.{message_payloads};
     ghost use Rattle.amqp_channel.specs.Messages.{message_of};
     ghost use Rattle.amqp_channel.specs.Puts.{after_payloads};
-    ghost use Rattle.amqp_channel.specs.Unreads.{unread_view};
 
     pub(crate) fn is_free(&self) -> bool
         ensures { result ≡ is_free (channel_view self.now) }
@@ -111,20 +106,14 @@ impl Channel {
     }
 
     /// A method on a number that is free, which the other end may put.
-    fn take_free(
-        &mut self,
-        alloc: Global,
-        site: Site,
-        method: &Method,
-        news: &mut Option<News>,
-    ) -> Verdict
+    fn take_free(&mut self, site: Site, method: &Method, news: &mut Option<News>) -> Verdict
         requires { IsFree self.old }
         ensures verdict { verdict_view site.number news.new result ≡ as_lives site.number (Calls (method_view method.now)) (when_free (role_of site.side) (kind_of (Calls (method_view method.now)))) }
         ensures after { (frame : Frame) → LeavesAfter (role_of site.side) site.number frame (Calls (method_view method.now)) (verdict_view site.number news.new result) (channel_view self.old) (channel_view self.new) }
     {
         match (site.side, method.kind()) {
             (Side::Server, Kind::ChannelOpen) => {
-                *self = Channel::Open(Life::new(alloc));
+                *self = Channel::Open(Life::new());
                 News::Opened(site.number).put_in(news);
                 Verdict::Proceeds(Some(Reply::OpenOk))
             }
@@ -138,7 +127,6 @@ impl Channel {
     /// A method on a number whose open-ok is due.
     fn take_opening(
         &mut self,
-        alloc: Global,
         site: Site,
         method: &Method,
         news: &mut Option<News>,
@@ -156,7 +144,7 @@ impl Channel {
                 Ok(Verdict::Proceeds(Some(Reply::CloseOk)))
             }
             (Side::Client, Kind::ChannelOpenOk) => {
-                *self = Channel::Open(Life::new(alloc));
+                *self = Channel::Open(Life::new());
                 News::Opened(site.number).put_in(news);
                 Ok(Verdict::Proceeds(None))
             }
@@ -170,6 +158,7 @@ impl Channel {
     /// A method on a channel that is Open. A close ends the life at any place; no other method stands inside a content.
     fn take_open(
         &mut self,
+        alloc: Global,
         site: Site,
         method: Method,
         news: &mut Option<News>,
@@ -187,7 +176,7 @@ impl Channel {
             return Ok(Verdict::Proceeds(Some(Reply::CloseOk)));
         }
         match self {
-            Channel::Open(life) => life.take_method(site, method, news),
+            Channel::Open(life) => life.take_method(alloc, site, method, news),
             Channel::Free => unreachable!(),
             Channel::Opening => unreachable!(),
             Channel::Closing => unreachable!(),
@@ -218,39 +207,44 @@ impl Channel {
             return Ok(Verdict::Faults(CloseCode::ChannelError));
         }
         match self {
-            Channel::Free => Ok(self.take_free(alloc, site, &method, news)),
-            Channel::Opening => self.take_opening(alloc, site, &method, news),
-            Channel::Open(_) => self.take_open(site, method, news),
+            Channel::Free => Ok(self.take_free(site, &method, news)),
+            Channel::Opening => self.take_opening(site, &method, news),
+            Channel::Open(_) => self.take_open(alloc, site, method, news),
             Channel::Closing => Ok(self.take_closing(site, &method, news)),
         }
     }
 
-    /// A content header.
+    /// A content header. Where its body is too large, the channel is closed.
     pub(crate) fn take_header(
         &mut self,
+        alloc: Global,
         site: Site,
-        parts: Box<Parts>,
+        payload: &[u8],
         news: &mut Option<News>,
-    ) -> Verdict
+    ) -> Result<Verdict, OutOfMemory>
         requires above { 0 < site.number }
-        requires begun { IsBegun parts }
         requires none { news.old ≡ None }
-        ensures verdict { Decides site (channel_view self.old) (HeaderOf parts.value.header.body_size (properties_view parts.value.header.properties)) (verdict_view site.number news.new result) }
-        ensures after { (frame : Frame) → LeavesAfter (role_of site.side) site.number frame (HeaderOf parts.value.header.body_size (properties_view parts.value.header.properties)) (verdict_view site.number news.new result) (channel_view self.old) (channel_view self.new) }
+        ensures verdict { IfOk result (λ v. Decides site (channel_view self.old) (header_reading (header_at payload.now)) (verdict_view site.number news.new v)) }
+        ensures after { IfOk result (λ v. (frame : Frame) → LeavesAfter (role_of site.side) site.number frame (header_reading (header_at payload.now)) (verdict_view site.number news.new v) (channel_view self.old) (channel_view self.new)) }
+        ensures err { OnErr result (channel_view self.new ≡ channel_view self.old) }
     {
         match self {
-            Channel::Closing => discards(site, news),
-            Channel::Free => Verdict::Faults(CloseCode::ChannelError),
-            Channel::Opening => Verdict::Faults(CloseCode::ChannelError),
+            Channel::Closing => Ok(discards(site, news)),
+            Channel::Free => Ok(Verdict::Faults(CloseCode::ChannelError)),
+            Channel::Opening => Ok(Verdict::Faults(CloseCode::ChannelError)),
             Channel::Open(life) => {
                 if site.channel_max < site.number {
-                    return Verdict::Faults(CloseCode::ChannelError);
+                    return Ok(Verdict::Faults(CloseCode::ChannelError));
                 }
-                if life.refuses(site, parts.header.body_size) {
-                    *self = Channel::Closing;
-                    return Verdict::RefusesContent;
+                let verdict = life.take_header(alloc, site, payload, news)?;
+                match verdict {
+                    Verdict::RefusesContent => {
+                        *self = Channel::Closing;
+                        Ok(Verdict::RefusesContent)
+                    }
+                    Verdict::Proceeds(reply) => Ok(Verdict::Proceeds(reply)),
+                    Verdict::Faults(code) => Ok(Verdict::Faults(code)),
                 }
-                life.take_header(site, parts, news)
             }
         }
     }
@@ -281,45 +275,6 @@ impl Channel {
         }
     }
 
-    /// A payload that can't be read. The channel stays as it is.
-    pub(crate) fn take_unread(&self, site: Site, unread: Unread, news: &mut Option<News>) -> Verdict
-        requires { 0 < site.number }
-        ensures verdict { Decides site (channel_view self.now) (unread_view unread) (verdict_view site.number news.new result) }
-        ensures after { (frame : Frame) → LeavesAfter (role_of site.side) site.number frame (unread_view unread) (verdict_view site.number news.new result) (channel_view self.now) (channel_view self.now) }
-    {
-        if let Channel::Closing = self {
-            return discards(site, news);
-        }
-        match unread {
-            Unread::UnknownMethod => Verdict::Faults(CloseCode::NotImplemented),
-            Unread::MalformedMethod => Verdict::Faults(CloseCode::SyntaxError),
-            Unread::MalformedHeader => Verdict::Faults(self.malformed_header(site)),
-        }
-    }
-
-    /// The fault of a header that can't be read: the place where it stands comes first.
-    fn malformed_header(&self, site: Site) -> CloseCode
-        requires above { 0 < site.number }
-        requires stays { channel_view self.now ≢ Closing }
-        ensures { Decides site (channel_view self.now) MalformedHeader (fault (code_view result)) }
-    {
-        if site.channel_max < site.number {
-            return CloseCode::ChannelError;
-        }
-        match self {
-            Channel::Open(life) => {
-                if life.content.awaits_header() {
-                    CloseCode::SyntaxError
-                } else {
-                    CloseCode::UnexpectedFrame
-                }
-            }
-            Channel::Free => CloseCode::ChannelError,
-            Channel::Opening => CloseCode::ChannelError,
-            Channel::Closing => CloseCode::ChannelError,
-        }
-    }
-
     /// An open that a client puts.
     pub(crate) fn put_open(&mut self)
         requires { IsFree self.old }
@@ -344,12 +299,17 @@ impl Channel {
         ensures after { (frame : Frame) → channel_view self.new ≡ channel_after (role_of site.side) (PutHere (Calls (flow_as Kind.ChannelFlow active)) frame) (channel_view self.old) }
     {
         if let Channel::Open(life) = self {
-            life.awaits = true;
+            life.standing.await_flow_ok(true);
         }
     }
 
     /// A message that an end puts, in frames of any size. Out of memory, the channel stays as it was.
-    pub(crate) fn put_message(&mut self, site: Site, message: &Message) -> Result<(), OutOfMemory>
+    pub(crate) fn put_message(
+        &mut self,
+        alloc: Global,
+        site: Site,
+        message: &Message,
+    ) -> Result<(), OutOfMemory>
         requires is_open { IsOpen self.old }
         requires other { IsOther (kind_of (Calls (message_view message.now).call)) }
         ensures taken { is_free (channel_view self.new) ≡ false }
@@ -357,7 +317,7 @@ impl Channel {
         ensures err { OnErr result (channel_view self.new ≡ channel_view self.old) }
     {
         match self {
-            Channel::Open(life) => life.put_method(site, message.method()),
+            Channel::Open(life) => life.put_method(alloc, site, message.method()),
             Channel::Free => unreachable!(),
             Channel::Opening => unreachable!(),
             Channel::Closing => unreachable!(),

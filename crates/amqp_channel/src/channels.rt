@@ -2,28 +2,26 @@
 //!
 //! A channel is kept from its open to its end, so memory is bounded by the channels in use, whatever their numbers are.
 ghost use Rattle.std.specs.Prelude.{◌≡◌, ◌≢◌, ◌+◌, ◌<◌, ◌≤◌, true, false, not, ℕ, suc, IfOk, IfSome, OnErr, OnOk, MatchOption, None};
-ghost use Rattle.amqp_method.specs.HeaderView.{properties_view};
 ghost use Rattle.amqp_method.specs.MethodView.{method_view};
 ghost use Rattle.amqp_model.specs.Asks.{is_free, first_free};
 ghost use Rattle.amqp_model.specs.Channels.{Free};
 ghost use Rattle.amqp_model.specs.Frame.{Frame};
-ghost use Rattle.amqp_model.specs.Readings.{Calls, HeaderOf, MalformedHeader, BodyOf, kind_of};
+ghost use Rattle.amqp_model.specs.Readings.{Calls, BodyOf, header_reading, kind_of};
 ghost use Rattle.amqp_model.specs.FrameVerdict.{as_lives};
+ghost use Rattle.amqp_model.specs.Methods.{header_at};
 ghost use Rattle.amqp_model.specs.Verdict.{when_closing};
 ghost use Rattle.amqp_channel.specs.ChannelView.{channel_view};
-ghost use Rattle.amqp_channel.specs.Reads.{IsBegun};
 ghost use Rattle.amqp_channel.specs.Used.{is_closing_at, used_view, NoneFreeBelow};
 ghost use Rattle.amqp_channel.specs.Roles.{role_of};
 ghost use Rattle.amqp_channel.specs.VerdictView.{verdict_view, Decides, LeavesAfter};
 
 mod puts;
 
-use crate::carrier::Parts;
 use crate::channel::Channel;
 use crate::codes::CloseCode;
 use crate::faults::OutOfMemory;
 use crate::news::News;
-use crate::verdict::{Site, Unread, Verdict};
+use crate::verdict::{Site, Verdict};
 use amqp_method::Method;
 use std::alloc::Global;
 use std::collections::HashMap;
@@ -154,23 +152,29 @@ impl Channels {
     }
 
     /// A content header that a channel takes.
-    pub fn take_header(&mut self, site: Site, parts: Box<Parts>, news: &mut Option<News>) -> Verdict
+    pub fn take_header(
+        &mut self,
+        alloc: Global,
+        site: Site,
+        payload: &[u8],
+        news: &mut Option<News>,
+    ) -> Result<Verdict, OutOfMemory>
         requires above { 0 < site.number }
-        requires begun { IsBegun parts }
         requires none { news.old ≡ None }
-        ensures verdict { Decides site (channels_view self.old site.number) (HeaderOf parts.value.header.body_size (properties_view parts.value.header.properties)) (verdict_view site.number news.new result) }
-        ensures after { (frame : Frame) → LeavesAfter (role_of site.side) site.number frame (HeaderOf parts.value.header.body_size (properties_view parts.value.header.properties)) (verdict_view site.number news.new result) (channels_view self.old site.number) (channels_view self.new site.number) }
+        ensures verdict { IfOk result (λ v. Decides site (channels_view self.old site.number) (header_reading (header_at payload.now)) (verdict_view site.number news.new v)) }
+        ensures after { IfOk result (λ v. (frame : Frame) → LeavesAfter (role_of site.side) site.number frame (header_reading (header_at payload.now)) (verdict_view site.number news.new v) (channels_view self.old site.number) (channels_view self.new site.number)) }
         ensures others { OnlyAt site.number (channels_view self.old) (channels_view self.new) }
+        ensures err { OnErr result (channels_view self.new site.number ≡ channels_view self.old site.number) }
     {
         let number = site.number;
         match self.used.get_mut(&number) {
             Some(channel) => {
-                let verdict = channel.take_header(site, parts, news);
+                let verdict = channel.take_header(alloc, site, payload, news)?;
                 let over = channel.is_free();
                 self.low = tidy(&mut self.used, self.low, number, over);
-                verdict
+                Ok(verdict)
             }
-            None => Verdict::Faults(CloseCode::ChannelError),
+            None => Ok(Verdict::Faults(CloseCode::ChannelError)),
         }
     }
 
@@ -197,18 +201,6 @@ impl Channels {
                 Ok(verdict)
             }
             None => Ok(Verdict::Faults(CloseCode::ChannelError)),
-        }
-    }
-
-    /// A header that can't be read.
-    pub fn take_unread_header(&self, site: Site, news: &mut Option<News>) -> Verdict
-        requires { 0 < site.number }
-        ensures verdict { Decides site (channels_view self.now site.number) MalformedHeader (verdict_view site.number news.new result) }
-        ensures after { (frame : Frame) → LeavesAfter (role_of site.side) site.number frame MalformedHeader (verdict_view site.number news.new result) (channels_view self.now site.number) (channels_view self.now site.number) }
-    {
-        match self.used.get(&site.number) {
-            Some(channel) => channel.take_unread(site, Unread::MalformedHeader, news),
-            None => Verdict::Faults(CloseCode::ChannelError),
         }
     }
 

@@ -1,16 +1,20 @@
 //! The content under way on a channel.
-ghost use Rattle.std.specs.Prelude.{◌≡◌, ◌+◌, IfOk, OnErr};
-ghost use Rattle.amqp_method.specs.HeaderView.{properties_view};
-ghost use Rattle.amqp_model.specs.Contents.{Header as HeaderPart, Body as BodyPart};
+ghost use Rattle.std.specs.Prelude.{◌≡◌, ◌+◌, ℕ, IfOk, OnErr};
+ghost use Rattle.amqp_model.specs.Contents.{Body as BodyPart};
 ghost use Rattle.amqp_model.specs.FrameVerdict.{is_gathering};
-ghost use Rattle.amqp_model.specs.Gathering.{Nothing, step, remains};
+ghost use Rattle.amqp_model.specs.Gathering.{Nothing, HeaderDue, step, remains};
+ghost use Rattle.amqp_model.specs.Methods.{header_at};
+ghost use Rattle.amqp_model.specs.Readings.{header_reading};
+ghost use Rattle.amqp_channel.specs.CarrierView.{carrier_view};
 ghost use Rattle.amqp_channel.specs.Filling.{filling_of};
 ghost use Rattle.amqp_channel.specs.GatheringKept.{IsBodyDue, IsKeptIn};
-ghost use Rattle.amqp_channel.specs.GatheringView.{gathering_view, is_header_due, step_view};
-ghost use Rattle.amqp_channel.specs.Reads.{IsBegun};
+ghost use Rattle.amqp_channel.specs.GatheringView.{gathering_view, step_view};
+ghost use Rattle.amqp_channel.specs.Headings.{header_verdict, heading_verdict, HeadingLeaves};
 
-use crate::carrier::{Carrier, Content, Parts};
+use crate::carrier::Content;
 use crate::faults::OutOfMemory;
+use crate::read::read_content_header;
+use std::alloc::Global;
 use std::mem;
 
 /// What is kept of a content that isn't whole.
@@ -18,9 +22,9 @@ use std::mem;
 pub enum Gathering {
     Nothing,
     /// The method was taken, and the header is due.
-    HeaderDue(Carrier),
-    /// The header was taken too, and of a body of `size` octets some are there.
-    BodyDue { size: u64, content: Content },
+    HeaderDue(Box<Content>),
+    /// The header was taken too, and some of the body.
+    BodyDue(Box<Content>),
 }
 
 /// Why a part of a content can't come next.
@@ -28,7 +32,6 @@ pub enum Gathering {
 pub(crate) enum Misfit {
     NothingBegun,
     HeaderAwaited,
-    BodyAwaited,
     PastSize,
 }
 
@@ -38,9 +41,24 @@ pub(crate) enum Part {
     /// More is due.
     Kept,
     /// The content is whole, and is kept no more.
-    Completed(Content),
+    Completed(Box<Content>),
     /// The part is out of place, and nothing is kept any more.
     Misfits(Misfit),
+}
+
+/// What a content header does to what is kept.
+#[derive(Drop)]
+pub(crate) enum Heading {
+    /// No header is due.
+    Misplaced,
+    /// It can't be read.
+    Malformed,
+    /// It says a body that is too large.
+    TooLarge,
+    /// Its body is due.
+    Kept,
+    /// Its body is empty, so the content is whole, and is kept no more.
+    Completed(Box<Content>),
 }
 
 /// How octets fill a body.
@@ -72,40 +90,59 @@ impl Gathering {
     {
         match self {
             Gathering::Nothing => false,
-            Gathering::HeaderDue(_) | Gathering::BodyDue { .. } => true,
+            Gathering::HeaderDue(_) | Gathering::BodyDue(_) => true,
         }
     }
 
-    /// Whether a header is due.
-    pub(crate) fn awaits_header(&self) -> bool
-        ensures { result ≡ is_header_due (gathering_view self.now) }
+    /// Takes a content header, which says a body of up to so many octets. Being out of memory leaves what is kept as it was.
+    pub(crate) fn take_header(
+        &mut self,
+        alloc: Global,
+        payload: &[u8],
+        most: u64,
+    ) -> Result<Heading, OutOfMemory>
+        ensures verdict { IfOk result (λ heading. (number : ℕ) → heading_verdict number heading ≡ header_verdict number most (gathering_view self.old) (header_reading (header_at payload.now))) }
+        ensures left { IfOk result (λ heading. HeadingLeaves (header_reading (header_at payload.now)) (gathering_view self.old) (gathering_view self.new) heading) }
+        ensures err { OnErr result (gathering_view self.new ≡ gathering_view self.old) }
     {
-        match self {
-            Gathering::HeaderDue(_) => true,
-            Gathering::Nothing => false,
-            Gathering::BodyDue { .. } => false,
-        }
-    }
-
-    /// Takes a content header.
-    pub(crate) fn take_header(&mut self, parts: Box<Parts>) -> Part
-        requires { IsBegun parts }
-        ensures step { step_view result self.new ≡ step (gathering_view self.old) (HeaderPart parts.value.header.body_size (properties_view parts.value.header.properties)) }
-        ensures left { gathering_view self.new ≡ remains (step (gathering_view self.old) (HeaderPart parts.value.header.body_size (properties_view parts.value.header.properties))) (HeaderPart parts.value.header.body_size (properties_view parts.value.header.properties)) }
-    {
-        let size = parts.header.body_size;
         match mem::replace(self, Gathering::Nothing) {
-            Gathering::Nothing => Part::Misfits(Misfit::NothingBegun),
-            Gathering::BodyDue { .. } => Part::Misfits(Misfit::BodyAwaited),
-            Gathering::HeaderDue(method) => {
-                let content = Content { method, parts };
-                if size == 0 {
-                    return Part::Completed(content);
-                }
-                *self = Gathering::BodyDue { size, content };
-                Part::Kept
-            }
+            Gathering::Nothing => Ok(Heading::Misplaced),
+            Gathering::BodyDue(_) => Ok(Heading::Misplaced),
+            Gathering::HeaderDue(content) => self.read_due(alloc, payload, most, content),
         }
+    }
+
+    /// Reads the header of a content, where it is due. Out of memory, it is due still.
+    fn read_due(
+        &mut self,
+        alloc: Global,
+        payload: &[u8],
+        most: u64,
+        mut content: Box<Content>,
+    ) -> Result<Heading, OutOfMemory>
+        requires { gathering_view self.old ≡ Nothing }
+        ensures verdict { IfOk result (λ heading. (number : ℕ) → heading_verdict number heading ≡ header_verdict number most (HeaderDue (carrier_view content.value.method)) (header_reading (header_at payload.now))) }
+        ensures left { IfOk result (λ heading. HeadingLeaves (header_reading (header_at payload.now)) (HeaderDue (carrier_view content.value.method)) (gathering_view self.new) heading) }
+        ensures err { OnErr result (gathering_view self.new ≡ HeaderDue (carrier_view content.value.method)) }
+    {
+        let Ok(read) = read_content_header(alloc, payload, &mut content.header) else {
+            *self = Gathering::HeaderDue(content);
+            return Err(OutOfMemory);
+        };
+        if !read {
+            return Ok(Heading::Malformed);
+        }
+        let size = content.header.body_size;
+        if most < size {
+            return Ok(Heading::TooLarge);
+        }
+        // None of a body comes before its header. What was begun is empty anyway: to say so is less than to prove it.
+        content.body.clear();
+        if size == 0 {
+            return Ok(Heading::Completed(content));
+        }
+        *self = Gathering::BodyDue(content);
+        Ok(Heading::Kept)
     }
 
     /// Takes a part of a body, and appends it to what is kept. Being out of memory leaves what is kept as it was.
@@ -120,18 +157,18 @@ impl Gathering {
                 *self = Gathering::Nothing;
                 Ok(Part::Misfits(Misfit::HeaderAwaited))
             }
-            Gathering::BodyDue { size, content } => {
-                match fill(*size, content.parts.body.len(), octets.len()) {
+            Gathering::BodyDue(content) => {
+                match fill(content.header.body_size, content.body.len(), octets.len()) {
                     Filling::Past => {
                         *self = Gathering::Nothing;
                         Ok(Part::Misfits(Misfit::PastSize))
                     }
                     Filling::Short => {
-                        content.parts.body.extend_from_slice(octets)?;
+                        content.body.extend_from_slice(octets)?;
                         Ok(Part::Kept)
                     }
                     Filling::Full => {
-                        content.parts.body.extend_from_slice(octets)?;
+                        content.body.extend_from_slice(octets)?;
                         Ok(Part::Completed(self.take_whole()))
                     }
                 }
@@ -140,13 +177,13 @@ impl Gathering {
     }
 
     /// The content whose body is all there. Nothing is kept any more.
-    fn take_whole(&mut self) -> Content
+    fn take_whole(&mut self) -> Box<Content>
         requires { IsBodyDue self.old }
         ensures whole { IsKeptIn self.old result }
         ensures left { gathering_view self.new ≡ Nothing }
     {
         match mem::replace(self, Gathering::Nothing) {
-            Gathering::BodyDue { content, .. } => content,
+            Gathering::BodyDue(content) => content,
             Gathering::Nothing | Gathering::HeaderDue(_) => unreachable!(),
         }
     }

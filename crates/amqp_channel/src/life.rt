@@ -1,33 +1,35 @@
 //! The life of a channel that is Open: what is kept of it, and what comes of the frames that belong to it.
-ghost use Rattle.std.specs.Prelude.{◌≡◌, ◌≢◌, None, IfOk, OnOk, OnErr};
-ghost use Rattle.amqp_method.specs.HeaderView.{properties_view};
+ghost use Rattle.std.specs.Prelude.{◌≡◌, ◌≢◌, [], None, Some, IfOk, OnOk, OnErr};
 ghost use Rattle.amqp_method.specs.MethodView.{method_view};
 ghost use Rattle.amqp_model.specs.Channels.{Open, new_life};
-ghost use Rattle.amqp_model.specs.Contents.{Header as HeaderPart, Body as BodyPart};
+ghost use Rattle.amqp_model.specs.Contents.{Body as BodyPart};
+ghost use Rattle.amqp_model.specs.Events.{Proceeds, Told, Whole};
 ghost use Rattle.amqp_model.specs.Frame.{Frame};
 ghost use Rattle.amqp_model.specs.FrameVerdict.{after_part, on_matched};
-ghost use Rattle.amqp_model.specs.Gathering.{step};
+ghost use Rattle.amqp_model.specs.Gathering.{Completes, step};
 ghost use Rattle.amqp_model.specs.Histories.{PutHere};
 ghost use Rattle.amqp_model.specs.Machine.{channel_after};
+ghost use Rattle.amqp_model.specs.Methods.{header_at};
 ghost use Rattle.amqp_model.specs.Notes.{Client, Server};
-ghost use Rattle.amqp_model.specs.Readings.{Calls, HeaderOf, BodyOf, kind_of};
+ghost use Rattle.amqp_model.specs.Readings.{Calls, BodyOf, header_reading, kind_of};
+ghost use Rattle.amqp_channel.specs.CarrierView.{content_view};
 ghost use Rattle.amqp_channel.specs.GatheringView.{step_view};
 ghost use Rattle.amqp_channel.specs.LifeView.{life_view, IsIdle, IsOther};
-ghost use Rattle.amqp_channel.specs.Reads.{IsBegun};
+ghost use Rattle.amqp_channel.specs.Headings.{header_verdict, heading_step, heading_verdict, LeavesLife};
 ghost use Rattle.amqp_channel.specs.Roles.{role_of};
-ghost use Rattle.amqp_channel.specs.VerdictView.{verdict_view, life_verdict, refuses_at, without_answered, LeavesAfter};
+ghost use Rattle.amqp_channel.specs.VerdictView.{verdict_view, life_verdict, without_answered, LeavesAfter};
 
-use crate::carrier::{Carrier, Parts};
+use crate::carrier::{Carrier, Content};
 use crate::codes::CloseCode;
 use crate::faults::OutOfMemory;
-use crate::gathering::{Gathering, Misfit, Part};
+use crate::gathering::{Gathering, Heading, Misfit, Part};
 use crate::news::{Lone, News};
 use crate::side::Side;
+use crate::standing::Standing;
 use crate::verdict::{Reply, Site, Verdict};
-use crate::words::{answers_first, bit_at, carries_content};
+use crate::words::{bit_at, carries_content};
 use amqp_method::{Kind, Method};
 use std::alloc::Global;
-use std::collections::VecDeque;
 
 /// How many requests a server keeps on a channel.
 const MOST_REQUESTS: usize = 1024;
@@ -37,30 +39,25 @@ const MOST_REQUESTS: usize = 1024;
 pub struct Life {
     /// The content under way.
     pub content: Gathering,
-    /// The other end asked for no more contents.
-    pub paused: bool,
-    /// This end's flow is unanswered.
-    pub awaits: bool,
-    /// The requests without a reply, the oldest first.
-    pub requests: VecDeque<Kind>,
+    /// What waits, and what is paused.
+    pub standing: Standing,
 }
 
 impl Life {
     /// A life begins with nothing under way.
-    pub(crate) fn new(alloc: Global) -> Life
+    pub(crate) fn new() -> Life
         ensures { life_view result ≡ new_life }
     {
         Life {
             content: Gathering::Nothing,
-            paused: false,
-            awaits: false,
-            requests: VecDeque::new(alloc),
+            standing: Standing::new(),
         }
     }
 
     /// A method that doesn't close the channel.
     pub(crate) fn take_method(
         &mut self,
+        alloc: Global,
         site: Site,
         method: Method,
         news: &mut Option<News>,
@@ -77,15 +74,15 @@ impl Life {
         match method.kind() {
             Kind::ChannelFlow => {
                 let active = bit_at(0, &method);
-                self.paused = !active;
+                self.standing.pause(!active);
                 News::Flow(site.number, active).put_in(news);
                 Ok(Verdict::Proceeds(Some(Reply::FlowOk(active))))
             }
             Kind::ChannelFlowOk => {
-                if !self.awaits {
+                if !self.standing.awaits_flow_ok() {
                     return Ok(Verdict::Faults(CloseCode::CommandInvalid));
                 }
-                self.awaits = false;
+                self.standing.await_flow_ok(false);
                 News::FlowOk(site.number, bit_at(0, &method)).put_in(news);
                 Ok(Verdict::Proceeds(None))
             }
@@ -96,12 +93,23 @@ impl Life {
             Kind::ChannelOpenOk | Kind::ChannelCloseOk => {
                 Ok(Verdict::Faults(CloseCode::CommandInvalid))
             }
-            _ => self.take_message(site, method, news),
+            _ => self.take_message(alloc, site, method, news),
         }
     }
 
-    /// What comes of a part of a content, of which the content under way says no more. A client's reply takes its request
-    /// away.
+    /// A content is whole. A client's reply takes its request away.
+    fn complete(&mut self, site: Site, content: Box<Content>, news: &mut Option<News>) -> Verdict
+        ensures verdict { verdict_view site.number news.new result ≡ Proceeds (Some (Told site.number (Whole (content_view content.value)))) [] }
+        ensures after { life_view self.new ≡ without_answered (role_of site.side) (Completes (content_view content.value)) (life_view self.old) }
+    {
+        if site.side.is_client() && content.kind().is_reply() {
+            self.standing.answer_request();
+        }
+        News::Content(site.number, content).put_in(news);
+        Verdict::Proceeds(None)
+    }
+
+    /// What comes of a part of a body, of which the content under way says no more.
     fn conclude(&mut self, site: Site, part: Part, news: &mut Option<News>) -> Verdict
         requires { news.old ≡ None }
         ensures verdict { verdict_view site.number news.new result ≡ after_part site.number (step_view part self.old.content) }
@@ -109,23 +117,21 @@ impl Life {
     {
         match part {
             Part::Kept => Verdict::Proceeds(None),
-            Part::Completed(content) => {
-                if site.side.is_client() && content.kind().is_reply() {
-                    let _ = self.requests.pop_front();
-                }
-                News::Content(site.number, content).put_in(news);
-                Verdict::Proceeds(None)
-            }
+            Part::Completed(content) => self.complete(site, content, news),
             Part::Misfits(Misfit::PastSize) => Verdict::Faults(CloseCode::FrameError),
             Part::Misfits(Misfit::NothingBegun) => Verdict::Faults(CloseCode::UnexpectedFrame),
             Part::Misfits(Misfit::HeaderAwaited) => Verdict::Faults(CloseCode::UnexpectedFrame),
-            Part::Misfits(Misfit::BodyAwaited) => Verdict::Faults(CloseCode::UnexpectedFrame),
         }
     }
 
     /// The method of a message that an end puts: a client's request waits for its reply, a server's reply answers the oldest
     /// request that it keeps.
-    pub(crate) fn put_method(&mut self, site: Site, method: &Method) -> Result<(), OutOfMemory>
+    pub(crate) fn put_method(
+        &mut self,
+        alloc: Global,
+        site: Site,
+        method: &Method,
+    ) -> Result<(), OutOfMemory>
         requires { IsOther (kind_of (Calls (method_view method.now))) }
         ensures ok { OnOk result ((frame : Frame) → Open (life_view self.new) ≡ channel_after (role_of site.side) (PutHere (Calls (method_view method.now)) frame) (Open (life_view self.old))) }
         ensures err { OnErr result (life_view self.new ≡ life_view self.old) }
@@ -133,39 +139,48 @@ impl Life {
         match site.side {
             Side::Client => {
                 if method.is_request() {
-                    self.requests.push_back(method.kind())?;
+                    self.standing.keep_request(alloc, method.kind())?;
                 }
             }
             Side::Server => {
                 if method.kind().is_reply() {
-                    let _ = self.requests.pop_front();
+                    self.standing.answer_request();
                 }
             }
         }
         Ok(())
     }
 
-    /// Whether a header is due, and says a body that is too large.
-    pub(crate) fn refuses(&self, site: Site, body_size: u64) -> bool
-        ensures { result ≡ refuses_at (life_view self.now).content site.max_body body_size }
-    {
-        self.content.awaits_header() && site.max_body < body_size
-    }
-
-    /// A content header whose body is not too large.
+    /// A content header. Where its body is too large, the life ends, whatever is kept of it.
     pub(crate) fn take_header(
         &mut self,
+        alloc: Global,
         site: Site,
-        parts: Box<Parts>,
+        payload: &[u8],
         news: &mut Option<News>,
-    ) -> Verdict
-        requires begun { IsBegun parts }
-        requires none { news.old ≡ None }
-        ensures verdict { verdict_view site.number news.new result ≡ after_part site.number (step (life_view self.old).content (HeaderPart parts.value.header.body_size (properties_view parts.value.header.properties))) }
-        ensures after { (frame : Frame) → LeavesAfter (role_of site.side) site.number frame (HeaderOf parts.value.header.body_size (properties_view parts.value.header.properties)) (verdict_view site.number news.new result) (Open (life_view self.old)) (Open (life_view self.new)) }
+    ) -> Result<Verdict, OutOfMemory>
+        requires { news.old ≡ None }
+        ensures verdict { IfOk result (λ v. verdict_view site.number news.new v ≡ header_verdict site.number site.max_body (life_view self.old).content (header_reading (header_at payload.now))) }
+        ensures after { IfOk result (λ v. (frame : Frame) → LeavesLife (role_of site.side) site.number frame (header_reading (header_at payload.now)) (verdict_view site.number news.new v) (life_view self.old) (life_view self.new)) }
+        ensures err { OnErr result (life_view self.new ≡ life_view self.old) }
     {
-        let part = self.content.take_header(parts);
-        self.conclude(site, part, news)
+        let heading = self.content.take_header(alloc, payload, site.max_body)?;
+        Ok(self.head(site, heading, news))
+    }
+
+    /// What comes of a header, of which the content under way says no more.
+    fn head(&mut self, site: Site, heading: Heading, news: &mut Option<News>) -> Verdict
+        requires { news.old ≡ None }
+        ensures verdict { verdict_view site.number news.new result ≡ heading_verdict site.number heading }
+        ensures after { life_view self.new ≡ without_answered (role_of site.side) (heading_step heading (life_view self.old).content) (life_view self.old) }
+    {
+        match heading {
+            Heading::Kept => Verdict::Proceeds(None),
+            Heading::Completed(content) => self.complete(site, content, news),
+            Heading::TooLarge => Verdict::RefusesContent,
+            Heading::Malformed => Verdict::Faults(CloseCode::SyntaxError),
+            Heading::Misplaced => Verdict::Faults(CloseCode::UnexpectedFrame),
+        }
     }
 
     /// A part of a body.
@@ -188,6 +203,7 @@ impl Life {
     /// way.
     fn take_message(
         &mut self,
+        alloc: Global,
         site: Site,
         method: Method,
         news: &mut Option<News>,
@@ -200,37 +216,46 @@ impl Life {
         ensures err { OnErr result (life_view self.new ≡ life_view self.old) }
     {
         match site.side {
-            Side::Client => Ok(self.take_reply(site, method, news)),
-            Side::Server => self.take_request(site, method, news),
+            Side::Client => self.take_reply(alloc, site, method, news),
+            Side::Server => self.take_request(alloc, site, method, news),
         }
     }
 
     /// What a client takes: a reply has to be to the request that waits.
-    fn take_reply(&mut self, site: Site, method: Method, news: &mut Option<News>) -> Verdict
+    fn take_reply(
+        &mut self,
+        alloc: Global,
+        site: Site,
+        method: Method,
+        news: &mut Option<News>,
+    ) -> Result<Verdict, OutOfMemory>
         requires idle { IsIdle self.old }
         requires none { news.old ≡ None }
         requires other { IsOther (kind_of (Calls (method_view method))) }
-        ensures verdict { verdict_view site.number news.new result ≡ on_matched Client site.number (life_view self.old).requests (method_view method) }
-        ensures after { (frame : Frame) → LeavesAfter Client site.number frame (Calls (method_view method)) (verdict_view site.number news.new result) (Open (life_view self.old)) (Open (life_view self.new)) }
+        ensures verdict { IfOk result (λ v. verdict_view site.number news.new v ≡ on_matched Client site.number (life_view self.old).requests (method_view method)) }
+        ensures after { IfOk result (λ v. (frame : Frame) → LeavesAfter Client site.number frame (Calls (method_view method)) (verdict_view site.number news.new v) (Open (life_view self.old)) (Open (life_view self.new))) }
+        ensures err { OnErr result (life_view self.new ≡ life_view self.old) }
     {
         let replies = method.kind().is_reply();
-        if replies && !answers_first(method.kind(), &self.requests) {
-            return Verdict::Faults(CloseCode::CommandInvalid);
+        if replies && !self.standing.is_answered_by(method.kind()) {
+            return Ok(Verdict::Faults(CloseCode::CommandInvalid));
         }
         if carries_content(&method) {
-            self.content = Gathering::HeaderDue(Carrier::new(method));
-            return Verdict::Proceeds(None);
+            let content = Content::begun(alloc, Carrier::new(method))?;
+            self.content = Gathering::HeaderDue(content);
+            return Ok(Verdict::Proceeds(None));
         }
         if replies {
-            let _ = self.requests.pop_front();
+            self.standing.answer_request();
         }
         News::Method(site.number, Lone::new(method)).put_in(news);
-        Verdict::Proceeds(None)
+        Ok(Verdict::Proceeds(None))
     }
 
     /// What a server takes: so many requests are kept, and no more.
     fn take_request(
         &mut self,
+        alloc: Global,
         site: Site,
         method: Method,
         news: &mut Option<News>,
@@ -243,15 +268,20 @@ impl Life {
         ensures err { OnErr result (life_view self.new ≡ life_view self.old) }
     {
         let asks = method.is_request();
-        if asks && self.requests.len() >= MOST_REQUESTS {
+        if asks && self.standing.requests() >= MOST_REQUESTS {
             return Ok(Verdict::Faults(CloseCode::ResourceError));
         }
-        if asks {
-            self.requests.push_back(method.kind())?;
-        }
         if carries_content(&method) {
-            self.content = Gathering::HeaderDue(Carrier::new(method));
+            let kind = method.kind();
+            let content = Content::begun(alloc, Carrier::new(method))?;
+            if asks {
+                self.standing.keep_request(alloc, kind)?;
+            }
+            self.content = Gathering::HeaderDue(content);
             return Ok(Verdict::Proceeds(None));
+        }
+        if asks {
+            self.standing.keep_request(alloc, method.kind())?;
         }
         News::Method(site.number, Lone::new(method)).put_in(news);
         Ok(Verdict::Proceeds(None))

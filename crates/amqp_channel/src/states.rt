@@ -31,7 +31,7 @@ impl Gathering {
         match self {
             Gathering::Nothing => 0,
             Gathering::HeaderDue(_) => 0,
-            Gathering::BodyDue { content, .. } => content.parts.body.len(),
+            Gathering::BodyDue(content) => content.body.len(),
         }
     }
 }
@@ -69,10 +69,7 @@ impl Channel {
             Channel::Free => None,
             Channel::Opening => None,
             Channel::Closing => None,
-            Channel::Open(life) => match life.requests.front() {
-                Some(request) => Some(*request),
-                None => None,
-            },
+            Channel::Open(life) => life.standing.oldest_request(),
         }
     }
 }

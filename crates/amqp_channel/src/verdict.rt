@@ -35,13 +35,12 @@ pub struct Site {
     pub max_body: u64,
 }
 
-/// A payload that can't be read.
+/// A method that can't be read.
 #[derive(Clone, Copy)]
 pub enum Unread {
     /// No method has these ids.
     UnknownMethod,
     MalformedMethod,
-    MalformedHeader,
 }
 
 impl Unread {
@@ -49,14 +48,13 @@ impl Unread {
     ghost use Rattle.amqp_channel.specs.Closes.{code_view};
     ghost use Rattle.amqp_channel.specs.Unreads.{unread_code};
 
-    /// The code of a method that can't be read.
+    /// The code with which it is answered.
     pub fn code(self) -> CloseCode
         ensures { code_view result ≡ unread_code self }
     {
         match self {
             Unread::UnknownMethod => CloseCode::NotImplemented,
             Unread::MalformedMethod => CloseCode::SyntaxError,
-            Unread::MalformedHeader => CloseCode::SyntaxError,
         }
     }
 }

@@ -1,13 +1,11 @@
-//! What is asked of a method, in the words of the model: a bit or a number by its place, 0 where there is none; whether content
-//! follows it; and whether it answers the oldest request.
+//! What is asked of a method, in the words of the model: a bit or a number by its place, 0 where there is none; and whether
+//! content follows it.
 ghost use Rattle.std.specs.Prelude.{◌≡◌, ◌==◌};
 ghost use Rattle.amqp_method.specs.Kinds.{has_content};
 ghost use Rattle.amqp_method.specs.MethodView.{method_view};
-ghost use Rattle.amqp_model.specs.FrameVerdict.{answers_first as first_is_answered};
 ghost use Rattle.amqp_model.specs.Methods.{bit_at as bit_held, number_at as number_held, same_kind, carries_content as content_follows, class_of};
 
 use amqp_method::{Arg, Kind, Method};
-use std::collections::VecDeque;
 
 /// The bit at a place among the arguments; 0 where there is none.
 pub(crate) fn bit_at(place: usize, method: &Method) -> bool
@@ -41,16 +39,6 @@ pub fn same(kind: Kind, other: Kind) -> bool
     ensures { result ≡ same_kind kind other }
 {
     kind.class_id() == other.class_id() && kind.method_id() == other.method_id()
-}
-
-/// Whether a reply answers the oldest of the requests.
-pub fn answers_first(reply: Kind, requests: &VecDeque<Kind>) -> bool
-    ensures { result ≡ first_is_answered reply requests.now.items }
-{
-    match requests.front() {
-        Some(request) => reply.is_reply_to(*request),
-        None => false,
-    }
 }
 
 /// Whether a content follows the method.

@@ -61,7 +61,7 @@ impl Core {
             outbox.discard();
             return Err(AskFault::OutOfMemory);
         };
-        let Ok(()) = self.channels.put_message(site, message) else {
+        let Ok(()) = self.channels.put_message(self.alloc, site, message) else {
             outbox.discard();
             return Err(AskFault::OutOfMemory);
         };

@@ -18,7 +18,7 @@ use crate::owed::Owed;
 use crate::settings::Settings;
 use crate::stage::Stage;
 use amqp_channel::words::same;
-use amqp_channel::{Agreed, Channels, CloseCode, News, Site, Verdict, read_content_header};
+use amqp_channel::{Agreed, Channels, CloseCode, News, Site, Verdict};
 use amqp_method::{Kind, Method};
 use std::alloc::Global;
 
@@ -206,17 +206,8 @@ impl Core {
         ensures stage { self.new.stage ≡ self.old.stage }
     {
         let site = self.site(number, agreed.channel_max);
-        let read = read_content_header(self.alloc, payload)?;
-        match read {
-            Some(parts) => {
-                let verdict = self.channels.take_header(site, parts, news);
-                Ok(Core::decide(number, verdict))
-            }
-            None => {
-                let verdict = self.channels.take_unread_header(site, news);
-                Ok(Core::decide(number, verdict))
-            }
-        }
+        let verdict = self.channels.take_header(self.alloc, site, payload, news)?;
+        Ok(Core::decide(number, verdict))
     }
 
     /// A method on a channel that this end has closed, and whose close-ok is due.

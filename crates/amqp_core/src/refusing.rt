@@ -16,7 +16,7 @@ ghost use Rattle.amqp_core.specs.Refusals.{refusal_there, refusal_in, reply_refu
 use crate::faults::AskFault;
 use crate::one_end::Core;
 use crate::stage::Stage;
-use amqp_channel::words::{answers_first, same};
+use amqp_channel::words::same;
 use amqp_channel::{Agreed, Channel, Life, Side};
 use amqp_method::{Kind, Message, Method, Properties};
 
@@ -70,7 +70,7 @@ fn is_pausable(message: &Message) -> bool
 fn is_paused(life: &Life, message: &Message) -> bool
     ensures { result ≡ (is_paused_with (message_of (message_view message.now)) && (life_view life.now).paused) }
 {
-    is_pausable(message) && life.paused
+    is_pausable(message) && life.standing.is_paused()
 }
 
 /// The side may send the method, and it is sent as a message.
@@ -86,12 +86,12 @@ fn refusal_of_turn(side: Side, life: &Life, method: &Method) -> Option<AskFault>
 {
     match side {
         Side::Client => {
-            if method.is_request() && !life.requests.is_empty() {
+            if method.is_request() && life.standing.requests() > 0 {
                 return Some(AskFault::ReplyPending);
             }
         }
         Side::Server => {
-            if method.kind().is_reply() && !answers_first(method.kind(), &life.requests) {
+            if method.kind().is_reply() && !life.standing.is_answered_by(method.kind()) {
                 return Some(AskFault::NoSuchRequest);
             }
         }
@@ -224,7 +224,7 @@ impl Core {
     {
         let agreed = self.running()?;
         let life = self.open_life(agreed, number)?;
-        if life.awaits {
+        if life.standing.awaits_flow_ok() {
             return Err(AskFault::FlowPending);
         }
         Ok(agreed)

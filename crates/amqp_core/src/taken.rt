@@ -16,6 +16,7 @@ pub struct Taken {
 }
 
 /// What was taken, with the event that its news make.
+#[inline(always)]
 fn with_event(octets: usize, news: Option<News>) -> Taken
     ensures octets { result.octets ≡ octets }
     ensures event { event_there result.event ≡ news_there news }
@@ -33,7 +34,9 @@ fn with_event(octets: usize, news: Option<News>) -> Taken
     }
 }
 
-/// An answer to a piece, with its event. An event is large, so it is made once, when all else is done.
+/// An answer to a piece, with its event. An event is large, so it is made once, when all else is done, and where the caller has
+/// room for it.
+#[inline(always)]
 pub(crate) fn told(answer: Result<usize, CoreFault>, news: Option<News>) -> Result<Taken, CoreFault>
     ensures { IsToldAs news answer result }
 {

@@ -11,7 +11,7 @@ ghost use Rattle.amqp_model.specs.FrameVerdict.{methods_put};
 ghost use Rattle.amqp_model.specs.Machine.{end_after_taken};
 ghost use Rattle.amqp_model.specs.Methods.{method_at, header_at};
 ghost use Rattle.amqp_model.specs.Readings.{Calls, Beat, BodyOf, method_reading, header_reading, reading};
-ghost use Rattle.amqp_channel.specs.Unreads.{unread_view, IsOfMethod};
+ghost use Rattle.amqp_channel.specs.Unreads.{unread_view};
 ghost use Rattle.amqp_channel.specs.declared.news.News.{News};
 ghost use Rattle.amqp_channel.specs.Used.{is_closing_at};
 ghost use Rattle.amqp_core.specs.CoreView.{fault_of, frame_at};
@@ -140,7 +140,6 @@ impl Core {
         requires stays { leaves (phase_at self.now.stage) ≡ false }
         requires taking { takes_frames (phase_at self.now.stage) ≡ true }
         requires open { is_closing_at (channels_view self.now.channels number) ≡ false }
-        requires method { IsOfMethod unread }
         ensures verdict { (news : Option News) → IsVerdict self.now.settings (core_end self.now) number (unread_view unread) news result }
         ensures after { (news : Option News) → LeavesEnd self.now.settings number (unread_view unread) news result (core_end self.now) (core_end self.now) }
     {

@@ -1,48 +1,91 @@
 //! The number and the text of every fault of a stream, and how kinds and faults print for debugging.
-use amqp_frame::{FrameFault, FrameFaultKind, FrameKind};
+use amqp_frame::{FrameFault, FrameFaultKind, FrameKind, OutOfMemory};
+use std::alloc::Global;
+use std::fmt::{Debug, Display};
+use std::process::Abort;
 use std::test::Fail;
+
+/// Each kind with its number, its text and its name.
+static KINDS: [(FrameFaultKind, u8, &str, &str); 5] = [
+    (
+        FrameFaultKind::UnknownType,
+        1,
+        "unknown frame type",
+        "UnknownType",
+    ),
+    (
+        FrameFaultKind::TooLarge,
+        2,
+        "frame longer than the limit",
+        "TooLarge",
+    ),
+    (FrameFaultKind::BadEnd, 3, "wrong frame end octet", "BadEnd"),
+    (
+        FrameFaultKind::OutOfMemory,
+        4,
+        "out of memory",
+        "OutOfMemory",
+    ),
+    (FrameFaultKind::Failed, 5, "fed after a fault", "Failed"),
+];
+
+fn assert_text(rt: &impl Abort, text: &str, wanted: &str) {
+    assert_eq!(rt; text, wanted);
+}
+
+pub(crate) fn assert_shown(
+    rt: &impl Abort,
+    alloc: Global,
+    shown: &impl Display,
+    text: &str,
+) -> Result<(), Fail> {
+    assert_text(rt, format!(in alloc; "{shown}")?.as_str(), text);
+    Ok(())
+}
+
+fn assert_debug(
+    rt: &impl Abort,
+    alloc: Global,
+    shown: &impl Debug,
+    text: &str,
+) -> Result<(), Fail> {
+    assert_text(rt, format!(in alloc; "{shown:?}")?.as_str(), text);
+    Ok(())
+}
+
+fn assert_kind(
+    rt: &impl Abort,
+    alloc: Global,
+    kind: FrameFaultKind,
+    number: u8,
+    text: &str,
+    name: &str,
+) -> Result<(), Fail> {
+    assert_eq!(rt; kind.number(), number, "for {name}");
+    assert_shown(rt, alloc, &kind, text)?;
+    assert_debug(rt, alloc, &kind, name)
+}
+
+fn assert_kinds(rt: &impl Abort, alloc: Global) -> Result<(), Fail> {
+    for (kind, number, text, name) in KINDS.iter().copied() {
+        assert_kind(rt, alloc, kind, number, text, name)?;
+    }
+    Ok(())
+}
 
 #[test]
 fn faults_of_frames(rt: HostRuntime) -> Result<(), Fail> {
-    for (kind, number, text, name) in [
-        (
-            FrameFaultKind::UnknownType,
-            1,
-            "unknown frame type",
-            "UnknownType",
-        ),
-        (
-            FrameFaultKind::TooLarge,
-            2,
-            "frame longer than the limit",
-            "TooLarge",
-        ),
-        (FrameFaultKind::BadEnd, 3, "wrong frame end octet", "BadEnd"),
-        (
-            FrameFaultKind::OutOfMemory,
-            4,
-            "out of memory",
-            "OutOfMemory",
-        ),
-        (FrameFaultKind::Failed, 5, "fed after a fault", "Failed"),
-    ] {
-        assert_eq!(rt; kind.number(), number, "for {name}");
-        assert_eq!(rt; format!(in rt.alloc(); "{kind}")?.as_str(), text);
-        assert_eq!(rt; format!(in rt.alloc(); "{kind:?}")?.as_str(), name);
-    }
-    let at = 18446744073709551615;
+    assert_kinds(&rt, rt.alloc())?;
     let fault = FrameFault {
-        at,
+        at: 18446744073709551615,
         kind: FrameFaultKind::BadEnd,
     };
-    let text = format!(in rt.alloc(); "{fault}")?;
-    assert_eq!(rt;
-        text.as_str(),
-        "wrong frame end octet at octet 18446744073709551615"
-    );
-    let text = format!(in rt.alloc(); "{}", amqp_frame::OutOfMemory)?;
-    assert_eq!(rt; text.as_str(), "out of memory");
-    let text = format!(in rt.alloc(); "{:?}", FrameKind::Heartbeat)?;
-    assert_eq!(rt; text.as_str(), "Heartbeat");
-    Ok(())
+    assert_shown(
+        &rt,
+        rt.alloc(),
+        &fault,
+        "wrong frame end octet at octet 18446744073709551615",
+    )?;
+    assert_shown(&rt, rt.alloc(), &OutOfMemory, "out of memory")?;
+    assert_debug(&rt, rt.alloc(), &FrameKind::Heartbeat, "Heartbeat")
 }

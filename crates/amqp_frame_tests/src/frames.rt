@@ -1,10 +1,12 @@
 //! Frames of known octets, each call with ample memory.
 ghost use Rattle.std.specs.Prelude.{◌≤◌};
 
+use crate::faults::assert_shown;
 use amqp_frame::{
     Fed, FrameFault, FrameFaultKind, FrameKind, FrameRef, RawFrame, Splitter, write_frame,
 };
 use std::alloc::Global;
+use std::process::Abort;
 use std::test::Fail;
 
 /// channel.open on channel 1.
@@ -29,23 +31,72 @@ fn a_frame_is_written(rt: HostRuntime) -> Result<(), Fail> {
     Ok(())
 }
 
+fn assert_open(rt: &impl Abort, alloc: Global, frame: &RawFrame) -> Result<(), Fail> {
+    let open = open_frame(alloc)?;
+    assert_eq!(rt; *frame, open);
+    Ok(())
+}
+
+/// Feeds the octet of [`OPEN`] at a place, of which the last alone gives the frame.
+fn assert_octet_fed(
+    rt: &impl Abort,
+    alloc: Global,
+    splitter: &mut Splitter,
+    place: usize,
+    octet: u8,
+) -> Result<(), Fail> {
+    assert_eq!(rt; splitter.pending(), place);
+    let fed = splitter.feed(&[octet])?;
+    assert_eq!(rt; fed.taken, 1);
+    assert_eq!(rt; fed.frame.is_some(), place == 12);
+    match &fed.frame {
+        Some(frame) => assert_open(rt, alloc, frame),
+        None => Ok(()),
+    }
+}
+
 #[test]
 fn a_frame_comes_with_its_last_octet(rt: HostRuntime) -> Result<(), Fail> {
     let mut splitter = Splitter::new(rt.alloc(), 13);
-    let want = open_frame(rt.alloc())?;
-    for (i, octet) in OPEN.iter().enumerate() {
-        assert_eq!(rt; splitter.pending(), i);
-        let fed = splitter.feed(&[*octet])?;
-        assert_eq!(rt; fed.taken, 1);
-        match fed.frame {
-            Some(frame) => {
-                assert_eq!(rt; i, 12);
-                assert_eq!(rt; frame, want);
-            }
-            None => assert!(rt; i < 12),
-        }
+    for (place, octet) in OPEN.iter().enumerate() {
+        assert_octet_fed(&rt, rt.alloc(), &mut splitter, place, *octet)?;
     }
     assert_eq!(rt; splitter.pending(), 0);
+    Ok(())
+}
+
+/// The octets begin with a frame, [`OPEN`], of which so many octets are taken; it is lent.
+fn assert_open_lent(
+    rt: &impl Abort,
+    alloc: Global,
+    splitter: &mut Splitter,
+    octets: &[u8],
+    taken: usize,
+) -> Result<(), Fail> {
+    let fed = splitter.feed_ref(octets)?;
+    assert_eq!(rt; fed.taken, taken);
+    let frame = fed.frame.ok_or("no frame")?;
+    assert_open(rt, alloc, &frame.to_raw(alloc)?)
+}
+
+fn assert_open_fed(
+    rt: &impl Abort,
+    alloc: Global,
+    splitter: &mut Splitter,
+    octets: &[u8],
+) -> Result<(), Fail> {
+    let fed = splitter.feed(octets)?;
+    assert_eq!(rt; fed.taken, 13);
+    assert_open(rt, alloc, fed.frame.as_ref().ok_or("no frame")?)
+}
+
+fn assert_kept(rt: &impl Abort, splitter: &mut Splitter, octets: &[u8]) -> Result<(), Fail> {
+    let none = Fed {
+        taken: 4,
+        frame: None,
+    };
+    assert_eq!(rt; splitter.feed(octets)?, none);
+    assert_eq!(rt; splitter.pending(), 4);
     Ok(())
 }
 
@@ -55,25 +106,10 @@ fn a_piece_gives_one_frame_and_keeps_the_rest(rt: HostRuntime) -> Result<(), Fai
     let mut octets = OPEN.to_vec(rt.alloc())?;
     octets.extend_from_slice(&OPEN)?;
     octets.extend_from_slice(&OPEN[..4])?;
-    let want = open_frame(rt.alloc())?;
-    let first = splitter.feed(&octets)?;
-    assert_eq!(rt; first.taken, 13);
-    assert_eq!(rt; first.frame, Some(open_frame(rt.alloc())?));
-    let second = splitter.feed_ref(&octets[13..])?;
-    assert_eq!(rt; second.taken, 13);
-    let frame = second.frame.ok_or("no frame")?;
-    assert_eq!(rt; frame.to_raw(rt.alloc())?, want);
-    let none = Fed {
-        taken: 4,
-        frame: None,
-    };
-    assert_eq!(rt; splitter.feed(&octets[26..])?, none);
-    assert_eq!(rt; splitter.pending(), 4);
-    let last = splitter.feed_ref(&OPEN[4..])?;
-    assert_eq!(rt; last.taken, 9);
-    let frame = last.frame.ok_or("no frame")?;
-    assert_eq!(rt; frame.to_raw(rt.alloc())?, want);
-    Ok(())
+    assert_open_fed(&rt, rt.alloc(), &mut splitter, &octets)?;
+    assert_open_lent(&rt, rt.alloc(), &mut splitter, &octets[13..], 13)?;
+    assert_kept(&rt, &mut splitter, &octets[26..])?;
+    assert_open_lent(&rt, rt.alloc(), &mut splitter, &OPEN[4..], 9)
 }
 
 #[test]
@@ -101,29 +137,31 @@ fn fault_of(alloc: Global, limit: u32, octets: &[u8]) -> (Option<FrameFault>, Op
     (first, splitter.feed(octets).err())
 }
 
+fn assert_fault(
+    rt: &impl Abort,
+    alloc: Global,
+    limit: u32,
+    octets: &[u8],
+    at: u64,
+    kind: FrameFaultKind,
+) {
+    assert!(rt; limit >= 8);
+    let (first, second) = fault_of(alloc, limit, octets);
+    assert_eq!(rt; first, Some(FrameFault { at, kind }));
+    let failed = FrameFaultKind::Failed;
+    assert_eq!(rt; second, Some(FrameFault { at, kind: failed }));
+}
+
 #[test]
-fn a_fault_has_its_place_and_stays(rt: HostRuntime) -> Result<(), Fail> {
+fn a_fault_has_its_place_and_stays(rt: HostRuntime) {
     let mut wrong_end = OPEN;
     wrong_end[12] = 0xcd;
-    let table: [(&[u8], u32, u64, FrameFaultKind); 4] = [
-        (&[4], 4096, 0, FrameFaultKind::UnknownType),
-        (
-            &[1, 0, 1, 0xff, 0xff, 0xff, 0xff],
-            4096,
-            6,
-            FrameFaultKind::TooLarge,
-        ),
-        (&wrong_end, 4096, 12, FrameFaultKind::BadEnd),
-        (&OPEN, 12, 6, FrameFaultKind::TooLarge),
-    ];
-    for (octets, limit, at, kind) in table {
-        assert!(rt; limit >= 8);
-        let (first, second) = fault_of(rt.alloc(), limit, octets);
-        assert_eq!(rt; first, Some(FrameFault { at, kind }));
-        let failed = FrameFaultKind::Failed;
-        assert_eq!(rt; second, Some(FrameFault { at, kind: failed }));
-    }
-    Ok(())
+    let too_large = [1, 0, 1, 0xff, 0xff, 0xff, 0xff];
+    let alloc = rt.alloc();
+    assert_fault(&rt, alloc, 4096, &[4], 0, FrameFaultKind::UnknownType);
+    assert_fault(&rt, alloc, 4096, &too_large, 6, FrameFaultKind::TooLarge);
+    assert_fault(&rt, alloc, 4096, &wrong_end, 12, FrameFaultKind::BadEnd);
+    assert_fault(&rt, alloc, 12, &OPEN, 6, FrameFaultKind::TooLarge);
 }
 
 #[test]
@@ -135,25 +173,30 @@ fn a_limit_changes_between_frames(rt: HostRuntime) -> Result<(), Fail> {
     Ok(())
 }
 
+/// Each kind with its octet and its name.
+static KINDS: [(FrameKind, u8, &str); 4] = [
+    (FrameKind::Method, 1, "method"),
+    (FrameKind::Header, 2, "header"),
+    (FrameKind::Body, 3, "body"),
+    (FrameKind::Heartbeat, 8, "heartbeat"),
+];
+
 #[test]
 fn kinds_and_faults_are_printed(rt: HostRuntime) -> Result<(), Fail> {
-    let kinds = [
-        (FrameKind::Method, 1, "method"),
-        (FrameKind::Header, 2, "header"),
-        (FrameKind::Body, 3, "body"),
-        (FrameKind::Heartbeat, 8, "heartbeat"),
-    ];
-    for (kind, octet, name) in kinds {
+    for (kind, octet, name) in KINDS.iter().copied() {
         assert_eq!(rt; kind.octet(), octet);
         assert_eq!(rt; FrameKind::from_octet(octet), Some(kind));
-        assert_eq!(rt; format!(in rt.alloc(); "{kind}")?.as_str(), name);
+        assert_shown(&rt, rt.alloc(), &kind, name)?;
     }
     let fault = FrameFault {
         at: 6,
         kind: FrameFaultKind::TooLarge,
     };
     assert_eq!(rt; fault.kind.number(), 2);
-    let text = format!(in rt.alloc(); "{fault}")?;
-    assert_eq!(rt; text.as_str(), "frame longer than the limit at octet 6");
-    Ok(())
+    assert_shown(
+        &rt,
+        rt.alloc(),
+        &fault,
+        "frame longer than the limit at octet 6",
+    )
 }

@@ -63,19 +63,39 @@ fn fed_in_pieces(
     Err("no frame")?
 }
 
+/// A frame that was fed in pieces of that size is a body frame with this payload.
+fn assert_split(rt: &impl Abort, frame: &RawFrame, payload: &[u8], piece: usize) {
+    assert_eq!(rt; frame.kind, FrameKind::Body);
+    assert_eq!(rt; frame.channel, 65535);
+    let size = payload.len();
+    assert!(rt; frame.payload.as_slice() == payload, "{size} by {piece}");
+}
+
+fn assert_size(rt: &impl Abort, alloc: Global, size: u32) -> Result<(), Fail> {
+    let octets = body_frame(rt, alloc, size)?;
+    let payload = &octets[7..octets.len() - 1];
+    assert_split(rt, &fed_in_pieces(rt, alloc, &octets, 100)?, payload, 100);
+    assert_split(
+        rt,
+        &fed_in_pieces(rt, alloc, &octets, 65_536)?,
+        payload,
+        65_536,
+    );
+    assert_split(
+        rt,
+        &fed_in_pieces(rt, alloc, &octets, 1_048_576)?,
+        payload,
+        1_048_576,
+    );
+    Ok(())
+}
+
+static SIZES: [u32; 7] = [0, 57, 4088, 4089, 65_535, 70_000, 1_048_568];
+
 #[test]
 fn long_frames_are_written_and_split(rt: HostRuntime) -> Result<(), Fail> {
-    for size in [0, 57, 4088, 4089, 65_535, 70_000, 1_048_568] {
-        let octets = body_frame(&rt, rt.alloc(), size)?;
-        for piece in [100, 65_536, 1_048_576] {
-            let frame = fed_in_pieces(&rt, rt.alloc(), &octets, piece)?;
-            assert_eq!(rt; frame.kind, FrameKind::Body);
-            assert_eq!(rt; frame.channel, 65535);
-            assert!(rt;
-                frame.payload.as_slice() == &octets[7..octets.len() - 1],
-                "{size} by {piece}"
-            );
-        }
+    for size in SIZES.iter().copied() {
+        assert_size(&rt, rt.alloc(), size)?;
     }
     Ok(())
 }

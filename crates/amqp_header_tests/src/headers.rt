@@ -7,11 +7,14 @@ use std::alloc::Global;
 use std::process::Abort;
 use std::test::Fail;
 
+fn assert_text(rt: &impl Abort, alloc: Global, header: &Header, text: &str) -> Result<(), Fail> {
+    assert_eq!(rt; header_text(alloc, header)?.as_str(), text);
+    Ok(())
+}
+
 fn header_reads_as(rt: &impl Abort, alloc: Global, octets: &[u8], text: &str) -> Result<(), Fail> {
     let header = read_header(alloc, octets)?;
-    let printed = header_text(alloc, &header)?;
-    assert_eq!(rt; printed.as_str(), text);
-    Ok(())
+    assert_text(rt, alloc, &header, text)
 }
 
 static BROKEN_HEADERS: [(&[u8], MethodFault); 6] = [
@@ -208,22 +211,20 @@ static HEADERS: [(&[u8], &str); 16] = [
     ),
 ];
 
-/// The header of the octets has that text, and so has its display.
-fn assert_shown(rt: &impl Abort, alloc: Global, octets: &[u8], text: &str) -> Result<(), Fail> {
-    let header = read_header(alloc, octets)?;
-    assert_eq!(rt; header_text(alloc, &header)?.as_str(), text);
+/// A header has that text, and so has its display.
+fn assert_shown(rt: &impl Abort, alloc: Global, header: &Header, text: &str) -> Result<(), Fail> {
+    assert_text(rt, alloc, header, text)?;
     assert_eq!(rt; format!(in alloc; "{header}")?.as_str(), text);
     Ok(())
 }
 
-/// Its properties, displayed alone, have that text without its start.
+/// Properties, displayed alone, have that text without its start.
 fn assert_properties_shown(
     rt: &impl Abort,
     alloc: Global,
-    octets: &[u8],
+    properties: &Properties,
     text: &str,
 ) -> Result<(), Fail> {
-    let properties = read_header(alloc, octets)?.properties;
     let shown = format!(in alloc; "{properties}")?;
     match text.split_once("size=7 ") {
         Some((_, wanted)) => assert_eq!(rt; shown.as_str(), wanted),
@@ -232,43 +233,82 @@ fn assert_properties_shown(
     Ok(())
 }
 
-/// A copy of it is written to the same octets.
-fn assert_copied(rt: &impl Abort, alloc: Global, octets: &[u8]) -> Result<(), Fail> {
-    let header = read_header(alloc, octets)?;
-    let copy = Header {
-        body_size: header.body_size,
-        properties: header.properties.copy()?,
-    };
-    let mut out = Vec::new(alloc);
-    write_header(&copy, &mut out)?;
-    assert_eq!(rt; out.as_slice(), octets);
+fn assert_written(
+    rt: &impl Abort,
+    alloc: Global,
+    header: &Header,
+    octets: &[u8],
+) -> Result<(), Fail> {
+    let mut written = Vec::new(alloc);
+    write_header(header, &mut written)?;
+    assert!(rt; written.as_slice() == octets);
     Ok(())
+}
+
+fn copy_of(header: &Header) -> Result<Header, Fail> {
+    let properties = header.properties.copy()?;
+    Ok(Header {
+        body_size: header.body_size,
+        properties,
+    })
+}
+
+/// A copy of a header is written to these octets.
+fn assert_copied(
+    rt: &impl Abort,
+    alloc: Global,
+    header: &Header,
+    octets: &[u8],
+) -> Result<(), Fail> {
+    let copy = copy_of(header)?;
+    assert_written(rt, alloc, &copy, octets)
+}
+
+fn assert_whole(
+    rt: &impl Abort,
+    alloc: Global,
+    header: &Header,
+    octets: &[u8],
+    text: &str,
+) -> Result<(), Fail> {
+    assert_shown(rt, alloc, header, text)?;
+    assert_properties_shown(rt, alloc, &header.properties, text)?;
+    assert_copied(rt, alloc, header, octets)
+}
+
+/// The header of the octets is shown as that text, and copied to the same octets.
+///
+/// Who has a header leaves by one way alone: where there are several, each is a proof that all of it is dropped.
+fn assert_row(rt: &impl Abort, alloc: Global, octets: &[u8], text: &str) -> Result<(), Fail> {
+    let header = read_header(alloc, octets)?;
+    assert_whole(rt, alloc, &header, octets, text)
 }
 
 #[test]
 fn each_property_alone_all_and_none(rt: HostRuntime) -> Result<(), Fail> {
     for (octets, text) in HEADERS.iter().copied() {
-        assert_shown(&rt, rt.alloc(), octets, text)?;
-        assert_properties_shown(&rt, rt.alloc(), octets, text)?;
-        assert_copied(&rt, rt.alloc(), octets)?;
+        assert_row(&rt, rt.alloc(), octets, text)?;
     }
     Ok(())
 }
 
-#[test]
-fn defaults_are_empty(rt: HostRuntime) -> Result<(), Fail> {
-    let mut octets = Vec::new(rt.alloc());
-    write_header(&Header::default(), &mut octets)?;
+fn assert_empty(rt: &impl Abort, alloc: Global, header: Header) -> Result<(), Fail> {
     let empty = [0, 60, 0, 0, 0, 0, 0, 0, 0, 0, 0, 0, 0, 0];
-    assert_eq!(rt; octets.as_slice(), empty.as_slice());
+    assert_written(rt, alloc, &header, &empty)
+}
+
+#[test]
+fn a_default_header_is_empty(rt: HostRuntime) -> Result<(), Fail> {
+    assert_empty(&rt, rt.alloc(), Header::default())
+}
+
+#[test]
+fn default_properties_are_none(rt: HostRuntime) -> Result<(), Fail> {
     let header = Header {
         body_size: 0,
         properties: Properties::default(),
     };
-    octets.clear();
-    write_header(&header, &mut octets)?;
-    assert_eq!(rt; octets.as_slice(), empty.as_slice());
-    Ok(())
+    assert_empty(&rt, rt.alloc(), header)
 }
 
 /// So many octets, which differ from their neighbours.
@@ -289,24 +329,12 @@ fn joined(alloc: Global, parts: &[&[u8]]) -> Result<Vec<u8>, Fail> {
     Ok(joined)
 }
 
-fn assert_header(
-    rt: &impl Abort,
-    alloc: Global,
-    header: &Header,
-    octets: &[u8],
-) -> Result<(), Fail> {
-    let mut written = Vec::new(alloc);
-    write_header(header, &mut written)?;
-    assert!(rt; written.as_slice() == octets);
-    Ok(())
-}
-
-#[test]
-fn a_header_with_long_properties(rt: HostRuntime) -> Result<(), Fail> {
-    let text = octets(rt.alloc(), 255)?;
-    let name = joined(rt.alloc(), &[&[255], &text])?;
+/// A header with a body of a million octets and with all properties, of which each text has 255 octets, and the table a thousand pairs.
+fn long_header(alloc: Global) -> Result<Vec<u8>, Fail> {
+    let text = octets(alloc, 255)?;
+    let name = joined(alloc, &[&[255], &text])?;
     let start = [0, 60, 0, 0, 0, 0, 0, 0, 0, 0x0f, 0x42, 0x40, 0xff, 0xfc];
-    let mut table = Vec::from_slice(rt.alloc(), &[0, 0, 7, 0xd0])?;
+    let mut table = Vec::from_slice(alloc, &[0, 0, 7, 0xd0])?;
     for _ in 0..1000 {
         table.extend_from_slice(&[0, b'V'])?;
     }
@@ -326,13 +354,22 @@ fn a_header_with_long_properties(rt: HostRuntime) -> Result<(), Fail> {
         &name,
         &name,
     ];
-    let whole = joined(rt.alloc(), &parts)?;
-    let header = read_header(rt.alloc(), &whole)?;
+    joined(alloc, &parts)
+}
+
+fn assert_long(rt: &impl Abort, alloc: Global, header: &Header, octets: &[u8]) -> Result<(), Fail> {
     assert_eq!(rt; header.body_size, 1_000_000);
-    assert_header(&rt, rt.alloc(), &header, &whole)?;
-    let copy = Header {
-        body_size: header.body_size,
-        properties: header.properties.copy()?,
-    };
-    assert_header(&rt, rt.alloc(), &copy, &whole)
+    assert_written(rt, alloc, header, octets)?;
+    assert_copied(rt, alloc, header, octets)
+}
+
+fn assert_long_read(rt: &impl Abort, alloc: Global, octets: &[u8]) -> Result<(), Fail> {
+    let header = read_header(alloc, octets)?;
+    assert_long(rt, alloc, &header, octets)
+}
+
+#[test]
+fn a_header_with_long_properties(rt: HostRuntime) -> Result<(), Fail> {
+    let octets = long_header(rt.alloc())?;
+    assert_long_read(&rt, rt.alloc(), &octets)
 }

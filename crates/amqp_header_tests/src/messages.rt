@@ -1,6 +1,7 @@
 //! Messages, plain and with content, copied.
-use amqp_method::{Message, Properties, read_method, write_method};
+use amqp_method::{Message, Method, Properties, read_method, write_method};
 use std::alloc::Global;
+use std::process::Abort;
 use std::test::Fail;
 
 /// So many octets, which differ from their neighbours.
@@ -21,34 +22,79 @@ fn joined(alloc: Global, parts: &[&[u8]]) -> Result<Vec<u8>, Fail> {
     Ok(joined)
 }
 
+fn assert_method(
+    rt: &impl Abort,
+    alloc: Global,
+    method: &Method,
+    octets: &[u8],
+) -> Result<(), Fail> {
+    let mut written = Vec::new(alloc);
+    write_method(method, &mut written)?;
+    assert_eq!(rt; written.as_slice(), octets);
+    Ok(())
+}
+
+/// The message of a method that no content follows.
+fn plain(rt: &impl Abort, alloc: Global, octets: &[u8]) -> Result<Message, Fail> {
+    let method = read_method(alloc, octets)?;
+    assert!(rt; !method.kind().has_content());
+    Ok(Message::plain(method))
+}
+
+fn assert_plain(
+    rt: &impl Abort,
+    alloc: Global,
+    message: &Message,
+    octets: &[u8],
+) -> Result<(), Fail> {
+    assert!(rt; message.content_parts().is_none());
+    assert_method(rt, alloc, message.method(), octets)
+}
+
 #[test]
 fn a_message_is_copied(rt: HostRuntime) -> Result<(), Fail> {
     let octets = [0x00, 0x5a, 0x00, 0x0a];
-    let method = read_method(rt.alloc(), &octets)?;
-    assert!(rt; !method.kind().has_content());
-    let copy = Message::plain(method).copy()?;
-    assert!(rt; copy.content_parts().is_none());
-    let mut written = Vec::new(rt.alloc());
-    write_method(copy.method(), &mut written)?;
-    assert_eq!(rt; written.as_slice(), octets.as_slice());
-    Ok(())
+    let copy = plain(&rt, rt.alloc(), &octets)?.copy()?;
+    assert_plain(&rt, rt.alloc(), &copy, &octets)
+}
+
+/// A publish whose exchange and routing key have 255 octets each.
+fn long_publish(alloc: Global) -> Result<Vec<u8>, Fail> {
+    let name = octets(alloc, 255)?;
+    joined(
+        alloc,
+        &[&[0, 60, 0, 40, 0, 0, 255], &name, &[255], &name, &[2]],
+    )
+}
+
+/// The message of a method that a content follows, with this body.
+fn with_body(
+    rt: &impl Abort,
+    alloc: Global,
+    octets: &[u8],
+    body: Vec<u8>,
+) -> Result<Message, Fail> {
+    let method = read_method(alloc, octets)?;
+    assert!(rt; method.kind().has_content());
+    Ok(Message::content(method, Properties::default(), body))
+}
+
+fn assert_whole(
+    rt: &impl Abort,
+    alloc: Global,
+    message: &Message,
+    octets: &[u8],
+    wanted: &[u8],
+) -> Result<(), Fail> {
+    let (_, body) = message.content_parts().ok_or("no content")?;
+    assert!(rt; body == wanted);
+    assert_method(rt, alloc, message.method(), octets)
 }
 
 #[test]
 fn a_message_with_a_long_body(rt: HostRuntime) -> Result<(), Fail> {
-    let name = octets(rt.alloc(), 255)?;
-    let whole = joined(
-        rt.alloc(),
-        &[&[0, 60, 0, 40, 0, 0, 255], &name, &[255], &name, &[2]],
-    )?;
-    let method = read_method(rt.alloc(), &whole)?;
-    assert!(rt; method.kind().has_content());
+    let whole = long_publish(rt.alloc())?;
     let body = octets(rt.alloc(), 1_000_000)?;
-    let copy = Message::content(method, Properties::default(), body).copy()?;
-    let (_, body) = copy.content_parts().ok_or("no content")?;
-    assert!(rt; body == octets(rt.alloc(), 1_000_000)?.as_slice());
-    let mut written = Vec::new(rt.alloc());
-    write_method(copy.method(), &mut written)?;
-    assert_eq!(rt; written.as_slice(), whole.as_slice());
-    Ok(())
+    let copy = with_body(&rt, rt.alloc(), &whole, octets(rt.alloc(), 1_000_000)?)?.copy()?;
+    assert_whole(&rt, rt.alloc(), &copy, &whole, &body)
 }

@@ -17,28 +17,40 @@ fn table(alloc: Global) -> Result<Table, Fail> {
     Ok(table)
 }
 
-/// The property of that bit of the flags, and no other.
-fn with_bit(alloc: Global, bit: u8) -> Result<Properties, Fail> {
-    let text = Some(ShortStr::new(alloc, &text_of(bit))?);
-    let headers = Some(table(alloc)?);
-    let mut properties = Properties::default();
+/// Sets the property of that bit, which is a text.
+fn set_text(properties: &mut Properties, bit: u8, text: ShortStr) {
+    let text = Some(text);
     match bit {
         15 => properties.content_type = text,
         14 => properties.content_encoding = text,
-        13 => properties.headers = headers,
-        12 => properties.delivery_mode = Some(0xf4),
-        11 => properties.priority = Some(0xf5),
         10 => properties.correlation_id = text,
         9 => properties.reply_to = text,
         8 => properties.expiration = text,
         7 => properties.message_id = text,
-        6 => properties.timestamp = Some(0xf1f2_f3f4_f5f6_f7f8),
         5 => properties.type_name = text,
         4 => properties.user_id = text,
         3 => properties.app_id = text,
         2 => properties.cluster_id = text,
-        _ => {}
+        _ => drop(text),
     }
+}
+
+/// Sets the property of that bit of the flags.
+fn set_bit(alloc: Global, properties: &mut Properties, bit: u8) -> Result<(), Fail> {
+    match bit {
+        13 => properties.headers = Some(table(alloc)?),
+        12 => properties.delivery_mode = Some(0xf4),
+        11 => properties.priority = Some(0xf5),
+        6 => properties.timestamp = Some(0xf1f2_f3f4_f5f6_f7f8),
+        _ => set_text(properties, bit, ShortStr::new(alloc, &text_of(bit))?),
+    }
+    Ok(())
+}
+
+/// The property of that bit, and no other.
+fn with_bit(alloc: Global, bit: u8) -> Result<Properties, Fail> {
+    let mut properties = Properties::default();
+    set_bit(alloc, &mut properties, bit)?;
     Ok(properties)
 }
 
@@ -91,17 +103,26 @@ static ALONE: [(u8, &str); 14] = [
     (2, "000402706e"),
 ];
 
+fn assert_octets(
+    rt: &impl Abort,
+    alloc: Global,
+    header: &Header,
+    wanted: &str,
+) -> Result<(), Fail> {
+    let mut octets = Vec::new(alloc);
+    write_header(header, &mut octets)?;
+    let digits = hex::encode(alloc, octets.as_slice())?;
+    assert_eq!(rt; digits.as_str(), wanted);
+    Ok(())
+}
+
 /// The header with the property of that bit alone is written to the octets.
 fn assert_written(rt: &impl Abort, alloc: Global, bit: u8, wanted: &str) -> Result<(), Fail> {
     let header = Header {
         body_size: 0xf1f2_f3f4_f5f6_f7f8,
         properties: with_bit(alloc, bit)?,
     };
-    let mut octets = Vec::new(alloc);
-    write_header(&header, &mut octets)?;
-    let digits = hex::encode(alloc, octets.as_slice())?;
-    assert_eq!(rt; digits.as_str(), wanted);
-    Ok(())
+    assert_octets(rt, alloc, &header, wanted)
 }
 
 fn assert_has_alone(rt: &impl Abort, properties: &Properties, bit: u8) {
@@ -114,14 +135,24 @@ fn assert_has_alone(rt: &impl Abort, properties: &Properties, bit: u8) {
     }
 }
 
+/// A copy has the property of that bit alone too.
+fn assert_copied(rt: &impl Abort, properties: &Properties, bit: u8) -> Result<(), Fail> {
+    let copy = properties.copy()?;
+    assert_has_alone(rt, &copy, bit);
+    Ok(())
+}
+
+fn assert_alone(rt: &impl Abort, header: &Header, bit: u8) -> Result<(), Fail> {
+    assert_eq!(rt; header.body_size, 0xf1f2_f3f4_f5f6_f7f8);
+    assert_has_alone(rt, &header.properties, bit);
+    assert_copied(rt, &header.properties, bit)
+}
+
 /// The octets are read as a header with the property of that bit alone.
 fn assert_read(rt: &impl Abort, alloc: Global, bit: u8, digits: &str) -> Result<(), Fail> {
     let octets = hex::decode(alloc, digits)?;
     let header = read_header(alloc, &octets)?;
-    assert_eq!(rt; header.body_size, 0xf1f2_f3f4_f5f6_f7f8);
-    assert_has_alone(rt, &header.properties, bit);
-    assert_has_alone(rt, &header.properties.copy()?, bit);
-    Ok(())
+    assert_alone(rt, &header, bit)
 }
 
 #[test]

@@ -75,22 +75,28 @@ fn content(rt: &impl Abort, alloc: Global, body: Vec<u8>) -> Result<Message, Fai
     Ok(Message::content(method, Properties::default(), body))
 }
 
-/// That content was told on channel 1, with this body.
-fn assert_told(rt: &impl Abort, event: &Option<Event>, body: &[u8]) -> Result<(), Fail> {
-    let Some(Event::Told(1, message)) = event else {
-        return Err("no message on channel 1")?;
-    };
+/// It is that content, with this body.
+fn assert_content(rt: &impl Abort, message: &Message, body: &[u8]) -> Result<(), Fail> {
     let Some((_, told)) = message.content_parts() else {
         return Err("no content")?;
     };
     assert!(rt; told == body);
+    let text = method_text(message.method())?;
     assert_text(
         rt,
-        method_text(message.method())?.as_str(),
+        text.as_str(),
         "basic.publish exchange=\"\" routing-key=\"q\" mandatory=0 immediate=0",
         "told",
     );
     Ok(())
+}
+
+/// That content was told on channel 1, with this body.
+fn assert_told(rt: &impl Abort, event: &Option<Event>, body: &[u8]) -> Result<(), Fail> {
+    match event {
+        Some(Event::Told(1, message)) => assert_content(rt, message, body),
+        _ => Err("no message on channel 1")?,
+    }
 }
 
 fn next_is_told(

@@ -5,12 +5,16 @@ use std::alloc::Global;
 use std::test::Fail;
 
 fn client_hello(alloc: Global) -> Result<ClientHello, Fail> {
+    let mechanism = ShortStr::new(alloc, b"PLAIN")?;
+    let response = Vec::from_slice(alloc, b"\0guest\0guest")?;
+    let locale = ShortStr::new(alloc, b"en_US")?;
+    let virtual_host = ShortStr::new(alloc, b"/")?;
     Ok(ClientHello {
         properties: Table::new(alloc),
-        mechanism: ShortStr::new(alloc, b"PLAIN")?,
-        response: Vec::from_slice(alloc, b"\0guest\0guest")?,
-        locale: ShortStr::new(alloc, b"en_US")?,
-        virtual_host: ShortStr::new(alloc, b"/")?,
+        mechanism,
+        response,
+        locale,
+        virtual_host,
     })
 }
 
@@ -27,10 +31,12 @@ pub(crate) fn client(alloc: Global) -> Result<End<Client>, Fail> {
 }
 
 fn server_hello(alloc: Global) -> Result<ServerHello, Fail> {
+    let mechanisms = Vec::from_slice(alloc, b"PLAIN")?;
+    let locales = Vec::from_slice(alloc, b"en_US")?;
     Ok(ServerHello {
         properties: Table::new(alloc),
-        mechanisms: Vec::from_slice(alloc, b"PLAIN")?,
-        locales: Vec::from_slice(alloc, b"en_US")?,
+        mechanisms,
+        locales,
     })
 }
 

@@ -1,7 +1,9 @@
 //! Streams over TCP.
 use crate::streams::assert_steps;
 use amqp_io::Socket;
+use std::alloc::Global;
 use std::net::{Net, TcpListener, TcpStream};
+use std::process::Abort;
 use std::test::Fail;
 
 /// The two ends of a connection over the loopback device, the one that connects first.
@@ -12,29 +14,47 @@ pub(crate) fn connected(rt: &HostRuntime) -> Result<(Socket, Socket), Fail> {
     Ok((Socket::new(near), Socket::new(far)))
 }
 
-#[test]
-fn octets_over_tcp(rt: HostRuntime) -> Result<(), Fail> {
-    let (mut client, mut server) = connected(&rt)?;
-    assert_steps(&rt, rt.alloc(), &mut client, "write 414d5150 = 4")?;
-    assert_steps(&rt, rt.alloc(), &mut server, "read 16 = 414d5150")?;
-    assert_steps(&rt, rt.alloc(), &mut server, "write 0100ce = 3")?;
+fn assert_talk(
+    rt: &impl Abort,
+    alloc: Global,
+    client: &mut Socket,
+    server: &mut Socket,
+) -> Result<(), Fail> {
+    assert_steps(rt, alloc, client, "write 414d5150 = 4")?;
+    assert_steps(rt, alloc, server, "read 16 = 414d5150")?;
+    assert_steps(rt, alloc, server, "write 0100ce = 3")?;
     assert_steps(
-        &rt,
-        rt.alloc(),
-        &mut client,
+        rt,
+        alloc,
+        client,
         "read 2 = 0100
         read 2 = ce",
     )
 }
 
 #[test]
+fn octets_over_tcp(rt: HostRuntime) -> Result<(), Fail> {
+    let (mut client, mut server) = connected(&rt)?;
+    let outcome = assert_talk(&rt, rt.alloc(), &mut client, &mut server);
+    drop(client);
+    drop(server);
+    outcome
+}
+
+/// A read that would block fails.
+fn assert_blocked(rt: &impl Abort, alloc: Global, server: &mut Socket) -> Result<(), Fail> {
+    server.get_ref().set_nonblocking(true)?;
+    assert_steps(rt, alloc, server, "read 16 = fail")?;
+    server.get_ref().set_nonblocking(false)?;
+    Ok(())
+}
+
+#[test]
 fn a_connection_that_has_nothing_to_read(rt: HostRuntime) -> Result<(), Fail> {
     let (client, mut server) = connected(&rt)?;
-    // A read that would block fails.
-    server.get_ref().set_nonblocking(true)?;
-    assert_steps(&rt, rt.alloc(), &mut server, "read 16 = fail")?;
-    server.get_ref().set_nonblocking(false)?;
+    let blocked = assert_blocked(&rt, rt.alloc(), &mut server);
     // The peer closes, and the input ends.
     drop(client.into_inner());
+    blocked?;
     assert_steps(&rt, rt.alloc(), &mut server, "read 16 = end")
 }

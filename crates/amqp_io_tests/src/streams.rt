@@ -85,26 +85,22 @@ fn assert_left(
     Ok(())
 }
 
-#[test]
-fn octets_given_and_taken_in_parts(rt: HostRuntime) -> Result<(), Fail> {
-    let alloc = rt.alloc();
-    let mut script = script_of(alloc, "01020304050607", "2 3 1 9")?;
-    assert_steps(&rt, alloc, &mut script, "read 4 = 0102")?;
-    // The answers go on, whichever way the octets go, and through references too.
+/// The answers go on, whichever way the octets go, and through references too. Once they are used up, a read gives what fits.
+fn assert_given_and_taken(rt: &impl Abort, alloc: Global, script: &mut Script) -> Result<(), Fail> {
+    assert_steps(rt, alloc, script, "read 4 = 0102")?;
     assert_steps(
-        &rt,
+        rt,
         alloc,
-        &mut &mut script,
+        &mut &mut *script,
         "write 0b0c0d0e0f10 = 3
         write 0e0f10 = 1
         write 0f10 = 2",
     )?;
-    assert_left(&rt, alloc, &script, "0304050607", "0b0c0d0e0f10")?;
-    // The answers are used up: a read gives what fits.
+    assert_left(rt, alloc, script, "0304050607", "0b0c0d0e0f10")?;
     assert_steps(
-        &rt,
+        rt,
         alloc,
-        &mut script,
+        script,
         "read 4 = 03040506
         read 4 = 07
         read 4 = end",
@@ -112,49 +108,81 @@ fn octets_given_and_taken_in_parts(rt: HostRuntime) -> Result<(), Fail> {
 }
 
 #[test]
-fn failures_in_mid_stream(rt: HostRuntime) -> Result<(), Fail> {
-    let alloc = rt.alloc();
-    let mut script = script_of(alloc, "1516", "3 fail 3 end fail 1 end")?;
+fn octets_given_and_taken_in_parts(rt: HostRuntime) -> Result<(), Fail> {
+    let mut script = script_of(rt.alloc(), "01020304050607", "2 3 1 9")?;
+    let outcome = assert_given_and_taken(&rt, rt.alloc(), &mut script);
+    drop(script);
+    outcome
+}
+
+fn assert_failures(rt: &impl Abort, alloc: Global, script: &mut Script) -> Result<(), Fail> {
     assert_steps(
-        &rt,
+        rt,
         alloc,
-        &mut script,
+        script,
         "write header = 3
         write 5000000901 = fail
         write 5000000901 = 3
         write 0901 = 0",
     )?;
-    assert_left(&rt, alloc, &script, "1516", "414d51500000")?;
+    assert_left(rt, alloc, script, "1516", "414d51500000")?;
     assert_steps(
-        &rt,
+        rt,
         alloc,
-        &mut script,
+        script,
         "read 4 = fail
         read 4 = 15
         read 4 = end",
     )?;
     // The input ended in mid-stream, and goes on.
-    assert_left(&rt, alloc, &script, "16", "414d51500000")?;
+    assert_left(rt, alloc, script, "16", "414d51500000")?;
     assert_steps(
-        &rt,
+        rt,
         alloc,
-        &mut script,
+        script,
         "read 4 = 16
         write 0901 = 2",
     )?;
-    assert_left(&rt, alloc, &script, "-", "header")
+    assert_left(rt, alloc, script, "-", "header")
+}
+
+#[test]
+fn failures_in_mid_stream(rt: HostRuntime) -> Result<(), Fail> {
+    let mut script = script_of(rt.alloc(), "1516", "3 fail 3 end fail 1 end")?;
+    let outcome = assert_failures(&rt, rt.alloc(), &mut script);
+    drop(script);
+    outcome
+}
+
+fn assert_long_write(rt: &impl Abort, script: &mut Script, octets: &[u8]) {
+    assert!(rt; script.write(octets) == Ok(20_000));
+    assert!(rt; script.written() == octets);
+}
+
+fn assert_long_read(
+    rt: &impl Abort,
+    alloc: Global,
+    script: &mut Script,
+    octets: &[u8],
+) -> Result<(), Fail> {
+    let mut buffer = vec![in alloc; 0; 4096]?;
+    assert!(rt; script.read(&mut buffer) == Ok(4096));
+    assert!(rt; Some(buffer.as_slice()) == octets.get(..4096));
+    assert!(rt; Some(script.unread()) == octets.get(4096..));
+    Ok(())
+}
+
+/// Writes the octets, and reads the same ones.
+fn assert_long(rt: &impl Abort, alloc: Global, octets: &[u8]) -> Result<(), Fail> {
+    let mut script = Script::new(Vec::from_slice(alloc, octets)?, Vec::new(alloc));
+    assert_long_write(rt, &mut script, octets);
+    let outcome = assert_long_read(rt, alloc, &mut script, octets);
+    drop(script);
+    outcome
 }
 
 #[test]
 fn a_long_write_and_a_long_read(rt: HostRuntime) -> Result<(), Fail> {
-    let alloc = rt.alloc();
-    let octets = vec![in alloc; 0x5a; 20_000]?;
-    let mut script = Script::new(vec![in alloc; 0x5a; 20_000]?, Vec::new(alloc));
-    assert!(rt; script.write(&octets) == Ok(20_000));
-    assert!(rt; script.written() == octets.as_slice());
-    let mut buffer = vec![in alloc; 0; 4096]?;
-    assert!(rt; script.read(&mut buffer) == Ok(4096));
-    assert!(rt; buffer.as_slice() == &octets[..4096]);
-    assert!(rt; script.unread() == &octets[4096..]);
-    Ok(())
+    let octets = vec![in rt.alloc(); 0x5a; 20_000]?;
+    assert_long(&rt, rt.alloc(), &octets)
 }

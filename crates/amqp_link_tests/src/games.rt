@@ -52,6 +52,22 @@ struct Dropped {
     server: bool,
 }
 
+impl Dropped {
+    fn set(&mut self, side: Side) {
+        match side {
+            Side::Client => self.client = true,
+            Side::Server => self.server = true,
+        }
+    }
+
+    fn has(self, side: Side) -> bool {
+        match side {
+            Side::Client => self.client,
+            Side::Server => self.server,
+        }
+    }
+}
+
 /// What was asked on a channel and put.
 #[derive(Drop)]
 pub(crate) struct Said {
@@ -105,6 +121,55 @@ fn lives_in(tally: &[Entry], connection: usize, channel: u16) -> u64 {
     last
 }
 
+/// What is put waits the one way, and the other way as much as before.
+fn check_put(done: Done, way: Direction) -> Result<(), Trouble> {
+    let back = other_way(way);
+    let has_grown = done.before.of(way) < done.after.of(way);
+    let is_same = done.before.of(back) == done.after.of(back);
+    check(has_grown && is_same, Rule::Waiting)
+}
+
+/// An ask of a side that is there is done or refused, and that of another one refused for this fault.
+fn check_ask(done: Done, fault: Option<LinkFault>, way: Direction) -> Result<(), Trouble> {
+    match done.answer {
+        Ok(()) => {
+            check(fault.is_none(), Rule::Answer)?;
+            check_put(done, way)
+        }
+        Err(LinkFault::Ask(_)) => check(fault.is_none(), Rule::Answer),
+        Err(answer) => check(fault == Some(answer), Rule::Answer),
+    }
+}
+
+/// A side is dropped, or the link says why not. What waits still does.
+fn check_drop(done: Done, fault: Option<LinkFault>) -> Result<(), Trouble> {
+    check(done.answer.err() == fault, Rule::Answer)?;
+    check(done.before == done.after, Rule::Waiting)
+}
+
+/// So many octets that were to be carried are, or the link says why not.
+fn check_carry(
+    direction: Direction,
+    octets: usize,
+    done: Done,
+    wanted: Result<(), LinkFault>,
+) -> Result<(), Trouble> {
+    check(done.answer == wanted, Rule::Answer)?;
+    match done.answer {
+        Ok(()) => check_carried(direction, octets, done),
+        Err(_) => Ok(()),
+    }
+}
+
+/// So many octets wait no more, and the other way no fewer do.
+fn check_carried(direction: Direction, octets: usize, done: Done) -> Result<(), Trouble> {
+    let back = other_way(direction);
+    let left = done.before.of(direction).saturating_sub(octets);
+    let has_fallen = done.after.of(direction) == left;
+    let has_not_fallen = done.before.of(back) <= done.after.of(back);
+    check(has_fallen && has_not_fallen, Rule::Waiting)
+}
+
 impl Game {
     pub(crate) fn new(alloc: Global, dice: Dice) -> Result<Game, Trouble> {
         match new_link(alloc, SETTING) {
@@ -128,17 +193,10 @@ impl Game {
 
     /// Why a step of a side is refused whatever it is.
     fn fault(&self, connection: usize, side: Side) -> Option<LinkFault> {
-        let Some(dropped) = self.dropped.get(connection) else {
-            return Some(LinkFault::NoSuchConnection);
-        };
-        let is_dropped = match side {
-            Side::Client => dropped.client,
-            Side::Server => dropped.server,
-        };
-        if is_dropped {
-            Some(LinkFault::Dropped)
-        } else {
-            None
+        match self.dropped.get(connection) {
+            Some(dropped) if dropped.has(side) => Some(LinkFault::Dropped),
+            Some(_) => None,
+            None => Some(LinkFault::NoSuchConnection),
         }
     }
 
@@ -203,30 +261,13 @@ impl Game {
         Ok(())
     }
 
-    /// An ask of a side that is there is done or refused. What is put waits.
-    fn check_ask(&self, connection: usize, side: Side, done: Done) -> Result<(), Trouble> {
-        let fault = self.fault(connection, side);
-        let way = way_of(side);
-        let back = other_way(way);
-        match done.answer {
-            Ok(()) => {
-                check(fault.is_none(), Rule::Answer)?;
-                let has_grown = done.before.of(way) < done.after.of(way);
-                let is_same = done.before.of(back) == done.after.of(back);
-                check(has_grown && is_same, Rule::Waiting)
-            }
-            Err(LinkFault::Ask(_)) => check(fault.is_none(), Rule::Answer),
-            Err(answer) => check(fault == Some(answer), Rule::Answer),
-        }
-    }
-
     /// Asks something of a side, and answers whether it was put.
     pub(crate) fn ask(&mut self, connection: usize, side: Side, ask: Ask) -> Result<bool, Trouble> {
         let step = Step::Ask(connection, side, ask);
         let done = self.try_step(connection, &step);
         drop(step);
         let done = done?;
-        self.check_ask(connection, side, done)?;
+        check_ask(done, self.fault(connection, side), way_of(side))?;
         Ok(done.answer.is_ok())
     }
 
@@ -247,6 +288,16 @@ impl Game {
         }
     }
 
+    /// Takes note of what was said, if it was put.
+    fn note_said(&mut self, asked: Result<bool, Trouble>, said: Said) -> Result<(), Trouble> {
+        match asked {
+            Ok(true) => self.said.push(said)?,
+            _ => drop(said),
+        }
+        asked?;
+        Ok(())
+    }
+
     /// Asks something that says an item on a channel. What is put belongs to the last life that began there: while the channel of
     /// a server is open, the client has not opened it anew.
     pub(crate) fn say(
@@ -257,18 +308,28 @@ impl Game {
         item: Item,
         ask: Ask,
     ) -> Result<(), Trouble> {
-        let life = self.last_life(connection, channel);
-        let direction = way_of(side);
-        if self.ask(connection, side, ask)? {
-            self.said.push(Said {
-                life,
-                direction,
-                item,
-            })?;
-        } else {
-            drop(item);
+        let said = Said {
+            life: self.last_life(connection, channel),
+            direction: way_of(side),
+            item,
+        };
+        let asked = self.ask(connection, side, ask);
+        self.note_said(asked, said)
+    }
+
+    /// What comes of carrying so many octets where so many wait, if the end that reads is there.
+    fn answer_to_carry(
+        &self,
+        connection: usize,
+        direction: Direction,
+        octets: usize,
+        waited: usize,
+    ) -> Result<(), LinkFault> {
+        match self.fault(connection, direction.reader()) {
+            Some(fault) => Err(fault),
+            None if waited < octets => Err(LinkFault::NotSoMany),
+            None => Ok(()),
         }
-        Ok(())
     }
 
     /// Carries so many octets, if so many wait and the end that reads is there. They wait no more, and answers to them may wait the
@@ -279,41 +340,29 @@ impl Game {
         direction: Direction,
         octets: usize,
     ) -> Result<(), Trouble> {
-        let done = self.try_step(connection, &Step::Carry(connection, direction, octets))?;
+        let step = Step::Carry(connection, direction, octets);
+        let done = self.try_step(connection, &step);
+        drop(step);
+        let done = done?;
         let waited = done.before.of(direction);
-        let wanted = match self.fault(connection, direction.reader()) {
-            Some(fault) => Err(fault),
-            None => {
-                if waited < octets {
-                    Err(LinkFault::NotSoMany)
-                } else {
-                    Ok(())
-                }
-            }
-        };
-        check(done.answer == wanted, Rule::Answer)?;
-        if done.answer.is_err() {
-            return Ok(());
+        let wanted = self.answer_to_carry(connection, direction, octets, waited);
+        check_carry(direction, octets, done, wanted)
+    }
+
+    /// Takes note that a side was dropped, if there is such a connection.
+    fn note_drop(&mut self, connection: usize, side: Side) {
+        if let Some(dropped) = self.dropped.get_mut(connection) {
+            dropped.set(side);
         }
-        let back = other_way(direction);
-        let has_fallen = done.after.of(direction) == waited.saturating_sub(octets);
-        let has_not_fallen = done.before.of(back) <= done.after.of(back);
-        check(has_fallen && has_not_fallen, Rule::Waiting)
     }
 
     pub(crate) fn drop_side(&mut self, connection: usize, side: Side) -> Result<(), Trouble> {
-        let done = self.do_step(connection, &Step::Drop(connection, side))?;
-        check(
-            done.answer.err() == self.fault(connection, side),
-            Rule::Answer,
-        )?;
-        check(done.before == done.after, Rule::Waiting)?;
-        if connection < self.dropped.len() {
-            match side {
-                Side::Client => self.dropped[connection].client = true,
-                Side::Server => self.dropped[connection].server = true,
-            }
-        }
+        let step = Step::Drop(connection, side);
+        let done = self.do_step(connection, &step);
+        drop(step);
+        let done = done?;
+        check_drop(done, self.fault(connection, side))?;
+        self.note_drop(connection, side);
         Ok(())
     }
 

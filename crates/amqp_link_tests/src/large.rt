@@ -5,6 +5,7 @@ use crate::steps::steps;
 use crate::tallies::{Entry, two_entries};
 use amqp_link::{Life, Link, Step};
 use std::alloc::Global;
+use std::process::Abort;
 use std::test::Fail;
 
 /// A content each way.
@@ -23,17 +24,30 @@ fn run_often(link: &mut Link, steps: &[Step], times: usize) -> Result<(), Fail> 
     Ok(())
 }
 
-#[test]
-fn a_hundred_thousand_steps(rt: HostRuntime) -> Result<(), Fail> {
-    let mut link = opened_link(rt.alloc(), DEFAULT)?;
-    let steps = steps(rt.alloc(), EXCHANGE)?;
-    run_often(&mut link, &steps, 25_000)?;
+/// A hundred thousand steps, of which each is counted.
+fn exchange_often(alloc: Global, link: &mut Link, steps: &[Step]) -> Result<(), Fail> {
+    run_often(link, steps, 25_000)?;
     follow(
-        rt.alloc(),
-        &mut link,
+        alloc,
+        link,
         "all exchanges",
         "tally -> 1.1.1 to-server 25000/25000, 1.1.1 to-client 25000/25000",
     )
+}
+
+fn exchange_on(alloc: Global, link: &mut Link) -> Result<(), Fail> {
+    let steps = steps(alloc, EXCHANGE)?;
+    let outcome = exchange_often(alloc, link, &steps);
+    drop(steps);
+    outcome
+}
+
+#[test]
+fn a_hundred_thousand_steps(rt: HostRuntime) -> Result<(), Fail> {
+    let mut link = opened_link(rt.alloc(), DEFAULT)?;
+    let outcome = exchange_on(rt.alloc(), &mut link);
+    drop(link);
+    outcome
 }
 
 /// Opens channel 1 of a connection, sends a content there, and carries all but the last octet of it.
@@ -91,11 +105,26 @@ fn is_every_other_acted(tally: &[Entry], connections: usize) -> bool {
     count == connections
 }
 
+fn assert_every_other_acted(rt: &impl Abort, link: &Link, connections: usize) -> Result<(), Fail> {
+    let tally = link.tally()?;
+    assert!(rt; is_every_other_acted(&tally, connections));
+    Ok(())
+}
+
+fn use_and_look(
+    rt: &impl Abort,
+    alloc: Global,
+    link: &mut Link,
+    connections: usize,
+) -> Result<(), Fail> {
+    use_connections(alloc, link, connections)?;
+    assert_every_other_acted(rt, link, connections)
+}
+
 #[test]
 fn a_thousand_connections(rt: HostRuntime) -> Result<(), Fail> {
     let mut link = new_link(rt.alloc(), DEFAULT)?;
-    use_connections(rt.alloc(), &mut link, 1000)?;
-    let tally = link.tally()?;
-    assert!(rt; is_every_other_acted(&tally, 1000));
-    Ok(())
+    let outcome = use_and_look(&rt, rt.alloc(), &mut link, 1000);
+    drop(link);
+    outcome
 }

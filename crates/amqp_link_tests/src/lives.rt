@@ -59,18 +59,28 @@ fn is_each_acted(tally: &[Entry], lives: u64) -> bool {
     number == lives
 }
 
-fn live_often(alloc: Global, lives: u64) -> Result<(), Fail> {
-    let mut link = new_link(alloc, ONE_CHANNEL)?;
-    do_line(alloc, &mut link, "begin")?;
-    for _ in 0..lives {
-        live(alloc, &mut link)?;
-    }
+fn look(link: &Link, lives: u64) -> Result<(), Fail> {
     let tally = link.tally()?;
     if is_each_acted(&tally, lives) {
         Ok(())
     } else {
         Err("another tally".into())
     }
+}
+
+fn live_and_look(alloc: Global, link: &mut Link, lives: u64) -> Result<(), Fail> {
+    do_line(alloc, link, "begin")?;
+    for _ in 0..lives {
+        live(alloc, link)?;
+    }
+    look(link, lives)
+}
+
+fn live_often(alloc: Global, lives: u64) -> Result<(), Fail> {
+    let mut link = new_link(alloc, ONE_CHANNEL)?;
+    let outcome = live_and_look(alloc, &mut link, lives);
+    drop(link);
+    outcome
 }
 
 #[test]

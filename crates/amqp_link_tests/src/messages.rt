@@ -85,16 +85,24 @@ pub(crate) fn message(alloc: Global, word: &str) -> Result<Message, Trouble> {
 
 /// A message, or `flow-on`, `flow-off`, and the answers `on-ok` and `off-ok`.
 fn item(alloc: Global, word: &str) -> Result<Item, Trouble> {
-    match word.as_bytes() {
-        b"flow-on" => Ok(Item::Flow(true)),
-        b"flow-off" => Ok(Item::Flow(false)),
-        b"on-ok" => Ok(Item::FlowOk(true)),
-        b"off-ok" => Ok(Item::FlowOk(false)),
+    match word {
+        "flow-on" => Ok(Item::Flow(true)),
+        "flow-off" => Ok(Item::Flow(false)),
+        "on-ok" => Ok(Item::FlowOk(true)),
+        "off-ok" => Ok(Item::FlowOk(false)),
         _ => {
             let message = message(alloc, word)?;
             Ok(Item::Message(message))
         }
     }
+}
+
+/// Whether this is the item that the word stands for.
+fn is_item(alloc: Global, found: &Item, word: &str) -> Result<bool, Trouble> {
+    let wanted = item(alloc, word)?;
+    let is_same = *found == wanted;
+    drop(wanted);
+    Ok(is_same)
 }
 
 /// Whether these are the items that the words stand for, in this order.
@@ -103,10 +111,7 @@ pub(crate) fn are_items(alloc: Global, items: &[Item], words: &[&str]) -> Result
         return Ok(false);
     }
     for (found, word) in items.iter().zip(words.iter().copied()) {
-        let wanted = item(alloc, word)?;
-        let is_same = *found == wanted;
-        drop(wanted);
-        if !is_same {
+        if !is_item(alloc, found, word)? {
             return Ok(false);
         }
     }

@@ -103,18 +103,26 @@ impl Game {
         }
     }
 
-    fn pick_message(&mut self, alloc: Global, side: Side) -> Result<Message, Trouble> {
-        self.messages = self.messages.wrapping_add(1);
-        let name = match side {
+    fn pick_name(&mut self, side: Side) -> &'static str {
+        match side {
             Side::Client => picked(&OF_CLIENTS, self.dice.below(OF_CLIENTS.len())),
             Side::Server => picked(&OF_SERVERS, self.dice.below(OF_SERVERS.len())),
-        };
-        if name == "ack" {
-            return numbered_ack(alloc, self.messages);
         }
+    }
+
+    /// A message of this name, with a body if a content follows it.
+    fn pick_body(&mut self, alloc: Global, name: &str) -> Result<Message, Trouble> {
         let length = self.pick_length();
         let body = numbered_body(alloc, self.messages, length)?;
         with_body(alloc, name, body)
+    }
+
+    fn pick_message(&mut self, alloc: Global, side: Side) -> Result<Message, Trouble> {
+        self.messages = self.messages.wrapping_add(1);
+        match self.pick_name(side) {
+            "ack" => numbered_ack(alloc, self.messages),
+            name => self.pick_body(alloc, name),
+        }
     }
 
     fn send(&mut self, alloc: Global) -> Result<(), Trouble> {

@@ -102,17 +102,19 @@ fn run_steps(alloc: Global, link: &mut Link, lines: &str) -> Result<usize, Fail>
     Ok(outcome?)
 }
 
+/// How many steps are refused of none, and how many of the run.
+fn count_in(alloc: Global, link: &mut Link) -> Result<(usize, usize), Fail> {
+    let none = link.run(&[])?;
+    let refused = run_steps(alloc, link, RUN)?;
+    follow(alloc, link, "a run", "acted 1.1.1 to-server publish:6869")?;
+    Ok((none, refused))
+}
+
 fn count_refused(alloc: Global) -> Result<(usize, usize), Fail> {
     let mut link = new_link(alloc, DEFAULT)?;
-    let none = link.run(&[])?;
-    let refused = run_steps(alloc, &mut link, RUN)?;
-    follow(
-        alloc,
-        &mut link,
-        "a run",
-        "acted 1.1.1 to-server publish:6869",
-    )?;
-    Ok((none, refused))
+    let counts = count_in(alloc, &mut link);
+    drop(link);
+    counts
 }
 
 #[test]

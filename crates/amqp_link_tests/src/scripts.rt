@@ -13,7 +13,7 @@
 //! tally and what waits are to be as before.
 use crate::links::{Setting, new_link};
 use crate::messages::are_items;
-use crate::steps::{connection, direction, life, step};
+use crate::steps::{alone, connection, direction, life, pair, split_first, step};
 use crate::trouble::Trouble;
 use amqp_core::Item;
 use amqp_link::{Direction, Life, Link, LinkFault, Step};
@@ -106,41 +106,59 @@ fn compare(alloc: Global, items: Vec<Item>, words: &[&str]) -> Result<Came, Trou
     Ok(as_said(is_so?))
 }
 
-fn sent(
-    alloc: Global,
-    link: &Link,
-    life: Life,
-    direction: Direction,
-    words: &[&str],
-) -> Result<Came, Trouble> {
+/// A life, a way, and the words after them.
+fn listed<'a, 'b>(words: &'b [&'a str]) -> Result<(Life, Direction, &'b [&'a str]), Trouble> {
+    let (name, rest) = split_first(words)?;
+    let (way, items) = split_first(rest)?;
+    Ok((life(name)?, direction(way)?, items))
+}
+
+fn sent(alloc: Global, link: &Link, words: &[&str]) -> Result<Came, Trouble> {
+    let (life, direction, words) = listed(words)?;
     let items = link.sent(life, direction)?;
     compare(alloc, items, words)
 }
 
-fn acted(
-    alloc: Global,
-    link: &Link,
-    life: Life,
-    direction: Direction,
-    words: &[&str],
-) -> Result<Came, Trouble> {
+fn acted(alloc: Global, link: &Link, words: &[&str]) -> Result<Came, Trouble> {
+    let (life, direction, words) = listed(words)?;
     let items = link.acted(life, direction)?;
     compare(alloc, items, words)
 }
 
+fn count_waiting(link: &Link, words: &[&str]) -> Result<Came, Trouble> {
+    let (place, way) = pair(words)?;
+    let connection = connection(place)?;
+    Ok(Came::Count(link.waiting(connection, direction(way)?)))
+}
+
+fn shake_named(link: &mut Link, words: &[&str]) -> Result<Came, Trouble> {
+    let connection = connection(alone(words)?)?;
+    Ok(came_of(shake(link, connection)))
+}
+
+fn carry_all_named(link: &mut Link, place: &str, way: &str) -> Result<Came, Trouble> {
+    let connection = connection(place)?;
+    Ok(came_of(carry_all(link, connection, direction(way)?)))
+}
+
+fn carry_named(alloc: Global, link: &mut Link, words: &[&str]) -> Result<Came, Trouble> {
+    match words {
+        [_, place, way, "all"] => carry_all_named(link, place, way),
+        _ => do_step(alloc, link, words),
+    }
+}
+
 /// Does what a line says.
 fn perform(alloc: Global, link: &mut Link, words: &[&str]) -> Result<Came, Trouble> {
-    match words {
-        [] => Ok(Came::AsSaid),
-        ["shake", place] => Ok(came_of(shake(link, connection(place)?))),
-        ["carry", place, way, "all"] => {
-            Ok(came_of(carry_all(link, connection(place)?, direction(way)?)))
-        }
-        ["waiting", place, way] => {
-            Ok(Came::Count(link.waiting(connection(place)?, direction(way)?)))
-        }
-        ["sent", name, way, items @ ..] => sent(alloc, link, life(name)?, direction(way)?, items),
-        ["acted", name, way, items @ ..] => acted(alloc, link, life(name)?, direction(way)?, items),
+    let Ok((word, rest)) = split_first(words) else {
+        return Ok(Came::AsSaid);
+    };
+    match word {
+        "shake" => shake_named(link, rest),
+        "carry" => carry_named(alloc, link, words),
+        "waiting" => count_waiting(link, rest),
+        "sent" => sent(alloc, link, rest),
+        "acted" => acted(alloc, link, rest),
         _ => do_step(alloc, link, words),
     }
 }
@@ -200,30 +218,49 @@ fn seen_if_refused(alloc: Global, link: &Link, wanted: &str) -> Result<String, F
     Ok(String::new(alloc))
 }
 
-/// The text of what comes of a line.
-fn answer(alloc: Global, link: &mut Link, line: &str) -> Result<String, Fail> {
-    let words: Vec<&str> = line.split_whitespace().collect(alloc)?;
-    if let ["tally"] = words.as_slice() {
-        return tally_text(alloc, link);
-    }
-    match perform(alloc, link, &words) {
+/// The text of what comes of words that are no tally.
+fn performed(alloc: Global, link: &mut Link, words: &[&str]) -> Result<String, Fail> {
+    match perform(alloc, link, words) {
         Ok(came) => Ok(format!(in alloc; "{came}")?),
         Err(trouble) => Ok(format!(in alloc; "{trouble:?}")?),
     }
+}
+
+/// The text of what comes of a line.
+fn answer(alloc: Global, link: &mut Link, line: &str) -> Result<String, Fail> {
+    if line.trim() == "tally" {
+        return tally_text(alloc, link);
+    }
+    let words: Vec<&str> = line.split_whitespace().collect(alloc)?;
+    performed(alloc, link, words.as_slice())
+}
+
+/// The text of what comes of a line. A step that is to be refused changes nothing.
+fn answer_unchanged(
+    alloc: Global,
+    link: &mut Link,
+    words: &str,
+    wanted: &str,
+) -> Result<String, Fail> {
+    let before = seen_if_refused(alloc, link, wanted)?;
+    let came = answer(alloc, link, words)?;
+    let after = seen_if_refused(alloc, link, wanted)?;
+    if before.as_str() == after.as_str() {
+        return Ok(came);
+    }
+    Ok(format!(in alloc; "{came:?}; before {before}, after {after}")?)
 }
 
 /// Does what a line says. Where something else comes of it than is said after the arrow, or a refused step changes something, the
 /// line is named.
 fn follow_line(alloc: Global, link: &mut Link, name: &str, line: &str) -> Result<(), Fail> {
     let (words, wanted) = line.split_once(" -> ").unwrap_or((line, ""));
-    let before = seen_if_refused(alloc, link, wanted)?;
-    let came = answer(alloc, link, words)?;
-    let after = seen_if_refused(alloc, link, wanted)?;
-    if came.as_str() == wanted && before.as_str() == after.as_str() {
+    let came = answer_unchanged(alloc, link, words, wanted)?;
+    if came.as_str() == wanted {
         return Ok(());
     }
     let line = line.trim_ascii_start();
-    let text = format!(in alloc; "{name}: {line}: came {came:?}; before {before}, after {after}")?;
+    let text = format!(in alloc; "{name}: {line}: came {came}")?;
     Err(Fail::new(text))
 }
 

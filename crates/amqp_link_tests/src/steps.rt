@@ -41,17 +41,17 @@ pub(crate) fn connection(word: &str) -> Result<usize, Trouble> {
 }
 
 fn side(word: &str) -> Result<Side, Trouble> {
-    match word.as_bytes() {
-        b"client" => Ok(Side::Client),
-        b"server" => Ok(Side::Server),
+    match word {
+        "client" => Ok(Side::Client),
+        "server" => Ok(Side::Server),
         _ => Err(Trouble::UnknownWord),
     }
 }
 
 pub(crate) fn direction(word: &str) -> Result<Direction, Trouble> {
-    match word.as_bytes() {
-        b"to-server" => Ok(Direction::ToServer),
-        b"to-client" => Ok(Direction::ToClient),
+    match word {
+        "to-server" => Ok(Direction::ToServer),
+        "to-client" => Ok(Direction::ToClient),
         _ => Err(Trouble::UnknownWord),
     }
 }
@@ -72,9 +72,9 @@ pub(crate) fn life(word: &str) -> Result<Life, Trouble> {
 }
 
 fn is_on(word: &str) -> Result<bool, Trouble> {
-    match word.as_bytes() {
-        b"on" => Ok(true),
-        b"off" => Ok(false),
+    match word {
+        "on" => Ok(true),
+        "off" => Ok(false),
         _ => Err(Trouble::UnknownWord),
     }
 }
@@ -86,72 +86,132 @@ pub(crate) fn text(alloc: Global, word: &str) -> Result<ShortStr, Trouble> {
     }
 }
 
-fn send(alloc: Global, channel: &str, word: &str) -> Result<Ask, Trouble> {
+/// The one word that stands there.
+pub(crate) fn alone<'a>(words: &[&'a str]) -> Result<&'a str, Trouble> {
+    match words {
+        [word] => Ok(*word),
+        _ => Err(Trouble::UnknownWord),
+    }
+}
+
+/// The two words that stand there.
+pub(crate) fn pair<'a>(words: &[&'a str]) -> Result<(&'a str, &'a str), Trouble> {
+    match words {
+        [first, second] => Ok((*first, *second)),
+        _ => Err(Trouble::UnknownWord),
+    }
+}
+
+/// The first word, and those after it.
+pub(crate) fn split_first<'a, 'b>(
+    words: &'b [&'a str],
+) -> Result<(&'a str, &'b [&'a str]), Trouble> {
+    match words {
+        [first, rest @ ..] => Ok((*first, rest)),
+        [] => Err(Trouble::UnknownWord),
+    }
+}
+
+fn send(alloc: Global, words: &[&str]) -> Result<Ask, Trouble> {
+    let (channel, word) = pair(words)?;
     let channel = number(channel)?;
     let message = message(alloc, word)?;
     Ok(Ask::Send(channel, message))
 }
 
-fn close_channel(alloc: Global, channel: &str, code: &str, word: &str) -> Result<Ask, Trouble> {
+fn flow(words: &[&str]) -> Result<Ask, Trouble> {
+    let (channel, word) = pair(words)?;
+    Ok(Ask::Flow(number(channel)?, is_on(word)?))
+}
+
+fn close_channel(alloc: Global, words: &[&str]) -> Result<Ask, Trouble> {
+    let (channel, rest) = split_first(words)?;
+    let (code, word) = pair(rest)?;
     let channel = number(channel)?;
     let code = number(code)?;
     let text = text(alloc, word)?;
     Ok(Ask::CloseChannel(channel, code, text))
 }
 
-fn close(alloc: Global, code: &str, word: &str) -> Result<Ask, Trouble> {
+fn close(alloc: Global, words: &[&str]) -> Result<Ask, Trouble> {
+    let (code, word) = pair(words)?;
     let code = number(code)?;
     let text = text(alloc, word)?;
     Ok(Ask::Close(code, text))
 }
 
-fn blocked(alloc: Global, word: &str) -> Result<Ask, Trouble> {
-    let text = text(alloc, word)?;
+fn blocked(alloc: Global, words: &[&str]) -> Result<Ask, Trouble> {
+    let text = text(alloc, alone(words)?)?;
     Ok(Ask::Blocked(text))
 }
 
-fn ask(alloc: Global, words: &[&str]) -> Result<Ask, Trouble> {
-    match words {
-        ["open"] => Ok(Ask::Open),
-        ["send", channel, message] => send(alloc, channel, message),
-        ["flow", channel, word] => Ok(Ask::Flow(number(channel)?, is_on(word)?)),
-        ["close-channel", channel, code, text] => close_channel(alloc, channel, code, text),
-        ["close", code, text] => close(alloc, code, text),
-        ["blocked", text] => blocked(alloc, text),
-        ["unblocked"] => Ok(Ask::Unblocked),
+/// What the first word asks, with the words after it.
+fn ask(alloc: Global, word: &str, rest: &[&str]) -> Result<Ask, Trouble> {
+    match word {
+        "open" if rest.is_empty() => Ok(Ask::Open),
+        "send" => send(alloc, rest),
+        "flow" => flow(rest),
+        "close-channel" => close_channel(alloc, rest),
+        "close" => close(alloc, rest),
+        "blocked" => blocked(alloc, rest),
+        "unblocked" if rest.is_empty() => Ok(Ask::Unblocked),
         _ => Err(Trouble::UnknownWord),
     }
 }
 
-fn ask_step(alloc: Global, place: &str, who: &str, words: &[&str]) -> Result<Step, Trouble> {
+fn ask_step(alloc: Global, words: &[&str]) -> Result<Step, Trouble> {
+    let (place, rest) = split_first(words)?;
+    let (who, rest) = split_first(rest)?;
+    let (word, rest) = split_first(rest)?;
     let connection = connection(place)?;
     let side = side(who)?;
-    let ask = ask(alloc, words)?;
+    let ask = ask(alloc, word, rest)?;
     Ok(Step::Ask(connection, side, ask))
 }
 
-pub(crate) fn step(alloc: Global, words: &[&str]) -> Result<Step, Trouble> {
-    match words {
-        ["begin"] => Ok(Step::Begin),
-        ["ask", place, who, rest @ ..] => ask_step(alloc, place, who, rest),
-        ["carry", place, way, count] => Ok(Step::Carry(
-            connection(place)?,
-            direction(way)?,
-            number(count)?,
-        )),
-        ["drop", place, who] => Ok(Step::Drop(connection(place)?, side(who)?)),
+fn carry_step(words: &[&str]) -> Result<Step, Trouble> {
+    let (place, rest) = split_first(words)?;
+    let (way, count) = pair(rest)?;
+    let connection = connection(place)?;
+    let direction = direction(way)?;
+    Ok(Step::Carry(connection, direction, number(count)?))
+}
+
+fn drop_step(words: &[&str]) -> Result<Step, Trouble> {
+    let (place, who) = pair(words)?;
+    let connection = connection(place)?;
+    Ok(Step::Drop(connection, side(who)?))
+}
+
+/// The step of the first word, with the words after it.
+fn step_by(alloc: Global, word: &str, rest: &[&str]) -> Result<Step, Trouble> {
+    match word {
+        "begin" if rest.is_empty() => Ok(Step::Begin),
+        "ask" => ask_step(alloc, rest),
+        "carry" => carry_step(rest),
+        "drop" => drop_step(rest),
         _ => Err(Trouble::UnknownWord),
     }
+}
+
+pub(crate) fn step(alloc: Global, words: &[&str]) -> Result<Step, Trouble> {
+    let (word, rest) = split_first(words)?;
+    step_by(alloc, word, rest)
+}
+
+/// The step of a line.
+fn step_of(alloc: Global, line: &str) -> Result<Step, Trouble> {
+    let Ok(words) = line.split_whitespace().collect::<Vec<&str>>(alloc) else {
+        return Err(Trouble::OutOfMemory);
+    };
+    step(alloc, &words)
 }
 
 /// The steps of some lines.
 pub(crate) fn steps(alloc: Global, lines: &str) -> Result<Vec<Step>, Trouble> {
     let mut steps = Vec::new(alloc);
     for line in lines.split('\n') {
-        let Ok(words) = line.split_whitespace().collect::<Vec<&str>>(alloc) else {
-            return Err(Trouble::OutOfMemory);
-        };
-        steps.push(step(alloc, &words)?)?;
+        steps.push(step_of(alloc, line)?)?;
     }
     Ok(steps)
 }

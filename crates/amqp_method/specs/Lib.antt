@@ -12,6 +12,7 @@ pub mod Properties
 pub mod HeaderReading
 pub mod FirstFault
 pub mod HeaderView
+pub mod HeaderParts
 pub mod Plain
 pub mod Writing
 pub mod GatheredView

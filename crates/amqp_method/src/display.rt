@@ -131,6 +131,16 @@ fn write_content<W: fmt::Write>(
     write_body(f, body)
 }
 
+/// The content of a message, if it has one.
+fn write_parts<W: fmt::Write>(f: &mut fmt::Formatter<W>, message: &Message) -> fmt::Result
+    ensures { WritesOnOk W.write_str_gives f.old result (content_text (message_view message.now).properties (message_view message.now).body) f.new }
+{
+    let Some((properties, body)) = message.content_parts() else {
+        return Ok(());
+    };
+    write_content(f, properties, body)
+}
+
 /// Prints the method, and below it, where a content follows, a line with its header and one with its body in hexadecimal, each
 /// after two spaces. The method's text takes memory where its arguments do, as [`Method`](crate::Method)'s does.
 impl fmt::Display for Message {
@@ -139,9 +149,6 @@ impl fmt::Display for Message {
     fn fmt<W: fmt::Write>(&self, f: &mut fmt::Formatter<W>) -> fmt::Result {
         let method = self.method();
         write!(f, "{method}")?;
-        let Some((properties, body)) = self.content_parts() else {
-            return Ok(());
-        };
-        write_content(f, properties, body)
+        write_parts(f, self)
     }
 }

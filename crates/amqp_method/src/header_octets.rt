@@ -4,7 +4,8 @@ ghost use Rattle.amqp_method.specs.EarlyFaults.{fault_of_start};
 ghost use Rattle.amqp_method.specs.Arguments.{octet, long_long, short_string};
 ghost use Rattle.amqp_method.specs.Faults.{out_of_memory, too_long};
 ghost use Rattle.amqp_method.specs.FirstFault.{FirstFaultOfHeader};
-ghost use Rattle.amqp_method.specs.HeaderReading.{has_flag as is_set, optional_at, properties_at, header_at};
+ghost use Rattle.amqp_method.specs.HeaderParts.{earlier_view, later_view, later_kinds};
+ghost use Rattle.amqp_method.specs.HeaderReading.{has_flag as is_set, optional_at, properties_at, with_properties_at, header_at};
 ghost use Rattle.amqp_method.specs.HeaderView.{present, table_argument, properties_view, header_view};
 ghost use Rattle.amqp_method.specs.Plain.{plain_start, plain_header, CountsPresentFit};
 ghost use Rattle.amqp_method.specs.Properties.{ContentHeader, EncodesHeader, property_kinds};
@@ -148,6 +149,21 @@ impl Flagged {
         let octets = self.octet(11, octets, &mut properties.priority)?;
         let octets = self.short_string(10, octets, &mut properties.correlation_id)?;
         let octets = self.short_string(9, octets, &mut properties.reply_to)?;
+        self.later_properties(octets, properties)
+    }
+
+    /// Those from the eighth on.
+    #[tactic(auto, unfolding(crate::specs::HeaderReading::properties_at))]
+    fn later_properties<'a>(
+        self,
+        octets: &'a [u8],
+        properties: &mut Properties,
+    ) -> Result<&'a [u8], MethodFault>
+        requires { length octets.now ≤ self.end }
+        ensures read { Gives (λ after. (later_view properties.new, after.now)) result (properties_at later_kinds self.flags self.end octets.now) }
+        ensures within { IfOk result (λ after. length after.now ≤ length octets.now) }
+        ensures kept { earlier_view properties.new ≡ earlier_view properties.old }
+    {
         let octets = self.short_string(8, octets, &mut properties.expiration)?;
         let octets = self.short_string(7, octets, &mut properties.message_id)?;
         let octets = self.long_long(6, octets, &mut properties.timestamp)?;
@@ -156,6 +172,16 @@ impl Flagged {
         let octets = self.short_string(3, octets, &mut properties.app_id)?;
         let octets = self.short_string(2, octets, &mut properties.cluster_id)?;
         Ok(octets)
+    }
+
+    /// The rest of a header: all properties, and nothing after them.
+    fn header(self, body_size: u64, octets: &[u8], header: &mut Header) -> Result<(), MethodFault>
+        requires { length octets.now ≤ self.end }
+        ensures { Gives (λ done. header_view header.new) result (with_properties_at body_size self.flags self.end octets.now) }
+    {
+        header.body_size = body_size;
+        let after = self.properties(octets, &mut header.properties)?;
+        read_end(after, self.end)
     }
 }
 
@@ -233,11 +259,7 @@ pub fn read_header_into(
             kind: MethodFaultKind::BadFlags,
         });
     }
-    header.body_size = body_size;
-    let flagged = Flagged { alloc, flags, end };
-    let after = flagged.properties(after, &mut header.properties)?;
-    read_end(after, end)?;
-    Ok(())
+    Flagged { alloc, flags, end }.header(body_size, after, header)
 }
 
 /// Appends the header's payload: the class id 60, the weight 0, the size of the body, the flags, and the properties that

@@ -93,9 +93,9 @@ impl Message {
                 })
             }
             Form::Content(method, properties, body) => {
+                let body = Vec::from_slice(*body.allocator(), body)?;
                 let method = method.copy()?;
                 let properties = properties.copy()?;
-                let body = Vec::from_slice(*body.allocator(), body)?;
                 Ok(Message {
                     form: Form::Content(method, properties, body),
                 })

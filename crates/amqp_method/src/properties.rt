@@ -4,9 +4,9 @@ ghost use Rattle.amqp_method.specs.Arguments.{octet as octet_argument, long_long
 ghost use Rattle.amqp_method.specs.Faults.{out_of_memory, too_long};
 ghost use Rattle.amqp_method.specs.HeaderView.{present, table_argument, properties_view};
 ghost use Rattle.amqp_method.specs.Lent.{value_view, lent_view, lent_views};
-ghost use Rattle.amqp_method.specs.Plain.{plain_argument, plain_present, CountFits, CountsPresentFit};
+ghost use Rattle.amqp_method.specs.Plain.{plain_argument, plain_property, plain_present, CountFits, CountOfPropertyFits, CountsPresentFit};
 ghost use Rattle.amqp_method.specs.Properties.{flags_of};
-ghost use Rattle.amqp_method.specs.Writing.{Fitting, PresentFitting};
+ghost use Rattle.amqp_method.specs.Writing.{Fitting, PropertyFitting, PresentFitting};
 
 use crate::faults::MethodFault;
 use crate::headers::Properties;
@@ -98,6 +98,20 @@ fn append_lent(value: Lent, out: &mut Vec<u8>) -> Result<(), MethodFault>
     }
 }
 
+/// A property, if it is there.
+fn append_property(property: Option<Lent>, out: &mut Vec<u8>) -> Result<(), MethodFault>
+    ensures ok { OnOk result (out.new.items ≡ out.old.items ++ plain_property (lent_view property.entry)) }
+    ensures fits { OnOk result (PropertyFitting (lent_view property.entry)) }
+    ensures too_long { result ≡ Err too_long → CountOfPropertyFits (lent_view property.entry) → ⊥ }
+    ensures err { IfErr result (λ e. (e ≡ too_long) ⊎ (e ≡ out_of_memory)) }
+    ensures kept { OnErr result (take (length out.old.items) out.new.items ≡ out.old.items) }
+{
+    let Some(value) = property else {
+        return Ok(());
+    };
+    append_lent(value, out)
+}
+
 /// The properties that are there, in order.
 pub(crate) fn append_present(
     properties: &[Option<Lent>],
@@ -110,9 +124,7 @@ pub(crate) fn append_present(
     ensures kept { OnErr result (take (length out.old.items) out.new.items ≡ out.old.items) }
 {
     for property in properties {
-        if let Some(value) = property {
-            append_lent(*value, out)?;
-        }
+        append_property(*property, out)?;
     }
     Ok(())
 }

@@ -1,6 +1,7 @@
 //! What the standard and RabbitMQ's additions say of each method, row by row: its ids, its name, who sends it, whether
 //! content follows, and the request that it answers.
 use amqp_method::{Kind, sends};
+use std::fmt::Debug;
 use std::process::Abort;
 
 #[derive(Clone, Copy, PartialEq, Eq, Debug)]
@@ -93,16 +94,20 @@ static TX_AND_CONFIRM: [Facts; 8] = facts! {
     ConfirmSelectOk 85 11 "confirm.select-ok" Server false Some(Kind::ConfirmSelect);
 };
 
+fn assert_is<T: Copy + PartialEq + Debug>(rt: &impl Abort, found: T, wanted: T, name: &str) {
+    assert_eq!(rt; found, wanted, "for {name}");
+}
+
 fn assert_facts(rt: &impl Abort, rows: &[Facts]) {
     for (kind, class, id, name, sender, content, answered) in rows.iter().copied() {
-        assert_eq!(rt; kind.class_id(), class, "for {name}");
-        assert_eq!(rt; kind.method_id(), id, "for {name}");
-        assert_eq!(rt; Kind::from_ids(class, id), Some(kind), "for {name}");
-        assert_eq!(rt; kind.name(), name);
-        assert_eq!(rt; sends(true, kind), sender != Sender::Server, "for {name}");
-        assert_eq!(rt; sends(false, kind), sender != Sender::Client, "for {name}");
-        assert_eq!(rt; kind.has_content(), content, "for {name}");
-        assert_eq!(rt; kind.answers(), answered, "for {name}");
+        assert_is(rt, kind.class_id(), class, name);
+        assert_is(rt, kind.method_id(), id, name);
+        assert_is(rt, Kind::from_ids(class, id), Some(kind), name);
+        assert_is(rt, kind.name(), name, name);
+        assert_is(rt, sends(true, kind), sender != Sender::Server, name);
+        assert_is(rt, sends(false, kind), sender != Sender::Client, name);
+        assert_is(rt, kind.has_content(), content, name);
+        assert_is(rt, kind.answers(), answered, name);
     }
 }
 
@@ -114,18 +119,21 @@ fn kinds_are_those_of_the_standard(rt: HostRuntime) {
     assert_facts(&rt, &TX_AND_CONFIRM);
 }
 
+/// Class ids and method ids that no method has.
+static OTHER_IDS: [(u16, u16); 8] = [
+    (10, 12),
+    (10, 70),
+    (30, 10),
+    (60, 121),
+    (60, 0),
+    (80, 10),
+    (90, 12),
+    (0, 0),
+];
+
 #[test]
 fn other_ids_are_no_kind(rt: HostRuntime) {
-    for (class, id) in [
-        (10, 12),
-        (10, 70),
-        (30, 10),
-        (60, 121),
-        (60, 0),
-        (80, 10),
-        (90, 12),
-        (0, 0),
-    ] {
+    for (class, id) in OTHER_IDS.iter().copied() {
         assert_eq!(rt; Kind::from_ids(class, id), None, "for {class} {id}");
     }
 }

@@ -1,51 +1,95 @@
 //! The number and the text of every fault of a method or a header, and how a kind of field prints for debugging.
-use amqp_method::{FieldKind, MethodFault, MethodFaultKind};
+use crate::octets::assert_same;
+use amqp_method::{FieldKind, MethodFault, MethodFaultKind, OutOfMemory};
 use amqp_value::ValueFaultKind;
+use std::alloc::Global;
+use std::fmt::{Debug, Display};
+use std::process::Abort;
 use std::test::Fail;
+
+/// Each kind with its number, its text and its name, but for the faults of a value.
+static KINDS: [(MethodFaultKind, u8, &str, &str); 5] = [
+    (
+        MethodFaultKind::UnknownMethod,
+        1,
+        "unknown method",
+        "UnknownMethod",
+    ),
+    (
+        MethodFaultKind::Trailing,
+        3,
+        "octets after the last field",
+        "Trailing",
+    ),
+    (
+        MethodFaultKind::BadWeight,
+        4,
+        "weight other than 0",
+        "BadWeight",
+    ),
+    (MethodFaultKind::BadFlags, 5, "flag 1 or 0 set", "BadFlags"),
+    (
+        MethodFaultKind::OutOfMemory,
+        6,
+        "out of memory",
+        "OutOfMemory",
+    ),
+];
+
+fn assert_shown(
+    rt: &impl Abort,
+    alloc: Global,
+    shown: &impl Display,
+    text: &str,
+) -> Result<(), Fail> {
+    assert_same(rt, format!(in alloc; "{shown}")?.as_str(), text);
+    Ok(())
+}
+
+fn assert_debug(
+    rt: &impl Abort,
+    alloc: Global,
+    shown: &impl Debug,
+    text: &str,
+) -> Result<(), Fail> {
+    assert_same(rt, format!(in alloc; "{shown:?}")?.as_str(), text);
+    Ok(())
+}
+
+fn assert_kind(
+    rt: &impl Abort,
+    alloc: Global,
+    kind: MethodFaultKind,
+    number: u8,
+    text: &str,
+    name: &str,
+) -> Result<(), Fail> {
+    assert_eq!(rt; kind.number(), number, "for {name}");
+    assert_shown(rt, alloc, &kind, text)?;
+    assert_debug(rt, alloc, &kind, name)
+}
+
+fn assert_kinds(rt: &impl Abort, alloc: Global) -> Result<(), Fail> {
+    for (kind, number, text, name) in KINDS.iter().copied() {
+        assert_kind(rt, alloc, kind, number, text, name)?;
+    }
+    Ok(())
+}
 
 #[test]
 fn faults_of_methods(rt: HostRuntime) -> Result<(), Fail> {
-    for (kind, number, text, name) in [
-        (
-            MethodFaultKind::UnknownMethod,
-            1,
-            "unknown method",
-            "UnknownMethod",
-        ),
-        (
-            MethodFaultKind::Trailing,
-            3,
-            "octets after the last field",
-            "Trailing",
-        ),
-        (
-            MethodFaultKind::BadWeight,
-            4,
-            "weight other than 0",
-            "BadWeight",
-        ),
-        (MethodFaultKind::BadFlags, 5, "flag 1 or 0 set", "BadFlags"),
-        (
-            MethodFaultKind::OutOfMemory,
-            6,
-            "out of memory",
-            "OutOfMemory",
-        ),
-    ] {
-        assert_eq!(rt; kind.number(), number, "for {name}");
-        assert_eq!(rt; format!(in rt.alloc(); "{kind}")?.as_str(), text);
-        assert_eq!(rt; format!(in rt.alloc(); "{kind:?}")?.as_str(), name);
-    }
+    assert_kinds(&rt, rt.alloc())?;
     assert_eq!(rt; MethodFaultKind::Value(ValueFaultKind::TooDeep).number(), 2);
     let fault = MethodFault {
         at: 70_000,
         kind: MethodFaultKind::Trailing,
     };
-    let text = format!(in rt.alloc(); "{fault}")?;
-    assert_eq!(rt; text.as_str(), "octets after the last field at octet 70000");
-    let text = format!(in rt.alloc(); "{}", amqp_method::OutOfMemory)?;
-    assert_eq!(rt; text.as_str(), "out of memory");
-    let text = format!(in rt.alloc(); "{:?}", FieldKind::LongLong)?;
-    assert_eq!(rt; text.as_str(), "LongLong");
-    Ok(())
+    assert_shown(
+        &rt,
+        rt.alloc(),
+        &fault,
+        "octets after the last field at octet 70000",
+    )?;
+    assert_shown(&rt, rt.alloc(), &OutOfMemory, "out of memory")?;
+    assert_debug(&rt, rt.alloc(), &FieldKind::LongLong, "LongLong")
 }

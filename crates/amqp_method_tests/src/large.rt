@@ -40,20 +40,35 @@ fn assert_method(
     Ok(())
 }
 
+fn assert_copied(
+    rt: &impl Abort,
+    alloc: Global,
+    method: &Method,
+    octets: &[u8],
+    text: usize,
+) -> Result<(), Fail> {
+    let copy = method.copy()?;
+    assert_method(rt, alloc, &copy, octets, text)
+}
+
+fn assert_read(rt: &impl Abort, alloc: Global, octets: &[u8], text: usize) -> Result<(), Fail> {
+    let method = read_method(alloc, octets)?;
+    assert_method(rt, alloc, &method, octets, text)?;
+    assert_copied(rt, alloc, &method, octets, text)
+}
+
+/// A connection.secure with that challenge.
+fn secure(rt: &impl Abort, alloc: Global, challenge: Vec<u8>) -> Result<Method, Fail> {
+    let args = vec![in alloc; Arg::LongStr(challenge)]?;
+    assert!(rt; fits(Kind::ConnectionSecure, &args));
+    Ok(Method::new(Kind::ConnectionSecure, args))
+}
+
 #[test]
 fn a_long_string_in_a_method(rt: HostRuntime) -> Result<(), Fail> {
     let challenge = octets(rt.alloc(), 100_000)?;
     let whole = joined(rt.alloc(), &[&[0, 10, 0, 20], &COUNT, &challenge])?;
-    let args = vec![in rt.alloc(); Arg::LongStr(challenge)]?;
-    assert!(rt; fits(Kind::ConnectionSecure, &args));
-    assert_method(
-        &rt,
-        rt.alloc(),
-        &Method::new(Kind::ConnectionSecure, args),
-        &whole,
-        288_784,
-    )?;
-    let read = read_method(rt.alloc(), &whole)?;
-    assert_method(&rt, rt.alloc(), &read, &whole, 288_784)?;
-    assert_method(&rt, rt.alloc(), &read.copy()?, &whole, 288_784)
+    let method = secure(&rt, rt.alloc(), challenge)?;
+    assert_method(&rt, rt.alloc(), &method, &whole, 288_784)?;
+    assert_read(&rt, rt.alloc(), &whole, 288_784)
 }

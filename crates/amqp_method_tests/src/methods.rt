@@ -1,15 +1,19 @@
 //! Methods as the standard lays them out, read, written and printed.
-use amqp_method::{MethodFault, MethodFaultKind, method_text, read_method, write_method};
+use crate::octets::assert_same;
+use amqp_method::{Method, MethodFault, MethodFaultKind, method_text, read_method, write_method};
 use amqp_value::ValueFaultKind;
 use std::alloc::Global;
 use std::process::Abort;
 use std::test::Fail;
 
+fn assert_text(rt: &impl Abort, method: &Method, text: &str) -> Result<(), Fail> {
+    assert_same(rt, method_text(method)?.as_str(), text);
+    Ok(())
+}
+
 fn reads_as(rt: &impl Abort, alloc: Global, octets: &[u8], text: &str) -> Result<(), Fail> {
     let method = read_method(alloc, octets)?;
-    let printed = method_text(&method)?;
-    assert_eq!(rt; printed.as_str(), text);
-    Ok(())
+    assert_text(rt, &method, text)
 }
 
 #[test]
@@ -162,18 +166,27 @@ static BROKEN_METHODS: [(&[u8], MethodFault); 6] = [
 
 #[test]
 fn faults_of_methods(rt: HostRuntime) {
-    for (octets, fault) in BROKEN_METHODS {
+    for (octets, fault) in BROKEN_METHODS.iter().copied() {
         assert_eq!(rt; read_method(rt.alloc(), octets).err(), Some(fault));
     }
+}
+
+fn assert_written(
+    rt: &impl Abort,
+    alloc: Global,
+    method: &Method,
+    octets: &[u8],
+) -> Result<(), Fail> {
+    let mut out = Vec::new(alloc);
+    write_method(method, &mut out)?;
+    assert_eq!(rt; out.as_slice(), octets);
+    Ok(())
 }
 
 /// Reads a method, and compares what is written of it.
 fn written_as(rt: &impl Abort, alloc: Global, octets: &[u8], plain: &[u8]) -> Result<(), Fail> {
     let method = read_method(alloc, octets)?;
-    let mut out = Vec::new(alloc);
-    write_method(&method, &mut out)?;
-    assert_eq!(rt; out.as_slice(), plain);
-    Ok(())
+    assert_written(rt, alloc, &method, plain)
 }
 
 #[test]

@@ -8,6 +8,14 @@ use std::alloc::Global;
 use std::process::Abort;
 use std::test::Fail;
 
+/// The table whose octets are [`TABLE`].
+fn table(alloc: Global) -> Result<Table, Fail> {
+    let name = ShortStr::new(alloc, b"k")?;
+    let mut table = Table::new(alloc);
+    table.push(name, Value::Boolean(true))?;
+    Ok(table)
+}
+
 /// The argument that is given.
 fn made(alloc: Global, given: Given) -> Result<Arg, Fail> {
     Ok(match given {
@@ -18,16 +26,19 @@ fn made(alloc: Global, given: Given) -> Result<Arg, Fail> {
         Given::LongLong(number) => Arg::LongLong(number),
         Given::Text(text) => Arg::ShortStr(ShortStr::new(alloc, text.as_bytes())?),
         Given::LongText(text) => Arg::LongStr(Vec::from_slice(alloc, text.as_bytes())?),
-        Given::Table => {
-            let mut table = Table::new(alloc);
-            table.push(ShortStr::new(alloc, b"k")?, Value::Boolean(true))?;
-            Arg::Table(table)
-        }
+        Given::Table => Arg::Table(table(alloc)?),
     })
 }
 
 fn is_text(octets: &[u8], wanted: &str) -> bool {
     octets == wanted.as_bytes()
+}
+
+fn is_table(alloc: Global, table: &Table) -> Result<bool, Fail> {
+    let mut octets = Vec::new(alloc);
+    write_table(table, &mut octets)?;
+    let digits = hex::encode(alloc, octets.as_slice())?;
+    Ok(is_text(digits.as_bytes(), TABLE))
 }
 
 /// Whether the argument is of the kind that is given, and has its value.
@@ -40,12 +51,7 @@ fn is_given(alloc: Global, arg: &Arg, given: Given) -> Result<bool, Fail> {
         (Arg::LongLong(number), Given::LongLong(wanted)) => *number == wanted,
         (Arg::ShortStr(text), Given::Text(wanted)) => is_text(text.as_bytes(), wanted),
         (Arg::LongStr(octets), Given::LongText(wanted)) => is_text(octets, wanted),
-        (Arg::Table(table), Given::Table) => {
-            let mut octets = Vec::new(alloc);
-            write_table(table, &mut octets)?;
-            let digits = hex::encode(alloc, octets.as_slice())?;
-            is_text(digits.as_bytes(), TABLE)
-        }
+        (Arg::Table(table), Given::Table) => is_table(alloc, table)?,
         _ => false,
     })
 }
@@ -56,19 +62,70 @@ fn written(alloc: Global, method: &Method) -> Result<String, Fail> {
     Ok(hex::encode(alloc, octets.as_slice())?)
 }
 
-fn assert_samples(rt: &impl Abort, alloc: Global, samples: &[Sample]) -> Result<(), Fail> {
-    for (kind, given, octets, text) in samples.iter().copied() {
-        let mut args = Vec::new(alloc);
-        for one in given {
-            args.push(made(alloc, *one)?)?;
-        }
-        assert!(rt; fits(kind, &args), "for {text}");
-        let method = Method::new(kind, args);
-        assert_eq!(rt; written(alloc, &method)?.as_str(), octets, "for {text}");
-        assert_eq!(rt; method_text(&method)?.as_str(), text);
-        assert_read(rt, alloc, kind, given, octets)?;
+fn made_all(alloc: Global, given: &[Given]) -> Result<Vec<Arg>, Fail> {
+    let mut args = Vec::new(alloc);
+    for one in given {
+        args.push(made(alloc, *one)?)?;
+    }
+    Ok(args)
+}
+
+pub(crate) fn assert_same(rt: &impl Abort, text: &str, wanted: &str) {
+    assert_eq!(rt; text, wanted);
+}
+
+fn assert_written(
+    rt: &impl Abort,
+    alloc: Global,
+    method: &Method,
+    octets: &str,
+    text: &str,
+) -> Result<(), Fail> {
+    assert_same(rt, written(alloc, method)?.as_str(), octets);
+    assert_same(rt, method_text(method)?.as_str(), text);
+    Ok(())
+}
+
+/// A method of that kind is made of the arguments that are given, and has those octets and that text.
+fn assert_made(
+    rt: &impl Abort,
+    alloc: Global,
+    kind: Kind,
+    given: &[Given],
+    octets: &str,
+    text: &str,
+) -> Result<(), Fail> {
+    let args = made_all(alloc, given)?;
+    assert!(rt; fits(kind, &args), "for {text}");
+    let method = Method::new(kind, args);
+    assert_written(rt, alloc, &method, octets, text)
+}
+
+fn assert_args(
+    rt: &impl Abort,
+    alloc: Global,
+    args: &[Arg],
+    given: &[Given],
+    octets: &str,
+) -> Result<(), Fail> {
+    assert_eq!(rt; args.len(), given.len(), "for {octets}");
+    for (arg, wanted) in args.iter().zip(given.iter()) {
+        assert!(rt; is_given(alloc, arg, *wanted)?, "{wanted:?} in {octets}");
     }
     Ok(())
+}
+
+/// A copy of a method is of its kind, with the arguments that are given.
+fn assert_copied(
+    rt: &impl Abort,
+    alloc: Global,
+    method: &Method,
+    given: &[Given],
+    octets: &str,
+) -> Result<(), Fail> {
+    let copy = method.copy()?;
+    assert_eq!(rt; copy.kind(), method.kind());
+    assert_args(rt, alloc, copy.args(), given, octets)
 }
 
 /// The octets are read as a method of that kind with the arguments that are given, and so is a copy of it.
@@ -80,12 +137,15 @@ fn assert_read(
     octets: &str,
 ) -> Result<(), Fail> {
     let read = read_method(alloc, hex::decode(alloc, octets)?.as_slice())?;
-    for method in [&read, &read.copy()?] {
-        assert_eq!(rt; method.kind(), kind);
-        assert_eq!(rt; method.args().len(), given.len(), "for {octets}");
-        for (arg, wanted) in method.args().iter().zip(given.iter()) {
-            assert!(rt; is_given(alloc, arg, *wanted)?, "{wanted:?} in {octets}");
-        }
+    assert_eq!(rt; read.kind(), kind);
+    assert_args(rt, alloc, read.args(), given, octets)?;
+    assert_copied(rt, alloc, &read, given, octets)
+}
+
+fn assert_samples(rt: &impl Abort, alloc: Global, samples: &[Sample]) -> Result<(), Fail> {
+    for (kind, given, octets, text) in samples.iter().copied() {
+        assert_made(rt, alloc, kind, given, octets, text)?;
+        assert_read(rt, alloc, kind, given, octets)?;
     }
     Ok(())
 }

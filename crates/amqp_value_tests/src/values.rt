@@ -1,6 +1,8 @@
 //! Values: each variant made and read, and every octet in quotes.
-use amqp_value::{ShortStr, Table, Value, read_table, table_text, text_of, write_table};
+use crate::tables::{assert_text, push, written};
+use amqp_value::{ShortStr, Table, Value, read_table, table_text, text_of};
 use std::alloc::Global;
+use std::process::Abort;
 use std::test::Fail;
 
 /// A value of each variant that takes no memory, with its tag.
@@ -40,19 +42,31 @@ fn nested(alloc: Global) -> Result<Value, Fail> {
     Ok(Value::Table(vec![in alloc; first, second]?))
 }
 
-/// A table with a value of each variant, under the letter of its tag.
-fn every_variant(alloc: Global) -> Result<Table, Fail> {
-    let mut values = scalars(alloc)?;
+/// Adds a value of each variant that takes memory, with its tag.
+fn push_owned(alloc: Global, values: &mut Vec<(u8, Value)>) -> Result<(), Fail> {
     let text = Vec::from_slice(alloc, b"\"\\A\x7f\n")?;
     values.push((b'S', Value::LongString(text)))?;
     let octets = Vec::from_slice(alloc, b"\x00\xff\x80")?;
     values.push((b'x', Value::ByteArray(octets)))?;
     values.push((b'A', array(alloc)?))?;
     values.push((b'F', nested(alloc)?))?;
-    let mut table = Table::new(alloc);
+    Ok(())
+}
+
+/// Adds each value to a table, under the letter of its tag.
+fn push_each(alloc: Global, table: &mut Table, values: Vec<(u8, Value)>) -> Result<(), Fail> {
     for (letter, value) in values {
-        table.push(ShortStr::new(alloc, &[letter])?, value)?;
+        push(alloc, table, &[letter], value)?;
     }
+    Ok(())
+}
+
+/// A table with a value of each variant, under the letter of its tag.
+fn every_variant(alloc: Global) -> Result<Table, Fail> {
+    let mut values = scalars(alloc)?;
+    push_owned(alloc, &mut values)?;
+    let mut table = Table::new(alloc);
+    push_each(alloc, &mut table, values)?;
     Ok(table)
 }
 
@@ -103,25 +117,40 @@ const EVERY_VARIANT: &str = "\
 014141000000087400410000000056\
 01464600000009016b56004600000000";
 
-#[test]
-fn each_variant_is_written_and_read(rt: HostRuntime) -> Result<(), Fail> {
-    let table = every_variant(rt.alloc())?;
-    let mut written = Vec::new(rt.alloc());
-    write_table(&table, &mut written)?;
-    assert_eq!(rt;
-        hex::encode(rt.alloc(), written.as_slice())?.as_str(),
-        EVERY_VARIANT
-    );
-    let octets = hex::decode(rt.alloc(), EVERY_VARIANT)?;
-    let (read, length) = read_table(rt.alloc(), &octets)?;
-    assert_eq!(rt; length, 160);
-    assert_eq!(rt; read.pairs().len(), 19);
-    for (name, value) in read.pairs() {
-        let letter = *name.as_bytes().first().ok_or("a name")?;
-        assert!(rt; is_of_tag(letter, value), "for {letter}");
-        assert!(rt; is_of_tag(letter, &value.copy()?), "for a copy of {letter}");
+fn assert_variant(rt: &impl Abort, name: &ShortStr, value: &Value) -> Result<(), Fail> {
+    let letter = *name.as_bytes().first().ok_or("a name")?;
+    assert!(rt; is_of_tag(letter, value), "for {letter}");
+    assert!(rt; is_of_tag(letter, &value.copy()?), "for a copy of {letter}");
+    Ok(())
+}
+
+fn assert_each_variant(rt: &impl Abort, table: &Table) -> Result<(), Fail> {
+    assert_eq!(rt; table.pairs().len(), 19);
+    for (name, value) in table.pairs() {
+        assert_variant(rt, name, value)?;
     }
     Ok(())
+}
+
+fn assert_every_variant_read(rt: &impl Abort, alloc: Global) -> Result<(), Fail> {
+    let octets = hex::decode(alloc, EVERY_VARIANT)?;
+    let (table, length) = read_table(alloc, &octets)?;
+    assert_eq!(rt; length, 160);
+    assert_each_variant(rt, &table)
+}
+
+fn assert_every_variant_written(rt: &impl Abort, alloc: Global) -> Result<(), Fail> {
+    let table = every_variant(alloc)?;
+    let octets = written(alloc, &table)?;
+    let digits = hex::encode(alloc, octets.as_slice())?;
+    assert_text(rt, digits.as_str(), EVERY_VARIANT);
+    Ok(())
+}
+
+#[test]
+fn each_variant_is_written_and_read(rt: HostRuntime) -> Result<(), Fail> {
+    assert_every_variant_written(&rt, rt.alloc())?;
+    assert_every_variant_read(&rt, rt.alloc())
 }
 
 /// The text of each variant in a format string, one after the other.
@@ -130,14 +159,19 @@ const EVERY_TEXT: &str =
 L:9223372036854775807;f:3f800000;d:3ff0000000000000;D:2:4294967295;T:18446744073709551615;V;\
 S:\"\\x22\\x5cA\\x7f\\x0a\";x:00ff80;A[t:0,A[],V];F{\"k\"=V,\"\"=F{}};";
 
-#[test]
-fn each_variant_in_a_format_string(rt: HostRuntime) -> Result<(), Fail> {
-    let table = every_variant(rt.alloc())?;
-    let mut text = String::new(rt.alloc());
+/// Each value of a table in a format string, one after the other.
+fn values_text(alloc: Global, table: &Table) -> Result<String, Fail> {
+    let mut text = String::new(alloc);
     for (_, value) in table.pairs() {
         write!(text, "{value};")?;
     }
-    assert_eq!(rt; text.as_str(), EVERY_TEXT);
+    Ok(text)
+}
+
+#[test]
+fn each_variant_in_a_format_string(rt: HostRuntime) -> Result<(), Fail> {
+    let table = every_variant(rt.alloc())?;
+    assert_text(&rt, values_text(rt.alloc(), &table)?.as_str(), EVERY_TEXT);
     Ok(())
 }
 
@@ -163,19 +197,35 @@ fn every_octet(alloc: Global) -> Result<Vec<u8>, Fail> {
     Ok(octets)
 }
 
+/// A table of one pair: a name of the first half of the octets, and a string of them all.
+fn table_of_octets(alloc: Global, octets: &[u8]) -> Result<Table, Fail> {
+    let name = octets.get(..128).ok_or("short")?;
+    let text = Value::LongString(octets.to_vec(alloc)?);
+    let mut table = Table::new(alloc);
+    push(alloc, &mut table, name, text)?;
+    Ok(table)
+}
+
+fn assert_table_text(rt: &impl Abort, alloc: Global, octets: &[u8]) -> Result<(), Fail> {
+    let text = table_text(&table_of_octets(alloc, octets)?)?;
+    let all = EVERY_OCTET;
+    let (half, _) = all.split_once("\\x80").ok_or("no 80")?;
+    let wanted = format!(in alloc; "{{\"{half}\"=S:\"{all}\"}}")?;
+    assert_text(rt, text.as_str(), wanted.as_str());
+    Ok(())
+}
+
+fn assert_string_text(rt: &impl Abort, alloc: Global, octets: Vec<u8>) -> Result<(), Fail> {
+    let text = text_of(alloc, &Value::LongString(octets))?;
+    let all = EVERY_OCTET;
+    let wanted = format!(in alloc; "S:\"{all}\"")?;
+    assert_text(rt, text.as_str(), wanted.as_str());
+    Ok(())
+}
+
 #[test]
 fn every_octet_is_quoted(rt: HostRuntime) -> Result<(), Fail> {
     let octets = every_octet(rt.alloc())?;
-    let name = ShortStr::new(rt.alloc(), octets.get(..128).ok_or("short")?)?;
-    let mut table = Table::new(rt.alloc());
-    table.push(name, Value::LongString(octets.to_vec(rt.alloc())?))?;
-    let text = table_text(&table)?;
-    let all = EVERY_OCTET;
-    let (half, _) = all.split_once("\\x80").ok_or("no 80")?;
-    let wanted = format!(in rt.alloc(); "{{\"{half}\"=S:\"{all}\"}}")?;
-    assert_eq!(rt; text.as_str(), wanted.as_str());
-    let text = text_of(rt.alloc(), &Value::LongString(octets))?;
-    let wanted = format!(in rt.alloc(); "S:\"{all}\"")?;
-    assert_eq!(rt; text.as_str(), wanted.as_str());
-    Ok(())
+    assert_table_text(&rt, rt.alloc(), &octets)?;
+    assert_string_text(&rt, rt.alloc(), octets)
 }

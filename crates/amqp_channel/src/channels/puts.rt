@@ -19,6 +19,7 @@ use crate::channels::Channels;
 use crate::faults::OutOfMemory;
 use crate::verdict::Site;
 use amqp_method::{Kind, Message};
+use std::alloc::Global;
 
 impl Channels {
     ghost use Rattle.amqp_channel.specs.ChannelsView.{channels_view, OnlyAt};
@@ -63,7 +64,12 @@ impl Channels {
     }
 
     /// A message that this end puts, in frames of any size.
-    pub fn put_message(&mut self, site: Site, message: &Message) -> Result<(), OutOfMemory>
+    pub fn put_message(
+        &mut self,
+        alloc: Global,
+        site: Site,
+        message: &Message,
+    ) -> Result<(), OutOfMemory>
         requires above { 0 < site.number }
         requires open { is_open_at (channels_view self.old site.number) ≡ true }
         requires other { IsOther (kind_of (Calls (message_view message.now).call)) }
@@ -72,7 +78,7 @@ impl Channels {
         ensures err { OnErr result (channels_view self.new site.number ≡ channels_view self.old site.number) }
     {
         match self.used.get_mut(&site.number) {
-            Some(channel) => channel.put_message(site, message),
+            Some(channel) => channel.put_message(alloc, site, message),
             None => unreachable!(),
         }
     }

@@ -1,18 +1,14 @@
-use Rattle.std.proofs.Common.{◌≡◌, ◌≤◌, ap, false, arith}
-use Rattle.amqp_method.specs.HeaderView.{properties_view}
-use Rattle.amqp_model.specs.Channels.{Open}
-use Rattle.amqp_channel.specs.ChannelView.{channel_view}
+use Rattle.std.proofs.Common.{subst}
+use Rattle.amqp_model.specs.Methods.{header_at}
+use Rattle.amqp_model.specs.Readings.{header_reading}
+use Rattle.amqp_channel.specs.Headings.{LeavesLife}
 use Rattle.amqp_channel.specs.LifeView.{life_view}
-use Rattle.amqp_channel.specs.VerdictView.{refuses_at}
-use Rattle.amqp_channel.proofs.VerdictLemmas.{header_carries}
+use Rattle.amqp_channel.specs.Roles.{role_of}
+use Rattle.amqp_channel.specs.VerdictView.{verdict_view}
+use Rattle.amqp_channel.specs.declared.verdict.Verdict.{Verdict}
 use Rattle.amqp_channel.proofs.channel.Channel.take_header.Goals as goal
 
-pub returns-else-refuses-clause-verdict : goal.returns-else-refuses-clause-verdict
-returns-else-refuses-clause-verdict c =
-    let is_open : channel_view c.args.self.now ≡ Open (life_view c.in-Open.life) = ap channel_view c.in-Open.is in
-    let within : c.args.site.number ≤ c.args.site.channel_max = omega arith in
-    let fits : refuses_at (life_view c.in-Open.life).content c.args.site.max_body c.args.parts.value.header.body_size ≡ false = cc in
-    header_carries c.args.site _ _ c.args.parts.value.header.body_size (properties_view c.args.parts.value.header.properties) _ is_open c.requires.above within fits c.take_header.ensures.verdict
-
-pub returns-else-refuses-clause-after : goal.returns-else-refuses-clause-after
-returns-else-refuses-clause-after c = λ frame. rw c.in-Open.is (c.take_header.ensures.after frame)
+pub returns-in-Proceeds-clause-after : goal.returns-in-Proceeds-clause-after
+returns-in-Proceeds-clause-after c = λ frame.
+    let leaves = subst (λ (v : Verdict). LeavesLife (role_of c.args.site.side) c.args.site.number frame (header_reading (header_at c.args.payload.now)) (verdict_view c.args.site.number c.take_header.new.news v) (life_view c.in-Open.life) (life_view c.take_header.new.self)) c.in-Proceeds.is (c.in_ok-verdict-in-Open.ensures.after frame) in
+    rw c.in-Open.is leaves

@@ -1,20 +1,12 @@
-use Rattle.std.proofs.Common.{rules, ◌≡◌, nat_eq, Some, ap, sym, ◌∙◌}
-use Rattle.std.specs.HashMap.{get}
-use Rattle.amqp_method.specs.HeaderView.{properties_view}
-use Rattle.amqp_model.specs.Readings.{HeaderOf}
+use Rattle.std.proofs.Common.{ap, sym, ◌∙◌}
+use Rattle.amqp_model.specs.Methods.{header_at}
+use Rattle.amqp_model.specs.Readings.{header_reading}
 use Rattle.amqp_channel.specs.Used.{kept_at}
-use Rattle.amqp_channel.specs.VerdictView.{verdict_view}
-use Rattle.amqp_channel.proofs.UsedLemmas.{at_used, decides_at, leaves_at}
+use Rattle.amqp_channel.proofs.HeaderLemmas.{is_of_content}
+use Rattle.amqp_channel.proofs.UsedLemmas.{at_used, decides_at, free_decides}
 use Rattle.amqp_channel.proofs.channels.Channels.take_header.Goals as goal
 
-pub returns-in-Some-clause-verdict : goal.returns-in-Some-clause-verdict
-returns-in-Some-clause-verdict c =
-    decides_at c.args.site _ _ (HeaderOf c.args.parts.value.header.body_size (properties_view c.args.parts.value.header.properties)) (verdict_view c.args.site.number c.take_header-verdict.new.news c.take_header-verdict.result)
-    (at_used c.args.self.now.used c.args.site.number c.requires.above ∙ ap kept_at (sym c.in-Some.ensures.value)) c.take_header-verdict.ensures.verdict
-
-pub returns-in-Some-clause-after : goal.returns-in-Some-clause-after
-returns-in-Some-clause-after c =
-    let written : get nat_eq (c.get_mut.follows.lender c.take_header-verdict.new.self) c.args.site.number ≡ Some c.take_header-verdict.new.self = search rules in
-    leaves_at c.args.site c.args.site.number (HeaderOf c.args.parts.value.header.body_size (properties_view c.args.parts.value.header.properties)) (verdict_view c.args.site.number c.take_header-verdict.new.news c.take_header-verdict.result) _ _ _ _
-    (at_used c.args.self.now.used c.args.site.number c.requires.above ∙ ap kept_at (sym c.in-Some.ensures.value))
-    (c.tidy-self.ensures.same c.args.site.number ∙ (at_used (c.get_mut.follows.lender c.take_header-verdict.new.self) c.args.site.number c.requires.above ∙ ap kept_at written)) c.take_header-verdict.ensures.after
+pub returns-in-None-clause-verdict : goal.returns-in-None-clause-verdict
+returns-in-None-clause-verdict c =
+    decides_at c.args.site _ _ (header_reading (header_at c.args.payload.now)) _ (at_used c.args.self.now.used c.args.site.number c.requires.above ∙ ap kept_at (sym c.in-None.ensures.value))
+    (free_decides c.args.site (header_reading (header_at c.args.payload.now)) (is_of_content (header_at c.args.payload.now)))

@@ -8,5 +8,5 @@ use Rattle.amqp_core.proofs.one_end.Core.on_call_closing.Goals as goal
 
 pub returns-in-Ok-clause-verdict : goal.returns-in-Ok-clause-verdict
 returns-in-Ok-clause-verdict c =
-    let read : Calls (method_view c.in-Ok.method) ≡ method_reading (method_at c.args.payload.now) = ap call_reading (sym c.in-Ok.is) ∙ c.in_ok-read.ensures.reading in
+    let read : Calls (method_view c.in-Ok.method) ≡ method_reading (method_at c.args.payload.now) = ap call_reading (sym c.in-Ok.is) ∙ c.in_ok-read.ensures in
     subst (λ (r : Reading). IsVerdict c.args.self.now.settings (core_end c.args.self.now) c.args.number r c.on_closing.new.news c.on_closing.result) read c.on_closing.ensures.verdict

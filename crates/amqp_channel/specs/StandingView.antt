@@ -1,0 +1,18 @@
+-- How a channel stands, in the words of the model.
+use Rattle.std.specs.Prelude.{Bool, List, []}
+use Rattle.amqp_model.specs.Methods.{MethodKind}
+use Rattle.amqp_channel.specs.declared.standing.Standing.{Standing}
+use Rattle.amqp_channel.specs.declared.standing.Standing.TheVariants.{Quiet, Asked}
+
+abbrev pub paused_in : Standing → Bool
+paused_in (Quiet paused awaits) = paused
+paused_in (Asked paused awaits requests) = paused
+
+abbrev pub awaits_in : Standing → Bool
+awaits_in (Quiet paused awaits) = awaits
+awaits_in (Asked paused awaits requests) = awaits
+
+-- the requests without a reply, the oldest first
+abbrev pub requests_in : Standing → List MethodKind
+requests_in (Quiet paused awaits) = []
+requests_in (Asked paused awaits requests) = requests.value.items
