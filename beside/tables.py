@@ -244,7 +244,7 @@ def fault_texts(path):
 
 def faults():
     blocks = text_of("docs/PROTOCOL.md").split("| Number | Fault | Text | Help |\n")[1:]
-    help_text = text_of("crates/amqp/src/help.rt")
+    help_text = text_of("crates/amqp_command/src/help.rt")
     sources = (
         ("amqp_frame", "faults.rt", "number_of", 5, ""),
         ("amqp_value", "fault.rt", "fault_number", 6, "2."),
@@ -307,7 +307,7 @@ CONSTANTS = (
     ("end octet", "crates/amqp_frame/specs/Frame.antt", r"^END = (\d+)$"),
     ("protocol header", "crates/amqp_model/specs/Negotiation.antt", r"^PROTOCOL_HEADER = ([\d ∷]+) ∷ \[\]$"),
     ("greatest frame that `show` reads", "crates/amqp_text/src/listing.rt", r"const LIMIT: u32 = ([\d_]+);"),
-    ("greatest frame that `show` reads", "crates/amqp/src/help.rt", r"A frame has at most (\d+) octets"),
+    ("greatest frame that `show` reads", "crates/amqp_command/src/help.rt", r"A frame has at most (\d+) octets"),
     ("least agreed frame size", "crates/amqp_model/specs/Negotiation.antt", r"^FRAME_MIN = (\d+)$"),
     ("greatest agreed frame size", "crates/amqp_model/specs/Fitting.antt", r"^FRAME_MOST = (\d+)$"),
     ("deepest field table", "crates/amqp_value/src/tables.rt", r"const MAX_DEPTH: usize = (\d+);"),

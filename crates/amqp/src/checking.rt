@@ -2,9 +2,9 @@
 ghost use Rattle.std.specs.Prelude.{◌<◌, ◌≤◌, length, IfOk};
 
 use crate::input::read_octets;
-use crate::options::Limits;
 use crate::printing::{Stop, finish, print_fault};
 use crate::sessions::{client_end, server_end};
+use amqp_command::Limits;
 use amqp_core::{End, Event, Role, Side, Taken};
 use amqp_text::print_event;
 use amqp_text::statuses::{DONE, FAULT};

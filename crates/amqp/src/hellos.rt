@@ -1,6 +1,6 @@
 //! What the program's ends say of themselves, and the limits that they are set up with.
-use crate::options::Limits;
 use crate::words::short;
+use amqp_command::Limits;
 use amqp_core::{Client, ClientHello, Config, Server, ServerHello};
 use amqp_method::OutOfMemory;
 use amqp_value::Table;

@@ -1,9 +1,9 @@
 //! The subcommand `link`: a script of what is done with pairs of ends, and what was sent and acted on in each life.
 use crate::hellos::{client_config, server_config};
 use crate::input::read_all;
-use crate::options::Limits;
 use crate::printing::{Stop, finish};
 use crate::scripts::{Count, Line, LineFault, line_of};
+use amqp_command::Limits;
 use amqp_core::{Ask, Side};
 use amqp_link::{Direction, Life, Link, LinkFault, Step};
 use amqp_text::statuses::{DONE, FAULT};

@@ -1,10 +1,10 @@
 //! The subcommand `loop`: both ends of a connection in one process, over two streams.
 use crate::asks::{CHANNEL, ask, close_channel, close_connection, open_channel, publish};
-use crate::options::Limits;
 use crate::printing::Stop;
 use crate::progress::Progress;
 use crate::sessions::{client_end, is_closed, pull, push_some, server_end};
 use crate::words::short;
+use amqp_command::Limits;
 use amqp_core::{Ask, ChannelState, Client, Phase, Role, Server};
 use amqp_io::{Session, Stream};
 use amqp_method::OutOfMemory;

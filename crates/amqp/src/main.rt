@@ -1,17 +1,14 @@
 //! `amqp`: reads AMQP 0-9-1 octets and says what they are, and speaks AMQP 0-9-1 with other programs.
 #![tactic(auto)]
 
-mod arguments;
 mod asks;
 mod checking;
 mod connection;
 mod hellos;
-mod help;
 mod input;
 mod linking;
 mod looping;
 mod notes;
-mod options;
 mod printing;
 mod progress;
 mod publisher;
@@ -23,12 +20,10 @@ mod showing;
 mod sockets;
 mod words;
 
-use crate::arguments::{Request, request_of};
 use crate::notes::Notes;
-use crate::options::Limits;
 use crate::progress::Progress;
-use crate::publishing::Destination;
 use crate::sockets::HERE;
+use amqp_command::{Destination, Limits, Request, request_of};
 use amqp_text::Load;
 use std::alloc::Global;
 use std::io::{self, BufWriter, IsTerminal, Write};

@@ -1,24 +1,15 @@
 //! The subcommand `publish`, over a stream.
 use crate::asks;
 use crate::notes::Notes;
-use crate::options::Limits;
 use crate::printing::Stop;
 use crate::publisher::Publisher;
 use crate::sessions::{client_end, is_closed, pull, push_all, settle};
+use amqp_command::{Destination, Limits};
 use amqp_core::{Client, Event, Reason};
 use amqp_io::{Session, Stream};
 use amqp_method::{Kind, Method, OutOfMemory};
-use amqp_value::ShortStr;
 use std::alloc::Global;
 use std::io::Write;
-
-/// Where a content is published, and whether the server is to confirm that it took it.
-#[derive(Drop)]
-pub struct Destination {
-    pub exchange: ShortStr,
-    pub key: ShortStr,
-    pub confirm: bool,
-}
 
 /// Publishes one content and closes the connection. It answers whether nothing told that the server did not take the content.
 pub fn publish<S: Stream, E: Write + Drop>(

@@ -1,7 +1,7 @@
 //! The subcommand `serve`, over a stream.
-use crate::options::Limits;
 use crate::printing::Stop;
 use crate::sessions::{pull, server_end, settle};
+use amqp_command::Limits;
 use amqp_core::{Event, Server};
 use amqp_io::{Session, Stream};
 use amqp_text::print_event;

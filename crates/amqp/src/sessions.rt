@@ -1,7 +1,7 @@
 //! What the subcommands over a stream do with a session: it is pulled, its events are dealt with, and then it is settled.
 use crate::hellos::{client_config, server_config};
-use crate::options::Limits;
 use crate::printing::Stop;
+use amqp_command::Limits;
 use amqp_core::{Client, End, Phase, Role, Server};
 use amqp_io::{IoFault, Session, Stream};
 use std::alloc::Global;

@@ -1,19 +1,12 @@
 //! The subcommand `show`.
 use crate::input::read_octets;
 use crate::printing::{Stop, finish};
+use amqp_command::Start;
 use amqp_frame::{OutOfMemory, PROTOCOL_HEADER, RawFrame};
 use amqp_text::statuses::{DONE, FAULT};
 use amqp_text::{Ending, Listing, frame_line, list, payload_line};
 use std::alloc::Global;
 use std::io::{self, Read, Write};
-
-/// What the octets begin with.
-#[derive(Clone, Copy)]
-pub enum Start {
-    Frame,
-    /// The protocol header, and then a frame: a client's octets from the first.
-    ProtocolHeader,
-}
 
 /// Reads hexadecimal to its end, prints a line for the protocol header if the octets start with it, a line for each frame, one
 /// below it for a method or a header, and one for what ends them otherwise, and answers the exit status.

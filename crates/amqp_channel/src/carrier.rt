@@ -3,8 +3,7 @@ ghost use Rattle.std.specs.Prelude.{◌≡◌, true};
 ghost use Rattle.amqp_method.specs.Kinds.{has_content};
 ghost use Rattle.amqp_method.specs.MethodView.{method_view};
 
-use crate::faults::OutOfMemory;
-use amqp_method::{Header, Kind, Message, Method};
+use amqp_method::{Header, Kind, Message, Method, OutOfMemory};
 use std::alloc::Global;
 
 /// A method that a content follows.
@@ -90,9 +89,9 @@ impl Content {
     pub fn copy_message(&self) -> Result<Message, OutOfMemory>
         ensures { IfOk result (λ message. message_of (message_view message) ≡ Whole (content_view self.now)) }
     {
+        let body = Vec::from_slice(*self.body.allocator(), &self.body)?;
         let method = self.method.method.copy()?;
         let properties = self.header.properties.copy()?;
-        let body = Vec::from_slice(*self.body.allocator(), &self.body)?;
         Ok(Message::content(method, properties, body))
     }
 }

@@ -20,16 +20,15 @@ ghost use Rattle.amqp_channel.specs.VerdictView.{verdict_view, open_verdict, Dec
 
 use crate::codes::CloseCode;
 use crate::events::reason_of;
-use crate::faults::OutOfMemory;
 use crate::life::Life;
 use crate::news::News;
 use crate::side::Side;
 use crate::verdict::{Reply, Site, Verdict};
 use crate::words::is_of_connection;
-use amqp_method::{Kind, Message, Method};
+use amqp_method::{Kind, Message, Method, OutOfMemory};
 use std::alloc::Global;
 
-/// A frame that is dropped, which the application is told.
+/// A frame that is dropped, which is reported to the application.
 fn discards(site: Site, news: &mut Option<News>) -> Verdict
     ensures { verdict_view site.number news.new result ≡ Proceeds (Some (Discarded site.number)) [] }
 {

@@ -19,21 +19,26 @@ mod puts;
 
 use crate::channel::Channel;
 use crate::codes::CloseCode;
-use crate::faults::OutOfMemory;
 use crate::news::News;
 use crate::verdict::{Site, Verdict};
-use amqp_method::Method;
+use amqp_method::{Method, OutOfMemory};
 use std::alloc::Global;
 use std::collections::HashMap;
 
 /// The channels that are in use.
-#[derive(Drop)]
 pub struct Channels {
     used: HashMap<u16, Channel>,
     /// No number from 1 up to this one, which is not among them, is free.
     low: u16,
     ghost low_is_least: { 1 ≤ low },
     ghost taken_below: { NoneFreeBelow used low },
+}
+
+/// Written out, so that no crate above proves again of each part that it can be dropped.
+impl Drop for Channels {
+    fn drop(self) {
+        let Channels { used: _, low: _ } = self;
+    }
 }
 
 /// Takes out a channel that is Free. The answer is a number below which none is Free.

@@ -8,8 +8,7 @@ ghost use Rattle.amqp_method.specs.MethodView.{method_view};
 ghost use Rattle.amqp_model.specs.Events.{reason_in};
 ghost use Rattle.amqp_channel.specs.Reasons.{reason_view, IsClose, AreOfClose, BeginsWithText};
 
-use crate::faults::OutOfMemory;
-use amqp_method::{Arg, FieldKind, Kind, Message, Method};
+use amqp_method::{Arg, FieldKind, Kind, Message, Method, OutOfMemory};
 use amqp_value::ShortStr;
 
 /// What tune-ok settles.

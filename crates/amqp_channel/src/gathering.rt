@@ -12,8 +12,8 @@ ghost use Rattle.amqp_channel.specs.GatheringView.{gathering_view, step_view};
 ghost use Rattle.amqp_channel.specs.Headings.{header_verdict, heading_verdict, HeadingLeaves};
 
 use crate::carrier::Content;
-use crate::faults::OutOfMemory;
 use crate::read::read_content_header;
+use amqp_method::OutOfMemory;
 use std::alloc::Global;
 use std::mem;
 

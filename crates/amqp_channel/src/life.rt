@@ -21,14 +21,13 @@ ghost use Rattle.amqp_channel.specs.VerdictView.{verdict_view, life_verdict, wit
 
 use crate::carrier::{Carrier, Content};
 use crate::codes::CloseCode;
-use crate::faults::OutOfMemory;
 use crate::gathering::{Gathering, Heading, Misfit, Part};
 use crate::news::{Lone, News};
 use crate::side::Side;
 use crate::standing::Standing;
 use crate::verdict::{Reply, Site, Verdict};
 use crate::words::{bit_at, carries_content};
-use amqp_method::{Kind, Method};
+use amqp_method::{Kind, Method, OutOfMemory};
 use std::alloc::Global;
 
 /// How many requests a server keeps on a channel.

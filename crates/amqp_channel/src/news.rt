@@ -8,8 +8,7 @@ ghost use Rattle.amqp_method.specs.MethodView.{method_view};
 
 use crate::carrier::Content;
 use crate::events::{Agreed, Event, Reason};
-use crate::faults::OutOfMemory;
-use amqp_method::{Message, Method};
+use amqp_method::{Message, Method, OutOfMemory};
 use amqp_value::ShortStr;
 
 /// A method that no content follows.

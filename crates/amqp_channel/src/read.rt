@@ -4,9 +4,8 @@ ghost use Rattle.amqp_model.specs.Methods.{method_at, header_at};
 ghost use Rattle.amqp_model.specs.Readings.{method_reading, header_reading};
 ghost use Rattle.amqp_channel.specs.Reads.{call_reading, header_seen};
 
-use crate::faults::OutOfMemory;
 use crate::verdict::Unread;
-use amqp_method::{Header, Method, MethodFaultKind, read_header_into, read_method};
+use amqp_method::{Header, Method, MethodFaultKind, OutOfMemory, read_header_into, read_method};
 use std::alloc::Global;
 
 /// The method that a payload encodes, or why there is none.

@@ -8,8 +8,7 @@ ghost use Rattle.amqp_model.specs.Answers.{first_of};
 ghost use Rattle.amqp_model.specs.FrameVerdict.{answers_first};
 ghost use Rattle.amqp_channel.specs.StandingView.{awaits_in, paused_in, requests_in};
 
-use crate::faults::OutOfMemory;
-use amqp_method::Kind;
+use amqp_method::{Kind, OutOfMemory};
 use std::alloc::Global;
 use std::collections::VecDeque;
 

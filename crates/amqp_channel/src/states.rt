@@ -1,4 +1,4 @@
-//! What is told of a channel: its state, how much is kept of it, and what is due on it.
+//! What a channel answers when it is asked: its state, how much is kept of it, and what is due on it.
 ghost use Rattle.std.specs.Prelude.{◌≡◌, length};
 ghost use Rattle.amqp_model.specs.Answers.{due_by, kept_by};
 ghost use Rattle.amqp_model.specs.Channels.{state_of};
@@ -37,7 +37,7 @@ impl Gathering {
 }
 
 impl Channel {
-    /// Its state, as an application is told of it.
+    /// Its state, as an application sees it.
     pub fn state(&self) -> ChannelState
         ensures { state_view result ≡ state_of (channel_view self.now) }
     {

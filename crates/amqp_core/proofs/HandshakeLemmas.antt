@@ -19,6 +19,7 @@ use Rattle.amqp_core.specs.Handshakes.{within, is_in_handshake, awaited_in, answ
 use Rattle.amqp_core.specs.OwedView.{answers_start, tunes, answers_tune}
 use Rattle.amqp_core.specs.Stages.{leaves}
 use Rattle.amqp_core.proofs.EntryLemmas.{agreed_above}
+use Rattle.amqp_core.proofs.KindLemmas.{same_is}
 use Rattle.std.proofs.lemmas.Bool.Decides.{nat_tests}
 
 and_false : (b : Bool) → (b && false) ≡ false
@@ -35,34 +36,6 @@ verdict_0 config phase agreed method = verdict_on (record { config = config; pha
 
 abbrev settled_up : {role : Role} → (frame_max channel_max max_body : ℕ) → Hello role → Config role
 settled_up frame_max channel_max max_body hello = record { frame_max = frame_max; channel_max = channel_max; max_body = max_body; hello = hello }
-
-pub kind_close : (kind : MethodKind) → same_kind kind kinds.ConnectionClose ≡ true → kind ≡ kinds.ConnectionClose
-kind_close kinds.ConnectionClose h = refl
-kind_close kind h = cc
-
-pub kind_start : (kind : MethodKind) → same_kind kind kinds.ConnectionStart ≡ true → kind ≡ kinds.ConnectionStart
-kind_start kinds.ConnectionStart h = refl
-kind_start kind h = cc
-
-pub kind_start_ok : (kind : MethodKind) → same_kind kind kinds.ConnectionStartOk ≡ true → kind ≡ kinds.ConnectionStartOk
-kind_start_ok kinds.ConnectionStartOk h = refl
-kind_start_ok kind h = cc
-
-pub kind_tune : (kind : MethodKind) → same_kind kind kinds.ConnectionTune ≡ true → kind ≡ kinds.ConnectionTune
-kind_tune kinds.ConnectionTune h = refl
-kind_tune kind h = cc
-
-pub kind_tune_ok : (kind : MethodKind) → same_kind kind kinds.ConnectionTuneOk ≡ true → kind ≡ kinds.ConnectionTuneOk
-kind_tune_ok kinds.ConnectionTuneOk h = refl
-kind_tune_ok kind h = cc
-
-pub kind_open : (kind : MethodKind) → same_kind kind kinds.ConnectionOpen ≡ true → kind ≡ kinds.ConnectionOpen
-kind_open kinds.ConnectionOpen h = refl
-kind_open kind h = cc
-
-pub kind_open_ok : (kind : MethodKind) → same_kind kind kinds.ConnectionOpenOk ≡ true → kind ≡ kinds.ConnectionOpenOk
-kind_open_ok kinds.ConnectionOpenOk h = refl
-kind_open_ok kind h = cc
 
 -- The other end closes the connection.
 
@@ -191,12 +164,12 @@ order_verdict role config Failed agreed method h close secure awaited = cc
 -- The awaited method, of a side that does not answer it, is out of order too.
 
 pub wrong_side : (role : Role) (config : Config role) (step : HandshakeStep) (agreed : Option Agreed) (method : Method) → is_awaited step method.kind ≡ true → answers_at role step ≡ false → verdict_0 config (Handshake step) agreed method ≡ fault CommandInvalid
-wrong_side Client config AwaitsStartOk agreed method awaited wrong = rw (kind_start_ok method.kind awaited) refl
-wrong_side Client config AwaitsTuneOk agreed method awaited wrong = rw (kind_tune_ok method.kind awaited) refl
-wrong_side Client config AwaitsOpen agreed method awaited wrong = rw (kind_open method.kind awaited) refl
-wrong_side Server config AwaitsStart agreed method awaited wrong = rw (kind_start method.kind awaited) refl
-wrong_side Server config AwaitsTune agreed method awaited wrong = rw (kind_tune method.kind awaited) refl
-wrong_side Server config AwaitsOpenOk agreed method awaited wrong = rw (kind_open_ok method.kind awaited) refl
+wrong_side Client config AwaitsStartOk agreed method awaited wrong = rw (same_is method.kind kinds.ConnectionStartOk awaited) refl
+wrong_side Client config AwaitsTuneOk agreed method awaited wrong = rw (same_is method.kind kinds.ConnectionTuneOk awaited) refl
+wrong_side Client config AwaitsOpen agreed method awaited wrong = rw (same_is method.kind kinds.ConnectionOpen awaited) refl
+wrong_side Server config AwaitsStart agreed method awaited wrong = rw (same_is method.kind kinds.ConnectionStart awaited) refl
+wrong_side Server config AwaitsTune agreed method awaited wrong = rw (same_is method.kind kinds.ConnectionTune awaited) refl
+wrong_side Server config AwaitsOpenOk agreed method awaited wrong = rw (same_is method.kind kinds.ConnectionOpenOk awaited) refl
 wrong_side role config AwaitsProtocolHeader agreed method awaited wrong = cc
 wrong_side Client config AwaitsStart agreed method awaited wrong = cc
 wrong_side Client config AwaitsTune agreed method awaited wrong = cc
@@ -256,5 +229,3 @@ wrong_left Server config phase agreed channels method fault h = ((λ kind payloa
 pub secure_left : (role : Role) (config : Config role) (phase : Phase) (agreed : Option Agreed) (channels : ℕ → Channel) (method : Method) (fault : Fault) → role ≡ Client → EndLeft config 0 (Calls method) (Faults fault) (end_in phase agreed channels) (end_in phase agreed channels)
 secure_left Client config phase agreed channels method fault r = ((λ kind payload. refl), refl)
 secure_left Server config phase agreed channels method fault r = cc
-
-pub ruleset awaited_kinds = (kind_close, kind_start, kind_start_ok, kind_tune, kind_tune_ok, kind_open, kind_open_ok)

@@ -12,14 +12,11 @@ use Rattle.amqp_model.specs.Readings.{Calls}
 use Rattle.amqp_core.specs.CoreView.{EndLeft}
 use Rattle.amqp_core.specs.Stages.{leaves}
 use Rattle.amqp_core.proofs.CoreLemmas.{leaving_verdict}
+use Rattle.amqp_core.proofs.KindLemmas.{same_is}
 
 and_false : (b : Bool) → (b && false) ≡ false
 and_false true = refl
 and_false false = refl
-
-pub is_close : (kind : MethodKind) → same_kind kind kinds.ConnectionClose ≡ true → kind ≡ kinds.ConnectionClose
-is_close kinds.ConnectionClose h = refl
-is_close kind h = cc
 
 pub close_verdict : (role : Role) (config : Config role) (end : End) (method : Method) → leaves end.phase ≡ true → same_kind method.kind kinds.ConnectionClose ≡ true → taken_verdict config end 0 (Calls method) ≡ Proceeds (Some Quiet) (connection_close_ok ∷ [])
 close_verdict role config end method h e = leaving_verdict role config end 0 (Calls method) h ∙ rw e refl
@@ -39,7 +36,7 @@ crossing role config Closed agreed channels method h e = cc
 crossing role config Failed agreed channels method h e = cc
 
 pub crossing_close : (role : Role) (config : Config role) (end : End) (method : Method) → leaves end.phase ≡ true → same_kind method.kind kinds.ConnectionClose ≡ true → EndLeft config 0 (Calls method) (Proceeds (Some Quiet) (connection_close_ok ∷ [])) end end
-crossing_close role config end method h e = crossing role config end.phase end.agreed end.channels method h (is_close method.kind e)
+crossing_close role config end method h e = crossing role config end.phase end.agreed end.channels method h (same_is method.kind kinds.ConnectionClose e)
 
 answered : (role : Role) (config : Config role) (phase : Phase) (agreed : Option Agreed) (channels : ℕ → Channel) (method : Method) → leaves phase ≡ true → same_kind method.kind kinds.ConnectionCloseOk ≡ true → EndLeft config 0 (Calls method) (Proceeds (Some (ConnectionClosed None)) []) (record { phase = phase; agreed = agreed; channels = channels }) (record { phase = Closed; agreed = agreed; channels = channels })
 answered Client config Closing agreed channels method h e = λ kind payload. rw e refl

@@ -1,8 +1,8 @@
 pub mod EntryLemmas
 pub mod CoreLemmas
+pub mod KindLemmas
 pub mod LeavingLemmas
 pub mod HandshakeLemmas
-pub mod ConnectionLemmas
 pub mod OutcomeLemmas
 pub mod NewLemmas
 pub mod EndLemmas

@@ -56,15 +56,19 @@ frame_at number kind payload = record { kind = kind; channel = number; payload =
 abbrev pub IsVerdict : Settings → End → (number : ℕ) → Reading → Option News → Decision → Type 0
 IsVerdict settings before number reading news decision = decision_view settings news decision ≡ taken_verdict (config_view settings) before number reading
 
+-- what the frame leaves of the end, before what is owed is put
+abbrev pub taken_here : {role : Role} → Config role → (number : ℕ) → Reading → FrameKind → List ℕ → (before : End) → End
+taken_here {role} config number reading kind payload before = end_after role config number (TookHere reading (frame_at number kind payload)) before
+
 -- Where the end goes on, it is left as the frame taken and the methods owed leave it. Of an end that has found fault only
 -- what was agreed and channel 0 are looked at any more.
 abbrev pub EndLeft : {role : Role} → Config role → (number : ℕ) → Reading → FrameVerdict → (before after : End) → Type 0
 EndLeft {role} config number reading (Proceeds event owed) before after =
-    (kind : FrameKind) (payload : List ℕ) → after ≡ end_after_owed role config owed (end_after role config number (TookHere reading (frame_at number kind payload)) before)
+    (kind : FrameKind) (payload : List ℕ) → after ≡ end_after_owed role config owed (taken_here config number reading kind payload before)
 EndLeft {role} config number reading RefusesContent before after =
-    (kind : FrameKind) (payload : List ℕ) → after ≡ end_after_owed role config (channel_close number ContentTooLarge ∷ []) (end_after role config number (TookHere reading (frame_at number kind payload)) before)
-EndLeft {role} config number reading (Faults fault) before after =
-    ((kind : FrameKind) (payload : List ℕ) → after.agreed ≡ (end_after role config number (TookHere reading (frame_at number kind payload)) before).agreed) × (after.channels 0 ≡ before.channels 0)
+    (kind : FrameKind) (payload : List ℕ) → after ≡ end_after_owed role config (channel_close number ContentTooLarge ∷ []) (taken_here config number reading kind payload before)
+EndLeft config number reading (Faults fault) before after =
+    ((kind : FrameKind) (payload : List ℕ) → after.agreed ≡ (taken_here config number reading kind payload before).agreed) × (after.channels 0 ≡ before.channels 0)
 
 abbrev pub LeavesEnd : Settings → (number : ℕ) → Reading → Option News → Decision → (before after : End) → Type 0
 LeavesEnd settings number reading news decision before after = EndLeft (config_view settings) number reading (decision_view settings news decision) before after

@@ -42,13 +42,24 @@ use amqp_outbox::Outbox;
 use std::alloc::Global;
 
 /// What an end keeps.
-#[derive(Drop)]
 pub(crate) struct Endpoint {
     pub(crate) core: Core,
     pub(crate) splitter: Splitter,
     /// how many octets of the protocol header a server has heard that awaits it
     pub(crate) heard: usize,
     pub(crate) outbox: Outbox,
+}
+
+/// Written out, so that no crate above proves again of each part that it can be dropped.
+impl Drop for Endpoint {
+    fn drop(self) {
+        let Endpoint {
+            core: _,
+            splitter: _,
+            heard: _,
+            outbox: _,
+        } = self;
+    }
 }
 
 /// No frame above this many octets is taken before a size is agreed.

@@ -40,12 +40,6 @@ impl From<amqp_method::OutOfMemory> for OutOfMemory {
     }
 }
 
-impl From<amqp_channel::OutOfMemory> for OutOfMemory {
-    fn from(_: amqp_channel::OutOfMemory) -> OutOfMemory {
-        OutOfMemory
-    }
-}
-
 /// For the methods that an end puts of itself. They are short, so staging them fails only where memory is refused.
 impl From<StageFault> for OutOfMemory {
     fn from(_: StageFault) -> OutOfMemory {

@@ -215,7 +215,7 @@ impl Core {
     }
 
     /// The method that the stage awaits.
-    #[tactic(auto, using(crate::proofs::HandshakeLemmas::awaited_kinds))]
+    #[tactic(auto, using(crate::proofs::KindLemmas::same_is))]
     fn on_awaited(&mut self, method: &Method, news: &mut Option<News>) -> Decision
         requires awaited { awaits_at self.old.stage (method_view method.now).kind ≡ true }
         requires answered { answered_in (role_for self.old.settings) (phase_at self.old.stage) ≡ true }
@@ -239,7 +239,6 @@ impl Core {
     }
 
     /// A method of the handshake on channel 0.
-    #[tactic(auto, using(crate::proofs::HandshakeLemmas::awaited_kinds))]
     pub(crate) fn on_handshake(
         &mut self,
         method: &Method,
@@ -270,7 +269,7 @@ impl Core {
     }
 
     /// A method on channel 0 of a connection that is Running: the other end's close, and the server's blocked and unblocked.
-    #[tactic(auto, using(crate::proofs::HandshakeLemmas::awaited_kinds, crate::proofs::ConnectionLemmas::connection_kinds))]
+    #[tactic(auto, using(crate::proofs::KindLemmas::same_is))]
     pub(crate) fn on_connection(
         &mut self,
         agreed: Agreed,

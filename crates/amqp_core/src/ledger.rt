@@ -29,7 +29,6 @@ use std::alloc::Global;
 const MOST_CHANNELS: usize = 3;
 
 /// What is kept beside an end.
-#[derive(Drop)]
 pub(crate) struct Ledger {
     side: Side,
     pub(crate) notes: Vec<Note>,
@@ -39,6 +38,21 @@ pub(crate) struct Ledger {
     pub(crate) written: Vec<u8>,
     lives: Lives,
     ghost counts: { CountsLives side notes.items lives } by { Prim.hlevel props },
+}
+
+/// Written out, so that no crate above proves again of each part that it can be dropped.
+impl Drop for Ledger {
+    fn drop(self) {
+        let Ledger {
+            side: _,
+            notes: _,
+            told: _,
+            said: _,
+            fed: _,
+            written: _,
+            lives: _,
+        } = self;
+    }
 }
 
 /// Pushes an item for which there is room.

@@ -1,5 +1,5 @@
 //! Content headers.
-ghost use Rattle.std.specs.Prelude.{◌≡◌, ℕ, length, IfOk};
+ghost use Rattle.std.specs.Prelude.{◌≡◌, ℕ, length, IfOk, OnOk};
 ghost use Rattle.amqp_value.specs.Lengths.{capped};
 ghost use Rattle.amqp_method.specs.Arguments.{short_string};
 ghost use Rattle.amqp_method.specs.HeaderView.{present, table_argument, properties_view, header_view};
@@ -85,6 +85,19 @@ impl Properties {
         ensures { IfOk result (λ p. properties_view p ≡ properties_view self.now) }
     {
         let mut copy = Properties::default();
+        match self.copy_to(&mut copy) {
+            Ok(()) => Ok(copy),
+            Err(OutOfMemory) => {
+                drop(copy);
+                Err(OutOfMemory)
+            }
+        }
+    }
+
+    /// Makes other properties equal to these.
+    fn copy_to(&self, copy: &mut Properties) -> Result<(), OutOfMemory>
+        ensures { OnOk result (properties_view copy.new ≡ properties_view self.now) }
+    {
         copy.content_type = copy_text(&self.content_type)?;
         copy.content_encoding = copy_text(&self.content_encoding)?;
         copy.headers = copy_table(&self.headers)?;
@@ -99,6 +112,6 @@ impl Properties {
         copy.user_id = copy_text(&self.user_id)?;
         copy.app_id = copy_text(&self.app_id)?;
         copy.cluster_id = copy_text(&self.cluster_id)?;
-        Ok(copy)
+        Ok(())
     }
 }

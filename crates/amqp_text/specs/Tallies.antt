@@ -7,7 +7,8 @@ use Rattle.amqp_method.specs.MessageView.{message_view}
 use Rattle.amqp_method.specs.Messages.{Letter}
 use Rattle.amqp_method.specs.Places.{argument_at, found, short_string_of}
 use Rattle.amqp_method.specs.declared.kinds.Kind.TheVariants.{BasicPublish}
-use Rattle.amqp_core.specs.Events.{Event, Negotiated, Opened, Told, Flow, FlowOk, ChannelClosed, ConnectionClosed, Discarded, Blocked, Unblocked, Quiet}
+use Rattle.amqp_channel.specs.declared.events.Event.{Event}
+use Rattle.amqp_channel.specs.declared.events.Event.TheVariants.{Negotiated, Opened, Told, Flow, FlowOk, ChannelClosed, ConnectionClosed, Discarded, Blocked, Unblocked, Quiet}
 use Rattle.amqp_text.specs.declared.tally.Load.{Load}
 use Rattle.amqp_text.specs.declared.tally.Tally.{Tally}
 

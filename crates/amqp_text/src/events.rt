@@ -2,9 +2,9 @@
 ghost use Rattle.std.specs.Prelude.{◌≡◌, ◌++◌, [], codes, OnOk};
 ghost use Rattle.std.specs.String.{string_bytes};
 ghost use Rattle.std.specs.Io.KnownBytes.{Appends, append_known};
-ghost use Rattle.amqp_core.specs.EventTexts.{event_text};
+ghost use Rattle.amqp_channel.specs.EventTexts.{event_text};
 
-use amqp_core::Event;
+use amqp_channel::Event;
 use std::alloc::Global;
 use std::fmt::{self, Write as _};
 use std::io::{self, Write};

@@ -3,7 +3,7 @@
 //!
 //! Nothing here reads a command line or opens a stream. What each call does is stated by its contract with the definitions
 //! of `specs/`: `Hexadecimal` has what the lines of a text encode, `Listing` what it is to list the frames of octets, and
-//! `Tallies` which contents `loop` counts. The text of an event is that of `amqp_core`.
+//! `Tallies` which contents `loop` counts. The text of an event is that of `amqp_channel`.
 #![tactic(auto)]
 
 mod events;

@@ -1,12 +1,12 @@
 //! The contents that a server was told, measured against those that were published to it.
 ghost use Rattle.std.specs.Prelude.{◌≡◌, ◌+◌, List, [], ◌∷◌, false, true, IfOk, OnOk};
 ghost use Rattle.std.specs.Io.KnownBytes.{Appends};
-ghost use Rattle.amqp_core.specs.Events.{Event};
+ghost use Rattle.amqp_channel.specs.declared.events.Event.{Event};
 ghost use Rattle.amqp_method.specs.MessageView.{message_view};
 ghost use Rattle.amqp_text.specs.Tallies.{body_of, Publishes, AreExactly, Heard, outcome_line, outcome_status};
 
 use crate::statuses::{DONE, FAULT};
-use amqp_core::Event;
+use amqp_channel::Event;
 use amqp_method::{Kind, Message, OutOfMemory};
 use std::alloc::Global;
 use std::io::{self, Write};

@@ -15,10 +15,17 @@ use std::slice;
 pub const MAX_DEPTH: usize = 32;
 
 /// A field table: names with values, in order, repeats kept, at most [`MAX_DEPTH`] deep.
-#[derive(Debug, Drop, PartialEq, Eq)]
+#[derive(Debug, PartialEq, Eq)]
 pub struct Table {
     pairs: Vec<(ShortStr, Value)>,
     pub ghost depth_is_bounded: { table_depth (pairs_view pairs.items) ≤ 32 },
+}
+
+/// Written out, so that no crate above proves again of each part that it can be dropped.
+impl Drop for Table {
+    fn drop(self) {
+        let Table { pairs: _ } = self;
+    }
 }
 
 impl Table {
@@ -86,7 +93,8 @@ impl Table {
         ensures pairs { pairs_view result.items ≡ table_view self }
         ensures deep { table_depth (pairs_view result.items) ≤ 32 }
     {
-        self.pairs
+        let Table { pairs } = self;
+        pairs
     }
 
     /// How many pairs.

@@ -16,9 +16,8 @@ ghost use Rattle.amqp_channel.specs.Used.{is_open_at};
 
 use crate::channel::Channel;
 use crate::channels::Channels;
-use crate::faults::OutOfMemory;
 use crate::verdict::Site;
-use amqp_method::{Kind, Message};
+use amqp_method::{Kind, Message, OutOfMemory};
 use std::alloc::Global;
 
 impl Channels {

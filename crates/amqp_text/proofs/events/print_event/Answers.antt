@@ -1,7 +1,7 @@
 use Rattle.std.proofs.Common.{rules, subst, ◌++◌, [], ◌∷◌}
 use Rattle.std.specs.String.{string_bytes}
 use Rattle.std.specs.Io.KnownBytes.{Appends, append_known}
-use Rattle.amqp_core.specs.EventTexts.{event_text}
+use Rattle.amqp_channel.specs.EventTexts.{event_text}
 use Rattle.amqp_text.proofs.PrintingLemmas.{on_ok, appends_of_writes, appends_held}
 use Rattle.amqp_text.proofs.events.print_event.Goals as goal
 

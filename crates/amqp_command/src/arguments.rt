@@ -1,31 +1,13 @@
-//! The command line.
+//! The subcommands with their options, and the request that words make of them.
 use crate::help;
-use crate::options::{Limits, limits_of, with_limits};
-use crate::publishing::Destination;
-use crate::showing::Start;
-use amqp_core::Side;
+use crate::options::{limits_of, with_limits};
+use crate::requests::{Destination, Request, Start};
+use amqp_channel::Side;
 use amqp_text::Load;
 use amqp_value::ShortStr;
 use clap::error::ErrorKind;
 use clap::{Arg, ArgAction, ArgMatches, Command, Error, value_parser};
 use std::alloc::{AllocError, Global};
-
-/// What the command line asks for.
-#[derive(Drop)]
-pub enum Request {
-    /// List the frames of octets that start so.
-    Show(Start),
-    /// Check what the other end of this side writes.
-    Check(Side, Limits),
-    /// Do what a script says with pairs of ends.
-    Link(Limits),
-    /// Serve one connection at this address.
-    Serve(String, Limits),
-    /// Publish to the server at this address.
-    Publish(String, Destination, Limits),
-    /// Send contents from a client to a server here.
-    Loop(Load, Limits),
-}
 
 static SIDES: [&str; 2] = ["client", "server"];
 
