@@ -5,6 +5,9 @@
 //!
 //!     Free --open put--> Opening --open-ok--> Open --close put--> Closing --close-ok--> Free
 //!     Free --open taken--> Open --close taken--> Free
+//!
+//! A method goes from hand to hand here, and each time that it is moved costs nanoseconds. So the way that most methods take, on a
+//! channel that is Open, is inlined, and the ways of the others stand apart.
 ghost use Rattle.std.specs.Prelude.{◌≡◌, ◌<◌, false, ℕ, List, [], None, Some, IfOk, OnOk, OnErr};
 ghost use Rattle.amqp_method.specs.MethodView.{method_view};
 ghost use Rattle.amqp_model.specs.Events.{Discarded, Proceeds};
@@ -80,6 +83,7 @@ impl Channel {
     }
 
     /// A method on a number whose close-ok is due.
+    #[inline(never)]
     pub(crate) fn take_closing(
         &mut self,
         site: Site,
@@ -105,6 +109,7 @@ impl Channel {
     }
 
     /// A method on a number that is free, which the other end may put.
+    #[inline(never)]
     fn take_free(&mut self, site: Site, method: &Method, news: &mut Option<News>) -> Verdict
         requires { IsFree self.old }
         ensures verdict { verdict_view site.number news.new result ≡ as_lives site.number (Calls (method_view method.now)) (when_free (role_of site.side) (kind_of (Calls (method_view method.now)))) }
@@ -124,6 +129,7 @@ impl Channel {
     }
 
     /// A method on a number whose open-ok is due.
+    #[inline(never)]
     fn take_opening(
         &mut self,
         site: Site,
@@ -155,6 +161,7 @@ impl Channel {
     }
 
     /// A method on a channel that is Open. A close ends the life at any place; no other method stands inside a content.
+    #[inline(always)]
     fn take_open(
         &mut self,
         alloc: Global,
@@ -183,6 +190,7 @@ impl Channel {
     }
 
     /// A method of any kind.
+    #[inline(always)]
     pub(crate) fn take_method(
         &mut self,
         alloc: Global,

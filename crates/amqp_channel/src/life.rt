@@ -1,4 +1,6 @@
 //! The life of a channel that is Open: what is kept of it, and what comes of the frames that belong to it.
+//!
+//! What it takes of methods is inlined, up to the channel, as there.
 ghost use Rattle.std.specs.Prelude.{◌≡◌, ◌≢◌, [], None, Some, IfOk, OnOk, OnErr};
 ghost use Rattle.amqp_method.specs.MethodView.{method_view};
 ghost use Rattle.amqp_model.specs.Channels.{Open, new_life};
@@ -54,6 +56,7 @@ impl Life {
     }
 
     /// A method that doesn't close the channel.
+    #[inline(always)]
     pub(crate) fn take_method(
         &mut self,
         alloc: Global,
@@ -200,6 +203,7 @@ impl Life {
 
     /// A method that neither opens nor closes the channel nor asks for a flow or answers one, where no content is under
     /// way.
+    #[inline(always)]
     fn take_message(
         &mut self,
         alloc: Global,
@@ -221,6 +225,7 @@ impl Life {
     }
 
     /// What a client takes: a reply has to be to the request that waits.
+    #[inline(always)]
     fn take_reply(
         &mut self,
         alloc: Global,
@@ -252,6 +257,7 @@ impl Life {
     }
 
     /// What a server takes: so many requests are kept, and no more.
+    #[inline(always)]
     fn take_request(
         &mut self,
         alloc: Global,

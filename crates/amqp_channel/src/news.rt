@@ -72,7 +72,8 @@ impl News {
     ghost use Rattle.amqp_channel.specs.EventView.{event_view};
     ghost use Rattle.amqp_channel.specs.NewsView.{news_view};
 
-    /// Puts these where the caller has room for news.
+    /// Puts these where the caller has room for news. They are written straight there, and made nowhere else before.
+    #[inline(always)]
     pub fn put_in(self, news: &mut Option<News>)
         ensures { news.new ≡ Some self }
     {
