@@ -5,7 +5,7 @@ use Rattle.amqp_model.specs.Channels.{Channel, End, Phase, Handshake, Running, C
 use Rattle.amqp_model.specs.Closes.{connection_close_ok}
 use Rattle.amqp_model.specs.Events.{Proceeds, Quiet, ConnectionClosed, Discarded}
 use Rattle.amqp_model.specs.Machine.{taken_verdict}
-use Rattle.amqp_model.specs.Methods.{Method, MethodKind, same_kind}
+use Rattle.amqp_model.specs.Methods.{Method, same_kind}
 use Rattle.amqp_model.specs.Negotiation.{Config}
 use Rattle.amqp_model.specs.Notes.{Role, Client, Server}
 use Rattle.amqp_model.specs.Readings.{Calls}
