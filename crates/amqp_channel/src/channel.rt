@@ -8,7 +8,7 @@
 //!
 //! A method goes from hand to hand here, and each time that it is moved costs nanoseconds. So the way that most methods take, on a
 //! channel that is Open, is inlined, and the ways of the others stand apart.
-ghost use Rattle.std.specs.Prelude.{◌≡◌, ◌<◌, false, ℕ, List, [], None, Some, IfOk, OnOk, OnErr};
+ghost use Rattle.std.specs.Prelude.{◌≡◌, ◌<◌, true, false, ℕ, List, [], None, Some, Ok, IfOk, OnOk, OnErr};
 ghost use Rattle.amqp_method.specs.MethodView.{method_view};
 ghost use Rattle.amqp_model.specs.Events.{Discarded, Proceeds};
 ghost use Rattle.amqp_model.specs.Frame.{Frame};
@@ -33,7 +33,8 @@ use std::alloc::Global;
 
 /// A frame that is dropped, which is reported to the application.
 fn discards(site: Site, news: &mut Option<News>) -> Verdict
-    ensures { verdict_view site.number news.new result ≡ Proceeds (Some (Discarded site.number)) [] }
+    ensures verdict { verdict_view site.number news.new result ≡ Proceeds (Some (Discarded site.number)) [] }
+    ensures alone { result ≡ Verdict.Proceeds None }
 {
     News::Discarded(site.number).put_in(news);
     Verdict::Proceeds(None)
@@ -234,6 +235,7 @@ impl Channel {
         ensures verdict { IfOk result (λ v. Decides site (channel_view self.old) (header_reading (header_at payload.now)) (verdict_view site.number news.new v)) }
         ensures after { IfOk result (λ v. (frame : Frame) → LeavesAfter (role_of site.side) site.number frame (header_reading (header_at payload.now)) (verdict_view site.number news.new v) (channel_view self.old) (channel_view self.new)) }
         ensures err { OnErr result (channel_view self.new ≡ channel_view self.old) }
+        ensures dropped { is_closing_at (channel_view self.old) ≡ true → result ≡ Ok (Verdict.Proceeds None) }
     {
         match self {
             Channel::Closing => Ok(discards(site, news)),
@@ -268,6 +270,7 @@ impl Channel {
         ensures verdict { IfOk result (λ v. Decides site (channel_view self.old) (BodyOf octets.now) (verdict_view site.number news.new v)) }
         ensures after { IfOk result (λ v. (frame : Frame) → LeavesAfter (role_of site.side) site.number frame (BodyOf octets.now) (verdict_view site.number news.new v) (channel_view self.old) (channel_view self.new)) }
         ensures err { OnErr result (channel_view self.new ≡ channel_view self.old) }
+        ensures dropped { is_closing_at (channel_view self.old) ≡ true → result ≡ Ok (Verdict.Proceeds None) }
     {
         match self {
             Channel::Closing => Ok(discards(site, news)),

@@ -1,7 +1,7 @@
 //! The channels of a connection, by number.
 //!
 //! A channel is kept from its open to its end, so memory is bounded by the channels in use, whatever their numbers are.
-ghost use Rattle.std.specs.Prelude.{◌≡◌, ◌≢◌, ◌+◌, ◌<◌, ◌≤◌, true, false, not, ℕ, suc, IfOk, IfSome, OnErr, OnOk, MatchOption, None};
+ghost use Rattle.std.specs.Prelude.{◌≡◌, ◌≢◌, ◌+◌, ◌<◌, ◌≤◌, true, false, not, ℕ, suc, Ok, IfOk, IfSome, OnErr, OnOk, MatchOption, None};
 ghost use Rattle.amqp_method.specs.MethodView.{method_view};
 ghost use Rattle.amqp_model.specs.Asks.{is_free, first_free};
 ghost use Rattle.amqp_model.specs.Channels.{Free};
@@ -170,6 +170,8 @@ impl Channels {
         ensures after { IfOk result (λ v. (frame : Frame) → LeavesAfter (role_of site.side) site.number frame (header_reading (header_at payload.now)) (verdict_view site.number news.new v) (channels_view self.old site.number) (channels_view self.new site.number)) }
         ensures others { OnlyAt site.number (channels_view self.old) (channels_view self.new) }
         ensures err { OnErr result (channels_view self.new site.number ≡ channels_view self.old site.number) }
+        // Where this end has closed the channel, the frame is dropped, which takes no memory.
+        ensures dropped { is_closing_at (channels_view self.old site.number) ≡ true → result ≡ Ok (Verdict.Proceeds None) }
     {
         let number = site.number;
         match self.used.get_mut(&number) {
@@ -196,6 +198,8 @@ impl Channels {
         ensures after { IfOk result (λ v. (frame : Frame) → LeavesAfter (role_of site.side) site.number frame (BodyOf octets.now) (verdict_view site.number news.new v) (channels_view self.old site.number) (channels_view self.new site.number)) }
         ensures others { OnlyAt site.number (channels_view self.old) (channels_view self.new) }
         ensures err { OnErr result (channels_view self.new site.number ≡ channels_view self.old site.number) }
+        // Where this end has closed the channel, the frame is dropped, which takes no memory.
+        ensures dropped { is_closing_at (channels_view self.old site.number) ≡ true → result ≡ Ok (Verdict.Proceeds None) }
     {
         let number = site.number;
         match self.used.get_mut(&number) {

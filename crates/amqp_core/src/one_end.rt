@@ -78,7 +78,7 @@ impl Core {
     ghost use Rattle.amqp_channel.specs.Used.{is_closing_at};
     ghost use Rattle.amqp_channel.specs.VerdictView.{verdict_view};
     ghost use Rattle.amqp_core.specs.CoreView.{core_end, IsVerdict, LeavesEnd, site_at, decision_view};
-    ghost use Rattle.amqp_core.specs.Owing.{OwesNothing};
+    ghost use Rattle.amqp_core.specs.Owing.{DecidesAlone, OwesNothing};
     ghost use Rattle.amqp_core.specs.Settings.{config_view, role_for};
     ghost use Rattle.amqp_core.specs.declared.settings.Settings.{Settings};
 
@@ -118,7 +118,8 @@ impl Core {
 
     /// What comes of a frame that a channel took.
     fn decide(number: u16, verdict: Verdict) -> Decision
-        ensures { (settings : Settings) (news : Option News) → decision_view settings news result ≡ verdict_view number news verdict }
+        ensures decision { (settings : Settings) (news : Option News) → decision_view settings news result ≡ verdict_view number news verdict }
+        ensures alone { verdict ≡ Verdict.Proceeds None → OwesNothing result }
     {
         match verdict {
             Verdict::Proceeds(reply) => match reply {
@@ -183,6 +184,7 @@ impl Core {
         ensures after { IfOk result (λ d. LeavesEnd self.old.settings number (BodyOf octets.now) news.new d (core_end self.old) (core_end self.new)) }
         ensures settings { self.new.settings ≡ self.old.settings }
         ensures stage { self.new.stage ≡ self.old.stage }
+        ensures alone { is_closing_at (channels_view self.old.channels number) ≡ true → DecidesAlone result }
     {
         let site = self.site(number, agreed.channel_max);
         let verdict = self.channels.take_body(site, octets, news)?;
@@ -204,6 +206,7 @@ impl Core {
         ensures after { IfOk result (λ d. LeavesEnd self.old.settings number (header_reading (header_at payload.now)) news.new d (core_end self.old) (core_end self.new)) }
         ensures settings { self.new.settings ≡ self.old.settings }
         ensures stage { self.new.stage ≡ self.old.stage }
+        ensures alone { is_closing_at (channels_view self.old.channels number) ≡ true → DecidesAlone result }
     {
         let site = self.site(number, agreed.channel_max);
         let verdict = self.channels.take_header(self.alloc, site, payload, news)?;

@@ -3,6 +3,9 @@
 //! An end that has put connection.close drops all but the other end's close and close-ok. A heartbeat stands on channel 0. A
 //! channel that this end has closed drops all but close and close-ok. A method has to be one that there is. Until the handshake
 //! is over nothing but its next method is taken. What is left is for the channel, or for the connection.
+//!
+//! On a connection that is Running a channel is looked up once, when it takes the frame, and drops it by itself where this end
+//! has closed the channel.
 ghost use Rattle.std.specs.Prelude.{◌≡◌, ◌<◌, ℕ, true, false, [], Option, None, IfOk, OnErr};
 ghost use Rattle.amqp_method.specs.MethodView.{method_view};
 ghost use Rattle.amqp_model.specs.EndVerdict.{end_verdict, facts_at, takes_frames};
@@ -84,30 +87,7 @@ impl Core {
         }
     }
 
-    /// A method frame on a channel that this end has closed.
-    fn on_call_closing(
-        &mut self,
-        number: u16,
-        payload: &[u8],
-        news: &mut Option<News>,
-    ) -> Result<Decision, OutOfMemory>
-        requires above { 0 < number }
-        requires stays { leaves (phase_at self.old.stage) ≡ false }
-        requires taking { takes_frames (phase_at self.old.stage) ≡ true }
-        requires closing { is_closing_at (channels_view self.old.channels number) ≡ true }
-        ensures verdict { IfOk result (λ d. IsVerdict self.old.settings (core_end self.old) number (method_reading (method_at payload.now)) news.new d) }
-        ensures after { IfOk result (λ d. LeavesEnd self.old.settings number (method_reading (method_at payload.now)) news.new d (core_end self.old) (core_end self.new)) }
-        ensures settings { self.new.settings ≡ self.old.settings }
-        ensures err { OnErr result (self.new.stage ≡ self.old.stage) }
-    {
-        let read = read_call(self.alloc, payload)?;
-        match read {
-            Ok(method) => Ok(self.on_closing(number, &method, news)),
-            Err(_) => Ok(discards(number, news)),
-        }
-    }
-
-    /// A method of the handshake, or on a connection that is Running.
+    /// A method, where this end hasn't put connection.close. On a connection that is Running its channel decides.
     fn on_method(
         &mut self,
         number: u16,
@@ -116,7 +96,6 @@ impl Core {
     ) -> Result<Decision, OutOfMemory>
         requires stays { leaves (phase_at self.old.stage) ≡ false }
         requires taking { takes_frames (phase_at self.old.stage) ≡ true }
-        requires open { is_closing_at (channels_view self.old.channels number) ≡ false }
         requires none { news.old ≡ None }
         ensures verdict { IfOk result (λ d. IsVerdict self.old.settings (core_end self.old) number (Calls (method_view method)) news.new d) }
         ensures after { IfOk result (λ d. LeavesEnd self.old.settings number (Calls (method_view method)) news.new d (core_end self.old) (core_end self.new)) }
@@ -129,20 +108,25 @@ impl Core {
             }
             return self.on_channel(agreed, number, method, news);
         }
-        if number != 0 {
-            return Ok(closes_with(CloseCode::CommandInvalid));
+        if number == 0 {
+            return self.on_handshake(&method, news);
         }
-        self.on_handshake(&method, news)
+        if self.channels.is_closing(number) {
+            return Ok(self.on_closing(number, &method, news));
+        }
+        Ok(closes_with(CloseCode::CommandInvalid))
     }
 
-    /// A method that can't be read, where it isn't dropped.
-    fn on_unread(&self, number: u16, unread: Unread) -> Decision
+    /// A method that can't be read, where this end hasn't put connection.close.
+    fn on_unread(&self, number: u16, unread: Unread, news: &mut Option<News>) -> Decision
         requires stays { leaves (phase_at self.now.stage) ≡ false }
         requires taking { takes_frames (phase_at self.now.stage) ≡ true }
-        requires open { is_closing_at (channels_view self.now.channels number) ≡ false }
-        ensures verdict { (news : Option News) → IsVerdict self.now.settings (core_end self.now) number (unread_view unread) news result }
-        ensures after { (news : Option News) → LeavesEnd self.now.settings number (unread_view unread) news result (core_end self.now) (core_end self.now) }
+        ensures verdict { IsVerdict self.now.settings (core_end self.now) number (unread_view unread) news.new result }
+        ensures after { LeavesEnd self.now.settings number (unread_view unread) news.new result (core_end self.now) (core_end self.now) }
     {
+        if number != 0 && self.channels.is_closing(number) {
+            return discards(number, news);
+        }
         closes_with(unread.code())
     }
 
@@ -163,13 +147,10 @@ impl Core {
         if self.stage.is_closing() {
             return self.on_call_leaving(number, payload, news);
         }
-        if number != 0 && self.channels.is_closing(number) {
-            return self.on_call_closing(number, payload, news);
-        }
         let read = read_call(self.alloc, payload)?;
         match read {
             Ok(method) => self.on_method(number, method, news),
-            Err(unread) => Ok(self.on_unread(number, unread)),
+            Err(unread) => Ok(self.on_unread(number, unread, news)),
         }
     }
 
@@ -188,17 +169,17 @@ impl Core {
         ensures err { OnErr result (self.new.stage ≡ self.old.stage) }
         ensures alone { IsDropped (phase_at self.old.stage) (channels_view self.old.channels number) number FrameKind.Header payload.now → DecidesAlone result }
     {
-        if self.stage.is_closing() {
-            return Ok(discards(number, news));
-        }
-        if number != 0 && self.channels.is_closing(number) {
-            return Ok(discards(number, news));
-        }
         if let Stage::Running(agreed) = self.stage {
             if number == 0 {
                 return Ok(closes_with(CloseCode::ChannelError));
             }
             return self.on_header(agreed, number, payload, news);
+        }
+        if self.stage.is_closing() {
+            return Ok(discards(number, news));
+        }
+        if number != 0 && self.channels.is_closing(number) {
+            return Ok(discards(number, news));
         }
         Ok(closes_with(CloseCode::CommandInvalid))
     }
@@ -218,17 +199,17 @@ impl Core {
         ensures err { OnErr result (self.new.stage ≡ self.old.stage) }
         ensures alone { IsDropped (phase_at self.old.stage) (channels_view self.old.channels number) number FrameKind.Body payload.now → DecidesAlone result }
     {
-        if self.stage.is_closing() {
-            return Ok(discards(number, news));
-        }
-        if number != 0 && self.channels.is_closing(number) {
-            return Ok(discards(number, news));
-        }
         if let Stage::Running(agreed) = self.stage {
             if number == 0 {
                 return Ok(closes_with(CloseCode::ChannelError));
             }
             return self.on_body(agreed, number, payload, news);
+        }
+        if self.stage.is_closing() {
+            return Ok(discards(number, news));
+        }
+        if number != 0 && self.channels.is_closing(number) {
+            return Ok(discards(number, news));
         }
         Ok(closes_with(CloseCode::CommandInvalid))
     }

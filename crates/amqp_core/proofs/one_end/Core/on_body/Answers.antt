@@ -7,9 +7,9 @@ use Rattle.amqp_core.proofs.one_end.Core.on_body.Goals as goal
 
 pub returns-clause-verdict : goal.returns-clause-verdict
 returns-clause-verdict c =
-    running_decides c.args.self.now.settings c.args.self.now.stage c.args.agreed c.args.number c.site-site.result (channels_view c.args.self.now.channels) (BodyOf c.args.octets.now) c.take_body.new.news c.in_ok-verdict.verdict _ c.requires.running c.site-site.ensures (c.decide.ensures c.args.self.now.settings c.take_body.new.news) c.in_ok-verdict.ensures.verdict
+    running_decides c.args.self.now.settings c.args.self.now.stage c.args.agreed c.args.number c.site-site.result (channels_view c.args.self.now.channels) (BodyOf c.args.octets.now) c.take_body.new.news c.in_ok-verdict.verdict _ c.requires.running c.site-site.ensures (c.decide.ensures.decision c.args.self.now.settings c.take_body.new.news) c.in_ok-verdict.ensures.verdict
 
 pub returns-clause-after : goal.returns-clause-after
 returns-clause-after c =
-    channel_leaves c.args.self.now.settings c.args.number c.args.agreed.channel_max c.site-site.result (BodyOf c.args.octets.now) c.take_body.new.news c.in_ok-verdict.verdict _ (core_end c.args.self.now) (end_at c.args.self.now.stage (channels_view c.take_body.new.self)) c.site-site.ensures (c.decide.ensures c.args.self.now.settings c.take_body.new.news) c.requires.above
+    channel_leaves c.args.self.now.settings c.args.number c.args.agreed.channel_max c.site-site.result (BodyOf c.args.octets.now) c.take_body.new.news c.in_ok-verdict.verdict _ (core_end c.args.self.now) (end_at c.args.self.now.stage (channels_view c.take_body.new.self)) c.site-site.ensures (c.decide.ensures.decision c.args.self.now.settings c.take_body.new.news) c.requires.above
     (running_stays c.args.self.now.stage c.args.agreed c.requires.running) refl refl c.in_ok-verdict.ensures.others c.in_ok-verdict.ensures.after
