@@ -1,8 +1,8 @@
 -- The content of which all is kept.
 use Rattle.std.specs.Global.{Global}
 use Rattle.std.specs.Prelude.{◌≡◌, Box}
-use Rattle.amqp_channel.specs.CarrierView.{content_view}
-use Rattle.amqp_channel.specs.declared.carrier.Content.{Content}
+use Rattle.amqp_channel.specs.ContentView.{content_view}
+use Rattle.amqp_method.specs.declared.contents.Content.{Content}
 use Rattle.amqp_channel.specs.declared.gathering.Gathering.{Gathering}
 use Rattle.amqp_channel.specs.declared.gathering.Gathering.TheVariants.{Nothing, HeaderDue, BodyDue}
 

@@ -1,7 +1,8 @@
 -- What the code keeps of a content stands for this in the model.
+use Rattle.amqp_method.specs.CarrierView.{carrier_view}
 use Rattle.amqp_model.specs.Gathering as model
 use Rattle.amqp_model.specs.Gathering.{Keeps, Completes, Breaks, Step}
-use Rattle.amqp_channel.specs.CarrierView.{carrier_view, content_view}
+use Rattle.amqp_channel.specs.ContentView.{content_view}
 use Rattle.amqp_channel.specs.declared.gathering.Gathering.{Gathering}
 use Rattle.amqp_channel.specs.declared.gathering.Gathering.TheVariants.{Nothing, HeaderDue, BodyDue}
 use Rattle.amqp_channel.specs.declared.gathering.Misfit.{Misfit}

@@ -11,7 +11,7 @@ use Rattle.amqp_model.specs.Histories.{TookHere}
 use Rattle.amqp_model.specs.Machine.{channel_after}
 use Rattle.amqp_model.specs.Notes.{Role}
 use Rattle.amqp_model.specs.Readings.{Reading, HeaderOf, payload_of}
-use Rattle.amqp_channel.specs.CarrierView.{content_view}
+use Rattle.amqp_channel.specs.ContentView.{content_view}
 use Rattle.amqp_channel.specs.VerdictView.{after_owed}
 use Rattle.amqp_channel.specs.declared.gathering.Heading.{Heading}
 use Rattle.amqp_channel.specs.declared.gathering.Heading.TheVariants.{Misplaced, Malformed, TooLarge, Kept, Completed}

@@ -1,7 +1,7 @@
 pub mod Roles
 pub mod Messages
 pub mod Filling
-pub mod CarrierView
+pub mod ContentView
 pub mod GatheringView
 pub mod GatheringKept
 pub mod Closes

@@ -3,7 +3,7 @@ use Rattle.std.specs.Prelude.{Option, Some, None}
 use Rattle.amqp_method.specs.MethodView.{method_view}
 use Rattle.amqp_model.specs.Events as model
 use Rattle.amqp_model.specs.Methods.{Method}
-use Rattle.amqp_channel.specs.CarrierView.{content_view}
+use Rattle.amqp_channel.specs.ContentView.{content_view}
 use Rattle.amqp_channel.specs.EventView.{agreed_view, reason_there}
 use Rattle.amqp_channel.specs.declared.news.Lone.{Lone}
 use Rattle.amqp_channel.specs.declared.news.News.{News}

@@ -1,19 +1,18 @@
 //! The content under way on a channel.
 ghost use Rattle.std.specs.Prelude.{◌≡◌, ◌+◌, ℕ, IfOk, OnErr};
+ghost use Rattle.amqp_method.specs.CarrierView.{carrier_view};
 ghost use Rattle.amqp_model.specs.Contents.{Body as BodyPart};
 ghost use Rattle.amqp_model.specs.FrameVerdict.{is_gathering};
 ghost use Rattle.amqp_model.specs.Gathering.{Nothing, HeaderDue, step, remains};
 ghost use Rattle.amqp_model.specs.Methods.{header_at};
 ghost use Rattle.amqp_model.specs.Readings.{header_reading};
-ghost use Rattle.amqp_channel.specs.CarrierView.{carrier_view};
 ghost use Rattle.amqp_channel.specs.Filling.{filling_of};
 ghost use Rattle.amqp_channel.specs.GatheringKept.{IsBodyDue, IsKeptIn};
 ghost use Rattle.amqp_channel.specs.GatheringView.{gathering_view, step_view};
 ghost use Rattle.amqp_channel.specs.Headings.{header_verdict, heading_verdict, HeadingLeaves};
 
-use crate::carrier::Content;
 use crate::read::read_content_header;
-use amqp_method::OutOfMemory;
+use amqp_method::{Content, OutOfMemory};
 use std::alloc::Global;
 use std::mem;
 

@@ -8,7 +8,6 @@
 //! and `amqp_model` the definitions that they are compared with.
 #![tactic(auto)]
 
-mod carrier;
 mod channel;
 mod channels;
 mod codes;
@@ -24,7 +23,6 @@ mod states;
 mod verdict;
 pub mod words;
 
-pub use crate::carrier::{Carrier, Content};
 pub use crate::channel::Channel;
 pub use crate::channels::Channels;
 pub use crate::codes::CloseCode;

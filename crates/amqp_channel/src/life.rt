@@ -14,14 +14,13 @@ ghost use Rattle.amqp_model.specs.Machine.{channel_after};
 ghost use Rattle.amqp_model.specs.Methods.{header_at};
 ghost use Rattle.amqp_model.specs.Notes.{Client, Server};
 ghost use Rattle.amqp_model.specs.Readings.{Calls, BodyOf, header_reading, kind_of};
-ghost use Rattle.amqp_channel.specs.CarrierView.{content_view};
+ghost use Rattle.amqp_channel.specs.ContentView.{content_view};
 ghost use Rattle.amqp_channel.specs.GatheringView.{step_view};
 ghost use Rattle.amqp_channel.specs.LifeView.{life_view, IsIdle, IsOther};
 ghost use Rattle.amqp_channel.specs.Headings.{header_verdict, heading_step, heading_verdict, LeavesLife};
 ghost use Rattle.amqp_channel.specs.Roles.{role_of};
 ghost use Rattle.amqp_channel.specs.VerdictView.{verdict_view, life_verdict, without_answered, LeavesAfter};
 
-use crate::carrier::{Carrier, Content};
 use crate::codes::CloseCode;
 use crate::gathering::{Gathering, Heading, Misfit, Part};
 use crate::news::{Lone, News};
@@ -29,7 +28,7 @@ use crate::side::Side;
 use crate::standing::Standing;
 use crate::verdict::{Reply, Site, Verdict};
 use crate::words::{bit_at, carries_content};
-use amqp_method::{Kind, Method, OutOfMemory};
+use amqp_method::{Carrier, Content, Kind, Method, OutOfMemory};
 use std::alloc::Global;
 
 /// How many requests a server keeps on a channel.

@@ -6,9 +6,8 @@ ghost use Rattle.std.specs.Prelude.{◌≡◌, false};
 ghost use Rattle.amqp_method.specs.Kinds.{has_content};
 ghost use Rattle.amqp_method.specs.MethodView.{method_view};
 
-use crate::carrier::Content;
 use crate::events::{Agreed, Event, Reason};
-use amqp_method::{Message, Method, OutOfMemory};
+use amqp_method::{Content, Message, Method, OutOfMemory};
 use amqp_value::ShortStr;
 
 /// A method that no content follows.
@@ -88,7 +87,7 @@ impl News {
             News::Negotiated(agreed) => Event::Negotiated(agreed),
             News::Opened(channel) => Event::Opened(channel),
             News::Method(channel, lone) => Event::Told(channel, lone.into_message()),
-            News::Content(channel, content) => Event::Told(channel, Content::into_message(content)),
+            News::Content(channel, content) => Event::Told(channel, Message::gathered(content)),
             News::Flow(channel, active) => Event::Flow(channel, active),
             News::FlowOk(channel, active) => Event::FlowOk(channel, active),
             News::ChannelClosed(channel, reason) => Event::ChannelClosed(channel, reason),

@@ -1,7 +1,9 @@
 -- What an accepted ask leaves: the end of its frames, and the output with them.
 use Rattle.std.proofs.Common.{◌≡◌, ◌<◌, Bool, true, false, ℕ, List, [], ◌∷◌, ◌++◌, map, length, Some, None, refl, ap, sym, ◌∙◌, subst}
 use Rattle.std.proofs.lemmas.Bool.{false≢true}
+use Rattle.amqp_method.specs.CarrierView.{carrier_view}
 use Rattle.amqp_method.specs.Kinds.{has_content}
+use Rattle.amqp_method.specs.MaybeBoxed.{boxed_value}
 use Rattle.amqp_method.specs.Messages.{KindFits, letter}
 use Rattle.amqp_method.specs.MethodView.{method_view}
 use Rattle.amqp_method.specs.Sorts.{sort_alone}
@@ -225,7 +227,7 @@ carries_not method h = rw h (begins_none method.kind _)
 
 pub message_made : (number : ℕ) (form : Form) → KindFits form → is_made (Send number (message_of (letter form))) ≡ true
 message_made number (form.Plain method) h = rw (carries_not (method_view method) h) refl
-message_made number (form.Content method properties body) h = carries_if (method_view method) h
+message_made number (form.Content content) h = carries_if (carrier_view (boxed_value content).method) h
 
 -- Methods of the connection.
 

@@ -1,5 +1,5 @@
-//! Messages, plain and with content, copied.
-use amqp_method::{Message, Method, Properties, read_method, write_method};
+//! Messages, plain and with content: copied, and gathered in a box.
+use amqp_method::{Carrier, Content, Message, Method, Properties, read_method, write_method};
 use std::alloc::Global;
 use std::process::Abort;
 use std::test::Fail;
@@ -97,4 +97,34 @@ fn a_message_with_a_long_body(rt: HostRuntime) -> Result<(), Fail> {
     let body = octets(rt.alloc(), 1_000_000)?;
     let copy = with_body(&rt, rt.alloc(), &whole, octets(rt.alloc(), 1_000_000)?)?.copy()?;
     assert_whole(&rt, rt.alloc(), &copy, &whole, &body)
+}
+
+/// The message of a method that a content follows, gathered with this body.
+fn gathered(rt: &impl Abort, alloc: Global, octets: &[u8], body: Vec<u8>) -> Result<Message, Fail> {
+    let method = read_method(alloc, octets)?;
+    assert!(rt; method.kind().has_content());
+    let mut content = Content::begun(alloc, Carrier::new(method))?;
+    content.body = body;
+    Ok(Message::gathered(content))
+}
+
+/// Whether two messages are equal, and print alike.
+fn are_alike(alloc: Global, one: &Message, other: &Message) -> Result<(bool, bool), Fail> {
+    let one_printed = format!(in alloc; "{one:?}")?;
+    let other_printed = format!(in alloc; "{other:?}")?;
+    Ok((one == other, one_printed.as_str() == other_printed.as_str()))
+}
+
+#[test]
+fn a_gathered_message_is_as_one_that_is_made(rt: HostRuntime) -> Result<(), Fail> {
+    let alloc = rt.alloc();
+    let method = long_publish(alloc)?;
+    let made = with_body(&rt, alloc, &method, octets(alloc, 70)?)?;
+    let same = gathered(&rt, alloc, &method, octets(alloc, 70)?)?;
+    let longer = gathered(&rt, alloc, &method, octets(alloc, 71)?)?;
+    let alike = are_alike(alloc, &made, &same)?;
+    let unlike = are_alike(alloc, &made, &longer)?;
+    assert!(rt; alike == (true, true));
+    assert!(rt; unlike == (false, false));
+    Ok(())
 }

@@ -17,6 +17,8 @@ pub mod Plain
 pub mod Writing
 pub mod GatheredView
 pub mod Lent
+pub mod MaybeBoxed
+pub mod CarrierView
 pub mod Messages
 pub mod MessageView
 pub mod Fitting

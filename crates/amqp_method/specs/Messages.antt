@@ -1,9 +1,12 @@
 -- Messages: methods alone, and methods that a content follows (AMQP 0-9-1 specification, 4.2.6).
 use Rattle.std.specs.Prelude.{◌≡◌, ℕ, List, [], Bool, true, false, Option, Some, None}
 use Rattle.amqp_method.specs.Arguments.{Argument, Call}
+use Rattle.amqp_method.specs.CarrierView.{carrier_view}
 use Rattle.amqp_method.specs.HeaderView.{properties_view}
 use Rattle.amqp_method.specs.Kinds.{has_content}
+use Rattle.amqp_method.specs.MaybeBoxed.{boxed_value}
 use Rattle.amqp_method.specs.MethodView.{method_view}
+use Rattle.amqp_method.specs.declared.contents.Content.{Content}
 use Rattle.amqp_method.specs.declared.messages.Form.{Form}
 use Rattle.amqp_method.specs.declared.messages.Form.TheVariants as form
 
@@ -19,13 +22,16 @@ letter_alone call = record { call = call; properties = None; body = [] }
 abbrev pub letter_with : Call → List (Option Argument) → List ℕ → Letter
 letter_with call properties body = record { call = call; properties = Some properties; body = body }
 
+abbrev pub content_letter : Content → Letter
+content_letter content = letter_with (carrier_view content.method) (properties_view content.header.properties) content.body.items
+
 abbrev pub letter : Form → Letter
 letter (form.Plain method) = letter_alone (method_view method)
-letter (form.Content method properties body) = letter_with (method_view method) (properties_view properties) body.items
+letter (form.Content content) = content_letter (boxed_value content)
 
 abbrev pub is_content : Form → Bool
 is_content (form.Plain method) = false
-is_content (form.Content method properties body) = true
+is_content (form.Content content) = true
 
 -- a content follows exactly when the kind has one
 abbrev pub KindFits : Form → Type 0

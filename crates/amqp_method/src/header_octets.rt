@@ -1,5 +1,5 @@
 //! Content headers as octets.
-ghost use Rattle.std.specs.Prelude.{◌≡◌, ◌≤◌, ◌<◌, ◌⊎◌, ◌++◌, ◌^◌, length, take, IfOk, IfErr, OnOk, OnErr, Ok, Err, Some};
+ghost use Rattle.std.specs.Prelude.{◌≡◌, ◌≤◌, ◌<◌, ◌⊎◌, ◌++◌, ◌^◌, length, take, true, IfOk, IfErr, OnOk, OnErr, Ok, Err, Some};
 ghost use Rattle.amqp_method.specs.EarlyFaults.{fault_of_start};
 ghost use Rattle.amqp_method.specs.Arguments.{octet, long_long, short_string};
 ghost use Rattle.amqp_method.specs.Faults.{out_of_memory, too_long};
@@ -47,6 +47,8 @@ impl Flagged {
         (self.flags >> bit) % 2 == 1
     }
 
+    /// Most headers have few properties, so whether one is there is seen where it would be read, without a call.
+    #[inline(always)]
     #[tactic(auto, unfolding(crate::specs::HeaderReading::optional_at, crate::specs::Reading::field_at))]
     fn short_string<'a>(
         self,
@@ -63,6 +65,21 @@ impl Flagged {
             *place = None;
             return Ok(octets);
         }
+        self.present_short_string(octets, place)
+    }
+
+    /// A short string whose flag is set.
+    #[inline(never)]
+    #[tactic(auto, unfolding(crate::specs::HeaderReading::optional_at, crate::specs::Reading::field_at))]
+    fn present_short_string<'a>(
+        self,
+        octets: &'a [u8],
+        place: &mut Option<ShortStr>,
+    ) -> Result<&'a [u8], MethodFault>
+        requires within { length octets.now ≤ self.end }
+        ensures read { Gives (λ after. (present short_string place.new, after.now)) result (optional_at true kinds.ShortStr self.end octets.now) }
+        ensures within { IfOk result (λ after. length after.now ≤ length octets.now) }
+    {
         let (value, after) = read_short_string(self.alloc, octets, self.end)?;
         *place = Some(value);
         Ok(after)

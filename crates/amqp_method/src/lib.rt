@@ -11,6 +11,7 @@
 #![tactic(auto)]
 
 mod bit_run;
+mod contents;
 mod display;
 mod faults;
 mod fields;
@@ -19,6 +20,7 @@ mod headers;
 mod kinds;
 mod laws;
 mod lengths;
+mod maybe_boxed;
 mod messages;
 mod method_octets;
 mod methods;
@@ -30,6 +32,7 @@ mod table;
 mod texts;
 mod writing;
 
+pub use crate::contents::{Carrier, Content};
 pub use crate::faults::{MethodFault, MethodFaultKind, OutOfMemory};
 pub use crate::fields::{Arg, Field, FieldKind};
 pub use crate::header_octets::{read_header, read_header_into, write_header};

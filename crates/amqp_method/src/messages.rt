@@ -1,14 +1,16 @@
 //! A message: a method, and the content that follows it, if it has one.
 ghost use Rattle.amqp_method.specs.Messages.{KindFits};
 
+use crate::contents::{Carrier, Content};
 use crate::faults::OutOfMemory;
-use crate::headers::Properties;
+use crate::headers::{Header, Properties};
+use crate::maybe_boxed::MaybeBoxed;
 use crate::methods::Method;
 
 #[derive(Debug, Drop, PartialEq, Eq)]
 enum Form {
     Plain(Method),
-    Content(Method, Properties, Vec<u8>),
+    Content(MaybeBoxed<Content>),
 }
 
 /// A message: a method alone, or one of the four methods that a content follows (basic.publish, return, deliver and
@@ -23,7 +25,7 @@ impl Message {
     ghost use Rattle.std.specs.Prelude.{◌≡◌, true, false, Some, None, IfOk, MatchOption};
     ghost use Rattle.amqp_method.specs.HeaderView.{properties_view};
     ghost use Rattle.amqp_method.specs.Kinds.{has_content};
-    ghost use Rattle.amqp_method.specs.Messages.{letter_alone, letter_with};
+    ghost use Rattle.amqp_method.specs.Messages.{letter_alone, letter_with, content_letter};
     ghost use Rattle.amqp_method.specs.MessageView.{message_view};
     ghost use Rattle.amqp_method.specs.MethodView.{method_view};
 
@@ -42,8 +44,29 @@ impl Message {
         requires { has_content (method_view method).kind ≡ true }
         ensures { message_view result ≡ letter_with (method_view method) (properties_view properties) body.items }
     {
+        let content = Content {
+            method: Carrier::new(method),
+            header: Header {
+                body_size: body.len() as u64,
+                properties,
+            },
+            body,
+        };
         Message {
-            form: Form::Content(method, properties, body),
+            form: Form::Content(MaybeBoxed::Here(content)),
+        }
+    }
+
+    /// The message that a content makes. Its octets stay in the box, so little is moved.
+    ///
+    /// What its header says of the size is the length of its body from then on.
+    #[inline(always)]
+    pub fn gathered(mut content: Box<Content>) -> Message
+        ensures { message_view result ≡ content_letter content.value }
+    {
+        content.header.body_size = content.body.len() as u64;
+        Message {
+            form: Form::Content(MaybeBoxed::Boxed(content)),
         }
     }
 
@@ -53,7 +76,7 @@ impl Message {
     {
         match &self.form {
             Form::Plain(method) => method,
-            Form::Content(method, _, _) => method,
+            Form::Content(content) => content.get().method.method(),
         }
     }
 
@@ -64,7 +87,10 @@ impl Message {
     {
         match &self.form {
             Form::Plain(_) => None,
-            Form::Content(_, properties, body) => Some((properties, body.as_slice())),
+            Form::Content(content) => {
+                let content = content.get();
+                Some((&content.header.properties, content.body.as_slice()))
+            }
         }
     }
 
@@ -77,7 +103,15 @@ impl Message {
         let form = self.form;
         match form {
             Form::Plain(method) => (method, None),
-            Form::Content(method, properties, body) => (method, Some((properties, body))),
+            Form::Content(content) => {
+                let Content {
+                    method,
+                    header,
+                    body,
+                } = content.into_inner();
+                let Header { properties, .. } = header;
+                (method.into_method(), Some((properties, body)))
+            }
         }
     }
 
@@ -92,14 +126,7 @@ impl Message {
                     form: Form::Plain(method),
                 })
             }
-            Form::Content(method, properties, body) => {
-                let body = Vec::from_slice(*body.allocator(), body)?;
-                let method = method.copy()?;
-                let properties = properties.copy()?;
-                Ok(Message {
-                    form: Form::Content(method, properties, body),
-                })
-            }
+            Form::Content(content) => content.get().copy_message(),
         }
     }
 }
