@@ -143,6 +143,11 @@ impl Core {
             return Err(CoreFault::OutOfMemory);
         };
         let Outcome { fault, owed } = outcome;
+        // Most frames are answered by none, and most ends keep no items.
+        if let (false, None, Owed::Nothing) = (account.wanted, fault, owed) {
+            account.owed = Owed::Nothing;
+            return Ok(());
+        }
         let Ok(()) = account.keep_item(self.alloc, fault, news) else {
             self.fail_at(before);
             return Err(CoreFault::OutOfMemory);

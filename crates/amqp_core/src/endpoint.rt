@@ -71,6 +71,10 @@ fn tune(splitter: &mut Splitter, stage: Stage)
     requires fits { IfAgreedFits (agreed_at stage) }
     ensures { splitter.new ≡ record splitter.old { limit = frame_limit (agreed_at stage) } }
 {
+    if let Stage::Running(agreed) = stage {
+        splitter.set_limit(agreed.frame_max);
+        return;
+    }
     match stage.agreed() {
         Some(agreed) => splitter.set_limit(agreed.frame_max),
         None => splitter.set_limit(FRAME_MIN),
