@@ -21,6 +21,7 @@ ghost use Rattle.amqp_channel.specs.LifeView.{IsOther};
 ghost use Rattle.amqp_channel.specs.Roles.{role_of};
 ghost use Rattle.amqp_channel.specs.VerdictView.{verdict_view, open_verdict, Decides, LeavesAfter};
 
+use crate::aligned::Aligned;
 use crate::codes::CloseCode;
 use crate::events::reason_of;
 use crate::life::Life;
@@ -36,7 +37,7 @@ fn discards(site: Site, news: &mut Option<News>) -> Verdict
     ensures verdict { verdict_view site.number news.new result ≡ Proceeds (Some (Discarded site.number)) [] }
     ensures alone { result ≡ Verdict.Proceeds None }
 {
-    News::Discarded(site.number).put_in(news);
+    News::Discarded(Aligned::new(site.number)).put_in(news);
     Verdict::Proceeds(None)
 }
 
@@ -102,7 +103,7 @@ impl Channel {
             }
             Kind::ChannelCloseOk => {
                 *self = Channel::Free;
-                News::ChannelClosed(site.number, None).put_in(news);
+                News::ChannelClosed(Aligned::new(site.number), None).put_in(news);
                 Verdict::Proceeds(None)
             }
             _ => discards(site, news),
@@ -119,7 +120,7 @@ impl Channel {
         match (site.side, method.kind()) {
             (Side::Server, Kind::ChannelOpen) => {
                 *self = Channel::Open(Life::new());
-                News::Opened(site.number).put_in(news);
+                News::Opened(Aligned::new(site.number)).put_in(news);
                 Verdict::Proceeds(Some(Reply::OpenOk))
             }
             (Side::Server, Kind::ChannelOpenOk) | (Side::Client, Kind::ChannelOpen) => {
@@ -146,12 +147,12 @@ impl Channel {
             (_, Kind::ChannelClose) => {
                 let reason = reason_of(method)?;
                 *self = Channel::Free;
-                News::ChannelClosed(site.number, Some(reason)).put_in(news);
+                News::ChannelClosed(Aligned::new(site.number), Some(reason)).put_in(news);
                 Ok(Verdict::Proceeds(Some(Reply::CloseOk)))
             }
             (Side::Client, Kind::ChannelOpenOk) => {
                 *self = Channel::Open(Life::new());
-                News::Opened(site.number).put_in(news);
+                News::Opened(Aligned::new(site.number)).put_in(news);
                 Ok(Verdict::Proceeds(None))
             }
             (Side::Server, Kind::ChannelOpenOk) | (Side::Client, Kind::ChannelOpen) => {
@@ -179,7 +180,7 @@ impl Channel {
         if method.kind() == Kind::ChannelClose {
             let reason = reason_of(&method)?;
             *self = Channel::Free;
-            News::ChannelClosed(site.number, Some(reason)).put_in(news);
+            News::ChannelClosed(Aligned::new(site.number), Some(reason)).put_in(news);
             return Ok(Verdict::Proceeds(Some(Reply::CloseOk)));
         }
         match self {

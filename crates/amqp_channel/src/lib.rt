@@ -8,6 +8,7 @@
 //! and `amqp_model` the definitions that they are compared with.
 #![tactic(auto)]
 
+mod aligned;
 mod channel;
 mod channels;
 mod codes;
@@ -23,6 +24,7 @@ mod states;
 mod verdict;
 pub mod words;
 
+pub use crate::aligned::Aligned;
 pub use crate::channel::Channel;
 pub use crate::channels::Channels;
 pub use crate::codes::CloseCode;

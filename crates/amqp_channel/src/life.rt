@@ -21,6 +21,7 @@ ghost use Rattle.amqp_channel.specs.Headings.{header_verdict, heading_step, head
 ghost use Rattle.amqp_channel.specs.Roles.{role_of};
 ghost use Rattle.amqp_channel.specs.VerdictView.{verdict_view, life_verdict, without_answered, LeavesAfter};
 
+use crate::aligned::Aligned;
 use crate::codes::CloseCode;
 use crate::gathering::{Gathering, Heading, Misfit, Part};
 use crate::news::{Lone, News};
@@ -76,7 +77,7 @@ impl Life {
             Kind::ChannelFlow => {
                 let active = bit_at(0, &method);
                 self.standing.pause(!active);
-                News::Flow(site.number, active).put_in(news);
+                News::Flow(Aligned::new(site.number), active).put_in(news);
                 Ok(Verdict::Proceeds(Some(Reply::FlowOk(active))))
             }
             Kind::ChannelFlowOk => {
@@ -84,7 +85,7 @@ impl Life {
                     return Ok(Verdict::Faults(CloseCode::CommandInvalid));
                 }
                 self.standing.await_flow_ok(false);
-                News::FlowOk(site.number, bit_at(0, &method)).put_in(news);
+                News::FlowOk(Aligned::new(site.number), bit_at(0, &method)).put_in(news);
                 Ok(Verdict::Proceeds(None))
             }
             Kind::ChannelOpen => Ok(Verdict::Faults(match site.side {
@@ -106,7 +107,7 @@ impl Life {
         if site.side.is_client() && content.kind().is_reply() {
             self.standing.answer_request();
         }
-        News::Content(site.number, content).put_in(news);
+        News::Content(Aligned::new(site.number), content).put_in(news);
         Verdict::Proceeds(None)
     }
 
@@ -251,7 +252,7 @@ impl Life {
         if replies {
             self.standing.answer_request();
         }
-        News::Method(site.number, Lone::new(method)).put_in(news);
+        News::Method(Aligned::new(site.number), Lone::new(method)).put_in(news);
         Ok(Verdict::Proceeds(None))
     }
 
@@ -287,7 +288,7 @@ impl Life {
         if asks {
             self.standing.keep_request(alloc, method.kind())?;
         }
-        News::Method(site.number, Lone::new(method)).put_in(news);
+        News::Method(Aligned::new(site.number), Lone::new(method)).put_in(news);
         Ok(Verdict::Proceeds(None))
     }
 }

@@ -6,6 +6,7 @@ ghost use Rattle.std.specs.Prelude.{◌≡◌, false};
 ghost use Rattle.amqp_method.specs.Kinds.{has_content};
 ghost use Rattle.amqp_method.specs.MethodView.{method_view};
 
+use crate::aligned::Aligned;
 use crate::events::{Agreed, Event, Reason};
 use amqp_method::{Content, Message, Method, OutOfMemory};
 use amqp_value::ShortStr;
@@ -18,18 +19,19 @@ pub struct Lone {
     pub ghost alone: { has_content (method_view method).kind ≡ false },
 }
 
-/// An event to be: a message is still in its parts, and all else is as in [`Event`].
+/// An event to be: a message is still in its parts, and all else is as in [`Event`]. All that is in it begins at a word, so that
+/// it is moved word by word.
 #[derive(Drop)]
 pub enum News {
-    Negotiated(Agreed),
-    Opened(u16),
-    Method(u16, Lone),
-    Content(u16, Box<Content>),
-    Flow(u16, bool),
-    FlowOk(u16, bool),
-    ChannelClosed(u16, Option<Reason>),
+    Negotiated(Aligned<Agreed>),
+    Opened(Aligned<u16>),
+    Method(Aligned<u16>, Lone),
+    Content(Aligned<u16>, Box<Content>),
+    Flow(Aligned<u16>, bool),
+    FlowOk(Aligned<u16>, bool),
+    ChannelClosed(Aligned<u16>, Option<Reason>),
     ConnectionClosed(Option<Reason>),
-    Discarded(u16),
+    Discarded(Aligned<u16>),
     Blocked(ShortStr),
     Unblocked,
     Quiet,
@@ -83,20 +85,24 @@ impl News {
         forget(news.replace(self));
     }
 
-    /// The event.
+    /// The event. It is made where it is called: out of line it is written twice, which costs a small frame half as much again.
+    #[inline(always)]
     pub fn into_event(self) -> Event
         ensures { event_view result ≡ news_view self }
     {
         match self {
-            News::Negotiated(agreed) => Event::Negotiated(agreed),
-            News::Opened(channel) => Event::Opened(channel),
-            News::Method(channel, lone) => Event::Told(channel, lone.into_message()),
-            News::Content(channel, content) => Event::Told(channel, Message::gathered(content)),
-            News::Flow(channel, active) => Event::Flow(channel, active),
-            News::FlowOk(channel, active) => Event::FlowOk(channel, active),
-            News::ChannelClosed(channel, reason) => Event::ChannelClosed(channel, reason),
+            News::Negotiated(agreed) => Event::Negotiated(agreed.get()),
+            News::Opened(channel) => Event::Opened(channel.get()),
+            News::Method(channel, lone) => Event::Told(channel.get(), lone.into_message()),
+            News::Content(channel, content) => Event::Told(
+                channel.get(),
+                Message::gathered(content),
+            ),
+            News::Flow(channel, active) => Event::Flow(channel.get(), active),
+            News::FlowOk(channel, active) => Event::FlowOk(channel.get(), active),
+            News::ChannelClosed(channel, reason) => Event::ChannelClosed(channel.get(), reason),
             News::ConnectionClosed(reason) => Event::ConnectionClosed(reason),
-            News::Discarded(channel) => Event::Discarded(channel),
+            News::Discarded(channel) => Event::Discarded(channel.get()),
             News::Blocked(reason) => Event::Blocked(reason),
             News::Unblocked => Event::Unblocked,
             News::Quiet => Event::Quiet,

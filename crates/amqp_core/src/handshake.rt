@@ -17,7 +17,7 @@ use crate::owed::Owed;
 use crate::settings::{FRAME_MIN, Settings};
 use crate::stage::Stage;
 use amqp_channel::words::{is_of_connection, number_at, same};
-use amqp_channel::{Agreed, CloseCode, News, Side, blocked_reason, reason_of};
+use amqp_channel::{Agreed, Aligned, CloseCode, News, Side, blocked_reason, reason_of};
 use amqp_method::{Kind, Method};
 
 /// The smaller of two limits, where the other end's 0 means none.
@@ -151,7 +151,7 @@ impl Core {
         ensures settings { self.new.settings ≡ self.old.settings }
     {
         self.stage = Stage::Running(agreed);
-        News::Negotiated(agreed).put_in(news);
+        News::Negotiated(Aligned::new(agreed)).put_in(news);
         Decision::Proceeds(Owed::OpenOk)
     }
 
@@ -165,7 +165,7 @@ impl Core {
         ensures settings { self.new.settings ≡ self.old.settings }
     {
         self.stage = Stage::Running(agreed);
-        News::Negotiated(agreed).put_in(news);
+        News::Negotiated(Aligned::new(agreed)).put_in(news);
         Decision::Proceeds(Owed::Nothing)
     }
 

@@ -18,7 +18,7 @@ use crate::owed::Owed;
 use crate::settings::Settings;
 use crate::stage::Stage;
 use amqp_channel::words::same;
-use amqp_channel::{Agreed, Channels, CloseCode, News, Site, Verdict};
+use amqp_channel::{Agreed, Aligned, Channels, CloseCode, News, Site, Verdict};
 use amqp_method::{Kind, Method};
 use std::alloc::Global;
 
@@ -62,7 +62,7 @@ pub(crate) fn discards(number: u16, news: &mut Option<News>) -> Decision
     ensures decision { result ≡ Decision.Proceeds Owed.Nothing }
     ensures news { news.new ≡ Some (Discarded number) }
 {
-    News::Discarded(number).put_in(news);
+    News::Discarded(Aligned::new(number)).put_in(news);
     Decision::Proceeds(Owed::Nothing)
 }
 

@@ -27,7 +27,7 @@ use crate::faults::OutOfMemory;
 use crate::one_end::{Core, Decision, Fault, Outcome, closes_with, discards};
 use crate::owed::Owed;
 use crate::stage::Stage;
-use amqp_channel::{CloseCode, News, Unread, read_call};
+use amqp_channel::{Aligned, CloseCode, News, Unread, read_call};
 use amqp_frame::FrameKind;
 use amqp_method::Method;
 
@@ -255,7 +255,7 @@ impl Core {
         match decision {
             Decision::Proceeds(owed) => Outcome { fault: None, owed },
             Decision::RefusesContent => {
-                News::Discarded(number).put_in(news);
+                News::Discarded(Aligned::new(number)).put_in(news);
                 Outcome {
                     fault: None,
                     owed: Owed::ChannelClose(number, CloseCode::ContentTooLarge),

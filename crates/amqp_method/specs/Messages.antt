@@ -1,5 +1,5 @@
 -- Messages: methods alone, and methods that a content follows (AMQP 0-9-1 specification, 4.2.6).
-use Rattle.std.specs.Prelude.{◌≡◌, ℕ, List, [], Bool, true, false, Option, Some, None}
+use Rattle.std.specs.Prelude.{◌≡◌, ℕ, List, [], replicate, Bool, true, false, Option, Some, None}
 use Rattle.amqp_method.specs.Arguments.{Argument, Call}
 use Rattle.amqp_method.specs.CarrierView.{carrier_view}
 use Rattle.amqp_method.specs.HeaderView.{properties_view}
@@ -24,6 +24,11 @@ letter_with call properties body = record { call = call; properties = Some prope
 
 abbrev pub content_letter : Content → Letter
 content_letter content = letter_with (carrier_view content.method) (properties_view content.header.properties) content.body.items
+
+-- of a content nothing but its method is there
+abbrev pub IsBlank : Content → Type 0
+IsBlank content =
+    (content.header.body_size ≡ 0) × (properties_view content.header.properties ≡ replicate 14 None) × (content.body.items ≡ [])
 
 abbrev pub letter : Form → Letter
 letter (form.Plain method) = letter_alone (method_view method)

@@ -1,6 +1,6 @@
 -- Reading from the prefix of octets, with the first fault that is met. `end` is the place after the octets, so the
 -- first of them stands at `end - length octets`.
-use Rattle.std.specs.Prelude.{◌≡◌, ℕ, zero, suc, ◌-◌, ◌/◌, ◌%◌, ◌==◌, List, [], ◌∷◌, length, take, drop, Option, Some, None, Result, Ok, Err, nat_lt, if◌then◌else◌, ◌⊎◌}
+use Rattle.std.specs.Prelude.{◌≡◌, ℕ, zero, suc, ◌-◌, ◌/◌, ◌%◌, ◌==◌, List, [], ◌∷◌, ◌++◌, length, take, drop, Option, Some, None, Result, Ok, Err, nat_lt, if◌then◌else◌, ◌⊎◌}
 use Rattle.byteorder.specs.Endian.{big_number}
 use Rattle.amqp_value.specs.Reading.{◌>>=◌, table_at}
 use Rattle.amqp_value.specs.Values.{Pairs}
@@ -90,6 +90,11 @@ field_at LongLong bits end octets = ends_run long_long (number_at 8 end octets)
 field_at ShortStr bits end octets = ends_run short_string (short_string_at end octets)
 field_at LongStr bits end octets = ends_run long_string (long_string_at end octets)
 field_at Table bits end octets = ends_run table (field_table_at end octets)
+
+-- a field's value after these arguments, unless it is reserved
+unfoldable pub taken_at : FieldRow → List Argument → Bits → Reader (List Argument × Bits)
+taken_at f args bits end octets =
+    field_at f.kind bits end octets >>= λ x. Ok ((args ++ keep f.reserved x.0.0 [], x.0.1), x.1)
 
 -- the arguments
 unfoldable pub args_at : List FieldRow → Bits → Reader (List Argument)

@@ -64,12 +64,13 @@ impl Carrier {
 impl Content {
     ghost use Rattle.std.specs.Prelude.{◌≡◌, IfOk};
     ghost use Rattle.amqp_method.specs.CarrierView.{carrier_view};
-    ghost use Rattle.amqp_method.specs.Messages.{content_letter};
+    ghost use Rattle.amqp_method.specs.Messages.{content_letter, IsBlank};
     ghost use Rattle.amqp_method.specs.MessageView.{message_view};
 
-    /// A content of which the method alone is there.
+    /// A content of which the method alone is there: no property, and no octet of a body.
     pub fn begun(alloc: Global, method: Carrier) -> Result<Box<Content>, OutOfMemory>
-        ensures { IfOk result (λ content. carrier_view content.value.method ≡ carrier_view method) }
+        ensures method { IfOk result (λ content. carrier_view content.value.method ≡ carrier_view method) }
+        ensures blank { IfOk result (λ content. IsBlank content.value) }
     {
         let header = Header::default();
         let body = Vec::new(alloc);

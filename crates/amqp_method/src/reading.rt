@@ -1,10 +1,10 @@
 //! Reading methods from octets.
-ghost use Rattle.std.specs.Prelude.{◌≡◌, ◌+◌, ◌^◌, ◌≤◌, ◌<◌, length, map, drop, IfOk, IfErr, Some, Err, []};
+ghost use Rattle.std.specs.Prelude.{◌≡◌, ◌+◌, ◌^◌, ◌≤◌, ◌<◌, ◌++◌, length, map, drop, IfOk, IfErr, OnOk, Some, Err, []};
 ghost use Rattle.byteorder.specs.Endian.{big_number};
 ghost use Rattle.amqp_method.specs.EarlyFaults.{fault_of_ids};
-ghost use Rattle.amqp_method.specs.Arguments.{bit, call};
-ghost use Rattle.amqp_method.specs.Faults.{in_table};
-ghost use Rattle.amqp_method.specs.Reading.{Gives, Bits as RunOfBits, no_bits, ends_at, number_at, short_string_at, long_string_at, field_table_at, bit_at, field_at, args_at, nothing_after, method_at};
+ghost use Rattle.amqp_method.specs.Arguments.{bit, call, keep as keeping};
+ghost use Rattle.amqp_method.specs.Faults.{in_table, out_of_memory};
+ghost use Rattle.amqp_method.specs.Reading.{Gives, Bits as RunOfBits, no_bits, ends_at, number_at, short_string_at, long_string_at, field_table_at, bit_at, taken_at, args_at, nothing_after, method_at};
 ghost use Rattle.amqp_method.specs.Rows.{field_view};
 ghost use Rattle.amqp_method.specs.Views.{arg_view, args_view};
 ghost use Rattle.amqp_value.specs.Tables.{table_view};
@@ -12,7 +12,8 @@ ghost use Rattle.amqp_method.specs.BitsView.{bits_view};
 
 use crate::faults::{MethodFault, MethodFaultKind};
 use crate::fields::{Arg, Field, FieldKind};
-use crate::kinds::{Kind, schema};
+use crate::kinds::Kind;
+use crate::table::row_for;
 use amqp_value::{ShortStr, Table, ValueFault, ValueFaultKind, read_table};
 use byteorder::{BigEndian, ByteOrder};
 use std::alloc::Global;
@@ -204,58 +205,84 @@ fn read_bit(bits: Bits, octets: &[u8], end: usize) -> Result<(bool, Bits, &[u8])
     Ok((bits.packed % 2 == 1, others, octets))
 }
 
-/// The value of a field, the bits of its octet that are left, and the octets after it.
-#[tactic(auto, unfolding(crate::specs::Reading::field_at))]
-fn read_field(
-    alloc: Global,
-    kind: FieldKind,
-    bits: Bits,
-    octets: &[u8],
-    end: usize,
-) -> Result<(Arg, Bits, &[u8]), MethodFault>
-    requires { length octets.now ≤ end }
-    ensures read { Gives (λ x. ((arg_view x.0, bits_view x.1), x.2.now)) result (field_at kind (bits_view bits) end octets.now) }
-    ensures within { IfOk result (λ x. length x.2.now ≤ length octets.now) }
+/// Appends an argument, unless its field is reserved.
+#[inline(always)]
+fn keep(args: &mut Vec<Arg>, reserved: bool, arg: Arg) -> Result<(), MethodFault>
+    ensures ok { OnOk result (args_view args.new.items ≡ args_view args.old.items ++ keeping reserved (arg_view arg) []) }
+    ensures err { IfErr result (λ e. e ≡ out_of_memory) }
 {
-    match kind {
+    if !reserved {
+        args.push(arg)?;
+    }
+    Ok(())
+}
+
+/// Appends the value of a field to the arguments, unless it is reserved. The answer is the bits of its octet that are left, and the
+/// octets after it.
+///
+/// Each arm writes its argument straight to where it is kept: arguments of all kinds that meet in one place are put together
+/// octet by octet.
+#[tactic(auto, unfolding(crate::specs::Reading::field_at, crate::specs::Reading::taken_at))]
+fn read_field<'a>(
+    alloc: Global,
+    field: &Field,
+    bits: Bits,
+    octets: &'a [u8],
+    end: usize,
+    args: &mut Vec<Arg>,
+) -> Result<(Bits, &'a [u8]), MethodFault>
+    requires { length octets.now ≤ end }
+    ensures read { Gives (λ x. ((args_view args.new.items, bits_view x.0), x.1.now)) result (taken_at (field_view field.now) (args_view args.old.items) (bits_view bits) end octets.now) }
+    ensures within { IfOk result (λ x. length x.1.now ≤ length octets.now) }
+{
+    match field.kind {
         FieldKind::Bit => {
             let (holds, bits, after) = read_bit(bits, octets, end)?;
-            Ok((Arg::Bit(holds), bits, after))
+            keep(args, field.reserved, Arg::Bit(holds))?;
+            Ok((bits, after))
         }
         FieldKind::Octet => {
             let (number, after) = read_octet(octets, end)?;
-            Ok((Arg::Octet(number), Bits::NONE, after))
+            keep(args, field.reserved, Arg::Octet(number))?;
+            Ok((Bits::NONE, after))
         }
         FieldKind::Short => {
             let (number, after) = read_short(octets, end)?;
-            Ok((Arg::Short(number), Bits::NONE, after))
+            keep(args, field.reserved, Arg::Short(number))?;
+            Ok((Bits::NONE, after))
         }
         FieldKind::Long => {
             let (number, after) = read_long(octets, end)?;
-            Ok((Arg::Long(number), Bits::NONE, after))
+            keep(args, field.reserved, Arg::Long(number))?;
+            Ok((Bits::NONE, after))
         }
         FieldKind::LongLong => {
             let (number, after) = read_long_long(octets, end)?;
-            Ok((Arg::LongLong(number), Bits::NONE, after))
+            keep(args, field.reserved, Arg::LongLong(number))?;
+            Ok((Bits::NONE, after))
         }
         FieldKind::ShortStr => {
             let (text, after) = read_short_string(alloc, octets, end)?;
-            Ok((Arg::ShortStr(text), Bits::NONE, after))
+            keep(args, field.reserved, Arg::ShortStr(text))?;
+            Ok((Bits::NONE, after))
         }
         FieldKind::LongStr => {
             let (text, after) = read_long_string(alloc, octets, end)?;
-            Ok((Arg::LongStr(text), Bits::NONE, after))
+            keep(args, field.reserved, Arg::LongStr(text))?;
+            Ok((Bits::NONE, after))
         }
         FieldKind::Table => {
             let (table, after) = read_field_table(alloc, octets, end)?;
-            Ok((Arg::Table(table), Bits::NONE, after))
+            keep(args, field.reserved, Arg::Table(table))?;
+            Ok((Bits::NONE, after))
         }
     }
 }
 
-/// The arguments of these fields, and the octets after them.
+/// The arguments of these fields, and the octets after them. There is room for so many at once.
 fn read_args<'a>(
     alloc: Global,
+    count: usize,
     fields: &[Field],
     octets: &'a [u8],
     end: usize,
@@ -264,15 +291,11 @@ fn read_args<'a>(
     ensures read { Gives (λ x. (args_view x.0.items, x.1.now)) result (args_at (map field_view fields.now) no_bits end octets.now) }
     ensures within { IfOk result (λ x. length x.1.now ≤ length octets.now) }
 {
-    let count = fields.iter().filter(|field| !field.reserved).count();
     let mut args = Vec::with_capacity(alloc, count)?;
     let mut bits = Bits::NONE;
     let mut rest = octets;
     for field in fields {
-        let (arg, others, after) = read_field(alloc, field.kind, bits, rest, end)?;
-        if !field.reserved {
-            args.push(arg)?;
-        }
+        let (others, after) = read_field(alloc, field, bits, rest, end, &mut args)?;
         bits = others;
         rest = after;
     }
@@ -294,7 +317,8 @@ pub(crate) fn read_call(alloc: Global, octets: &[u8]) -> Result<(Kind, Vec<Arg>)
             kind: MethodFaultKind::UnknownMethod,
         });
     };
-    let (args, after) = read_args(alloc, schema(kind), after, end)?;
+    let row = row_for(kind);
+    let (args, after) = read_args(alloc, row.arguments, row.fields, after, end)?;
     read_end(after, end)?;
     Ok((kind, args))
 }

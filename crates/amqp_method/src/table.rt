@@ -35,6 +35,8 @@ pub(crate) struct Row {
     pub(crate) answers: Option<Kind>,
     pub(crate) wanted: Wanted,
     pub(crate) fields: &'static [Field],
+    /// how many arguments a method has: one for each field that isn't reserved
+    pub(crate) arguments: usize,
 }
 
 /// A row: the class id and the method id, the name, who sends the method, whether content follows, the request that it
@@ -70,6 +72,7 @@ macro_rules! method {
                 kind: FieldKind::$kind,
                 reserved: is_reserved!($reserved),
             }),*],
+            arguments: 0 $(+ count_of!($reserved))*,
         }
     };
 }
@@ -80,6 +83,16 @@ macro_rules! is_reserved {
     };
     (reserved) => {
         true
+    };
+}
+
+/// How many arguments a field has.
+macro_rules! count_of {
+    (field) => {
+        1
+    };
+    (reserved) => {
+        0
     };
 }
 

@@ -11,4 +11,5 @@ pub mod TableLaws
 pub mod Tags
 pub mod Texts
 pub mod Told
+pub mod Words
 pub mod Written

@@ -18,6 +18,7 @@ use crate::tag::{ScalarTag, Tag, tag_from};
 use crate::values::Value;
 use byteorder::{BigEndian, ByteOrder};
 use std::alloc::Global;
+use std::mem::{forget, replace};
 
 /// How many octets a pair of a table, and a value of an array, are expected to have. Room for as many as the
 /// octets then hold is made at once, but for no more than a few, since a long value looks like many.
@@ -91,54 +92,70 @@ fn name_octets(octets: &[u8], end: usize) -> Result<(&[u8], &[u8], &[u8]), Value
     Ok((name, after, field))
 }
 
-/// The value of fixed size that the octets after its tag are.
+/// Puts a value where there is none that is to be dropped.
 #[inline(always)]
-fn scalar_value(tag: ScalarTag, field: &[u8]) -> Value
+fn put(place: &mut Value, value: Value)
+    ensures { place.new ≡ value }
+{
+    forget(replace(place, value));
+}
+
+/// Puts the value of fixed size that the octets after its tag are.
+#[inline(always)]
+fn put_scalar(place: &mut Value, tag: ScalarTag, field: &[u8])
     requires { length field.now ≡ width_of tag }
-    ensures { view result ≡ scalar (scalar_of tag field.now) }
+    ensures { view place.new ≡ scalar (scalar_of tag field.now) }
 {
     match tag {
-        ScalarTag::Boolean => Value::Boolean(field[0] != 0),
-        ScalarTag::ShortShortInt => Value::ShortShortInt(field[0].cast_signed()),
-        ScalarTag::ShortShortUint => Value::ShortShortUint(field[0]),
-        ScalarTag::ErrataShortInt => Value::ErrataShortInt(BigEndian::read_i16(field)),
-        ScalarTag::ShortInt => Value::ShortInt(BigEndian::read_i16(field)),
-        ScalarTag::ShortUint => Value::ShortUint(BigEndian::read_u16(field)),
-        ScalarTag::LongInt => Value::LongInt(BigEndian::read_i32(field)),
-        ScalarTag::LongUint => Value::LongUint(BigEndian::read_u32(field)),
-        ScalarTag::ErrataLongLongInt => Value::ErrataLongLongInt(BigEndian::read_i64(field)),
-        ScalarTag::LongLongInt => Value::LongLongInt(BigEndian::read_i64(field)),
+        ScalarTag::Boolean => put(place, Value::Boolean(field[0] != 0)),
+        ScalarTag::ShortShortInt => put(place, Value::ShortShortInt(field[0].cast_signed())),
+        ScalarTag::ShortShortUint => put(place, Value::ShortShortUint(field[0])),
+        ScalarTag::ErrataShortInt => put(place, Value::ErrataShortInt(BigEndian::read_i16(field))),
+        ScalarTag::ShortInt => put(place, Value::ShortInt(BigEndian::read_i16(field))),
+        ScalarTag::ShortUint => put(place, Value::ShortUint(BigEndian::read_u16(field))),
+        ScalarTag::LongInt => put(place, Value::LongInt(BigEndian::read_i32(field))),
+        ScalarTag::LongUint => put(place, Value::LongUint(BigEndian::read_u32(field))),
+        ScalarTag::ErrataLongLongInt => {
+            put(place, Value::ErrataLongLongInt(BigEndian::read_i64(field)))
+        }
+        ScalarTag::LongLongInt => put(place, Value::LongLongInt(BigEndian::read_i64(field))),
         ScalarTag::Float => {
             let mut octets = [0; 4];
             octets.copy_from_slice(field);
-            Value::Float(octets)
+            put(place, Value::Float(octets))
         }
         ScalarTag::Double => {
             let mut octets = [0; 8];
             octets.copy_from_slice(field);
-            Value::Double(octets)
+            put(place, Value::Double(octets))
         }
-        ScalarTag::Decimal => Value::Decimal {
-            scale: field[0],
-            number: BigEndian::read_u32(&field[1..]),
-        },
-        ScalarTag::Timestamp => Value::Timestamp(BigEndian::read_u64(field)),
-        ScalarTag::Void => Value::Void,
+        ScalarTag::Decimal => put(
+            place,
+            Value::Decimal {
+                scale: field[0],
+                number: BigEndian::read_u32(&field[1..]),
+            },
+        ),
+        ScalarTag::Timestamp => put(place, Value::Timestamp(BigEndian::read_u64(field))),
+        ScalarTag::Void => put(place, Value::Void),
     }
 }
 
-/// A tag with its value, and the octets after it.
+/// Reads a tag with its value, and puts the value where it is to stay. The answer is the octets after it.
+///
+/// Each arm writes its own value there: values of all kinds that meet in one place are put together octet by octet.
 #[inline(always)]
 #[cycle(read)]
 #[tactic(auto, unfolding(crate::specs::Reading::value_at, crate::specs::Reading::tagged, crate::specs::Reading::after_tag))]
-fn read_value(
+fn read_value<'a>(
     alloc: Global,
-    octets: &[u8],
+    octets: &'a [u8],
     end: usize,
     levels: usize,
-) -> Result<(Value, &[u8]), ValueFault>
+    place: &mut Value,
+) -> Result<&'a [u8], ValueFault>
     requires { length octets.now ≤ end }
-    ensures { Gives (λ x. (view x.0, x.1.now)) result (value_at levels end octets.now) }
+    ensures { Gives (λ x. (view place.new, x.now)) result (value_at levels end octets.now) }
 {
     let Some((octet, rest)) = octets.split_first() else {
         return Err(fault_here(octets, end, ValueFaultKind::PassesItsEnd));
@@ -149,15 +166,18 @@ fn read_value(
     match tag {
         Tag::Fixed(tag) => {
             let (field, after) = prefix(rest, tag.width(), end)?;
-            Ok((scalar_value(tag, field), after))
+            put_scalar(place, tag, field);
+            Ok(after)
         }
         Tag::LongString => {
             let (text, after) = counted_octets(rest, end)?;
-            Ok((Value::LongString(Vec::from_slice(alloc, text)?), after))
+            put(place, Value::LongString(Vec::from_slice(alloc, text)?));
+            Ok(after)
         }
         Tag::ByteArray => {
             let (text, after) = counted_octets(rest, end)?;
-            Ok((Value::ByteArray(Vec::from_slice(alloc, text)?), after))
+            put(place, Value::ByteArray(Vec::from_slice(alloc, text)?));
+            Ok(after)
         }
         Tag::Array => {
             let Some(inner) = levels.checked_sub(1) else {
@@ -165,7 +185,8 @@ fn read_value(
             };
             let (body, after) = counted_octets(rest, end)?;
             let values = read_items(alloc, body, end - after.len(), inner)?;
-            Ok((Value::Array(values), after))
+            put(place, Value::Array(values));
+            Ok(after)
         }
         Tag::Table => {
             let Some(inner) = levels.checked_sub(1) else {
@@ -173,7 +194,8 @@ fn read_value(
             };
             let (body, after) = counted_octets(rest, end)?;
             let pairs = read_pairs(alloc, body, end - after.len(), inner)?;
-            Ok((Value::Table(pairs), after))
+            put(place, Value::Table(pairs));
+            Ok(after)
         }
     }
 }
@@ -192,9 +214,8 @@ fn read_items(
     let mut values = Vec::with_capacity(alloc, body.len().div_ceil(EXPECTED_VALUE).min(FEW))?;
     let mut rest = body;
     while !rest.is_empty() {
-        let (value, after) = read_value(alloc, rest, end, levels)?;
-        values.push(value)?;
-        rest = after;
+        let place = values.push_mut(Value::Void)?;
+        rest = read_value(alloc, rest, end, levels, place)?;
     }
     Ok(values)
 }
@@ -215,9 +236,8 @@ fn read_pairs(
     while !rest.is_empty() {
         let (octets, from_name, field) = name_octets(rest, end)?;
         let name = ShortStr::prefix(alloc, from_name, octets.len())?;
-        let (value, after) = read_value(alloc, field, end, levels)?;
-        pairs.push((name, value))?;
-        rest = after;
+        let pair = pairs.push_mut((name, Value::Void))?;
+        rest = read_value(alloc, field, end, levels, &mut pair.1)?;
     }
     Ok(pairs)
 }

@@ -13,8 +13,12 @@ use std::convert::AsSlice;
 use std::fmt;
 use std::marker::Model;
 
-/// How many octets stand in place, without an allocation: the names of most headers have fewer.
-const IN_PLACE: usize = 30;
+/// How many octets stand in place, without an allocation, which with their length are three words: the names of most headers
+/// have fewer.
+const IN_PLACE: usize = 23;
+
+/// How many octets two words have.
+const FEW: usize = 16;
 
 /// At most 255 octets, any octets.
 #[derive(Drop)]
@@ -22,10 +26,14 @@ pub struct ShortStr {
     store: Store,
 }
 
-/// The octets after `len` say nothing.
+/// The octets after `len` say nothing. They begin at a word, so that they are moved word by word.
 #[derive(Drop)]
 enum Store {
-    InPlace { len: u8, octets: [u8; IN_PLACE] },
+    InPlace {
+        word: [u64; 0],
+        octets: [u8; IN_PLACE],
+        len: u8,
+    },
     Allocated(Vec<u8>),
 }
 
@@ -76,7 +84,7 @@ impl ShortStr {
         ensures short { length self.now ≤ 255 }
     {
         match &self.store {
-            Store::InPlace { len, octets } => &octets[..usize::from(*len)],
+            Store::InPlace { octets, len, .. } => &octets[..usize::from(*len)],
             Store::Allocated(octets) => octets.as_slice(),
         }
     }
@@ -115,9 +123,10 @@ impl ShortStr {
         ensures { IfOk result (λ s. s ≡ self.now) }
     {
         let store = match &self.store {
-            Store::InPlace { len, octets } => Store::InPlace {
-                len: *len,
+            Store::InPlace { octets, len, .. } => Store::InPlace {
+                word: [],
                 octets: *octets,
+                len: *len,
             },
             Store::Allocated(octets) => {
                 Store::Allocated(Vec::from_slice(*octets.allocator(), octets)?)
@@ -141,21 +150,29 @@ impl ShortStr {
         }
         Ok(ShortStr {
             store: Store::InPlace {
-                len: len as u8,
+                word: [],
                 octets: in_place(octets, len),
+                len: len as u8,
             },
         })
     }
 }
 
 /// An array that begins with the first `len` octets.
+///
+/// Few are copied as they are moved later, in words.
 #[inline(always)]
 fn in_place(octets: &[u8], len: usize) -> [u8; IN_PLACE]
     requires within { len ≤ length octets.now }
-    requires room { len ≤ 30 }
+    requires room { len ≤ 23 }
     ensures { take len result ≡ take len octets.now }
 {
     let mut copied = [0; IN_PLACE];
+    if len <= FEW && octets.len() >= FEW {
+        copied[..8].copy_from_slice(&octets[..8]);
+        copied[8..FEW].copy_from_slice(&octets[8..FEW]);
+        return copied;
+    }
     if octets.len() >= IN_PLACE {
         copied.copy_from_slice(&octets[..IN_PLACE]);
         return copied;
