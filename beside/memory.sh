@@ -1,6 +1,6 @@
 #!/usr/bin/env bash
 # What is asked of the allocator, counted: no contract speaks of how much memory is asked for. Of calls, between the marks of the
-# tests `memory::..` in `crates/amqp_*_tests`: exact numbers. Of the program: an input that announces more than it has costs no
+# tests `..::memory::..` in `crates/amqp_codec_tests`: exact numbers. Of the program: an input that announces more than it has costs no
 # more than one that has it, and a large one a small multiple of its octets.
 set -u
 cd "$(dirname "${BASH_SOURCE[0]}")/.." || exit 1
@@ -9,9 +9,7 @@ place=$(mktemp -d) || exit 1
 trap 'rm -rf "$place"' EXIT
 gcc -O2 -shared -fPIC -o "$place/count.so" beside/memory/count.c -ldl || exit 1
 
-for crate in amqp_frame_tests amqp_value_tests amqp_method_tests; do
-    beside/built_tests "$crate" || exit 1
-done
-python3 beside/memory/marked.py "$place/count.so" || exit 1
+beside/built_tests amqp_codec_tests || exit 1
+python3 beside/memory/marked.py crates/amqp_codec_tests/out/amqp_codec_tests_tests "$place/count.so" || exit 1
 beside/built_program || exit 1
 python3 beside/memory/counted.py crates/amqp/out/amqp "$place/count.so"

@@ -159,7 +159,7 @@ def tags_of_code(rows):
     read = re.findall(r"b'(.)' => Some\(Tag::(?:Fixed\(ScalarTag::)?(\w+)\)?\),", text_of(source + "tag.rt"))
     compare("tags", [row[:2] for row in rows], read, "tag.rt")
     written = text_of(source + "write.rt")
-    printed = text_of(source + "text.rt")
+    printed = text_of(source + "display.rt")
     declared = text_of(source + "values.rt")
     said = re.findall(r"^    /// `(.)`[^\n]*\n(?:    ///[^\n]*\n)*    (\w+)", declared, re.M)
     compare("tags", [row[:2] for row in rows], said, "values.rt")
@@ -175,7 +175,7 @@ def tags_of_code(rows):
             differences.append(f"tags: tag.rt has {widths[variant]} octets for {variant}, and docs/PROTOCOL.md {octets}")
         if (variant in widths) != octets.isdigit():
             differences.append(f"tags: tag.rt and docs/PROTOCOL.md differ on whether {variant} has a fixed size")
-        for file, text, place in (("write.rt", written, "put_value"), ("text.rt", printed, "put_value")):
+        for file, text, place in (("write.rt", written, "put_value"), ("display.rt", printed, "write_value<W: fmt::Write>")):
             arm = arm_of(text, place, variant, text)
             if not re.search(rf"""['"\[]{tag}['":\[{{]""", arm):
                 differences.append(f"tags: {file} has no tag {tag} for {variant}: {arm.strip()}")
@@ -187,11 +187,12 @@ def arm_of(text, function, variant, whole):
     arm = re.search(rf"Value::{variant}\b[^\n]*=>([^\n]*)", body)
     if not arm:
         return ""
-    called = re.match(r"\s*(put_\w+)\(", arm[1])
+    called = re.match(r"\s*((?:put|write)_\w+)\(", arm[1])
     own = re.search(r"""b?["'][^"']+["']""", arm[1])
-    if own or not called or f"fn {called[1]}(" not in whole:
+    function = called and re.search(rf"fn {called[1]}(?:<[^>]*>)?\(", whole)
+    if own or not function:
         return arm[1]
-    return " ".join(re.findall(r"""b?["'][^"']+["']""", whole.split(f"fn {called[1]}(")[1].split("\n}\n")[0]))
+    return " ".join(re.findall(r"""b?["'][^"']+["']""", whole[function.end():].split("\n}\n")[0]))
 
 
 def tags_of_definitions(rows):
@@ -228,8 +229,8 @@ def properties():
     functions = {"short-string": "text", "table": "table", "octet": "octet", "long-long": "long_long"}
     order = re.findall(r"(\w+)\(&?properties\.(\w+)\)", lent)
     compare("properties", [(functions[row[3]], row[2]) for row in rows], order, "properties.rt")
-    names = text_of("crates/amqp_method/src/texts.rt").split("PROPERTY_NAMES")[1].split("= [")[1].split("];")[0]
-    compare("properties", [row[1] for row in rows], re.findall(r'"([^"]+)"', names), "texts.rt")
+    names = text_of("crates/amqp_method/src/properties.rt").split("static PROPERTY_NAMES")[1].split("= [")[1].split("];")[0]
+    compare("properties", [row[1] for row in rows], re.findall(r'"([^"]+)"', names), "properties.rt")
     specs = text_of("crates/amqp_method/specs/Properties.antt").split("property_rows =")[1].split("[]")[0]
     defined = [(name, FIELD_KINDS[kind]) for kind, name in re.findall(r'property (\w+) \(codes "([^"]+)"\)', specs)]
     compare("properties", [(row[1], row[3]) for row in rows], defined, "the definition")

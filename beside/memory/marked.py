@@ -1,34 +1,34 @@
-"""Runs the tests that mark their calls (`crates/amqp_*_tests/src/memory.rt`) with the allocator's requests counted, and compares
+"""Runs the tests that mark their calls (`crates/amqp_codec_tests/src/*/memory.rt`) with the allocator's requests counted, and compares
 each part between two marks with what the call is to take: how many requests, and of how many octets in all."""
 
 import subprocess
 import sys
 import tempfile
 
-SHIM = sys.argv[1]
-# What one of these takes where it lies. A short string has its form and its length, an octet each, and room for 30 octets, which take
-# no memory of their own; a value has its tag and at most a vector's three words; an argument has its kind and at most a short string.
+PROGRAM, SHIM = sys.argv[1:]
+# What one of these takes where it lies. A short string has its form, in a word, room for 23 octets, which take no memory of their own,
+# and an octet with their count; a value has its tag and at most a vector's three words; an argument has its kind and at most a short
+# string.
 WORD = 8
-SHORT_STRING = 2 + 30
+SHORT_STRING = WORD + 23 + 1
 VALUE = WORD + 3 * WORD
 PAIR = SHORT_STRING + VALUE
 ARGUMENT = WORD + SHORT_STRING
-FRAMES, VALUES, METHODS = "amqp_frame_tests", "amqp_value_tests", "amqp_method_tests"
-# crate, test, and for each part its number, its requests, their octets in all, and why
+# test, and for each part its number, its requests, their octets in all, and why
 WANTED = (
-    (FRAMES, "frames_in_place_take_none", (
+    ("frames::memory::frames_in_place_take_none", (
         (1, 0, 0, "a frame that lies whole in the piece is lent from it"),
         (2, 1, 60_000, "`feed` copies the payload, in one request"),
     )),
-    (FRAMES, "announced_octets_take_none", (
+    ("frames::memory::announced_octets_take_none", (
         (3, 2, 8 + 16, "16 octets of an announced megabyte are kept: the first seven in a buffer of eight, and then all in one of twice that"),
     )),
-    (FRAMES, "frames_take_what_they_have", (
+    ("frames::memory::frames_take_what_they_have", (
         (4, 1, 50_000, "a copy of a lent frame takes its payload"),
         (5, 1, 50_008, "room for the whole frame is made at once"),
         (6, 0, 0, "an output with room takes none"),
     )),
-    (VALUES, "tables_take_what_they_have", (
+    ("values::memory::tables_take_what_they_have", (
         (10, 0, 0, "an outer count that is greater than what is there is refused before anything is taken"),
         (11, 1, PAIR, "room for the pair is made, and none for a string that isn't there"),
         (12, 1, PAIR, "nor for an array"),
@@ -39,7 +39,7 @@ WANTED = (
         (17, 3, 2 * PAIR + 2 * VALUE + VALUE, "17 octets look like two pairs, 10 like two values of eight, five like one; the array inside has none"),
         (18, 2, 2 * PAIR + 2 * VALUE, "the same, up to the array whose count is greater than what is there"),
     )),
-    (METHODS, "methods_take_what_they_have", (
+    ("methods::memory::methods_take_what_they_have", (
         (30, 0, 0, "a method without arguments takes none"),
         (31, 0, 0, "it is written into an output with room"),
         (32, 1, 4 * ARGUMENT, "four arguments take one request; short names lie in them"),
@@ -50,22 +50,21 @@ WANTED = (
 )
 
 
-def counted(crate, test):
+def counted(test):
     """The parts of a test: number, requests, octets in all. The last line, of what stands outside of all parts, is left out."""
-    program = f"crates/{crate}/out/{crate}_tests"
     with tempfile.TemporaryFile() as told:
-        words = ["bash", "-c", f'exec 9>&{told.fileno()}; LD_PRELOAD="$1" exec "$2" "$3"', "-", SHIM, program, f"memory::{test}"]
+        words = ["bash", "-c", f'exec 9>&{told.fileno()}; LD_PRELOAD="$1" exec "$2" "$3"', "-", SHIM, PROGRAM, test]
         ran = subprocess.run(words, stdout=subprocess.PIPE, stderr=subprocess.STDOUT, timeout=60, check=False, pass_fds=[told.fileno()])
         if ran.returncode:
-            sys.exit(f"{crate}, {test}: {ran.stdout.decode(errors='replace')}")
+            sys.exit(f"{test}: {ran.stdout.decode(errors='replace')}")
         told.seek(0)
         *parts, _ = told.read().decode().splitlines()
     return [tuple(int(word) for word in part.split()[:3]) for part in parts]
 
 
 differences = []
-for crate, test, parts in WANTED:
-    found = {number: counts for number, *counts in counted(crate, test)}
+for test, parts in WANTED:
+    found = {number: counts for number, *counts in counted(test)}
     for number, requests, octets, why in parts:
         counts = found.pop(number, "nothing")
         if counts != [requests, octets]:

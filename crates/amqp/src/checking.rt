@@ -137,7 +137,7 @@ fn print_reported<R: Role, W: Write>(
     let Some(event) = event else {
         return Ok(());
     };
-    let printed = print_event(alloc, &event, output);
+    let printed = print_event(&event, output);
     drop(event);
     printed?;
     print_output(alloc, end, output)

@@ -2,7 +2,6 @@
 use crate::input::InputFault;
 use amqp_core::{AskFault, ConfigFault, CoreFault};
 use amqp_method::OutOfMemory;
-use amqp_text::PrintFault;
 use amqp_text::statuses::FAULT;
 use std::alloc::AllocError;
 use std::io::{self, Write};
@@ -43,15 +42,6 @@ impl From<InputFault> for Stop {
             InputFault::Read(failure) => Stop::NotGiven(failure),
             InputFault::NotHex(line) => Stop::NotHex(line),
             InputFault::OutOfMemory => Stop::OutOfMemory,
-        }
-    }
-}
-
-impl From<PrintFault> for Stop {
-    fn from(fault: PrintFault) -> Stop {
-        match fault {
-            PrintFault::NotWritten(failure) => Stop::NotWritten(failure),
-            PrintFault::OutOfMemory => Stop::OutOfMemory,
         }
     }
 }

@@ -18,20 +18,19 @@ pub fn serve<S: Stream, W: Write>(
 ) -> Result<u8, Stop> {
     let end = server_end(alloc, limits)?;
     let mut session = Session::new(alloc, end, stream);
-    let run = serve_session(alloc, &mut session, output);
+    let run = serve_session(&mut session, output);
     drop(session);
     run
 }
 
 /// Takes what comes until the connection is closed. The events of each read are printed before the next.
 fn serve_session<S: Stream, W: Write>(
-    alloc: Global,
     session: &mut Session<Server, S>,
     output: &mut W,
 ) -> Result<u8, Stop> {
     for _ in 0..u64::MAX {
         let pulled = pull(session);
-        print_events(alloc, session, output)?;
+        print_events(session, output)?;
         if settle(session, pulled)? {
             break;
         }
@@ -41,7 +40,6 @@ fn serve_session<S: Stream, W: Write>(
 
 /// Prints the events that came.
 fn print_events<S: Stream, W: Write>(
-    alloc: Global,
     session: &mut Session<Server, S>,
     output: &mut W,
 ) -> Result<(), Stop> {
@@ -49,15 +47,15 @@ fn print_events<S: Stream, W: Write>(
         let Some(event) = session.next_event() else {
             break;
         };
-        print_owned(alloc, event, output)?;
+        print_owned(event, output)?;
     }
     output.flush()?;
     Ok(())
 }
 
 /// Prints an event, and lets it go.
-fn print_owned<W: Write>(alloc: Global, event: Event, output: &mut W) -> Result<(), Stop> {
-    let printed = print_event(alloc, &event, output);
+fn print_owned<W: Write>(event: Event, output: &mut W) -> Result<(), Stop> {
+    let printed = print_event(&event, output);
     drop(event);
     Ok(printed?)
 }

@@ -30,13 +30,10 @@ reply_kind OpenOk = notes.OpenOk
 reply_kind CloseOk = notes.CloseOk
 reply_kind (FlowOk active) = notes.FlowOk active
 
-abbrev pub reply_there : Option Reply → Option notes.Kind
-reply_there None = None
-reply_there (Some reply) = Some (reply_kind reply)
-
 -- the verdict on a frame of the channel with this number, which tells these news
 abbrev pub verdict_view : (number : ℕ) → Option News → Verdict → FrameVerdict
-verdict_view number news (code.Proceeds reply) = Proceeds (news_there news) (map (on_channel number) (reply_to (reply_there reply)))
+verdict_view number news code.Proceeds = Proceeds (news_there news) []
+verdict_view number news (code.Owes reply) = Proceeds (news_there news) (map (on_channel number) (reply_to (Some (reply_kind reply))))
 verdict_view number news code.RefusesContent = RefusesContent
 verdict_view number news (code.Faults fault) = Faults (Peer (code_view fault))
 

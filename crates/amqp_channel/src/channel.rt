@@ -35,10 +35,10 @@ use std::alloc::Global;
 /// A frame that is dropped, which is reported to the application.
 fn discards(site: Site, news: &mut Option<News>) -> Verdict
     ensures verdict { verdict_view site.number news.new result ≡ Proceeds (Some (Discarded site.number)) [] }
-    ensures alone { result ≡ Verdict.Proceeds None }
+    ensures alone { result ≡ Verdict.Proceeds }
 {
     News::Discarded(Aligned::new(site.number)).put_in(news);
-    Verdict::Proceeds(None)
+    Verdict::Proceeds
 }
 
 /// What is kept of a channel.
@@ -99,12 +99,12 @@ impl Channel {
         match method.kind() {
             Kind::ChannelClose => {
                 News::Quiet.put_in(news);
-                Verdict::Proceeds(Some(Reply::CloseOk))
+                Verdict::Owes(Reply::CloseOk)
             }
             Kind::ChannelCloseOk => {
                 *self = Channel::Free;
                 News::ChannelClosed(Aligned::new(site.number), None).put_in(news);
-                Verdict::Proceeds(None)
+                Verdict::Proceeds
             }
             _ => discards(site, news),
         }
@@ -121,7 +121,7 @@ impl Channel {
             (Side::Server, Kind::ChannelOpen) => {
                 *self = Channel::Open(Life::new());
                 News::Opened(Aligned::new(site.number)).put_in(news);
-                Verdict::Proceeds(Some(Reply::OpenOk))
+                Verdict::Owes(Reply::OpenOk)
             }
             (Side::Server, Kind::ChannelOpenOk) | (Side::Client, Kind::ChannelOpen) => {
                 Verdict::Faults(CloseCode::CommandInvalid)
@@ -148,12 +148,12 @@ impl Channel {
                 let reason = reason_of(method)?;
                 *self = Channel::Free;
                 News::ChannelClosed(Aligned::new(site.number), Some(reason)).put_in(news);
-                Ok(Verdict::Proceeds(Some(Reply::CloseOk)))
+                Ok(Verdict::Owes(Reply::CloseOk))
             }
             (Side::Client, Kind::ChannelOpenOk) => {
                 *self = Channel::Open(Life::new());
                 News::Opened(Aligned::new(site.number)).put_in(news);
-                Ok(Verdict::Proceeds(None))
+                Ok(Verdict::Proceeds)
             }
             (Side::Server, Kind::ChannelOpenOk) | (Side::Client, Kind::ChannelOpen) => {
                 Ok(Verdict::Faults(CloseCode::CommandInvalid))
@@ -181,7 +181,7 @@ impl Channel {
             let reason = reason_of(&method)?;
             *self = Channel::Free;
             News::ChannelClosed(Aligned::new(site.number), Some(reason)).put_in(news);
-            return Ok(Verdict::Proceeds(Some(Reply::CloseOk)));
+            return Ok(Verdict::Owes(Reply::CloseOk));
         }
         match self {
             Channel::Open(life) => life.take_method(alloc, site, method, news),
@@ -236,7 +236,7 @@ impl Channel {
         ensures verdict { IfOk result (λ v. Decides site (channel_view self.old) (header_reading (header_at payload.now)) (verdict_view site.number news.new v)) }
         ensures after { IfOk result (λ v. (frame : Frame) → LeavesAfter (role_of site.side) site.number frame (header_reading (header_at payload.now)) (verdict_view site.number news.new v) (channel_view self.old) (channel_view self.new)) }
         ensures err { OnErr result (channel_view self.new ≡ channel_view self.old) }
-        ensures dropped { is_closing_at (channel_view self.old) ≡ true → result ≡ Ok (Verdict.Proceeds None) }
+        ensures dropped { is_closing_at (channel_view self.old) ≡ true → result ≡ Ok Verdict.Proceeds }
     {
         match self {
             Channel::Closing => Ok(discards(site, news)),
@@ -252,7 +252,8 @@ impl Channel {
                         *self = Channel::Closing;
                         Ok(Verdict::RefusesContent)
                     }
-                    Verdict::Proceeds(reply) => Ok(Verdict::Proceeds(reply)),
+                    Verdict::Proceeds => Ok(Verdict::Proceeds),
+                    Verdict::Owes(reply) => Ok(Verdict::Owes(reply)),
                     Verdict::Faults(code) => Ok(Verdict::Faults(code)),
                 }
             }
@@ -271,7 +272,7 @@ impl Channel {
         ensures verdict { IfOk result (λ v. Decides site (channel_view self.old) (BodyOf octets.now) (verdict_view site.number news.new v)) }
         ensures after { IfOk result (λ v. (frame : Frame) → LeavesAfter (role_of site.side) site.number frame (BodyOf octets.now) (verdict_view site.number news.new v) (channel_view self.old) (channel_view self.new)) }
         ensures err { OnErr result (channel_view self.new ≡ channel_view self.old) }
-        ensures dropped { is_closing_at (channel_view self.old) ≡ true → result ≡ Ok (Verdict.Proceeds None) }
+        ensures dropped { is_closing_at (channel_view self.old) ≡ true → result ≡ Ok Verdict.Proceeds }
     {
         match self {
             Channel::Closing => Ok(discards(site, news)),

@@ -171,7 +171,7 @@ impl Channels {
         ensures others { OnlyAt site.number (channels_view self.old) (channels_view self.new) }
         ensures err { OnErr result (channels_view self.new site.number ≡ channels_view self.old site.number) }
         // Where this end has closed the channel, the frame is dropped, which takes no memory.
-        ensures dropped { is_closing_at (channels_view self.old site.number) ≡ true → result ≡ Ok (Verdict.Proceeds None) }
+        ensures dropped { is_closing_at (channels_view self.old site.number) ≡ true → result ≡ Ok Verdict.Proceeds }
     {
         let number = site.number;
         match self.used.get_mut(&number) {
@@ -199,7 +199,7 @@ impl Channels {
         ensures others { OnlyAt site.number (channels_view self.old) (channels_view self.new) }
         ensures err { OnErr result (channels_view self.new site.number ≡ channels_view self.old site.number) }
         // Where this end has closed the channel, the frame is dropped, which takes no memory.
-        ensures dropped { is_closing_at (channels_view self.old site.number) ≡ true → result ≡ Ok (Verdict.Proceeds None) }
+        ensures dropped { is_closing_at (channels_view self.old site.number) ≡ true → result ≡ Ok Verdict.Proceeds }
     {
         let number = site.number;
         match self.used.get_mut(&number) {

@@ -108,7 +108,7 @@ fn write_negotiated<W: fmt::Write>(
 }
 
 /// Prints the event's line, without a line feed at its end. The event of a content has two more lines, as its
-/// [`Message`] prints them. The event of a method takes memory for its text, where its arguments have theirs; nothing else does.
+/// [`Message`] prints them. That takes no memory of its own.
 impl fmt::Display for Event {
     ghost output = { λ event. Some (event_text event) };
 

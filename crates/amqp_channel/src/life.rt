@@ -78,7 +78,7 @@ impl Life {
                 let active = bit_at(0, &method);
                 self.standing.pause(!active);
                 News::Flow(Aligned::new(site.number), active).put_in(news);
-                Ok(Verdict::Proceeds(Some(Reply::FlowOk(active))))
+                Ok(Verdict::Owes(Reply::FlowOk(active)))
             }
             Kind::ChannelFlowOk => {
                 if !self.standing.awaits_flow_ok() {
@@ -86,7 +86,7 @@ impl Life {
                 }
                 self.standing.await_flow_ok(false);
                 News::FlowOk(Aligned::new(site.number), bit_at(0, &method)).put_in(news);
-                Ok(Verdict::Proceeds(None))
+                Ok(Verdict::Proceeds)
             }
             Kind::ChannelOpen => Ok(Verdict::Faults(match site.side {
                 Side::Client => CloseCode::CommandInvalid,
@@ -108,7 +108,7 @@ impl Life {
             self.standing.answer_request();
         }
         News::Content(Aligned::new(site.number), content).put_in(news);
-        Verdict::Proceeds(None)
+        Verdict::Proceeds
     }
 
     /// What comes of a part of a body, of which the content under way says no more.
@@ -118,7 +118,7 @@ impl Life {
         ensures after { life_view self.new ≡ without_answered (role_of site.side) (step_view part self.old.content) (life_view self.old) }
     {
         match part {
-            Part::Kept => Verdict::Proceeds(None),
+            Part::Kept => Verdict::Proceeds,
             Part::Completed(content) => self.complete(site, content, news),
             Part::Misfits(Misfit::PastSize) => Verdict::Faults(CloseCode::FrameError),
             Part::Misfits(Misfit::NothingBegun) => Verdict::Faults(CloseCode::UnexpectedFrame),
@@ -177,7 +177,7 @@ impl Life {
         ensures after { life_view self.new ≡ without_answered (role_of site.side) (heading_step heading (life_view self.old).content) (life_view self.old) }
     {
         match heading {
-            Heading::Kept => Verdict::Proceeds(None),
+            Heading::Kept => Verdict::Proceeds,
             Heading::Completed(content) => self.complete(site, content, news),
             Heading::TooLarge => Verdict::RefusesContent,
             Heading::Malformed => Verdict::Faults(CloseCode::SyntaxError),
@@ -247,13 +247,13 @@ impl Life {
         if carries_content(&method) {
             let content = Content::begun(alloc, Carrier::new(method))?;
             self.content = Gathering::HeaderDue(content);
-            return Ok(Verdict::Proceeds(None));
+            return Ok(Verdict::Proceeds);
         }
         if replies {
             self.standing.answer_request();
         }
         News::Method(Aligned::new(site.number), Lone::new(method)).put_in(news);
-        Ok(Verdict::Proceeds(None))
+        Ok(Verdict::Proceeds)
     }
 
     /// What a server takes: so many requests are kept, and no more.
@@ -283,12 +283,12 @@ impl Life {
                 self.standing.keep_request(alloc, kind)?;
             }
             self.content = Gathering::HeaderDue(content);
-            return Ok(Verdict::Proceeds(None));
+            return Ok(Verdict::Proceeds);
         }
         if asks {
             self.standing.keep_request(alloc, method.kind())?;
         }
         News::Method(Aligned::new(site.number), Lone::new(method)).put_in(news);
-        Ok(Verdict::Proceeds(None))
+        Ok(Verdict::Proceeds)
     }
 }

@@ -14,8 +14,10 @@ pub enum Reply {
 /// What comes of a frame, beside what it tells the application: that goes where the caller has room for it.
 #[derive(Clone, Copy)]
 pub enum Verdict {
+    /// The end goes on, and owes nothing.
+    Proceeds,
     /// The end goes on, and owes a reply.
-    Proceeds(Option<Reply>),
+    Owes(Reply),
     /// The content is refused at its header: the channel is closed with its code.
     RefusesContent,
     /// The connection is closed with this code.

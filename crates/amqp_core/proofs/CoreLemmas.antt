@@ -17,7 +17,7 @@ use Rattle.amqp_model.specs.Readings.{Reading, Beat}
 use Rattle.amqp_channel.specs.ChannelsView.{OnlyAt}
 use Rattle.amqp_channel.specs.EventView.{agreed_view}
 use Rattle.amqp_channel.specs.Roles.{role_of}
-use Rattle.amqp_channel.specs.VerdictView.{verdict_view, reply_there, Decides, LeavesAfter}
+use Rattle.amqp_channel.specs.VerdictView.{verdict_view, reply_kind, Decides, LeavesAfter}
 use Rattle.amqp_channel.specs.declared.events.Agreed as code_agreed
 use Rattle.amqp_channel.specs.declared.news.News.{News}
 use Rattle.amqp_channel.specs.declared.verdict.Site.{Site}
@@ -47,10 +47,14 @@ same_end before after number phase agreed only =
     ∙ ap (λ c. record { phase = before.phase; agreed = before.agreed; channels = c }) (set_only number before.channels after.channels only))
 
 left_by : (role : Role) (config : Config role) (number : ℕ) (reading : Reading) (news : Option News) (verdict : Verdict) (before after : End) → 0 < number → leaves before.phase ≡ false → after.phase ≡ before.phase → after.agreed ≡ before.agreed → OnlyAt number before.channels after.channels → ((frame : Frame) → LeavesAfter role number frame reading (verdict_view number news verdict) (before.channels number) (after.channels number)) → EndLeft config number reading (verdict_view number news verdict) before after
-left_by role config number reading news (code.Proceeds reply) before after h stays phase agreed only leaves = λ kind payload.
+left_by role config number reading news code.Proceeds before after h stays phase agreed only leaves = λ kind payload.
     same_end before after number phase agreed only
     ∙ (ap (λ c. with_channel number c before) (leaves (frame_at number kind payload))
-    ∙ sym (taken_above role config number (TookHere reading (frame_at number kind payload)) (reply_to (reply_there reply)) before h stays))
+    ∙ sym (taken_above role config number (TookHere reading (frame_at number kind payload)) [] before h stays))
+left_by role config number reading news (code.Owes reply) before after h stays phase agreed only leaves = λ kind payload.
+    same_end before after number phase agreed only
+    ∙ (ap (λ c. with_channel number c before) (leaves (frame_at number kind payload))
+    ∙ sym (taken_above role config number (TookHere reading (frame_at number kind payload)) (reply_to (Some (reply_kind reply))) before h stays))
 left_by role config number reading news code.RefusesContent before after h stays phase agreed only leaves = λ kind payload.
     same_end before after number phase agreed only
     ∙ (ap (λ c. with_channel number c before) (leaves (frame_at number kind payload))

@@ -1,5 +1,5 @@
 -- A channel's step is the end's.
-use Rattle.std.proofs.Common.{◌≡◌, ◌<◌, ◌==◌, Bool, true, false, cond, ℕ, zero, suc, List, [], ◌∷◌, map, Option, refl, ap, sym, ◌∙◌, arith}
+use Rattle.std.proofs.Common.{◌≡◌, ◌<◌, ◌==◌, Bool, true, false, cond, ℕ, zero, suc, List, [], ◌∷◌, map, Option, Some, refl, ap, sym, ◌∙◌, arith}
 use Rattle.std.proofs.lemmas.Bool.{eq-eqb, false≢true}
 use Rattle.amqp_frame.specs.declared.frames.FrameKind.{FrameKind}
 use Rattle.amqp_method.specs.declared.kinds.Kind.TheVariants as kinds
@@ -14,7 +14,7 @@ use Rattle.amqp_model.specs.Methods.{Method}
 use Rattle.amqp_model.specs.Negotiation.{Config}
 use Rattle.amqp_model.specs.Readings.{Reading, Calls}
 use Rattle.amqp_channel.specs.Roles.{role_of}
-use Rattle.amqp_channel.specs.VerdictView.{reply_there, after_owed}
+use Rattle.amqp_channel.specs.VerdictView.{reply_kind, after_owed}
 use Rattle.amqp_channel.specs.declared.news.News.{News}
 use Rattle.amqp_channel.specs.declared.verdict.Site.{Site}
 use Rattle.amqp_channel.specs.declared.verdict.Verdict.{Verdict}
@@ -61,10 +61,15 @@ step_by site config frame_max channels kind payload reading methods after h afte
     ∙ ap (λ c. running_end site frame_max (set_channel site.number c channels)) (sym after_is))
 
 pub steps_as_end : (site : Site) (config : Config (role_of site.side)) (frame_max : ℕ) (channels : ℕ → Channel) (kind : FrameKind) (payload : List ℕ) (reading : Reading) (news : Option News) (verdict : Verdict) (after : Channel) → StepsAsEnd site config frame_max channels kind payload reading news verdict after
-steps_as_end site config frame_max channels kind payload reading news (code.Proceeds reply) after h most decides leaves goes =
+steps_as_end site config frame_max channels kind payload reading news code.Proceeds after h most decides leaves goes =
     record {
       verdict_is = sym (decides config frame_max most);
-      end_is = by_verdict site config frame_max channels (TookHere reading (frame_here site kind payload)) _ _ (sym (decides config frame_max most)) ∙ step_by site config frame_max channels kind payload reading (reply_to (reply_there reply)) after h leaves;
+      end_is = by_verdict site config frame_max channels (TookHere reading (frame_here site kind payload)) _ _ (sym (decides config frame_max most)) ∙ step_by site config frame_max channels kind payload reading [] after h leaves;
+    }
+steps_as_end site config frame_max channels kind payload reading news (code.Owes reply) after h most decides leaves goes =
+    record {
+      verdict_is = sym (decides config frame_max most);
+      end_is = by_verdict site config frame_max channels (TookHere reading (frame_here site kind payload)) _ _ (sym (decides config frame_max most)) ∙ step_by site config frame_max channels kind payload reading (reply_to (Some (reply_kind reply))) after h leaves;
     }
 steps_as_end site config frame_max channels kind payload reading news code.RefusesContent after h most decides leaves goes =
     record {

@@ -24,11 +24,13 @@ abbrev pub frame_here : Site → FrameKind → List ℕ → Frame
 frame_here site kind payload = record { kind = kind; channel = site.number; payload = payload }
 
 -- the verdict is the end's, and the end keeps the channel that is left, and all else as it was
-pub record IsStepOfEnd (site : Site) (config : Config (role_of site.side)) (frame_max : ℕ) (channels : ℕ → Channel) (frame : Frame) (reading : Reading) (news : Option News) (verdict : Verdict) (after : Channel) : Type 0 where
+pub record IsStepOfEnd (site : Site) (config : Config (role_of site.side)) (frame_max : ℕ) (channels : ℕ → Channel) (frame : Frame)
+    (reading : Reading) (news : Option News) (verdict : Verdict) (after : Channel) : Type 0 where
   pub verdict_is : taken_verdict config (running_end site frame_max channels) site.number reading ≡ verdict_view site.number news verdict
   pub end_is : end_after_taken (role_of site.side) config (running_end site frame_max channels) reading frame ≡ running_end site frame_max (set_channel site.number after channels)
 
-abbrev pub StepsAsEnd : (site : Site) → Config (role_of site.side) → (frame_max : ℕ) → (ℕ → Channel) → FrameKind → List ℕ → Reading → Option News → Verdict → Channel → Type 0
+abbrev pub StepsAsEnd : (site : Site) → Config (role_of site.side) → (frame_max : ℕ) → (ℕ → Channel)
+    → FrameKind → List ℕ → Reading → Option News → Verdict → Channel → Type 0
 StepsAsEnd site config frame_max channels kind payload reading news verdict after =
     0 < site.number → config.max_body ≡ site.max_body → Decides site (channels site.number) reading (verdict_view site.number news verdict)
     → LeavesAfter (role_of site.side) site.number (frame_here site kind payload) reading (verdict_view site.number news verdict) (channels site.number) after

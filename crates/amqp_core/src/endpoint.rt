@@ -155,8 +155,8 @@ impl Endpoint {
         Err(CoreFault::Fatal)
     }
 
-    /// Octets of frames.
-    #[inline(never)]
+    /// Octets of frames. It stands where it is called, which spares each frame the way there.
+    #[inline(always)]
     fn read(
         &mut self,
         piece: &[u8],

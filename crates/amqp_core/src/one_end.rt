@@ -119,13 +119,11 @@ impl Core {
     /// What comes of a frame that a channel took.
     fn decide(number: u16, verdict: Verdict) -> Decision
         ensures decision { (settings : Settings) (news : Option News) → decision_view settings news result ≡ verdict_view number news verdict }
-        ensures alone { verdict ≡ Verdict.Proceeds None → OwesNothing result }
+        ensures alone { verdict ≡ Verdict.Proceeds → OwesNothing result }
     {
         match verdict {
-            Verdict::Proceeds(reply) => match reply {
-                Some(reply) => Decision::Proceeds(Owed::OnChannel(number, reply)),
-                None => Decision::Proceeds(Owed::Nothing),
-            },
+            Verdict::Proceeds => Decision::Proceeds(Owed::Nothing),
+            Verdict::Owes(reply) => Decision::Proceeds(Owed::OnChannel(number, reply)),
             Verdict::RefusesContent => Decision::RefusesContent,
             Verdict::Faults(code) => Decision::Faults(Fault::Peer(code)),
         }

@@ -1,11 +1,24 @@
--- Texts of properties, one after the other.
-use Rattle.std.proofs.Common.{◌≡◌, ℕ, ◌+◌, ◌<◌, ◌≤◌, Bool, true, false, ◌&&◌, List, [], ◌∷◌, ◌++◌, length, drop, get_or, refl, sym, ap, ◌∙◌, append_assoc, add-one, drop-cons}
+-- Texts of arguments and of properties, one after the other.
+use Rattle.std.proofs.Common.{◌≡◌, ℕ, ◌+◌, ◌<◌, ◌≤◌, Bool, true, false, ◌&&◌, List, [], ◌∷◌, ◌++◌, length, map, drop, get_or, refl, sym, ap, ◌∙◌, append_assoc, add-one, drop-cons}
 use Rattle.std.proofs.lemmas.List.{append-nil, drop_all}
 use Rattle.amqp_method.specs.Arguments.{Argument}
 use Rattle.amqp_method.specs.Lent.{lent_view, lent_views}
 use Rattle.std.specs.Prelude.{codes, Option, Some, None, is_none}
-use Rattle.amqp_method.specs.Texts.{argument_text, named_text, space_text, parted, property_text, properties_text}
+use Rattle.amqp_method.specs.Methods.{FieldRow}
+use Rattle.amqp_method.specs.Plain.{left_by}
+use Rattle.amqp_method.specs.Rows.{field_view}
+use Rattle.amqp_method.specs.Texts.{argument_text, field_text, fields_text, named_text, space_text, parted, property_text, properties_text}
+use Rattle.amqp_method.specs.declared.fields.Field.{Field}
 use Rattle.amqp_method.specs.declared.properties.Lent.{Lent}
+use Rattle.amqp_method.proofs.FitLemmas.{field_here}
+
+-- the text of one field more is written
+pub field_step : (fields : List Field) (i : ℕ) (d : Field) (args others : List Argument) (done all : List ℕ) → i < length fields
+    → others ≡ left_by (get_or fields i d).reserved args → done ++ fields_text (map field_view (drop i fields)) args ≡ all
+    → (done ++ field_text (get_or fields i d).reserved (get_or fields i d).name.now args) ++ fields_text (map field_view (drop (i + 1) fields)) others ≡ all
+field_step fields i d args others done all h left before =
+    let here = ap (λ (f : List FieldRow). fields_text f args) (field_here fields i d h) in
+    rw left (append_assoc done _ _ ∙ ap (λ (o : List ℕ). done ++ o) (sym here) ∙ before)
 
 -- the text of the properties from one on
 abbrev text_from : List (List ℕ) → List (Option Lent) → ℕ → List ℕ
@@ -32,14 +45,6 @@ text_here names properties i name p named lent name_is at =
     ∙ ap (λ (q : Option Lent). property_text (get_or names i []) (lent_view q)) at in
     here ∙ ap (λ (o : List ℕ). o ++ others) (sym same)
 
-pub property_step : (names : List (List ℕ)) (properties : List (Option Lent)) (i : ℕ) (name : List ℕ) (p : Option Lent) (text next all : List ℕ)
-    → i < length names → i < length properties → name ≡ get_or names i [] → p ≡ get_or properties i p
-    → next ≡ text ++ property_text name (lent_view p) → text ++ text_from names properties i ≡ all → next ++ text_from names properties (i + 1) ≡ all
-property_step names properties i name p text next all named lent name_is at next_is before =
-    let others = text_from names properties (i + 1) in
-    ap (λ (o : List ℕ). o ++ others) next_is ∙ append_assoc text (property_text name (lent_view p)) others
-    ∙ ap (λ (o : List ℕ). text ++ o) (sym (text_here names properties i name p named lent name_is at)) ∙ before
-
 none_left : (names : List (List ℕ)) → properties_text names [] ≡ []
 none_left [] = refl
 none_left (name ∷ names) = refl
@@ -48,11 +53,6 @@ nothing_left : (names : List (List ℕ)) (properties : List (Option Lent)) (i : 
 nothing_left names properties i h =
     let none : lent_views (drop i properties) ≡ [] = rw (drop_all i properties h) refl in
     ap (properties_text (drop i names)) none ∙ none_left (drop i names)
-
-pub properties_end : (names : List (List ℕ)) (properties : List (Option Lent)) (i : ℕ) (text all : List ℕ)
-    → length properties ≤ i → text ++ text_from names properties i ≡ all → text ≡ all
-properties_end names properties i text all h before =
-    sym (append-nil text) ∙ ap (λ (o : List ℕ). text ++ o) (sym (nothing_left names properties i h)) ∙ before
 
 -- a name and its value, after a space or at the start of a text
 pub parted_name : (starts : Bool) (name : List ℕ) (value : Argument)

@@ -1,17 +1,99 @@
-//! Headers, properties and messages in a format string.
-ghost use Rattle.std.specs.Prelude.{◌≡◌, ◌≤◌, ◌&&◌, length, is_none, Some};
+//! Methods, headers, properties and messages in a format string.
+ghost use Rattle.std.specs.Prelude.{◌≡◌, ◌≤◌, ◌&&◌, length, map, is_none, Some};
 ghost use Rattle.std.specs.Fmt.{WritesOnOk};
 ghost use Rattle.amqp_method.specs.HeaderView.{header_view, properties_view};
 ghost use Rattle.amqp_method.specs.MessageView.{message_view};
 ghost use Rattle.amqp_method.specs.Lent.{value_view, lent_view, lent_views};
-ghost use Rattle.amqp_method.specs.Texts.{argument_text, space_text, parted, property_names, property_text, properties_text, text_of_properties, text_of_header, body_text, content_text, text_of_message};
+ghost use Rattle.amqp_method.specs.MethodView.{method_view};
+ghost use Rattle.amqp_method.specs.Plain.{left_by};
+ghost use Rattle.amqp_method.specs.Rows.{field_view};
+ghost use Rattle.amqp_method.specs.Texts.{bit_text, argument_text, field_text, fields_text, text_of_method, space_text, parted, property_names, property_text, properties_text, text_of_properties, text_of_header, body_text, content_text, text_of_message};
+ghost use Rattle.amqp_method.specs.Views.{arg_view, args_view};
 
+use crate::fields::{Arg, Field};
 use crate::headers::{Header, Properties};
+use crate::kinds::schema;
 use crate::messages::Message;
-use crate::properties::{Lent, lent_properties};
-use crate::texts::property_name;
+use crate::methods::Method;
+use crate::properties::{Lent, lent_properties, property_name};
 use amqp_value::{write_hexadecimal, write_quoted};
 use std::fmt;
+
+fn write_bit<W: fmt::Write>(f: &mut fmt::Formatter<W>, holds: bool) -> fmt::Result
+    ensures { WritesOnOk W.write_str_gives f.old result (bit_text holds) f.new }
+{
+    f.write_str(if holds { "1" } else { "0" })
+}
+
+fn write_arg<W: fmt::Write>(f: &mut fmt::Formatter<W>, arg: &Arg) -> fmt::Result
+    ensures { WritesOnOk W.write_str_gives f.old result (argument_text (arg_view arg.now)) f.new }
+{
+    match arg {
+        Arg::Bit(holds) => write_bit(f, *holds),
+        Arg::Octet(number) => write!(f, "{number}"),
+        Arg::Short(number) => write!(f, "{number}"),
+        Arg::Long(number) => write!(f, "{number}"),
+        Arg::LongLong(number) => write!(f, "{number}"),
+        Arg::ShortStr(octets) => write_quoted(f, octets.as_bytes()),
+        Arg::LongStr(octets) => write_quoted(f, octets),
+        Arg::Table(table) => write!(f, "{table}"),
+    }
+}
+
+/// The first of the arguments with its field's name, unless the field is reserved.
+fn write_field<W: fmt::Write>(f: &mut fmt::Formatter<W>, field: &Field, args: &[Arg]) -> fmt::Result
+    ensures { WritesOnOk W.write_str_gives f.old result (field_text field.now.reserved field.now.name.now (args_view args.now)) f.new }
+{
+    if field.reserved {
+        return Ok(());
+    }
+    let Some(arg) = args.first() else {
+        return Ok(());
+    };
+    let name = field.name;
+    write!(f, " {name}=")?;
+    write_arg(f, arg)
+}
+
+/// The arguments after a field's: all of them, if it is reserved.
+fn args_after<'a>(field: &Field, args: &'a [Arg]) -> &'a [Arg]
+    ensures { args_view result.now ≡ left_by field.now.reserved (args_view args.now) }
+{
+    if field.reserved {
+        return args;
+    }
+    match args.split_first() {
+        None => args,
+        Some((_, others)) => others,
+    }
+}
+
+/// The arguments, each with its field's name.
+fn write_fields<W: fmt::Write>(
+    f: &mut fmt::Formatter<W>,
+    fields: &[Field],
+    args: &[Arg],
+) -> fmt::Result
+    ensures { WritesOnOk W.write_str_gives f.old result (fields_text (map field_view fields.now) (args_view args.now)) f.new }
+{
+    let mut rest = args;
+    for field in fields {
+        write_field(f, field, rest)?;
+        rest = args_after(field, rest);
+    }
+    Ok(())
+}
+
+/// Prints what [`method_text`](crate::method_text) gives, without memory of its own.
+impl fmt::Display for Method {
+    ghost output = { λ m. Some (text_of_method (method_view m)) };
+
+    fn fmt<W: fmt::Write>(&self, f: &mut fmt::Formatter<W>) -> fmt::Result {
+        let kind = self.kind();
+        f.write_str(kind.name())?;
+        write_fields(f, schema(kind), self.args())
+    }
+}
 
 fn write_lent<W: fmt::Write>(f: &mut fmt::Formatter<W>, value: Lent) -> fmt::Result
     ensures { WritesOnOk W.write_str_gives f.old result (argument_text (value_view value.entry)) f.new }
@@ -88,8 +170,7 @@ fn write_header<W: fmt::Write>(
     write_properties(f, false, &lent_properties(properties))
 }
 
-/// Prints what [`header_text`](crate::header_text) gives. A field table takes memory for its text, where it has its own;
-/// nothing else does.
+/// Prints what [`header_text`](crate::header_text) gives, without memory of its own.
 impl fmt::Display for Header {
     ghost output = { λ h. Some (text_of_header (header_view h)) };
 
@@ -142,7 +223,7 @@ fn write_parts<W: fmt::Write>(f: &mut fmt::Formatter<W>, message: &Message) -> f
 }
 
 /// Prints the method, and below it, where a content follows, a line with its header and one with its body in hexadecimal, each
-/// after two spaces. The method's text takes memory where its arguments do, as [`Method`](crate::Method)'s does.
+/// after two spaces. That takes no memory of its own.
 impl fmt::Display for Message {
     ghost output = { λ m. Some (text_of_message (message_view m)) };
 

@@ -4,7 +4,6 @@ ghost use Rattle.amqp_method.specs.Faults.{number_of, out_of_memory};
 
 use amqp_value::ValueFaultKind;
 use std::alloc::{AllocError, AllocFailed};
-use std::fmt;
 use thiserror::Error;
 
 /// Memory for a result was refused.
@@ -20,13 +19,6 @@ impl From<AllocError> for OutOfMemory {
 
 impl<T: Drop> From<AllocFailed<T>> for OutOfMemory {
     fn from(_: AllocFailed<T>) -> OutOfMemory {
-        OutOfMemory
-    }
-}
-
-impl From<fmt::Error> for OutOfMemory {
-    /// Writing into a string fails only when memory runs out.
-    fn from(_: fmt::Error) -> OutOfMemory {
         OutOfMemory
     }
 }

@@ -1,11 +1,12 @@
-//! Writing the properties of a content header.
-ghost use Rattle.std.specs.Prelude.{◌≡◌, ◌<◌, ◌≤◌, ◌⊎◌, ◌++◌, length, map, take, OnOk, OnErr, IfErr, Err};
+//! The properties of a content header, in order: their names, and writing them to octets.
+ghost use Rattle.std.specs.Prelude.{◌≡◌, ◌<◌, ◌≤◌, ◌⊎◌, ◌++◌, ℕ, List, length, map, take, get_or, OnOk, OnErr, IfErr, Err};
 ghost use Rattle.amqp_method.specs.Arguments.{octet as octet_argument, long_long as long_long_argument, short_string};
 ghost use Rattle.amqp_method.specs.Faults.{out_of_memory, too_long};
 ghost use Rattle.amqp_method.specs.HeaderView.{present, table_argument, properties_view};
 ghost use Rattle.amqp_method.specs.Lent.{value_view, lent_view, lent_views};
 ghost use Rattle.amqp_method.specs.Plain.{plain_argument, plain_property, plain_present, CountFits, CountOfPropertyFits, CountsPresentFit};
 ghost use Rattle.amqp_method.specs.Properties.{flags_of};
+ghost use Rattle.amqp_method.specs.Texts.{property_names};
 ghost use Rattle.amqp_method.specs.Writing.{Fitting, PropertyFitting, PresentFitting};
 
 use crate::faults::MethodFault;
@@ -15,6 +16,32 @@ use amqp_value::{ShortStr, Table};
 
 /// How many properties there are.
 pub(crate) const PROPERTIES: usize = 14;
+
+/// The names of the properties, in the order of their flags.
+static PROPERTY_NAMES: [&str; PROPERTIES] = [
+    "content-type",
+    "content-encoding",
+    "headers",
+    "delivery-mode",
+    "priority",
+    "correlation-id",
+    "reply-to",
+    "expiration",
+    "message-id",
+    "timestamp",
+    "type",
+    "user-id",
+    "app-id",
+    "cluster-id",
+];
+
+/// The name of the property at a place, in the order of the flags.
+pub(crate) fn property_name(index: usize) -> &'static str
+    requires { index < 14 }
+    ensures { (default : List ℕ) → result.now ≡ get_or property_names index default }
+{
+    PROPERTY_NAMES[index]
+}
 
 /// The value of a property, lent.
 #[derive(Clone, Copy)]

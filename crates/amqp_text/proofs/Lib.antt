@@ -1,4 +1,3 @@
 pub mod HexadecimalLemmas
 pub mod ListingLemmas
-pub mod PrintingLemmas
 pub mod TallyLemmas

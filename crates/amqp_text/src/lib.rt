@@ -13,7 +13,7 @@ mod payloads;
 pub mod statuses;
 mod tally;
 
-pub use crate::events::{PrintFault, print_event};
+pub use crate::events::print_event;
 pub use crate::hexadecimal::{HexFault, octets_of};
 pub use crate::listing::{Ending, LIMIT, Listing, frame_line, list, payload_text};
 pub use crate::payloads::{PayloadLine, payload_line};

@@ -1,17 +1,13 @@
 -- The printed texts of values and tables.
-use Rattle.std.specs.Prelude.{ℕ, zero, suc, ◌+◌, ◌/◌, ◌%◌, ◌==◌, ◌&&◌, ◌||◌, nat_lt, nat_le, if◌then◌else◌, List, [], ◌∷◌, ◌++◌, Bool, true, false, codes}
+use Rattle.std.specs.Prelude.{ℕ, zero, suc, ◌==◌, ◌&&◌, ◌||◌, nat_le, if◌then◌else◌, List, [], ◌∷◌, ◌++◌, Bool, true, false, codes}
 use Rattle.std.specs.Fmt.{decimal, signed_decimal}
 use Rattle.std.specs.List.{flat_map}
 use Rattle.hex.specs.Hex.{encode_lower}
 use Rattle.amqp_value.specs.Values.{Scalar, boolean, short_short_int, short_short_uint, errata_short_int, short_int, short_uint, long_int, long_uint, errata_long_long_int, long_long_int, float, double, decimal as scaled, timestamp, void, Datum, scalar, long_string, byte_array, array, table, Items, no_items, item, Pairs, no_pairs, pair}
 
--- a digit below 16, lower case
-abbrev pub hex_digit : ℕ → ℕ
-hex_digit n = if nat_lt n 10 then 48 + n else 87 + n
-
--- two digits
+-- two digits, lower case
 abbrev pub octet_digits : ℕ → List ℕ
-octet_digits octet = hex_digit (octet / 16) ∷ hex_digit (octet % 16) ∷ []
+octet_digits octet = encode_lower (octet ∷ [])
 
 -- two digits for each octet
 abbrev pub hexadecimal : List ℕ → List ℕ
@@ -21,7 +17,7 @@ hexadecimal octets = flat_map octet_digits octets
 abbrev pub quoted_octet : ℕ → List ℕ
 quoted_octet octet =
     if nat_le 32 octet && (nat_le octet 126 && (if octet == 34 || octet == 92 then false else true)) then octet ∷ []
-    else 92 ∷ 120 ∷ hex_digit (octet / 16) ∷ hex_digit (octet % 16) ∷ []
+    else 92 ∷ 120 ∷ octet_digits octet
 
 abbrev pub quoted : List ℕ → List ℕ
 quoted octets = 34 ∷ (flat_map quoted_octet octets ++ 34 ∷ [])
@@ -41,8 +37,8 @@ scalar_text (long_int n) = codes "I:" ++ signed_decimal n
 scalar_text (long_uint n) = codes "i:" ++ decimal n
 scalar_text (errata_long_long_int n) = codes "l:" ++ signed_decimal n
 scalar_text (long_long_int n) = codes "L:" ++ signed_decimal n
-scalar_text (float octets) = codes "f:" ++ encode_lower octets
-scalar_text (double octets) = codes "d:" ++ encode_lower octets
+scalar_text (float octets) = codes "f:" ++ hexadecimal octets
+scalar_text (double octets) = codes "d:" ++ hexadecimal octets
 scalar_text (scaled scale number) = codes "D:" ++ (decimal scale ++ (codes ":" ++ decimal number))
 scalar_text (timestamp n) = codes "T:" ++ decimal n
 scalar_text void = codes "V"
@@ -56,7 +52,7 @@ abbrev mutual
   pub value_text : Datum → List ℕ
   value_text (scalar s) = scalar_text s
   value_text (long_string text) = codes "S:" ++ quoted text
-  value_text (byte_array octets) = codes "x:" ++ encode_lower octets
+  value_text (byte_array octets) = codes "x:" ++ hexadecimal octets
   value_text (array items) = codes "A[" ++ (items_text_from 0 items ++ codes "]")
   value_text (table pairs) = codes "F{" ++ (pairs_text_from 0 pairs ++ codes "}")
 

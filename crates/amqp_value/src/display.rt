@@ -1,21 +1,29 @@
-//! Values in a format string.
+//! Values and tables in a format string: the one printer of both, which takes no memory of its own.
 
-ghost use Rattle.std.specs.Prelude.{◌≤◌, ◌/◌, ◌%◌, [], ◌∷◌, ◌++◌, length, codes, Some};
+ghost use Rattle.std.specs.Prelude.{◌≡◌, ◌<◌, [], ◌∷◌, ◌++◌, codes, Some};
 ghost use Rattle.std.specs.Fmt.{WritesOnOk, decimal, signed_decimal};
-ghost use Rattle.hex.specs.Hex.{encode_lower};
-ghost use Rattle.amqp_value.specs.Text.{octet_digits, hexadecimal, quoted_octet, quoted, truth_text, value_text};
-ghost use Rattle.amqp_value.specs.View.{view};
+ghost use Rattle.amqp_value.specs.Tables.{table_view};
+ghost use Rattle.amqp_value.specs.Text.{octet_digits, hexadecimal, quoted_octet, quoted, truth_text, comma_before, value_text, items_text, pairs_text, text_of_table};
+ghost use Rattle.amqp_value.specs.View.{view, items_view, pairs_view};
 
-use crate::text::{hex_digit, text_of};
+use crate::short_str::ShortStr;
+use crate::tables::Table;
 use crate::values::Value;
-use std::alloc::Global;
 use std::{fmt, str};
 
+/// The two digits of an octet, lower case.
 fn write_octet<W: fmt::Write>(f: &mut fmt::Formatter<W>, octet: u8) -> fmt::Result
     ensures { WritesOnOk W.write_str_gives f.old result (octet_digits octet) f.new }
 {
-    f.write_char(hex_digit(octet / 16))?;
-    f.write_char(hex_digit(octet % 16))
+    // two digits have room and are text, so neither error comes
+    let mut digits = [0; 2];
+    let Ok(()) = hex::encode_to_slice([octet], &mut digits) else {
+        return Err(fmt::Error);
+    };
+    let Ok(text) = str::from_utf8(&digits) else {
+        return Err(fmt::Error);
+    };
+    f.write_str(text)
 }
 
 /// Writes octets in hexadecimal, two digits each, lower case, without memory of its own.
@@ -45,7 +53,8 @@ fn write_quoted_octet<W: fmt::Write>(f: &mut fmt::Formatter<W>, octet: u8) -> fm
     write_escape(f, octet)
 }
 
-/// Writes octets in quotes, as [`put_quoted`](crate::put_quoted) appends them, without memory of its own.
+/// Writes octets in quotes, without memory of its own: those from 20 to 7e but the quote and the backslash as their
+/// characters, every other one as `\x` and two digits.
 pub fn write_quoted<W: fmt::Write>(f: &mut fmt::Formatter<W>, octets: &[u8]) -> fmt::Result
     ensures { WritesOnOk W.write_str_gives f.old result (quoted octets.now) f.new }
 {
@@ -87,60 +96,122 @@ fn write_decimal<W: fmt::Write>(f: &mut fmt::Formatter<W>, scale: u8, number: u3
     write!(f, "D:{scale}:{number}")
 }
 
-/// A tag and a few octets in hexadecimal.
-fn write_hex<W: fmt::Write>(f: &mut fmt::Formatter<W>, tag: &str, octets: &[u8]) -> fmt::Result
-    requires { length octets.now ≤ 8 }
-    ensures { WritesOnOk W.write_str_gives f.old result (tag.now ++ encode_lower octets.now) f.new }
+/// A tag and octets in hexadecimal.
+fn write_octets<W: fmt::Write>(f: &mut fmt::Formatter<W>, tag: &str, octets: &[u8]) -> fmt::Result
+    ensures { WritesOnOk W.write_str_gives f.old result (tag.now ++ hexadecimal octets.now) f.new }
 {
-    // the digits have room and are text, so neither error comes
-    let mut room = [0; 16];
-    let digits = &mut room[..2 * octets.len()];
-    let Ok(()) = hex::encode_to_slice(octets, digits) else {
-        return Err(fmt::Error);
-    };
-    let Ok(text) = str::from_utf8(digits) else {
-        return Err(fmt::Error);
-    };
     f.write_str(tag)?;
-    f.write_str(text)
+    write_hexadecimal(f, octets)
 }
 
-/// The text of [`text_of`], in memory that is given.
-fn write_text<W: fmt::Write>(f: &mut fmt::Formatter<W>, alloc: Global, value: &Value) -> fmt::Result
+/// The comma before an element, unless it is the first.
+fn write_comma<W: fmt::Write>(f: &mut fmt::Formatter<W>, index: usize) -> fmt::Result
+    ensures { WritesOnOk W.write_str_gives f.old result (comma_before index) f.new }
+{
+    f.write_str(if index == 0 { "" } else { "," })
+}
+
+/// A quoted name and the equals sign.
+fn write_name<W: fmt::Write>(f: &mut fmt::Formatter<W>, name: &ShortStr) -> fmt::Result
+    ensures { WritesOnOk W.write_str_gives f.old result (quoted name.now ++ codes "=") f.new }
+{
+    write_quoted(f, name.as_bytes())?;
+    f.write_str("=")
+}
+
+/// A value: its tag, a colon and what it holds.
+#[cycle(display)]
+fn write_value<W: fmt::Write>(f: &mut fmt::Formatter<W>, value: &Value) -> fmt::Result
     ensures { WritesOnOk W.write_str_gives f.old result (value_text (view value.now)) f.new }
 {
-    let Ok(text) = text_of(alloc, value) else {
-        return Err(fmt::Error);
-    };
-    f.write_str(text.as_str())
+    match value {
+        Value::Boolean(holds) => write_truth(f, *holds),
+        Value::ShortShortInt(number) => write_signed(f, "b:", i64::from(*number)),
+        Value::ShortShortUint(number) => write_unsigned(f, "B:", u64::from(*number)),
+        Value::ErrataShortInt(number) => write_signed(f, "s:", i64::from(*number)),
+        Value::ShortInt(number) => write_signed(f, "U:", i64::from(*number)),
+        Value::ShortUint(number) => write_unsigned(f, "u:", u64::from(*number)),
+        Value::LongInt(number) => write_signed(f, "I:", i64::from(*number)),
+        Value::LongUint(number) => write_unsigned(f, "i:", u64::from(*number)),
+        Value::ErrataLongLongInt(number) => write_signed(f, "l:", *number),
+        Value::LongLongInt(number) => write_signed(f, "L:", *number),
+        Value::Float(octets) => write_octets(f, "f:", octets),
+        Value::Double(octets) => write_octets(f, "d:", octets),
+        Value::Decimal { scale, number } => write_decimal(f, *scale, *number),
+        Value::Timestamp(number) => write_unsigned(f, "T:", *number),
+        Value::Void => f.write_str("V"),
+        Value::LongString(octets) => write_string(f, octets),
+        Value::ByteArray(octets) => write_octets(f, "x:", octets),
+        Value::Array(values) => write_array(f, values),
+        Value::Table(pairs) => write_braced(f, "F{", pairs),
+    }
+}
+
+/// Values, in brackets.
+#[cycle(display)]
+fn write_array<W: fmt::Write>(f: &mut fmt::Formatter<W>, values: &[Value]) -> fmt::Result
+    ensures { WritesOnOk W.write_str_gives f.old result
+        (codes "A[" ++ (items_text (items_view values.now) ++ codes "]")) f.new }
+{
+    f.write_str("A[")?;
+    write_items(f, values)?;
+    f.write_str("]")
+}
+
+/// Values, parted by commas.
+#[cycle(display)]
+fn write_items<W: fmt::Write>(f: &mut fmt::Formatter<W>, values: &[Value]) -> fmt::Result
+    ensures { WritesOnOk W.write_str_gives f.old result (items_text (items_view values.now)) f.new }
+{
+    for (index, value) in values.iter().enumerate() {
+        write_comma(f, index)?;
+        write_value(f, value)?;
+    }
+    Ok(())
+}
+
+/// Pairs, after a brace that may have its tag before it, and the brace that closes it.
+#[cycle(display)]
+fn write_braced<W: fmt::Write>(
+    f: &mut fmt::Formatter<W>,
+    brace: &str,
+    pairs: &[(ShortStr, Value)],
+) -> fmt::Result
+    ensures { WritesOnOk W.write_str_gives f.old result
+        (brace.now ++ (pairs_text (pairs_view pairs.now) ++ codes "}")) f.new }
+{
+    f.write_str(brace)?;
+    write_pairs(f, pairs)?;
+    f.write_str("}")
+}
+
+/// Quoted names, each with `=` and its value, parted by commas.
+#[cycle(display)]
+fn write_pairs<W: fmt::Write>(f: &mut fmt::Formatter<W>, pairs: &[(ShortStr, Value)]) -> fmt::Result
+    ensures { WritesOnOk W.write_str_gives f.old result (pairs_text (pairs_view pairs.now)) f.new }
+{
+    for (index, pair) in pairs.iter().enumerate() {
+        write_comma(f, index)?;
+        write_name(f, &pair.0)?;
+        write_value(f, &pair.1)?;
+    }
+    Ok(())
 }
 
 impl fmt::Display for Value {
     ghost output = { λ v. Some (value_text (view v)) };
 
-    /// The text of [`text_of`]. Byte arrays, arrays and tables take memory for it, where they have theirs; where that runs out
-    /// nothing is written, and the answer is an error. The others take none.
+    /// Its tag, a colon and what it holds; an array in brackets, a table inside in braces. It takes no memory.
     fn fmt<W: fmt::Write>(&self, f: &mut fmt::Formatter<W>) -> fmt::Result {
-        match self {
-            Value::Boolean(holds) => write_truth(f, *holds),
-            Value::ShortShortInt(number) => write_signed(f, "b:", i64::from(*number)),
-            Value::ShortShortUint(number) => write_unsigned(f, "B:", u64::from(*number)),
-            Value::ErrataShortInt(number) => write_signed(f, "s:", i64::from(*number)),
-            Value::ShortInt(number) => write_signed(f, "U:", i64::from(*number)),
-            Value::ShortUint(number) => write_unsigned(f, "u:", u64::from(*number)),
-            Value::LongInt(number) => write_signed(f, "I:", i64::from(*number)),
-            Value::LongUint(number) => write_unsigned(f, "i:", u64::from(*number)),
-            Value::ErrataLongLongInt(number) => write_signed(f, "l:", *number),
-            Value::LongLongInt(number) => write_signed(f, "L:", *number),
-            Value::Float(octets) => write_hex(f, "f:", octets),
-            Value::Double(octets) => write_hex(f, "d:", octets),
-            Value::Decimal { scale, number } => write_decimal(f, *scale, *number),
-            Value::Timestamp(number) => write_unsigned(f, "T:", *number),
-            Value::Void => f.write_str("V"),
-            Value::LongString(octets) => write_string(f, octets),
-            Value::ByteArray(octets) => write_text(f, *octets.allocator(), self),
-            Value::Array(values) => write_text(f, *values.allocator(), self),
-            Value::Table(pairs) => write_text(f, *pairs.allocator(), self),
-        }
+        write_value(f, self)
+    }
+}
+
+impl fmt::Display for Table {
+    ghost output = { λ t. Some (text_of_table (table_view t)) };
+
+    /// Pairs of a quoted name, `=` and a value, parted by commas, in braces. It takes no memory.
+    fn fmt<W: fmt::Write>(&self, f: &mut fmt::Formatter<W>) -> fmt::Result {
+        write_braced(f, "{", self.pairs())
     }
 }

@@ -21,6 +21,6 @@ pub use laws::{one_table, one_value};
 pub use read::read_table;
 pub use short_str::ShortStr;
 pub use tables::{MAX_DEPTH, Table};
-pub use text::{put_quoted, table_text, text_of};
+pub use text::{table_text, text_of};
 pub use values::Value;
 pub use write::write_table;

@@ -12,3 +12,8 @@ pub returns-in-Proceeds-clause-after : goal.returns-in-Proceeds-clause-after
 returns-in-Proceeds-clause-after c = λ frame.
     let leaves = subst (λ (v : Verdict). LeavesLife (role_of c.args.site.side) c.args.site.number frame (header_reading (header_at c.args.payload.now)) (verdict_view c.args.site.number c.take_header.new.news v) (life_view c.in-Open.life) (life_view c.take_header.new.self)) c.in-Proceeds.is (c.in_ok-verdict-in-Open.ensures.after frame) in
     rw c.in-Open.is leaves
+
+pub returns-in-Owes-clause-after : goal.returns-in-Owes-clause-after
+returns-in-Owes-clause-after c = λ frame.
+    let leaves = subst (λ (v : Verdict). LeavesLife (role_of c.args.site.side) c.args.site.number frame (header_reading (header_at c.args.payload.now)) (verdict_view c.args.site.number c.take_header.new.news v) (life_view c.in-Open.life) (life_view c.take_header.new.self)) c.in-Owes.is (c.in_ok-verdict-in-Open.ensures.after frame) in
+    rw c.in-Open.is leaves

@@ -1,0 +1,6 @@
+//! Frames, and the splitter.
+
+mod faults;
+mod large;
+mod memory;
+mod splitting;

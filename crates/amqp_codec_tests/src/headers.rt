@@ -1,0 +1,5 @@
+//! Content headers, and messages.
+
+mod layouts;
+mod messages;
+mod properties;

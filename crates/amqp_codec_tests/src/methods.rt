@@ -1,0 +1,10 @@
+//! Methods.
+
+mod facts;
+mod faults;
+mod kinds;
+mod large;
+mod layouts;
+mod memory;
+mod quotes;
+mod samples;

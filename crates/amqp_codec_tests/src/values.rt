@@ -1,0 +1,8 @@
+//! Short strings, values and tables.
+
+mod faults;
+mod large;
+mod memory;
+mod numbers;
+mod tables;
+mod variants;

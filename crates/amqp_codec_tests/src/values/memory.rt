@@ -1,0 +1,53 @@
+//! What calls ask of the allocator. By themselves these tests compare answers; where requests are counted between the marks
+//! (`beside/memory/count.c`, preloaded), they show which call takes how much.
+use crate::marking::mark;
+use amqp_value::read_table;
+use std::alloc::Global;
+use std::process::Abort;
+use std::test::Fail;
+
+/// Reads a table between the marks, and says how many pairs it has, if it is one.
+fn read_between(
+    rt: &impl Abort,
+    alloc: Global,
+    part: u8,
+    digits: &str,
+) -> Result<Option<usize>, Fail> {
+    let octets = hex::decode(alloc, digits)?;
+    mark(rt, alloc, part)?;
+    let read = read_table(alloc, &octets).ok();
+    mark(rt, alloc, 0)?;
+    Ok(read.map(|(table, _)| table.pairs().len()))
+}
+
+/// The part of the count, octets in hexadecimal, and how many pairs they have, if they are a table.
+static TABLES: [(u8, &str, Option<usize>); 9] = [
+    // an outer count, a string's, an array's and a table's that are greater than what is there
+    (10, "ffffffff", None),
+    (11, "00000007016153ffffffff", None),
+    (12, "00000007016141ffffffff", None),
+    (13, "00000007016146ffffffff", None),
+    // no pairs, one, nine
+    (14, "00000000", Some(0)),
+    (15, "0000000401617401", Some(1)),
+    (
+        16,
+        "0000001b016156016256016356016456016556016656016756016856016956",
+        Some(9),
+    ),
+    // arrays in arrays, as they are and with a count that is greater than what is there
+    (17, "000000110161410000000a41000000054100000000", Some(1)),
+    (18, "000000110161410000000a41000000ff4100000000", None),
+];
+
+#[test]
+fn tables_take_what_they_have(rt: HostRuntime) -> Result<(), Fail> {
+    for (part, digits, pairs) in TABLES.iter().copied() {
+        assert_eq!(rt;
+            read_between(&rt, rt.alloc(), part, digits)?,
+            pairs,
+            "for {digits}"
+        );
+    }
+    Ok(())
+}
