@@ -62,7 +62,10 @@ impl Flagged {
         ensures within { IfOk result (λ after. length after.now ≤ length octets.now) }
     {
         if !self.has(bit) {
-            *place = None;
+            // most often there is none yet, and to look is less than to write
+            if place.is_some() {
+                *place = None;
+            }
             return Ok(octets);
         }
         self.present_short_string(octets, place)
@@ -98,7 +101,9 @@ impl Flagged {
         ensures within { IfOk result (λ after. length after.now ≤ length octets.now) }
     {
         if !self.has(bit) {
-            *place = None;
+            if place.is_some() {
+                *place = None;
+            }
             return Ok(octets);
         }
         let (value, after) = read_field_table(self.alloc, octets, self.end)?;
@@ -191,12 +196,17 @@ impl Flagged {
         Ok(octets)
     }
 
-    /// The rest of a header: all properties, and nothing after them.
+    /// The rest of a header: all properties, and nothing after them. Many headers have none, and where there were none before, none
+    /// has to be written.
+    #[tactic(auto, using(crate::proofs::HeaderLemmas::none_there))]
     fn header(self, body_size: u64, octets: &[u8], header: &mut Header) -> Result<(), MethodFault>
         requires { length octets.now ≤ self.end }
         ensures { Gives (λ done. header_view header.new) result (with_properties_at body_size self.flags self.end octets.now) }
     {
         header.body_size = body_size;
+        if self.flags == 0 && header.properties.are_none() {
+            return read_end(octets, self.end);
+        }
         let after = self.properties(octets, &mut header.properties)?;
         read_end(after, self.end)
     }

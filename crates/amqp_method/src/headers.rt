@@ -1,7 +1,8 @@
 //! Content headers.
-ghost use Rattle.std.specs.Prelude.{◌≡◌, ℕ, length, IfOk, OnOk};
+ghost use Rattle.std.specs.Prelude.{◌≡◌, ℕ, length, replicate, true, None, IfOk, OnOk};
 ghost use Rattle.amqp_value.specs.Lengths.{capped};
 ghost use Rattle.amqp_method.specs.Arguments.{short_string};
+ghost use Rattle.amqp_method.specs.HeaderParts.{earlier_view, later_view};
 ghost use Rattle.amqp_method.specs.HeaderView.{present, table_argument, properties_view, header_view};
 ghost use Rattle.amqp_method.specs.Plain.{plain_header};
 ghost use Rattle.amqp_method.specs.Properties.{header};
@@ -72,6 +73,40 @@ impl Header {
 }
 
 impl Properties {
+    /// Whether there are none, so that none has to be taken away.
+    #[inline(always)]
+    pub(crate) fn are_none(&self) -> bool
+        ensures { result ≡ true → properties_view self.now ≡ replicate 14 None }
+    {
+        self.earlier_are_none() && self.later_are_none()
+    }
+
+    #[inline(always)]
+    fn earlier_are_none(&self) -> bool
+        ensures { result ≡ true → earlier_view self.now ≡ replicate 7 None }
+    {
+        self.content_type.is_none()
+            && self.content_encoding.is_none()
+            && self.headers.is_none()
+            && self.delivery_mode.is_none()
+            && self.priority.is_none()
+            && self.correlation_id.is_none()
+            && self.reply_to.is_none()
+    }
+
+    #[inline(always)]
+    fn later_are_none(&self) -> bool
+        ensures { result ≡ true → later_view self.now ≡ replicate 7 None }
+    {
+        self.expiration.is_none()
+            && self.message_id.is_none()
+            && self.timestamp.is_none()
+            && self.type_name.is_none()
+            && self.user_id.is_none()
+            && self.app_id.is_none()
+            && self.cluster_id.is_none()
+    }
+
     /// How many octets a header with these properties is written in: the same for every size of a body. `u64::MAX` stands
     /// for every number from there on, which no properties in memory reach.
     pub fn header_length(&self) -> u64
