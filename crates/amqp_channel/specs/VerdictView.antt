@@ -1,5 +1,5 @@
 -- The verdicts of the code, in the words of the model, and the channel that they leave.
-use Rattle.std.specs.Prelude.{◌≡◌, ℕ, cond, drop, List, [], ◌∷◌, map, Option, Some, None}
+use Rattle.std.specs.Prelude.{◌≡◌, ℕ, cond, drop, List, [], ◌∷◌, map, Option, Some}
 use Rattle.amqp_model.specs.Channels.{Channel, Life, Open, Running}
 use Rattle.amqp_model.specs.Closes.{Owed, ChannelError, ContentTooLarge, UnexpectedFrame, channel_close, reply_to, frame_of}
 use Rattle.amqp_model.specs.Events.{Peer, FrameVerdict, Proceeds, RefusesContent, Faults}
