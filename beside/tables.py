@@ -141,8 +141,8 @@ VALUES = {
     "eight octets, unread": ("[u8; 8]", "EncodesOctets 8 text octets"),
     "a scale octet and 32 bits": ("{ scale: u8, number: u32 }", "EncodesNumber 1 scale first × EncodesNumber 4 number second"),
     "nothing": ("", "octets ≡ []"),
-    "long string": ("Vec<u8>", "EncodesLongString text octets"),
-    "byte array": ("Vec<u8>", "EncodesLongString text octets"),
+    "long string": ("Octets", "EncodesLongString text octets"),
+    "byte array": ("Octets", "EncodesLongString text octets"),
     "array": ("Vec<Value>", "EncodesLongString body octets × EncodesItems items body"),
     "table": ("Vec<(ShortStr, Value)>", "EncodesLongString body octets × EncodesPairs pairs body"),
 }

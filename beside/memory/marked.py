@@ -7,11 +7,11 @@ import tempfile
 
 PROGRAM, SHIM = sys.argv[1:]
 # What one of these takes where it lies. A short string has its form, in a word, room for 23 octets, which take no memory of their own,
-# and an octet with their count; a value has its tag and at most a vector's three words; an argument has its kind and at most a short
-# string.
+# and an octet with their count; so have a string and a byte array of a table, and a value has its tag and at most one of these; an argument has
+# its kind and at most a short string.
 WORD = 8
 SHORT_STRING = WORD + 23 + 1
-VALUE = WORD + 3 * WORD
+VALUE = WORD + SHORT_STRING
 PAIR = SHORT_STRING + VALUE
 ARGUMENT = WORD + SHORT_STRING
 # test, and for each part its number, its requests, their octets in all, and why
@@ -38,6 +38,9 @@ WANTED = (
         (16, 3, (3 + 6 + 12) * PAIR, "27 octets look like three pairs of 12; as they are nine, the room is doubled twice"),
         (17, 3, 2 * PAIR + 2 * VALUE + VALUE, "17 octets look like two pairs, 10 like two values of eight, five like one; the array inside has none"),
         (18, 2, 2 * PAIR + 2 * VALUE, "the same, up to the array whose count is greater than what is there"),
+        (19, 1, 3 * PAIR, "30 octets look like three pairs; a string of 23 octets lies in its value"),
+        (20, 2, 3 * PAIR + 24, "one of 24 takes a request of its own"),
+        (21, 2, 3 * PAIR + 24, "and so does a byte array"),
     )),
     ("methods::memory::methods_take_what_they_have", (
         (30, 0, 0, "a method without arguments takes none"),

@@ -1,8 +1,9 @@
 -- The channels in use, by number, in the words of the model.
-use Rattle.std.specs.Prelude.{◌≡◌, ◌<◌, Bool, true, false, nat_eq, ℕ, zero, suc, Option, Some, None}
+use Rattle.std.specs.Prelude.{◌≡◌, ◌≢◌, ◌<◌, Bool, true, false, nat_eq, ℕ, zero, suc, slice_get, Option, Some, None}
 use Rattle.std.specs.declared.hash.FoldHasher.{FoldHasher}
 use Rattle.std.specs.declared.hash.BuildHasherDefault.{BuildHasherDefault}
-use Rattle.std.specs.HashMap.{get, HashMap}
+use Rattle.std.specs.HashMap.{get, values, HashMap}
+use Rattle.indexmap.specs.IndexMap.{with_value_at}
 use Rattle.amqp_model.specs.Asks.{is_free}
 use Rattle.amqp_model.specs.Channels as model
 use Rattle.amqp_channel.specs.ChannelView.{channel_view}
@@ -24,6 +25,18 @@ used_view used (suc n) = kept_at (get nat_eq used (suc n))
 -- no number from 1 up to this one is free
 abbrev pub NoneFreeBelow : Used → ℕ → Type 0
 NoneFreeBelow used low = (j : ℕ) → suc j < low → is_free (used_view used (suc j)) ≡ false
+
+-- what stands at the place is the channel of the number
+abbrev pub HoldsAt : Used → (place number : ℕ) → Type 0
+HoldsAt used place number = (channel : Channel) → slice_get (values used) place ≡ Some channel → used_view used number ≡ channel_view channel
+
+-- a channel that is put at the place is then the channel of the number
+abbrev pub WritesAt : Used → (place number : ℕ) → Type 0
+WritesAt used place number = (channel : Channel) → used_view (with_value_at used place channel) number ≡ channel_view channel
+
+-- and the channels of the other numbers stay
+abbrev pub KeepsOthersAt : Used → (place number : ℕ) → Type 0
+KeepsOthersAt used place number = (channel : Channel) (other : ℕ) → other ≢ number → used_view (with_value_at used place channel) other ≡ used_view used other
 
 -- this end has put a close of the channel
 abbrev pub is_closing_at : model.Channel → Bool

@@ -162,6 +162,26 @@ impl Channel {
         }
     }
 
+    /// The other end's close of a channel that is Open. It stands apart, since a life has one at most.
+    #[inline(never)]
+    fn take_close(
+        &mut self,
+        site: Site,
+        method: &Method,
+        news: &mut Option<News>,
+    ) -> Result<Verdict, OutOfMemory>
+        requires is_open { IsOpen self.old }
+        requires close { (method_view method.now).kind ≡ Kind.ChannelClose }
+        ensures verdict { IfOk result (λ v. verdict_view site.number news.new v ≡ open_verdict (role_of site.side) site.number (channel_view self.old) (method_view method.now)) }
+        ensures after { IfOk result (λ v. (frame : Frame) → LeavesAfter (role_of site.side) site.number frame (Calls (method_view method.now)) (verdict_view site.number news.new v) (channel_view self.old) (channel_view self.new)) }
+        ensures err { OnErr result (channel_view self.new ≡ channel_view self.old) }
+    {
+        let reason = reason_of(method)?;
+        *self = Channel::Free;
+        News::ChannelClosed(Aligned::new(site.number), Some(reason)).put_in(news);
+        Ok(Verdict::Owes(Reply::CloseOk))
+    }
+
     /// A method on a channel that is Open. A close ends the life at any place; no other method stands inside a content.
     #[inline(always)]
     fn take_open(
@@ -178,10 +198,7 @@ impl Channel {
         ensures err { OnErr result (channel_view self.new ≡ channel_view self.old) }
     {
         if method.kind() == Kind::ChannelClose {
-            let reason = reason_of(&method)?;
-            *self = Channel::Free;
-            News::ChannelClosed(Aligned::new(site.number), Some(reason)).put_in(news);
-            return Ok(Verdict::Owes(Reply::CloseOk));
+            return self.take_close(site, &method, news);
         }
         match self {
             Channel::Open(life) => life.take_method(alloc, site, method, news),

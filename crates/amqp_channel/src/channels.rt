@@ -1,7 +1,7 @@
 //! The channels of a connection, by number.
 //!
 //! A channel is kept from its open to its end, so memory is bounded by the channels in use, whatever their numbers are.
-ghost use Rattle.std.specs.Prelude.{◌≡◌, ◌≢◌, ◌+◌, ◌<◌, ◌≤◌, true, false, not, ℕ, suc, Ok, IfOk, IfSome, OnErr, OnOk, MatchOption, None};
+ghost use Rattle.std.specs.Prelude.{◌≡◌, ◌≢◌, ◌+◌, ◌<◌, ◌≤◌, true, false, not, ℕ, suc, Ok, IfOk, IfNone, IfSome, OnErr, OnOk, MatchOption, None};
 ghost use Rattle.amqp_method.specs.MethodView.{method_view};
 ghost use Rattle.amqp_model.specs.Asks.{is_free, first_free};
 ghost use Rattle.amqp_model.specs.Channels.{Free};
@@ -11,7 +11,8 @@ ghost use Rattle.amqp_model.specs.FrameVerdict.{as_lives};
 ghost use Rattle.amqp_model.specs.Methods.{header_at};
 ghost use Rattle.amqp_model.specs.Verdict.{when_closing};
 ghost use Rattle.amqp_channel.specs.ChannelView.{channel_view};
-ghost use Rattle.amqp_channel.specs.Used.{is_closing_at, used_view, NoneFreeBelow};
+ghost use Rattle.amqp_channel.specs.Used.{is_closing_at, used_view, HoldsAt, KeepsOthersAt, NoneFreeBelow, WritesAt};
+ghost use Rattle.indexmap.specs.IndexMap.{index_map_len};
 ghost use Rattle.amqp_channel.specs.Roles.{role_of};
 ghost use Rattle.amqp_channel.specs.VerdictView.{verdict_view, Decides, LeavesAfter};
 
@@ -22,12 +23,14 @@ use crate::codes::CloseCode;
 use crate::news::News;
 use crate::verdict::{Site, Verdict};
 use amqp_method::{Method, OutOfMemory};
+use indexmap::IndexMap;
 use std::alloc::Global;
-use std::collections::HashMap;
 
 /// The channels that are in use.
 pub struct Channels {
-    used: HashMap<u16, Channel>,
+    used: IndexMap<u16, Channel>,
+    /// Where the channel of the last frame stood among them.
+    last: usize,
     /// No number from 1 up to this one, which is not among them, is free.
     low: u16,
     ghost low_is_least: { 1 ≤ low },
@@ -37,7 +40,11 @@ pub struct Channels {
 /// Written out, so that no crate above proves again of each part that it can be dropped.
 impl Drop for Channels {
     fn drop(self) {
-        let Channels { used: _, low: _ } = self;
+        let Channels {
+            used: _,
+            last: _,
+            low: _,
+        } = self;
     }
 }
 
@@ -45,7 +52,7 @@ impl Drop for Channels {
 ///
 /// It stands apart, since few frames end a channel.
 #[inline(never)]
-fn take_out(used: &mut HashMap<u16, Channel>, low: u16, number: u16) -> u16
+fn take_out(used: &mut IndexMap<u16, Channel>, low: u16, number: u16) -> u16
     requires above { 0 < number }
     requires free { is_free (used_view used.old number) ≡ true }
     requires least { 1 ≤ low }
@@ -54,12 +61,12 @@ fn take_out(used: &mut HashMap<u16, Channel>, low: u16, number: u16) -> u16
     ensures least { 1 ≤ result }
     ensures taken { NoneFreeBelow used.new result }
 {
-    let _ = used.remove(&number);
+    let _ = used.swap_remove(&number);
     if number < low { number } else { low }
 }
 
 /// Takes a channel out if it is Free. The answer is a number below which none is Free.
-fn tidy(used: &mut HashMap<u16, Channel>, low: u16, number: u16, over: bool) -> u16
+fn tidy(used: &mut IndexMap<u16, Channel>, low: u16, number: u16, over: bool) -> u16
     requires above { 0 < number }
     requires free { over ≡ is_free (used_view used.old number) }
     requires least { 1 ≤ low }
@@ -82,7 +89,8 @@ impl Channels {
         ensures { (number : ℕ) → channels_view result number ≡ Free }
     {
         Channels {
-            used: HashMap::new(alloc),
+            used: IndexMap::new(alloc),
+            last: 0,
             low: 1,
         }
     }
@@ -114,7 +122,7 @@ impl Channels {
         ensures err { OnErr result ((other : ℕ) → channels_view self.new other ≡ channels_view self.old other) }
     {
         if channel.is_free() {
-            let _ = self.used.remove(&number);
+            let _ = self.used.swap_remove(&number);
             if number < self.low {
                 self.low = number;
             }
@@ -122,6 +130,30 @@ impl Channels {
         }
         self.used.insert(number, channel)?;
         Ok(())
+    }
+
+    /// Where the channel of this number stands, if it is in use.
+    ///
+    /// Most frames come on the channel of the frame before. So what stands at its place is looked at first, and the number is
+    /// looked up only where that is another channel, or none.
+    #[inline(always)]
+    fn place_of(&self, number: u16) -> Option<usize>
+        requires { 0 < number }
+        ensures within { IfSome result (λ place. place < index_map_len self.now.used) }
+        ensures holds { IfSome result (λ place. HoldsAt self.now.used place number) }
+        ensures written { IfSome result (λ place. WritesAt self.now.used place number) }
+        ensures others { IfSome result (λ place. KeepsOthersAt self.now.used place number) }
+        ensures none { IfNone result (channels_view self.now number ≡ Free) }
+    {
+        if let Some((key, _)) = self.used.as_slice().get_index(self.last) {
+            if *key == number {
+                return Some(self.last);
+            }
+        }
+        let Some((place, _, _)) = self.used.get_full(&number) else {
+            return None;
+        };
+        Some(place)
     }
 
     /// A method that a channel takes. What it tells goes where the caller has room for it.
@@ -140,20 +172,42 @@ impl Channels {
         ensures err { OnErr result (channels_view self.new site.number ≡ channels_view self.old site.number) }
     {
         let number = site.number;
-        match self.used.get_mut(&number) {
-            Some(channel) => {
+        match self.place_of(number) {
+            Some(place) => {
+                self.last = place;
+                let channel = &mut self.used[place];
                 let verdict = channel.take_method(alloc, site, method, news)?;
                 let over = channel.is_free();
                 self.low = tidy(&mut self.used, self.low, number, over);
                 Ok(verdict)
             }
-            None => {
-                let mut channel = Channel::Free;
-                let verdict = channel.take_method(alloc, site, method, news)?;
-                self.set(number, channel)?;
-                Ok(verdict)
-            }
+            None => self.take_unused(alloc, site, method, news),
         }
+    }
+
+    /// A method on a number that is not in use.
+    ///
+    /// It stands apart, since few methods come there: then all others have no room to clear for a channel to be.
+    #[inline(never)]
+    fn take_unused(
+        &mut self,
+        alloc: Global,
+        site: Site,
+        method: Method,
+        news: &mut Option<News>,
+    ) -> Result<Verdict, OutOfMemory>
+        requires above { 0 < site.number }
+        requires free { channels_view self.old site.number ≡ Free }
+        requires none { news.old ≡ None }
+        ensures verdict { IfOk result (λ v. Decides site (channels_view self.old site.number) (Calls (method_view method)) (verdict_view site.number news.new v)) }
+        ensures after { IfOk result (λ v. (frame : Frame) → LeavesAfter (role_of site.side) site.number frame (Calls (method_view method)) (verdict_view site.number news.new v) (channels_view self.old site.number) (channels_view self.new site.number)) }
+        ensures others { OnlyAt site.number (channels_view self.old) (channels_view self.new) }
+        ensures err { OnErr result (channels_view self.new site.number ≡ channels_view self.old site.number) }
+    {
+        let mut channel = Channel::Free;
+        let verdict = channel.take_method(alloc, site, method, news)?;
+        self.set(site.number, channel)?;
+        Ok(verdict)
     }
 
     /// A content header that a channel takes.
@@ -174,8 +228,10 @@ impl Channels {
         ensures dropped { is_closing_at (channels_view self.old site.number) ≡ true → result ≡ Ok Verdict.Proceeds }
     {
         let number = site.number;
-        match self.used.get_mut(&number) {
-            Some(channel) => {
+        match self.place_of(number) {
+            Some(place) => {
+                self.last = place;
+                let channel = &mut self.used[place];
                 let verdict = channel.take_header(alloc, site, payload, news)?;
                 let over = channel.is_free();
                 self.low = tidy(&mut self.used, self.low, number, over);
@@ -202,8 +258,10 @@ impl Channels {
         ensures dropped { is_closing_at (channels_view self.old site.number) ≡ true → result ≡ Ok Verdict.Proceeds }
     {
         let number = site.number;
-        match self.used.get_mut(&number) {
-            Some(channel) => {
+        match self.place_of(number) {
+            Some(place) => {
+                self.last = place;
+                let channel = &mut self.used[place];
                 let verdict = channel.take_body(site, octets, news)?;
                 let over = channel.is_free();
                 self.low = tidy(&mut self.used, self.low, number, over);
@@ -222,8 +280,10 @@ impl Channels {
         ensures others { OnlyAt site.number (channels_view self.old) (channels_view self.new) }
     {
         let number = site.number;
-        match self.used.get_mut(&number) {
-            Some(channel) => {
+        match self.place_of(number) {
+            Some(place) => {
+                self.last = place;
+                let channel = &mut self.used[place];
                 let verdict = channel.take_closing(site, method, news);
                 let over = channel.is_free();
                 self.low = tidy(&mut self.used, self.low, number, over);

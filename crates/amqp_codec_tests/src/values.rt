@@ -5,4 +5,5 @@ mod large;
 mod memory;
 mod numbers;
 mod tables;
+mod texts;
 mod variants;

@@ -1,5 +1,5 @@
 -- Content headers: what is read is encoded so, and what is encoded so is read.
-use Rattle.std.proofs.Common.{◌≡◌, ℕ, suc, ◌+◌, ◌*◌, ◌/◌, ◌%◌, ◌^◌, ◌==◌, ◌<◌, cond, List, [], ◌∷◌, ◌++◌, length, map, Bool, true, false, Option, Some, None, Result, Ok, Err, inl, inr, refl, sym, ap, subst, ◌∙◌, append_assoc, arith}
+use Rattle.std.proofs.Common.{◌≡◌, ℕ, suc, ◌+◌, ◌*◌, ◌/◌, ◌%◌, ◌^◌, ◌==◌, ◌<◌, cond, List, [], ◌∷◌, ◌++◌, length, map, replicate, Bool, true, false, Option, Some, None, Result, Ok, Err, inl, inr, refl, sym, ap, subst, ◌∙◌, append_assoc, arith}
 use Rattle.std.specs.Prelude.{IfOk, IfErr, ◌⊎◌}
 use Rattle.std.proofs.Math.Nat.{mod-lt, mod-eq_of_lt, one-le-pow, mul-add-mod_self_right}
 use Rattle.std.proofs.lemmas.Nat.{mod-pow-add, pow-add, same_from_place}
@@ -10,6 +10,7 @@ use Rattle.amqp_value.proofs.Numbers.{IsBytes}
 use Rattle.amqp_value.specs.Fields.{EncodesNumber}
 use Rattle.amqp_method.specs.Arguments.{Argument, bit, octet, short, long, long_long, short_string, long_string, table, kind_of}
 use Rattle.amqp_method.specs.Faults.{out_of_memory}
+use Rattle.amqp_method.specs.HeaderParts.{later_kinds}
 use Rattle.amqp_method.specs.HeaderReading.{has_flag, optional_at, properties_at, header_at}
 use Rattle.amqp_method.specs.Properties.{ContentHeader, header, HaveKinds, flags_of, EncodesPresent, EncodesHeader, property_kinds}
 use Rattle.amqp_method.specs.Plain.{plain_argument, plain_start, plain_present, plain_header}
@@ -310,3 +311,18 @@ header_encoded h size kinds fitting =
 pub none_there : (end : ℕ) (octets : List ℕ) → properties_at property_kinds 0 end octets ≡ Ok (map (λ kind. None) property_kinds, octets)
 unfolding properties_at optional_at
 none_there end octets = refl
+
+-- where no flag is set of those from the sixth property on, none of these is there
+pub no_later : (flags end : ℕ) (octets : List ℕ) → flags % 2048 ≡ 0 → properties_at later_kinds flags end octets ≡ Ok (replicate 9 None, octets)
+unfolding properties_at optional_at
+no_later flags end octets low =
+    let sixth : flags / 1024 % 2 ≡ 0 = omega (arith, low) in
+    let seventh : flags / 512 % 2 ≡ 0 = omega (arith, low) in
+    let eighth : flags / 256 % 2 ≡ 0 = omega (arith, low) in
+    let ninth : flags / 128 % 2 ≡ 0 = omega (arith, low) in
+    let tenth : flags / 64 % 2 ≡ 0 = omega (arith, low) in
+    let eleventh : flags / 32 % 2 ≡ 0 = omega (arith, low) in
+    let twelfth : flags / 16 % 2 ≡ 0 = omega (arith, low) in
+    let thirteenth : flags / 8 % 2 ≡ 0 = omega (arith, low) in
+    let fourteenth : flags / 4 % 2 ≡ 0 = omega (arith, low) in
+    rw (sixth, seventh, eighth, ninth, tenth, eleventh, twelfth, thirteenth, fourteenth) refl

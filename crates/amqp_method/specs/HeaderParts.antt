@@ -1,4 +1,4 @@
--- The properties in two parts, as they are read: the first seven, and the others.
+-- The properties in two parts, as they are read: the first five, and the others.
 use Rattle.std.specs.Prelude.{List, [], ◌∷◌, Option}
 use Rattle.amqp_method.specs.Arguments.{Argument, octet, long_long, short_string}
 use Rattle.amqp_method.specs.HeaderView.{present, table_argument}
@@ -12,12 +12,12 @@ earlier_view p =
     present short_string p.content_encoding ∷
     present table_argument p.headers ∷
     present octet p.delivery_mode ∷
-    present octet p.priority ∷
-    present short_string p.correlation_id ∷
-    present short_string p.reply_to ∷ []
+    present octet p.priority ∷ []
 
 abbrev pub later_view : Properties → List (Option Argument)
 later_view p =
+    present short_string p.correlation_id ∷
+    present short_string p.reply_to ∷
     present short_string p.expiration ∷
     present short_string p.message_id ∷
     present long_long p.timestamp ∷
@@ -27,4 +27,4 @@ later_view p =
     present short_string p.cluster_id ∷ []
 
 abbrev pub later_kinds : List FieldKind
-later_kinds = ShortStr ∷ ShortStr ∷ LongLong ∷ ShortStr ∷ ShortStr ∷ ShortStr ∷ ShortStr ∷ []
+later_kinds = ShortStr ∷ ShortStr ∷ ShortStr ∷ ShortStr ∷ LongLong ∷ ShortStr ∷ ShortStr ∷ ShortStr ∷ ShortStr ∷ []

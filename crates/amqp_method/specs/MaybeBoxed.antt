@@ -4,4 +4,4 @@ use Rattle.amqp_method.specs.declared.maybe_boxed.MaybeBoxed.TheVariants.{Here, 
 
 abbrev pub boxed_value : {X : Type 0} → MaybeBoxed X → X
 boxed_value (Here x) = x
-boxed_value (Boxed x) = x.value
+boxed_value (Boxed boxed) = boxed.value.value

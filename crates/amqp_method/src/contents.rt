@@ -4,8 +4,10 @@ ghost use Rattle.amqp_method.specs.Kinds.{has_content};
 ghost use Rattle.amqp_method.specs.MethodView.{method_view};
 
 use crate::faults::OutOfMemory;
+use crate::fields::drop_args;
 use crate::headers::Header;
 use crate::kinds::Kind;
+use crate::maybe_boxed::DropInBox;
 use crate::messages::Message;
 use crate::methods::Method;
 use std::alloc::Global;
@@ -101,4 +103,36 @@ impl Content {
         let properties = self.header.properties.copy()?;
         Ok(Message::content(method, properties, body))
     }
+}
+
+impl DropInBox for Content {
+    #[inline(never)]
+    fn drop_in_box(content: Box<Content>) {
+        if content.header.properties.are_none() {
+            drop_parts(content);
+        } else {
+            drop_with_properties(content);
+        }
+    }
+}
+
+/// The properties go first, each where it lies. That none is left then is looked at once more, for the sake of what follows.
+#[inline(never)]
+fn drop_with_properties(mut content: Box<Content>) {
+    content.header.properties.clear();
+    if content.header.properties.are_none() {
+        drop_parts(content);
+    }
+}
+
+/// Where the properties are known to be none, only the method and the body are read.
+#[inline(always)]
+fn drop_parts(content: Box<Content>) {
+    let Content {
+        method,
+        header,
+        body: _,
+    } = Box::into_inner(content);
+    header.properties.drop_parts();
+    drop_args(method.into_method().into_args());
 }

@@ -104,3 +104,27 @@ pub(crate) fn copy_args(args: &Vec<Arg>) -> Result<Vec<Arg>, OutOfMemory>
     }
     Ok(copies)
 }
+
+/// Drops each argument, the last first. Most hold no memory, so the few kinds that do are told apart from them.
+#[inline(always)]
+pub(crate) fn drop_args(mut args: Vec<Arg>) {
+    while let Some(arg) = args.pop() {
+        match arg {
+            Arg::ShortStr(text) => drop(text),
+            Arg::LongStr(_) | Arg::Table(_) => drop_large(arg),
+            Arg::Bit(_) | Arg::Octet(_) | Arg::Short(_) | Arg::Long(_) | Arg::LongLong(_) => {}
+        }
+    }
+}
+
+/// The same, out of line, for the many places that drop a method.
+#[inline(never)]
+pub(crate) fn drop_args_apart(args: Vec<Arg>) {
+    drop_args(args);
+}
+
+/// Drops a long string or a table, of which there are few.
+#[inline(never)]
+fn drop_large(arg: Arg) {
+    drop(arg);
+}

@@ -29,6 +29,9 @@ const BASIC: u16 = 60;
 /// How many octets stand before the properties: class, weight, body size and flags.
 const FRONT_LENGTH: usize = 14;
 
+/// The flags of the properties from the sixth on are those below this one.
+const LATER_FLAGS: u16 = 2048;
+
 /// What says which properties are there, and where the payload ends.
 #[derive(Clone, Copy)]
 struct Flagged {
@@ -169,13 +172,11 @@ impl Flagged {
         let octets = self.table(13, octets, &mut properties.headers)?;
         let octets = self.octet(12, octets, &mut properties.delivery_mode)?;
         let octets = self.octet(11, octets, &mut properties.priority)?;
-        let octets = self.short_string(10, octets, &mut properties.correlation_id)?;
-        let octets = self.short_string(9, octets, &mut properties.reply_to)?;
         self.later_properties(octets, properties)
     }
 
-    /// Those from the eighth on.
-    #[tactic(auto, unfolding(crate::specs::HeaderReading::properties_at))]
+    /// Those from the sixth on. Few headers have any of them.
+    #[tactic(auto, unfolding(crate::specs::HeaderReading::properties_at), using(crate::proofs::HeaderLemmas::no_later))]
     fn later_properties<'a>(
         self,
         octets: &'a [u8],
@@ -186,6 +187,11 @@ impl Flagged {
         ensures within { IfOk result (λ after. length after.now ≤ length octets.now) }
         ensures kept { earlier_view properties.new ≡ earlier_view properties.old }
     {
+        if self.flags % LATER_FLAGS == 0 && properties.later_are_none() {
+            return Ok(octets);
+        }
+        let octets = self.short_string(10, octets, &mut properties.correlation_id)?;
+        let octets = self.short_string(9, octets, &mut properties.reply_to)?;
         let octets = self.short_string(8, octets, &mut properties.expiration)?;
         let octets = self.short_string(7, octets, &mut properties.message_id)?;
         let octets = self.long_long(6, octets, &mut properties.timestamp)?;

@@ -55,6 +55,16 @@ fn copy_table(table: &Option<Table>) -> Result<Option<Table>, OutOfMemory>
     }
 }
 
+/// Most properties are not there, and to look is less than to write.
+#[inline(always)]
+fn clear_place<T: Drop>(place: &mut Option<T>)
+    ensures { place.new ≡ None }
+{
+    if place.is_some() {
+        *place = None;
+    }
+}
+
 impl Header {
     /// How many octets [`write_header`](crate::write_header) writes of the header. `u64::MAX` stands for every number from
     /// there on, which no header in memory reaches.
@@ -83,28 +93,69 @@ impl Properties {
 
     #[inline(always)]
     fn earlier_are_none(&self) -> bool
-        ensures { result ≡ true → earlier_view self.now ≡ replicate 7 None }
+        ensures { result ≡ true → earlier_view self.now ≡ replicate 5 None }
     {
         self.content_type.is_none()
             && self.content_encoding.is_none()
             && self.headers.is_none()
             && self.delivery_mode.is_none()
             && self.priority.is_none()
-            && self.correlation_id.is_none()
-            && self.reply_to.is_none()
     }
 
     #[inline(always)]
-    fn later_are_none(&self) -> bool
-        ensures { result ≡ true → later_view self.now ≡ replicate 7 None }
+    pub(crate) fn later_are_none(&self) -> bool
+        ensures { result ≡ true → later_view self.now ≡ replicate 9 None }
     {
-        self.expiration.is_none()
+        self.correlation_id.is_none()
+            && self.reply_to.is_none()
+            && self.expiration.is_none()
             && self.message_id.is_none()
             && self.timestamp.is_none()
             && self.type_name.is_none()
             && self.user_id.is_none()
             && self.app_id.is_none()
             && self.cluster_id.is_none()
+    }
+
+    /// Takes each away.
+    pub(crate) fn clear(&mut self)
+        ensures { properties_view self.new ≡ replicate 14 None }
+    {
+        clear_place(&mut self.content_type);
+        clear_place(&mut self.content_encoding);
+        clear_place(&mut self.headers);
+        clear_place(&mut self.correlation_id);
+        clear_place(&mut self.reply_to);
+        clear_place(&mut self.expiration);
+        clear_place(&mut self.message_id);
+        clear_place(&mut self.type_name);
+        clear_place(&mut self.user_id);
+        clear_place(&mut self.app_id);
+        clear_place(&mut self.cluster_id);
+        self.delivery_mode = None;
+        self.priority = None;
+        self.timestamp = None;
+    }
+
+    /// Drops each for itself, where it is used, so that those that are known not to be there are not even looked at.
+    #[inline(always)]
+    pub(crate) fn drop_parts(self) {
+        let Properties {
+            content_type: _,
+            content_encoding: _,
+            headers: _,
+            delivery_mode: _,
+            priority: _,
+            correlation_id: _,
+            reply_to: _,
+            expiration: _,
+            message_id: _,
+            timestamp: _,
+            type_name: _,
+            user_id: _,
+            app_id: _,
+            cluster_id: _,
+        } = self;
     }
 
     /// How many octets a header with these properties is written in: the same for every size of a body. `u64::MAX` stands

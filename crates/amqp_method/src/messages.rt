@@ -4,7 +4,7 @@ ghost use Rattle.amqp_method.specs.Messages.{KindFits};
 use crate::contents::{Carrier, Content};
 use crate::faults::OutOfMemory;
 use crate::headers::{Header, Properties};
-use crate::maybe_boxed::MaybeBoxed;
+use crate::maybe_boxed::{Boxed, MaybeBoxed};
 use crate::methods::Method;
 
 #[derive(Debug, Drop, PartialEq, Eq)]
@@ -66,7 +66,7 @@ impl Message {
     {
         content.header.body_size = content.body.len() as u64;
         Message {
-            form: Form::Content(MaybeBoxed::Boxed(content)),
+            form: Form::Content(MaybeBoxed::Boxed(Boxed::new(content))),
         }
     }
 

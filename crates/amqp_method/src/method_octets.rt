@@ -48,7 +48,8 @@ fn exact_method(alloc: Global, octets: &[u8]) -> Result<Method, MethodFault>
     ensures exact { Gives method_view result (method_at octets.now) }
     ensures early { (e : MethodFault) → fault_of_ids octets.now ≡ Some e → result ≡ Err e }
 {
-    let (kind, args) = read_call(alloc, octets)?;
+    let mut args = Vec::new(alloc);
+    let kind = read_call(alloc, octets, &mut args)?;
     Ok(Method::new(kind, args))
 }
 

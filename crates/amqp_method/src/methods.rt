@@ -4,7 +4,7 @@ ghost use Rattle.amqp_method.specs.Arguments.{call, Fits};
 ghost use Rattle.amqp_method.specs.Views.{args_view};
 
 use crate::faults::OutOfMemory;
-use crate::fields::{Arg, copy_args};
+use crate::fields::{Arg, copy_args, drop_args_apart};
 use crate::kinds::{Kind, schema};
 use crate::lengths::args_length;
 use std::alloc::Global;
@@ -16,11 +16,20 @@ use thiserror::Error;
 pub struct Misfit;
 
 /// A method with its arguments, which fit it.
-#[derive(Debug, Drop, PartialEq, Eq)]
+#[derive(Debug, PartialEq, Eq)]
 pub struct Method {
     kind: Kind,
     args: Vec<Arg>,
     pub ghost fit: { Fits (call kind (args_view args.items)) },
+}
+
+/// Written out, so that only those arguments are dropped that hold memory.
+impl Drop for Method {
+    #[inline(always)]
+    fn drop(self) {
+        let Method { kind: _, args } = self;
+        drop_args_apart(args);
+    }
 }
 
 /// Whether the arguments are, in number, order and kind, those of the method's fields that aren't reserved.
@@ -85,14 +94,16 @@ impl Method {
     pub fn into_args(self) -> Vec<Arg>
         ensures { args_view result.items ≡ (method_view self).args }
     {
-        self.args
+        let Method { kind: _, args } = self;
+        args
     }
 
     /// The kind and the arguments, out of the method.
     pub fn into_parts(self) -> (Kind, Vec<Arg>)
         ensures { call result.0 (args_view result.1.items) ≡ method_view self }
     {
-        (self.kind, self.args)
+        let Method { kind, args } = self;
+        (kind, args)
     }
 
     /// How many octets [`write_method`](crate::write_method) writes of the method. `u64::MAX` stands for every number from

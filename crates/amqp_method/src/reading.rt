@@ -184,25 +184,31 @@ impl Bits {
     const NONE: Bits = Bits { left: 0, packed: 0 };
 }
 
-/// The next bit of a run, in a new octet where none is left of the last one.
-fn read_bit(bits: Bits, octets: &[u8], end: usize) -> Result<(bool, Bits, &[u8]), MethodFault>
+/// The next bit of a run, in a new octet where none is left of the last one, and the octets after it.
+#[inline(always)]
+fn read_bit<'a>(
+    bits: &mut Bits,
+    octets: &'a [u8],
+    end: usize,
+) -> Result<(bool, &'a [u8]), MethodFault>
     requires { length octets.now ≤ end }
-    ensures read { Gives (λ x. ((bit x.0, bits_view x.1), x.2.now)) result (bit_at bits.left bits.packed end octets.now) }
-    ensures within { IfOk result (λ x. length x.2.now ≤ length octets.now) }
+    ensures read { Gives (λ x. ((bit x.0, bits_view bits.new), x.1.now)) result (bit_at bits.old.left bits.old.packed end octets.now) }
+    ensures within { IfOk result (λ x. length x.1.now ≤ length octets.now) }
 {
     if bits.left == 0 {
         let (packed, after) = read_octet(octets, end)?;
-        let others = Bits {
+        *bits = Bits {
             left: 7,
             packed: packed / 2,
         };
-        return Ok((packed % 2 == 1, others, after));
+        return Ok((packed % 2 == 1, after));
     }
-    let others = Bits {
+    let holds = bits.packed % 2 == 1;
+    *bits = Bits {
         left: bits.left - 1,
         packed: bits.packed / 2,
     };
-    Ok((bits.packed % 2 == 1, others, octets))
+    Ok((holds, octets))
 }
 
 /// Appends an argument, unless its field is reserved.
@@ -217,95 +223,110 @@ fn keep(args: &mut Vec<Arg>, reserved: bool, arg: Arg) -> Result<(), MethodFault
     Ok(())
 }
 
-/// Appends the value of a field to the arguments, unless it is reserved. The answer is the bits of its octet that are left, and the
-/// octets after it.
+/// Appends the value of a field to the arguments, unless it is reserved. The answer is the octets after it; of its own octet, the bits
+/// that are left are in `bits`.
 ///
 /// Each arm writes its argument straight to where it is kept: arguments of all kinds that meet in one place are put together
 /// octet by octet.
+#[inline(always)]
 #[tactic(auto, unfolding(crate::specs::Reading::field_at, crate::specs::Reading::taken_at))]
 fn read_field<'a>(
     alloc: Global,
     field: &Field,
-    bits: Bits,
+    bits: &mut Bits,
     octets: &'a [u8],
     end: usize,
     args: &mut Vec<Arg>,
-) -> Result<(Bits, &'a [u8]), MethodFault>
+) -> Result<&'a [u8], MethodFault>
     requires { length octets.now ≤ end }
-    ensures read { Gives (λ x. ((args_view args.new.items, bits_view x.0), x.1.now)) result (taken_at (field_view field.now) (args_view args.old.items) (bits_view bits) end octets.now) }
-    ensures within { IfOk result (λ x. length x.1.now ≤ length octets.now) }
+    ensures read { Gives (λ after. ((args_view args.new.items, bits_view bits.new), after.now)) result (taken_at (field_view field.now) (args_view args.old.items) (bits_view bits.old) end octets.now) }
+    ensures within { IfOk result (λ after. length after.now ≤ length octets.now) }
 {
     match field.kind {
         FieldKind::Bit => {
-            let (holds, bits, after) = read_bit(bits, octets, end)?;
+            let (holds, after) = read_bit(bits, octets, end)?;
             keep(args, field.reserved, Arg::Bit(holds))?;
-            Ok((bits, after))
+            Ok(after)
         }
         FieldKind::Octet => {
             let (number, after) = read_octet(octets, end)?;
             keep(args, field.reserved, Arg::Octet(number))?;
-            Ok((Bits::NONE, after))
+            *bits = Bits::NONE;
+            Ok(after)
         }
         FieldKind::Short => {
             let (number, after) = read_short(octets, end)?;
             keep(args, field.reserved, Arg::Short(number))?;
-            Ok((Bits::NONE, after))
+            *bits = Bits::NONE;
+            Ok(after)
         }
         FieldKind::Long => {
             let (number, after) = read_long(octets, end)?;
             keep(args, field.reserved, Arg::Long(number))?;
-            Ok((Bits::NONE, after))
+            *bits = Bits::NONE;
+            Ok(after)
         }
         FieldKind::LongLong => {
             let (number, after) = read_long_long(octets, end)?;
             keep(args, field.reserved, Arg::LongLong(number))?;
-            Ok((Bits::NONE, after))
+            *bits = Bits::NONE;
+            Ok(after)
         }
         FieldKind::ShortStr => {
             let (text, after) = read_short_string(alloc, octets, end)?;
             keep(args, field.reserved, Arg::ShortStr(text))?;
-            Ok((Bits::NONE, after))
+            *bits = Bits::NONE;
+            Ok(after)
         }
         FieldKind::LongStr => {
             let (text, after) = read_long_string(alloc, octets, end)?;
             keep(args, field.reserved, Arg::LongStr(text))?;
-            Ok((Bits::NONE, after))
+            *bits = Bits::NONE;
+            Ok(after)
         }
         FieldKind::Table => {
             let (table, after) = read_field_table(alloc, octets, end)?;
             keep(args, field.reserved, Arg::Table(table))?;
-            Ok((Bits::NONE, after))
+            *bits = Bits::NONE;
+            Ok(after)
         }
     }
 }
 
-/// The arguments of these fields, and the octets after them. There is room for so many at once.
+/// The arguments of these fields, into a vector that has none yet. The answer is the octets after them.
+#[inline(always)]
 fn read_args<'a>(
     alloc: Global,
-    count: usize,
     fields: &[Field],
     octets: &'a [u8],
     end: usize,
-) -> Result<(Vec<Arg>, &'a [u8]), MethodFault>
-    requires { length octets.now ≤ end }
-    ensures read { Gives (λ x. (args_view x.0.items, x.1.now)) result (args_at (map field_view fields.now) no_bits end octets.now) }
-    ensures within { IfOk result (λ x. length x.1.now ≤ length octets.now) }
+    args: &mut Vec<Arg>,
+) -> Result<&'a [u8], MethodFault>
+    requires within { length octets.now ≤ end }
+    requires none { args.old.items ≡ [] }
+    ensures read { Gives (λ after. (args_view args.new.items, after.now)) result (args_at (map field_view fields.now) no_bits end octets.now) }
+    ensures within { IfOk result (λ after. length after.now ≤ length octets.now) }
 {
-    let mut args = Vec::with_capacity(alloc, count)?;
     let mut bits = Bits::NONE;
     let mut rest = octets;
     for field in fields {
-        let (others, after) = read_field(alloc, field, bits, rest, end, &mut args)?;
-        bits = others;
+        let after = read_field(alloc, field, &mut bits, rest, end, args)?;
         rest = after;
     }
-    Ok((args, rest))
+    Ok(rest)
 }
 
-/// The call that a payload encodes, by the machine.
+/// The call that a payload encodes, by the machine: its kind, and its arguments in the place of those that were there.
+///
+/// The arguments have a place of their own, since a result that holds them, or a fault, is put together octet by octet.
+#[inline(always)]
 #[tactic(auto, unfolding(crate::specs::Reading::method_at, crate::specs::EarlyFaults::fault_of_ids))]
-pub(crate) fn read_call(alloc: Global, octets: &[u8]) -> Result<(Kind, Vec<Arg>), MethodFault>
-    ensures exact { Gives (λ x. call x.0 (args_view x.1.items)) result (method_at octets.now) }
+pub(crate) fn read_call(
+    alloc: Global,
+    octets: &[u8],
+    args: &mut Vec<Arg>,
+) -> Result<Kind, MethodFault>
+    ensures exact { Gives (λ kind. call kind (args_view args.new.items)) result (method_at octets.now) }
     ensures early { (e : MethodFault) → fault_of_ids octets.now ≡ Some e → result ≡ Err e }
 {
     let end = octets.len();
@@ -318,7 +339,8 @@ pub(crate) fn read_call(alloc: Global, octets: &[u8]) -> Result<(Kind, Vec<Arg>)
         });
     };
     let row = row_for(kind);
-    let (args, after) = read_args(alloc, row.arguments, row.fields, after, end)?;
+    *args = Vec::with_capacity(alloc, row.arguments)?;
+    let after = read_args(alloc, row.fields, after, end, args)?;
     read_end(after, end)?;
-    Ok((kind, args))
+    Ok(kind)
 }

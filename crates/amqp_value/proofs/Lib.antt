@@ -1,3 +1,4 @@
+pub mod Adding
 pub mod Complete
 pub mod Depths
 pub mod Elements

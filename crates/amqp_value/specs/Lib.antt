@@ -4,7 +4,7 @@ pub mod FirstFault
 pub mod Laws
 pub mod Plain
 pub mod Reading
-pub mod ShortStrs
+pub mod Stored
 pub mod Encoding
 pub mod Tables
 pub mod Text

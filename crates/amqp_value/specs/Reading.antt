@@ -1,6 +1,6 @@
 -- Reading from the prefix, with the first fault that is met. `end` is the place after the octets, so the first of
 -- them stands at `end - length octets`.
-use Rattle.std.specs.Prelude.{◌≡◌, ℕ, zero, suc, ◌+◌, ◌-◌, ◌==◌, List, [], ◌∷◌, length, take, drop, slice_index, not, Option, Some, None, Result, Ok, Err, nat_lt, if◌then◌else◌, ◌⊎◌}
+use Rattle.std.specs.Prelude.{◌≡◌, ℕ, zero, suc, ◌+◌, ◌-◌, ◌==◌, List, [], ◌∷◌, ◌++◌, length, take, drop, slice_index, not, Option, Some, None, Result, Ok, Err, nat_lt, if◌then◌else◌, ◌⊎◌}
 use Rattle.std.specs.Int.{w8, w16, w32, w64, cast_signed}
 use Rattle.byteorder.specs.Endian.{big_number}
 use Rattle.amqp_value.specs.Faults.{fault_at, out_of_memory}
@@ -32,6 +32,17 @@ Read X = Result (X × List ℕ) ValueFault
 
 abbrev pub Reader : Type 0 → Type 0
 Reader X = ℕ → List ℕ → Read X
+
+-- One element was read and stands after the others.
+pub record AddsOne {X : Type 0} (before : List X) (read : Read X) (rest : List ℕ) (after : List X) : Type 0 where
+  pub element : X
+  pub is_read : read ≡ Ok (element, rest)
+  pub is_added : after ≡ before ++ element ∷ []
+
+-- What a call returned that adds what it reads, and answers the octets after it, unless memory ran out.
+abbrev pub Adds : {X Y : Type 0} → List X → (Y → List ℕ) → Result Y ValueFault → Read X → List X → Type 0
+Adds before view (Ok rest) read after = AddsOne before read (view rest) after
+Adds before view (Err e) read after = Fails e read
 
 -- a fault of the element that begins with the first of the octets
 abbrev pub fault_here : ℕ → List ℕ → ValueFaultKind → ValueFault
@@ -133,6 +144,12 @@ named read end octets = do
   name ← name_at end octets
   value ← read end name.1
   Ok ((name.0, value.0), value.1)
+
+-- the value that is read, under a name
+abbrev pub under : {X : Type 0} → List ℕ → Read X → Read (List ℕ × X)
+under name read = do
+  value ← read
+  Ok ((name, value.0), value.1)
 
 -- What stands after a tag, the first of the octets. The values in an array or a table are read by inner, if any may be there.
 unfoldable pub after_tag : Option (Reader Datum) → ℕ → List ℕ → List ℕ → Option Tag → Read Datum

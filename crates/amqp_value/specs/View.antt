@@ -21,8 +21,8 @@ view_step (Value-F.Double octets) = scalar (double octets)
 view_step (Value-F.Decimal scale number) = scalar (decimal scale number)
 view_step (Value-F.Timestamp n) = scalar (timestamp n)
 view_step Value-F.Void = scalar void
-view_step (Value-F.LongString octets) = long_string octets.items
-view_step (Value-F.ByteArray octets) = byte_array octets.items
+view_step (Value-F.LongString octets) = long_string octets
+view_step (Value-F.ByteArray octets) = byte_array octets
 view_step (Value-F.Array values) = array (items_of values.items)
 view_step (Value-F.Table pairs) = table (pairs_of pairs.items)
 

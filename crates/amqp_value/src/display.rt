@@ -140,8 +140,8 @@ fn write_value<W: fmt::Write>(f: &mut fmt::Formatter<W>, value: &Value) -> fmt::
         Value::Decimal { scale, number } => write_decimal(f, *scale, *number),
         Value::Timestamp(number) => write_unsigned(f, "T:", *number),
         Value::Void => f.write_str("V"),
-        Value::LongString(octets) => write_string(f, octets),
-        Value::ByteArray(octets) => write_octets(f, "x:", octets),
+        Value::LongString(octets) => write_string(f, octets.as_bytes()),
+        Value::ByteArray(octets) => write_octets(f, "x:", octets.as_bytes()),
         Value::Array(values) => write_array(f, values),
         Value::Table(pairs) => write_braced(f, "F{", pairs),
     }

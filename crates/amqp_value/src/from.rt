@@ -81,7 +81,7 @@ impl From<Vec<u8>> for Value {
 
     /// A long string of these octets.
     fn from(octets: Vec<u8>) -> Value {
-        Value::LongString(octets)
+        Value::LongString(octets.into())
     }
 }
 
@@ -90,7 +90,7 @@ impl From<String> for Value {
 
     /// A long string.
     fn from(text: String) -> Value {
-        Value::LongString(text.into_bytes())
+        Value::LongString(text.into_bytes().into())
     }
 }
 

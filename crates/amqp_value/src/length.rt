@@ -67,8 +67,8 @@ fn value_length(value: &Value) -> u64
         Value::Decimal { .. } => 6,
         Value::Timestamp(_) => 9,
         Value::Void => 1,
-        Value::LongString(text) => followed_by(1, text_length(text)),
-        Value::ByteArray(octets) => followed_by(1, text_length(octets)),
+        Value::LongString(text) => followed_by(1, text_length(text.as_bytes())),
+        Value::ByteArray(octets) => followed_by(1, text_length(octets.as_bytes())),
         Value::Array(values) => followed_by(1, counted(items_length(values))),
         Value::Table(pairs) => followed_by(1, counted(pairs_length(pairs))),
     }

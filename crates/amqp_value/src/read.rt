@@ -1,17 +1,18 @@
 //! Reading a table from the prefix of octets.
 
-ghost use Rattle.std.specs.Prelude.{◌≡◌, ◌⊎◌, ◌++◌, ◌+◌, ◌≤◌, ◌<◌, ℕ, List, length, take, map, IfOk, IfErr, Ok, Err};
+ghost use Rattle.std.specs.Prelude.{◌≡◌, ◌⊎◌, ◌++◌, ◌∷◌, [], ◌+◌, ◌≤◌, ◌<◌, ℕ, List, length, take, drop, map, IfOk, IfErr, IfSome, Ok, Err, vec_len, vec_capacity};
 ghost use Rattle.amqp_value.specs.Faults.{fault_at, out_of_memory};
 ghost use Rattle.amqp_value.specs.Encoding.{EncodesTable};
 ghost use Rattle.amqp_value.specs.Tables.{table_view, read_view};
 ghost use Rattle.amqp_value.specs.FirstFault.{FirstFault, PassesCounted};
-ghost use Rattle.amqp_value.specs.Reading.{fault_here as place_fault, Gives, prefix_of, counted, name_at, width_of, scalar_of, elements, named, value_at, table_at};
-ghost use Rattle.amqp_value.specs.Values.{scalar, Pairs};
+ghost use Rattle.amqp_value.specs.Reading.{fault_here as place_fault, Gives, Adds, under, prefix_of, counted, name_at, width_of, scalar_of, elements, named, value_at, table_at};
+ghost use Rattle.amqp_value.specs.Values.{scalar, long_string, Pairs};
 ghost use Rattle.amqp_value.specs.View.{view, named_view, pairs_view};
 ghost use Rattle.amqp_value.specs.declared.fault.ValueFault.{ValueFault};
 ghost use Rattle.amqp_value.specs.declared.fault.ValueFaultKind.TheVariants.{Ends};
 
 use crate::fault::{ValueFault, ValueFaultKind};
+use crate::octets::{IN_PLACE, Octets};
 use crate::short_str::ShortStr;
 use crate::tables::{MAX_DEPTH, Table};
 use crate::tag::{ScalarTag, Tag, tag_from};
@@ -27,6 +28,9 @@ const EXPECTED_PAIR: usize = 12;
 const EXPECTED_VALUE: usize = 8;
 
 const FEW: usize = 8;
+
+/// How many octets the widest value of fixed size has after its tag.
+const WIDEST: usize = 8;
 
 /// The fault of an element whose first octet is the first of these, which end at `end`.
 fn fault_here(octets: &[u8], end: usize, kind: ValueFaultKind) -> ValueFault
@@ -71,6 +75,16 @@ fn counted_octets(octets: &[u8], end: usize) -> Result<(&[u8], &[u8]), ValueFaul
     Ok(after.split_at(count))
 }
 
+/// A count of four octets and that many octets, kept, and those after them.
+#[inline(always)]
+fn counted_text(alloc: Global, octets: &[u8], end: usize) -> Result<(Octets, &[u8]), ValueFault>
+    requires { length octets.now ≤ end }
+    ensures { Gives (λ x. (x.0, x.1.now)) result (counted end octets.now) }
+{
+    let (text, after) = counted_octets(octets, end)?;
+    Ok((Octets::prefix(alloc, text, text.len())?, after))
+}
+
 /// A length octet and that many octets, these and all that follow the length octet, and those after the name.
 #[inline(always)]
 fn name_octets(octets: &[u8], end: usize) -> Result<(&[u8], &[u8], &[u8]), ValueFault>
@@ -100,50 +114,123 @@ fn put(place: &mut Value, value: Value)
     forget(replace(place, value));
 }
 
-/// Puts the value of fixed size that the octets after its tag are.
+/// The value of fixed size that the octets after its tag are.
 #[inline(always)]
-fn put_scalar(place: &mut Value, tag: ScalarTag, field: &[u8])
+fn scalar_value(tag: ScalarTag, field: &[u8]) -> Value
     requires { length field.now ≡ width_of tag }
-    ensures { view place.new ≡ scalar (scalar_of tag field.now) }
+    ensures { view result ≡ scalar (scalar_of tag field.now) }
 {
     match tag {
-        ScalarTag::Boolean => put(place, Value::Boolean(field[0] != 0)),
-        ScalarTag::ShortShortInt => put(place, Value::ShortShortInt(field[0].cast_signed())),
-        ScalarTag::ShortShortUint => put(place, Value::ShortShortUint(field[0])),
-        ScalarTag::ErrataShortInt => put(place, Value::ErrataShortInt(BigEndian::read_i16(field))),
-        ScalarTag::ShortInt => put(place, Value::ShortInt(BigEndian::read_i16(field))),
-        ScalarTag::ShortUint => put(place, Value::ShortUint(BigEndian::read_u16(field))),
-        ScalarTag::LongInt => put(place, Value::LongInt(BigEndian::read_i32(field))),
-        ScalarTag::LongUint => put(place, Value::LongUint(BigEndian::read_u32(field))),
-        ScalarTag::ErrataLongLongInt => {
-            put(place, Value::ErrataLongLongInt(BigEndian::read_i64(field)))
-        }
-        ScalarTag::LongLongInt => put(place, Value::LongLongInt(BigEndian::read_i64(field))),
+        ScalarTag::Boolean => Value::Boolean(field[0] != 0),
+        ScalarTag::ShortShortInt => Value::ShortShortInt(field[0].cast_signed()),
+        ScalarTag::ShortShortUint => Value::ShortShortUint(field[0]),
+        ScalarTag::ErrataShortInt => Value::ErrataShortInt(BigEndian::read_i16(field)),
+        ScalarTag::ShortInt => Value::ShortInt(BigEndian::read_i16(field)),
+        ScalarTag::ShortUint => Value::ShortUint(BigEndian::read_u16(field)),
+        ScalarTag::LongInt => Value::LongInt(BigEndian::read_i32(field)),
+        ScalarTag::LongUint => Value::LongUint(BigEndian::read_u32(field)),
+        ScalarTag::ErrataLongLongInt => Value::ErrataLongLongInt(BigEndian::read_i64(field)),
+        ScalarTag::LongLongInt => Value::LongLongInt(BigEndian::read_i64(field)),
         ScalarTag::Float => {
             let mut octets = [0; 4];
             octets.copy_from_slice(field);
-            put(place, Value::Float(octets))
+            Value::Float(octets)
         }
         ScalarTag::Double => {
             let mut octets = [0; 8];
             octets.copy_from_slice(field);
-            put(place, Value::Double(octets))
+            Value::Double(octets)
         }
-        ScalarTag::Decimal => put(
-            place,
-            Value::Decimal {
-                scale: field[0],
-                number: BigEndian::read_u32(&field[1..]),
-            },
-        ),
-        ScalarTag::Timestamp => put(place, Value::Timestamp(BigEndian::read_u64(field))),
-        ScalarTag::Void => put(place, Value::Void),
+        ScalarTag::Decimal => Value::Decimal {
+            scale: field[0],
+            number: BigEndian::read_u32(&field[1..]),
+        },
+        ScalarTag::Timestamp => Value::Timestamp(BigEndian::read_u64(field)),
+        ScalarTag::Void => Value::Void,
     }
 }
 
-/// Reads a tag with its value, and puts the value where it is to stay. The answer is the octets after it.
+/// Adds a pair whose value is of fixed size, where there is room for it.
+#[inline(always)]
+fn push_one(pairs: &mut Vec<(ShortStr, Value)>, name: ShortStr, tag: ScalarTag, field: &[u8])
+    requires room { vec_len pairs.old < vec_capacity pairs.old }
+    requires width { length field.now ≡ width_of tag }
+    ensures { map named_view pairs.new.items ≡ map named_view pairs.old.items ++ (name, scalar (scalar_of tag field.now)) ∷ [] }
+{
+    pairs.push_reserved((name, scalar_value(tag, field)));
+}
+
+/// Adds a pair whose value is of fixed size, where there is room for it.
 ///
-/// Each arm writes its own value there: values of all kinds that meet in one place are put together octet by octet.
+/// Each kind is added by a call of its own: values of all kinds that meet in one place are put together octet by octet.
+#[inline(always)]
+fn push_scalar(pairs: &mut Vec<(ShortStr, Value)>, name: ShortStr, tag: ScalarTag, field: &[u8])
+    requires room { vec_len pairs.old < vec_capacity pairs.old }
+    requires width { length field.now ≡ width_of tag }
+    ensures { map named_view pairs.new.items ≡ map named_view pairs.old.items ++ (name, scalar (scalar_of tag field.now)) ∷ [] }
+{
+    match tag {
+        ScalarTag::Boolean => push_one(pairs, name, ScalarTag::Boolean, field),
+        ScalarTag::ShortShortInt => push_one(pairs, name, ScalarTag::ShortShortInt, field),
+        ScalarTag::ShortShortUint => push_one(pairs, name, ScalarTag::ShortShortUint, field),
+        ScalarTag::ErrataShortInt => push_one(pairs, name, ScalarTag::ErrataShortInt, field),
+        ScalarTag::ShortInt => push_one(pairs, name, ScalarTag::ShortInt, field),
+        ScalarTag::ShortUint => push_one(pairs, name, ScalarTag::ShortUint, field),
+        ScalarTag::LongInt => push_one(pairs, name, ScalarTag::LongInt, field),
+        ScalarTag::LongUint => push_one(pairs, name, ScalarTag::LongUint, field),
+        ScalarTag::ErrataLongLongInt => push_one(pairs, name, ScalarTag::ErrataLongLongInt, field),
+        ScalarTag::LongLongInt => push_one(pairs, name, ScalarTag::LongLongInt, field),
+        ScalarTag::Float => push_one(pairs, name, ScalarTag::Float, field),
+        ScalarTag::Double => push_one(pairs, name, ScalarTag::Double, field),
+        ScalarTag::Decimal => push_one(pairs, name, ScalarTag::Decimal, field),
+        ScalarTag::Timestamp => push_one(pairs, name, ScalarTag::Timestamp, field),
+        ScalarTag::Void => push_one(pairs, name, ScalarTag::Void, field),
+    }
+}
+
+/// The tag of a value of fixed size, its octets, and those after it, where there are so many octets that the widest would lie in them.
+///
+/// So no width has to be looked at, and each kind is met by one jump.
+#[inline(always)]
+#[tactic(auto, unfolding(crate::specs::Reading::value_at, crate::specs::Reading::tagged, crate::specs::Reading::after_tag))]
+fn scalar_octets(octets: &[u8]) -> Option<(ScalarTag, &[u8], &[u8])>
+    ensures width { IfSome result (λ x. length x.1.now ≡ width_of x.0) }
+    ensures read { IfSome result (λ x. (levels end : ℕ) → value_at levels end octets.now ≡ Ok (scalar (scalar_of x.0 x.1.now), x.2.now)) }
+{
+    let (octet, rest) = octets.split_first()?;
+    if rest.len() < WIDEST {
+        return None;
+    }
+    let tag = tag_from(*octet)?;
+    match tag {
+        Tag::Fixed(tag) => {
+            let (field, after) = rest.split_at(tag.width());
+            Some((tag, field, after))
+        }
+        _ => None,
+    }
+}
+
+/// The octets from the text on, of a long string that lies whole in the octets and is short, how many of them are the text, and those after it.
+#[inline(always)]
+#[tactic(auto, unfolding(crate::specs::Reading::value_at, crate::specs::Reading::tagged, crate::specs::Reading::after_tag))]
+fn short_text(octets: &[u8]) -> Option<(&[u8], usize, &[u8])>
+    ensures within { IfSome result (λ x. x.1 ≤ length x.0.now) }
+    ensures read { IfSome result (λ x. (levels end : ℕ) → value_at levels end octets.now ≡ Ok (long_string (take x.1 x.0.now), x.2.now)) }
+{
+    let (octet, rest) = octets.split_first()?;
+    if *octet != b'S' || rest.len() < 4 {
+        return None;
+    }
+    let count = BigEndian::read_u32(rest) as usize;
+    let text = &rest[4..];
+    if count > IN_PLACE || text.len() < count {
+        return None;
+    }
+    Some((text, count, &text[count..]))
+}
+
+/// Reads a tag with its value, and puts the value where it is to stay. The answer is the octets after it.
 #[inline(always)]
 #[cycle(read)]
 #[tactic(auto, unfolding(crate::specs::Reading::value_at, crate::specs::Reading::tagged, crate::specs::Reading::after_tag))]
@@ -166,17 +253,17 @@ fn read_value<'a>(
     match tag {
         Tag::Fixed(tag) => {
             let (field, after) = prefix(rest, tag.width(), end)?;
-            put_scalar(place, tag, field);
+            put(place, scalar_value(tag, field));
             Ok(after)
         }
         Tag::LongString => {
-            let (text, after) = counted_octets(rest, end)?;
-            put(place, Value::LongString(Vec::from_slice(alloc, text)?));
+            let (text, after) = counted_text(alloc, rest, end)?;
+            put(place, Value::LongString(text));
             Ok(after)
         }
         Tag::ByteArray => {
-            let (text, after) = counted_octets(rest, end)?;
-            put(place, Value::ByteArray(Vec::from_slice(alloc, text)?));
+            let (octets, after) = counted_text(alloc, rest, end)?;
+            put(place, Value::ByteArray(octets));
             Ok(after)
         }
         Tag::Array => {
@@ -220,6 +307,52 @@ fn read_items(
     Ok(values)
 }
 
+/// Adds a pair whose value has neither a fixed size nor is a short text.
+#[inline(never)]
+#[cycle(read)]
+fn push_value<'a>(
+    alloc: Global,
+    pairs: &mut Vec<(ShortStr, Value)>,
+    name: ShortStr,
+    octets: &'a [u8],
+    end: usize,
+    levels: usize,
+) -> Result<&'a [u8], ValueFault>
+    requires { length octets.now ≤ end }
+    ensures { Adds (map named_view pairs.old.items) (λ x. x.now) result (under name (value_at levels end octets.now)) (map named_view pairs.new.items) }
+{
+    let pair = pairs.push_mut((name, Value::Void))?;
+    read_value(alloc, octets, end, levels, &mut pair.1)
+}
+
+/// Reads a pair of a table, and adds it. The answer is the octets after it.
+#[inline(always)]
+#[cycle(read)]
+fn read_pair<'a>(
+    alloc: Global,
+    pairs: &mut Vec<(ShortStr, Value)>,
+    octets: &'a [u8],
+    end: usize,
+    levels: usize,
+) -> Result<&'a [u8], ValueFault>
+    requires { length octets.now ≤ end }
+    ensures { Adds (map named_view pairs.old.items) (λ x. x.now) result (named (value_at levels) end octets.now) (map named_view pairs.new.items) }
+{
+    pairs.reserve(1)?;
+    let (name, from_name, field) = name_octets(octets, end)?;
+    let name = ShortStr::prefix(alloc, from_name, name.len())?;
+    if let Some((tag, value, after)) = scalar_octets(field) {
+        push_scalar(pairs, name, tag, value);
+        return Ok(after);
+    }
+    if let Some((text, len, after)) = short_text(field) {
+        let text = Octets::prefix(alloc, text, len)?;
+        pairs.push_reserved((name, Value::LongString(text)));
+        return Ok(after);
+    }
+    push_value(alloc, pairs, name, field, end, levels)
+}
+
 /// The pairs of a table, whose octets these are.
 #[cycle(read)]
 fn read_pairs(
@@ -234,10 +367,7 @@ fn read_pairs(
     let mut pairs = Vec::with_capacity(alloc, body.len().div_ceil(EXPECTED_PAIR).min(FEW))?;
     let mut rest = body;
     while !rest.is_empty() {
-        let (octets, from_name, field) = name_octets(rest, end)?;
-        let name = ShortStr::prefix(alloc, from_name, octets.len())?;
-        let pair = pairs.push_mut((name, Value::Void))?;
-        rest = read_value(alloc, field, end, levels, &mut pair.1)?;
+        rest = read_pair(alloc, &mut pairs, rest, end, levels)?;
     }
     Ok(pairs)
 }

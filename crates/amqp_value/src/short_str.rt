@@ -8,44 +8,26 @@ ghost use Rattle.amqp_value.specs.Faults.{fault_at, out_of_memory};
 ghost use Rattle.amqp_value.specs.declared.fault.ValueFaultKind.TheVariants.{TooLong};
 
 use crate::fault::{OutOfMemory, ValueFault, ValueFaultKind};
+use crate::octets::Octets;
 use std::alloc::{AllocError, Global};
 use std::convert::AsSlice;
 use std::fmt;
 use std::marker::Model;
 
-/// How many octets stand in place, without an allocation, which with their length are three words: the names of most headers
-/// have fewer.
-const IN_PLACE: usize = 23;
-
-/// How many octets two words have.
-const FEW: usize = 16;
-
 /// At most 255 octets, any octets.
 #[derive(Drop)]
 pub struct ShortStr {
-    store: Store,
-}
-
-/// The octets after `len` say nothing. They begin at a word, so that they are moved word by word.
-#[derive(Drop)]
-enum Store {
-    InPlace {
-        word: [u64; 0],
-        octets: [u8; IN_PLACE],
-        len: u8,
-    },
-    Allocated(Vec<u8>),
+    text: Octets,
 }
 
 impl Model for ShortStr {
     ghost use Rattle.std.specs.Prelude.{ℕ, List, length, ◌≤◌};
-    ghost use Rattle.amqp_value.specs.ShortStrs.{stored, IsStored};
 
     ghost Value = { List ℕ };
 
-    ghost view = { λ s. stored s.store };
+    ghost view = { λ s. s.text };
 
-    ghost invariant = { λ s. IsStored s.store };
+    ghost invariant = { λ s. length s.text ≤ 255 };
 }
 
 impl AsSlice<u8> for ShortStr {
@@ -83,10 +65,7 @@ impl ShortStr {
         ensures octets { result.now ≡ self.now }
         ensures short { length self.now ≤ 255 }
     {
-        match &self.store {
-            Store::InPlace { octets, len, .. } => &octets[..usize::from(*len)],
-            Store::Allocated(octets) => octets.as_slice(),
-        }
+        self.text.as_bytes()
     }
 
     /// How many octets.
@@ -122,61 +101,18 @@ impl ShortStr {
     pub fn copy(&self) -> Result<ShortStr, OutOfMemory>
         ensures { IfOk result (λ s. s ≡ self.now) }
     {
-        let store = match &self.store {
-            Store::InPlace { octets, len, .. } => Store::InPlace {
-                word: [],
-                octets: *octets,
-                len: *len,
-            },
-            Store::Allocated(octets) => {
-                Store::Allocated(Vec::from_slice(*octets.allocator(), octets)?)
-            }
-        };
-        Ok(ShortStr { store })
+        let text = self.text.copy()?;
+        Ok(ShortStr { text })
     }
 
-    /// The first `len` octets, of which there may be more. Where there are, the room in place is filled with them, which
-    /// is one copy of a fixed size.
+    /// The first `len` octets, of which there may be more.
     #[inline(always)]
     pub(crate) fn prefix(alloc: Global, octets: &[u8], len: usize) -> Result<ShortStr, AllocError>
         requires within { len ≤ length octets.now }
         requires short { len ≤ 255 }
         ensures { IfOk result (λ s. s ≡ take len octets.now) }
     {
-        if len > IN_PLACE {
-            return Ok(ShortStr {
-                store: Store::Allocated(Vec::from_slice(alloc, &octets[..len])?),
-            });
-        }
-        Ok(ShortStr {
-            store: Store::InPlace {
-                word: [],
-                octets: in_place(octets, len),
-                len: len as u8,
-            },
-        })
+        let text = Octets::prefix(alloc, octets, len)?;
+        Ok(ShortStr { text })
     }
-}
-
-/// An array that begins with the first `len` octets.
-///
-/// Few are copied as they are moved later, in words.
-#[inline(always)]
-fn in_place(octets: &[u8], len: usize) -> [u8; IN_PLACE]
-    requires within { len ≤ length octets.now }
-    requires room { len ≤ 23 }
-    ensures { take len result ≡ take len octets.now }
-{
-    let mut copied = [0; IN_PLACE];
-    if len <= FEW && octets.len() >= FEW {
-        copied[..8].copy_from_slice(&octets[..8]);
-        copied[8..FEW].copy_from_slice(&octets[8..FEW]);
-        return copied;
-    }
-    if octets.len() >= IN_PLACE {
-        copied.copy_from_slice(&octets[..IN_PLACE]);
-        return copied;
-    }
-    copied[..len].copy_from_slice(&octets[..len]);
-    copied
 }

@@ -7,7 +7,7 @@ ghost use Rattle.amqp_value.specs.View.{pairs_view};
 use crate::fault::{OutOfMemory, ValueFault, ValueFaultKind};
 use crate::length::table_length;
 use crate::short_str::ShortStr;
-use crate::values::{Value, copy_pairs, nests_within};
+use crate::values::{Value, copy_pairs, drop_pairs, nests_within};
 use std::alloc::Global;
 use std::slice;
 
@@ -21,10 +21,12 @@ pub struct Table {
     pub ghost depth_is_bounded: { table_depth (pairs_view pairs.items) ≤ 32 },
 }
 
-/// Written out, so that no crate above proves again of each part that it can be dropped.
+/// Written out, so that no crate above proves again of each part that it can be dropped, and so that few octets are moved.
 impl Drop for Table {
+    #[inline(always)]
     fn drop(self) {
-        let Table { pairs: _ } = self;
+        let Table { pairs } = self;
+        drop_pairs(pairs);
     }
 }
 

@@ -5,6 +5,7 @@ ghost use Rattle.amqp_value.specs.Values.{depth};
 ghost use Rattle.amqp_value.specs.View.{view, items_view, pairs_view};
 
 use crate::fault::OutOfMemory;
+use crate::octets::Octets;
 use crate::short_str::ShortStr;
 
 /// A field value, one variant for each tag. A value that is written again keeps its tag.
@@ -41,9 +42,9 @@ pub enum Value {
     /// `V`: no octets.
     Void,
     /// `S`: any octets, after a count of 32 bits.
-    LongString(Vec<u8>),
+    LongString(Octets),
     /// `x`: any octets, after a count of 32 bits.
-    ByteArray(Vec<u8>),
+    ByteArray(Octets),
     /// `A`: tags with values, after a count of 32 bits.
     Array(Vec<Value>),
     /// `F`: names and tags with values, after a count of 32 bits.
@@ -82,8 +83,8 @@ fn copy_value(value: &Value) -> Result<Value, OutOfMemory>
         },
         Value::Timestamp(number) => Value::Timestamp(*number),
         Value::Void => Value::Void,
-        Value::LongString(text) => Value::LongString(Vec::from_slice(*text.allocator(), text)?),
-        Value::ByteArray(octets) => Value::ByteArray(Vec::from_slice(*octets.allocator(), octets)?),
+        Value::LongString(text) => Value::LongString(text.copy()?),
+        Value::ByteArray(octets) => Value::ByteArray(octets.copy()?),
         Value::Array(values) => Value::Array(copy_items(values)?),
         Value::Table(pairs) => Value::Table(copy_pairs(pairs)?),
     };
@@ -114,6 +115,42 @@ pub(crate) fn copy_pairs(
         copies.push((name, copy_value(&pair.1)?))?;
     }
     Ok(copies)
+}
+
+/// Drops a value. Those of fixed size have nothing to give back.
+#[inline(always)]
+fn drop_value(value: Value) {
+    match value {
+        Value::LongString(text) => drop(text),
+        Value::ByteArray(octets) => drop(octets),
+        Value::Array(values) => drop(values),
+        Value::Table(pairs) => drop(pairs),
+        Value::Boolean(_)
+        | Value::ShortShortInt(_)
+        | Value::ShortShortUint(_)
+        | Value::ErrataShortInt(_)
+        | Value::ShortInt(_)
+        | Value::ShortUint(_)
+        | Value::LongInt(_)
+        | Value::LongUint(_)
+        | Value::ErrataLongLongInt(_)
+        | Value::LongLongInt(_)
+        | Value::Float(_)
+        | Value::Double(_)
+        | Value::Decimal { .. }
+        | Value::Timestamp(_)
+        | Value::Void => {}
+    }
+}
+
+/// Drops pairs, the last first. Each is looked at where it lies, so that what has nothing to give back, as most do, isn't moved to be dropped.
+#[inline(always)]
+pub(crate) fn drop_pairs(mut pairs: Vec<(ShortStr, Value)>) {
+    while let Some((name, value)) = pairs.pop() {
+        drop(name);
+        drop_value(value);
+    }
+    pairs.destroy_empty();
 }
 
 /// Whether arrays and tables nest at most so many levels deep in a value, which is one level itself

@@ -149,8 +149,8 @@ fn put_value(out: &mut Vec<u8>, value: &Value) -> Result<(), ValueFault>
         Value::Decimal { scale, number } => put_decimal(out, b'D', *scale, *number),
         Value::Timestamp(number) => put_u64(out, b'T', *number),
         Value::Void => put_field(out, b"V"),
-        Value::LongString(text) => put_text(out, b'S', text),
-        Value::ByteArray(octets) => put_text(out, b'x', octets),
+        Value::LongString(text) => put_text(out, b'S', text.as_bytes()),
+        Value::ByteArray(octets) => put_text(out, b'x', octets.as_bytes()),
         Value::Array(values) => put_array(out, values),
         Value::Table(pairs) => put_table(out, pairs),
     }

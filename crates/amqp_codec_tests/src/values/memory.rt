@@ -21,7 +21,7 @@ fn read_between(
 }
 
 /// The part of the count, octets in hexadecimal, and how many pairs they have, if they are a table.
-static TABLES: [(u8, &str, Option<usize>); 9] = [
+static TABLES: [(u8, &str, Option<usize>); 12] = [
     // an outer count, a string's, an array's and a table's that are greater than what is there
     (10, "ffffffff", None),
     (11, "00000007016153ffffffff", None),
@@ -38,6 +38,22 @@ static TABLES: [(u8, &str, Option<usize>); 9] = [
     // arrays in arrays, as they are and with a count that is greater than what is there
     (17, "000000110161410000000a41000000054100000000", Some(1)),
     (18, "000000110161410000000a41000000ff4100000000", None),
+    // a string of 23 octets, one of 24, and a byte array of as many
+    (
+        19,
+        "0000001e016153000000176162636465666768696a6b6c6d6e6f7071727374757677",
+        Some(1),
+    ),
+    (
+        20,
+        "0000001f016153000000186162636465666768696a6b6c6d6e6f707172737475767778",
+        Some(1),
+    ),
+    (
+        21,
+        "0000001f016178000000186162636465666768696a6b6c6d6e6f707172737475767778",
+        Some(1),
+    ),
 ];
 
 #[test]

@@ -2,7 +2,7 @@
 use crate::octets::{QUOTED, every_octet};
 use crate::showing::assert_text;
 use crate::values::tables::{push, written};
-use amqp_value::{ShortStr, Table, Value, read_table, table_text, text_of};
+use amqp_value::{Octets, ShortStr, Table, Value, read_table, table_text, text_of};
 use std::alloc::Global;
 use std::process::Abort;
 use std::test::Fail;
@@ -46,9 +46,9 @@ fn nested(alloc: Global) -> Result<Value, Fail> {
 
 /// Adds a value of each variant that takes memory, with its tag.
 fn push_owned(alloc: Global, values: &mut Vec<(u8, Value)>) -> Result<(), Fail> {
-    let text = Vec::from_slice(alloc, b"\"\\A\x7f\n")?;
+    let text = Octets::new(alloc, b"\"\\A\x7f\n")?;
     values.push((b'S', Value::LongString(text)))?;
-    let octets = Vec::from_slice(alloc, b"\x00\xff\x80")?;
+    let octets = Octets::new(alloc, b"\x00\xff\x80")?;
     values.push((b'x', Value::ByteArray(octets)))?;
     values.push((b'A', array(alloc)?))?;
     values.push((b'F', nested(alloc)?))?;
@@ -180,7 +180,7 @@ fn each_variant_in_a_format_string(rt: HostRuntime) -> Result<(), Fail> {
 /// A table of one pair: a name of the first half of the octets, and a string of them all.
 fn table_of_octets(alloc: Global, octets: &[u8]) -> Result<Table, Fail> {
     let name = octets.get(..128).ok_or("short")?;
-    let text = Value::LongString(octets.to_vec(alloc)?);
+    let text = Value::LongString(Octets::new(alloc, octets)?);
     let mut table = Table::new(alloc);
     push(alloc, &mut table, name, text)?;
     Ok(table)
@@ -196,7 +196,7 @@ fn assert_table_text(rt: &impl Abort, alloc: Global, octets: &[u8]) -> Result<()
 }
 
 fn assert_string_text(rt: &impl Abort, alloc: Global, octets: Vec<u8>) -> Result<(), Fail> {
-    let text = text_of(alloc, &Value::LongString(octets))?;
+    let text = text_of(alloc, &Value::from(octets))?;
     let all = QUOTED;
     let wanted = format!(in alloc; "S:\"{all}\"")?;
     assert_text(rt, text.as_str(), wanted.as_str());

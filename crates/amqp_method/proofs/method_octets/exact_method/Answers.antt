@@ -5,4 +5,4 @@ use Rattle.amqp_method.proofs.MethodLemmas.{method_at-fits}
 use Rattle.amqp_method.proofs.method_octets.exact_method.Goals as goal
 
 pub new-requires : goal.new-requires
-new-requires c = method_at-fits c.args.octets.now (call c.in_ok-kind.kind (args_view c.in_ok-kind.args.items)) (λ i. omega (arith, c.type_inv.octets i)) c.in_ok-kind.ensures.exact
+new-requires c = method_at-fits c.args.octets.now (call c.in_ok-kind.kind (args_view c.read_call.new.args.items)) (λ i. omega (arith, c.type_inv.octets i)) c.in_ok-kind.ensures.exact

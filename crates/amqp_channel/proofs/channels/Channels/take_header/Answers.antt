@@ -1,12 +1,23 @@
-use Rattle.std.proofs.Common.{ap, sym, ◌∙◌}
+use Rattle.std.proofs.Common.{sym, ◌∙◌}
 use Rattle.amqp_model.specs.Methods.{header_at}
 use Rattle.amqp_model.specs.Readings.{header_reading}
-use Rattle.amqp_channel.specs.Used.{kept_at}
 use Rattle.amqp_channel.proofs.HeaderLemmas.{is_of_content}
-use Rattle.amqp_channel.proofs.UsedLemmas.{at_used, decides_at, free_decides}
+use Rattle.amqp_channel.proofs.PlaceLemmas.{all_taken, others_taken}
+use Rattle.amqp_channel.proofs.UsedLemmas.{decides_at, free_decides}
 use Rattle.amqp_channel.proofs.channels.Channels.take_header.Goals as goal
 
 pub returns-in-None-clause-verdict : goal.returns-in-None-clause-verdict
 returns-in-None-clause-verdict c =
-    decides_at c.args.site _ _ (header_reading (header_at c.args.payload.now)) _ (at_used c.args.self.now.used c.args.site.number c.requires.above ∙ ap kept_at (sym c.in-None.ensures.value))
+    decides_at c.args.site _ _ (header_reading (header_at c.args.payload.now)) _ c.in-None.ensures.none
     (free_decides c.args.site (header_reading (header_at c.args.payload.now)) (is_of_content (header_at c.args.payload.now)))
+
+pub tidy-self-requires-clause-taken : goal.tidy-self-requires-clause-taken
+tidy-self-requires-clause-taken c =
+    others_taken c.args.self.now.used c.in-Some.place c.args.site.number c.args.self.now.low c.take_header.new.self c.in-Some.ensures.others c.args.self.now.taken_below
+
+pub invariant_of-self : goal.invariant_of-self
+invariant_of-self c = record {
+  low_is_least = c.args.self.now.low_is_least;
+  taken_below = all_taken c.args.self.now.used c.in-Some.place c.args.site.number c.args.self.now.low c.take_header.new.self c.in-Some.ensures.others c.args.self.now.taken_below
+      (c.in-Some.ensures.written c.take_header.new.self ∙ (c.in_err-verdict-in-Some.ensures.err ∙ sym (c.in-Some.ensures.holds _ c.index_mut-channel.ensures.value)));
+}

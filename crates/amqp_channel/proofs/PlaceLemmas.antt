@@ -1,0 +1,43 @@
+-- The channel that stands at a place among those in use.
+use Rattle.std.proofs.Common.{◌≡◌, ◌≢◌, ◌<◌, nat_eq, eqb, Bool, true, false, ℕ, zero, suc, slice_get, Some, option_map, refl, ap, sym, ◌∙◌}
+use Rattle.std.proofs.lemmas.Bool.{ne_eqb, eqb-true, eqb-false}
+use Rattle.std.proofs.lemmas.Map.Entries.{hash_map_get_place}
+use Rattle.std.proofs.lemmas.Option.{slice_get-map}
+use Rattle.std.specs.Cmp.{nat_eq_equiv}
+use Rattle.indexmap.specs.IndexMap.{with_value_at, IsUnique}
+use Rattle.indexmap.proofs.CallerLemmas.{updates-with_value_at}
+use Rattle.amqp_model.specs.Asks.{is_free}
+use Rattle.amqp_channel.specs.Used.{Used, kept_at, used_view, HoldsAt, KeepsOthersAt, NoneFreeBelow, WritesAt}
+use Rattle.amqp_channel.specs.declared.channel.Channel.{Channel}
+use Rattle.amqp_channel.proofs.UsedLemmas.{at_used}
+
+module _ (used : Used) (place number : ℕ) (channel : Channel) (above : 0 < number) (unique : IsUnique nat_eq used) (at : slice_get used.entries place ≡ Some (number, channel)) where
+  pub holds_at : HoldsAt used place number
+  holds_at other value =
+      let here : Some channel ≡ Some other = sym (ap (λ o. option_map (λ e. e.1) o) at) ∙ (sym (slice_get-map (λ e. e.1) used.entries place) ∙ value) in
+      at_used used number above ∙ ap kept_at (hash_map_get_place nat_eq_equiv used place number channel unique at ∙ here)
+
+  pub writes_at : WritesAt used place number
+  writes_at written =
+      let updates = updates-with_value_at used place written nat_eq_equiv unique number channel at in
+      at_used (with_value_at used place written) number above ∙ ap kept_at updates.1
+
+  pub keeps_others_at : KeepsOthersAt used place number
+  keeps_others_at written zero apart = refl
+  keeps_others_at written (suc n) apart =
+      let updates = updates-with_value_at used place written nat_eq_equiv unique number channel at in
+      ap kept_at (updates.2 (suc n) (ne_eqb number (suc n) (λ e. apart (sym e))))
+
+-- the channels of the other numbers are taken still
+pub others_taken : (used : Used) (place number low : ℕ) (channel : Channel) → KeepsOthersAt used place number → NoneFreeBelow used low
+    → (j : ℕ) → suc j < low → suc j ≢ number → is_free (used_view (with_value_at used place channel) (suc j)) ≡ false
+others_taken used place number low channel others taken j below apart = ap is_free (others channel (suc j) apart) ∙ taken j below
+
+-- and so is this one, where it is as it was
+pub all_taken : (used : Used) (place number low : ℕ) (channel : Channel) → KeepsOthersAt used place number → NoneFreeBelow used low
+    → used_view (with_value_at used place channel) number ≡ used_view used number → NoneFreeBelow (with_value_at used place channel) low
+all_taken used place number low channel others taken same j below = by (eqb (suc j) number) refl
+  where
+    by : (b : Bool) → eqb (suc j) number ≡ b → is_free (used_view (with_value_at used place channel) (suc j)) ≡ false
+    by true e = ap is_free (ap (used_view (with_value_at used place channel)) (eqb-true (suc j) number e) ∙ (same ∙ ap (used_view used) (sym (eqb-true (suc j) number e)))) ∙ taken j below
+    by false e = others_taken used place number low channel others taken j below (eqb-false (suc j) number e)

@@ -1,0 +1,33 @@
+use Rattle.std.proofs.Common.{◌≡◌, slice_get, Some, ap, sym, ◌∙◌}
+use Rattle.std.proofs.lemmas.Bool.{eqb-true}
+use Rattle.std.proofs.lemmas.Map.Made.{lookup_key_passes}
+use Rattle.amqp_channel.proofs.PlaceLemmas.{holds_at, keeps_others_at, writes_at}
+use Rattle.amqp_channel.proofs.channels.Channels.place_of.Goals as goal
+
+stood : (c : goal.Then-key-number) → slice_get c.args.self.now.used.entries c.args.self.now.last ≡ Some (c.args.number, c.in-Some.field-0-1.now)
+stood c =
+    ap (λ entries. slice_get entries c.args.self.now.last) (sym c.as_slice.ensures.entries)
+    ∙ (sym c.in-Some.ensures.entry ∙ ap (λ key. Some (key, c.in-Some.field-0-1.now)) c.if-key-number.true)
+
+pub returns-then-key-number-clause-holds : goal.returns-then-key-number-clause-holds
+returns-then-key-number-clause-holds c = holds_at c.args.self.now.used c.args.self.now.last c.args.number c.in-Some.field-0-1.now c.requires c.as_slice.ensures.unique (stood c)
+
+pub returns-then-key-number-clause-written : goal.returns-then-key-number-clause-written
+returns-then-key-number-clause-written c = writes_at c.args.self.now.used c.args.self.now.last c.args.number c.in-Some.field-0-1.now c.requires c.as_slice.ensures.unique (stood c)
+
+pub returns-then-key-number-clause-others : goal.returns-then-key-number-clause-others
+returns-then-key-number-clause-others c = keeps_others_at c.args.self.now.used c.args.self.now.last c.args.number c.in-Some.field-0-1.now c.requires c.as_slice.ensures.unique (stood c)
+
+found : (c : goal.In-Some-get_full) → slice_get c.args.self.now.used.entries c.in-Some-get_full.place ≡ Some (c.args.number, c.in-Some-get_full.field-0-2.now)
+found c =
+    let same = eqb-true c.args.number c.in-Some-get_full.field-0-1.now (lookup_key_passes _ c.args.self.now.used.entries c.in-Some-get_full.field-0-1.now (sym c.in-Some-get_full.ensures.key)) in
+    c.in-Some-get_full.ensures.entry ∙ ap (λ key. Some (key, c.in-Some-get_full.field-0-2.now)) (sym same)
+
+pub returns-clause-holds : goal.returns-clause-holds
+returns-clause-holds c = holds_at c.args.self.now.used c.in-Some-get_full.place c.args.number c.in-Some-get_full.field-0-2.now c.requires c.as_slice.ensures.unique (found c)
+
+pub returns-clause-written : goal.returns-clause-written
+returns-clause-written c = writes_at c.args.self.now.used c.in-Some-get_full.place c.args.number c.in-Some-get_full.field-0-2.now c.requires c.as_slice.ensures.unique (found c)
+
+pub returns-clause-others : goal.returns-clause-others
+returns-clause-others c = keeps_others_at c.args.self.now.used c.in-Some-get_full.place c.args.number c.in-Some-get_full.field-0-2.now c.requires c.as_slice.ensures.unique (found c)

@@ -1,0 +1,14 @@
+use Rattle.std.proofs.Common.{sym, ◌∙◌}
+use Rattle.amqp_channel.proofs.PlaceLemmas.{all_taken, others_taken}
+use Rattle.amqp_channel.proofs.channels.Channels.take_body.Goals as goal
+
+pub tidy-self-requires-clause-taken : goal.tidy-self-requires-clause-taken
+tidy-self-requires-clause-taken c =
+    others_taken c.args.self.now.used c.in-Some.place c.args.site.number c.args.self.now.low c.take_body.new.self c.in-Some.ensures.others c.args.self.now.taken_below
+
+pub invariant_of-self : goal.invariant_of-self
+invariant_of-self c = record {
+  low_is_least = c.args.self.now.low_is_least;
+  taken_below = all_taken c.args.self.now.used c.in-Some.place c.args.site.number c.args.self.now.low c.take_body.new.self c.in-Some.ensures.others c.args.self.now.taken_below
+      (c.in-Some.ensures.written c.take_body.new.self ∙ (c.in_err-verdict-in-Some.ensures.err ∙ sym (c.in-Some.ensures.holds _ c.index_mut-channel.ensures.value)));
+}

@@ -1,0 +1,61 @@
+-- Reading a pair and adding it to those before.
+use Rattle.std.proofs.Common.{◌≡◌, ℕ, zero, suc, ◌-◌, ◌≤◌, List, ◌∷◌, length, take, drop, Some, Ok, ltb, false, refl, arith, rules}
+use Rattle.std.proofs.lemmas.Bool.{le-ltb}
+use Rattle.byteorder.specs.Endian.{big_number}
+use Rattle.amqp_value.specs.Reading.{Reader, counted, name_at, named, under, after_tag, tagged, tag_of, width_of, scalar_of, value_at}
+use Rattle.amqp_value.specs.Values.{scalar, long_string}
+use Rattle.amqp_value.specs.View.{view}
+use Rattle.amqp_value.specs.declared.tag.ScalarTag.{ScalarTag}
+use Rattle.amqp_value.specs.declared.tag.ScalarTag.TheVariants as scalars
+use Rattle.amqp_value.specs.declared.tag.Tag.TheVariants.{Fixed}
+use Rattle.amqp_value.specs.declared.values.Value.{LongString, the_lemmas}
+
+-- after a name, what is read under it
+pub named-is : {X : Type 0} (read : Reader X) (end : ℕ) (octets name field : List ℕ) → name_at end octets ≡ Ok (name, field) → named read end octets ≡ under name (read end field)
+unfolding named
+named-is read end octets name field first = rw first refl
+
+-- a count that fits what follows it
+pub counted-is : (end : ℕ) (octets : List ℕ) → 4 ≤ length octets → big_number 4 octets ≤ length octets - 4
+    → counted end octets ≡ Ok (take (big_number 4 octets) (drop 4 octets), drop (big_number 4 octets) (drop 4 octets))
+counted-is end octets long fits =
+    let first : ltb (length octets) 4 ≡ false = le-ltb _ _ long in
+    let second : ltb (length octets - 4) (big_number 4 octets) ≡ false = le-ltb _ _ fits in
+    rw (first, second) refl
+
+-- a long string, however deep it stands
+pub long_string-read : (levels end octet : ℕ) (rest text after : List ℕ) → octet ≡ 83 → counted end rest ≡ Ok (text, after) → value_at levels end (octet ∷ rest) ≡ Ok (long_string text, after)
+unfolding value_at tagged after_tag
+long_string-read zero end octet rest text after is read = rw (is, read) refl
+long_string-read (suc levels) end octet rest text after is read = rw (is, read) refl
+
+pub view-LongString : (text : List ℕ) → view (LongString text) ≡ long_string text
+view-LongString text = search (rules, the_lemmas)
+
+pub width-most : (tag : ScalarTag) → width_of tag ≤ 8
+width-most scalars.Boolean = omega arith
+width-most scalars.ShortShortInt = omega arith
+width-most scalars.ShortShortUint = omega arith
+width-most scalars.ErrataShortInt = omega arith
+width-most scalars.ShortInt = omega arith
+width-most scalars.ShortUint = omega arith
+width-most scalars.LongInt = omega arith
+width-most scalars.LongUint = omega arith
+width-most scalars.ErrataLongLongInt = omega arith
+width-most scalars.LongLongInt = omega arith
+width-most scalars.Float = omega arith
+width-most scalars.Double = omega arith
+width-most scalars.Decimal = omega arith
+width-most scalars.Timestamp = omega arith
+width-most scalars.Void = omega arith
+
+-- a value of fixed size, where the widest would lie in what follows its tag
+pub scalar-read : (levels end octet : ℕ) (rest : List ℕ) (tag : ScalarTag) → tag_of octet ≡ Some (Fixed tag) → 8 ≤ length rest
+    → value_at levels end (octet ∷ rest) ≡ Ok (scalar (scalar_of tag (take (width_of tag) rest)), drop (width_of tag) rest)
+unfolding value_at tagged after_tag
+scalar-read zero end octet rest tag is long =
+    let narrow : ltb (length rest) (width_of tag) ≡ false = le-ltb _ _ (omega (arith, width-most tag)) in
+    rw (is, narrow) refl
+scalar-read (suc levels) end octet rest tag is long =
+    let narrow : ltb (length rest) (width_of tag) ≡ false = le-ltb _ _ (omega (arith, width-most tag)) in
+    rw (is, narrow) refl
