@@ -31,12 +31,19 @@ fn octets_are_kept(rt: HostRuntime) -> Result<(), Fail> {
     Ok(())
 }
 
+/// How many octets there are, in 32 bits.
+fn count_of(octets: &[u8]) -> [u8; 4] {
+    u32::try_from(octets.len())
+        .unwrap_or(u32::MAX)
+        .to_be_bytes()
+}
+
 /// A table of two pairs, `a` and `b`, with a value of this tag and these octets each: in the middle and at the end.
 fn table_of(alloc: Global, tag: u8, text: &[u8]) -> Result<Vec<u8>, Fail> {
-    let count = (text.len() as u32).to_be_bytes();
+    let count = count_of(text);
     let [first, second] = [[1, b'a', tag], [1, b'b', tag]];
     let pairs = joined(alloc, &[&first, &count, text, &second, &count, text])?;
-    joined(alloc, &[&(pairs.len() as u32).to_be_bytes(), &pairs])
+    joined(alloc, &[&count_of(&pairs), &pairs])
 }
 
 /// The octets of a string or a byte array.
