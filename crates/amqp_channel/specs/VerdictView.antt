@@ -1,5 +1,5 @@
 -- The verdicts of the code, in the words of the model, and the channel that they leave.
-use Rattle.std.specs.Prelude.{◌≡◌, ℕ, cond, drop, List, [], ◌∷◌, map, Option, Some}
+use Rattle.std.specs.Prelude.{◌≡◌, ℕ, true, false, cond, drop, List, [], ◌∷◌, map, Option, Some}
 use Rattle.amqp_model.specs.Channels.{Channel, Life, Open, Running}
 use Rattle.amqp_model.specs.Closes.{Owed, ChannelError, ContentTooLarge, UnexpectedFrame, channel_close, reply_to, frame_of}
 use Rattle.amqp_model.specs.Events.{Peer, FrameVerdict, Proceeds, RefusesContent, Faults}
@@ -20,7 +20,7 @@ use Rattle.amqp_channel.specs.NewsView.{news_there}
 use Rattle.amqp_channel.specs.Roles.{role_of}
 use Rattle.amqp_channel.specs.declared.news.News.{News}
 use Rattle.amqp_channel.specs.declared.verdict.Reply.{Reply}
-use Rattle.amqp_channel.specs.declared.verdict.Reply.TheVariants.{OpenOk, CloseOk, FlowOk}
+use Rattle.amqp_channel.specs.declared.verdict.Reply.TheVariants.{OpenOk, CloseOk, FlowOkActive, FlowOkInactive}
 use Rattle.amqp_channel.specs.declared.verdict.Site.{Site}
 use Rattle.amqp_channel.specs.declared.verdict.Verdict.{Verdict}
 use Rattle.amqp_channel.specs.declared.verdict.Verdict.TheVariants as code
@@ -28,7 +28,8 @@ use Rattle.amqp_channel.specs.declared.verdict.Verdict.TheVariants as code
 abbrev pub reply_kind : Reply → notes.Kind
 reply_kind OpenOk = notes.OpenOk
 reply_kind CloseOk = notes.CloseOk
-reply_kind (FlowOk active) = notes.FlowOk active
+reply_kind FlowOkActive = notes.FlowOk true
+reply_kind FlowOkInactive = notes.FlowOk false
 
 -- the verdict on a frame of the channel with this number, which tells these news
 abbrev pub verdict_view : (number : ℕ) → Option News → Verdict → FrameVerdict

@@ -103,7 +103,7 @@ impl Channel {
             }
             Kind::ChannelCloseOk => {
                 *self = Channel::Free;
-                News::ChannelClosed(Aligned::new(site.number), None).put_in(news);
+                News::ChannelClosed(None, Aligned::new(site.number)).put_in(news);
                 Verdict::Proceeds
             }
             _ => discards(site, news),
@@ -147,7 +147,7 @@ impl Channel {
             (_, Kind::ChannelClose) => {
                 let reason = reason_of(method)?;
                 *self = Channel::Free;
-                News::ChannelClosed(Aligned::new(site.number), Some(reason)).put_in(news);
+                News::ChannelClosed(Some(reason), Aligned::new(site.number)).put_in(news);
                 Ok(Verdict::Owes(Reply::CloseOk))
             }
             (Side::Client, Kind::ChannelOpenOk) => {
@@ -178,7 +178,7 @@ impl Channel {
     {
         let reason = reason_of(method)?;
         *self = Channel::Free;
-        News::ChannelClosed(Aligned::new(site.number), Some(reason)).put_in(news);
+        News::ChannelClosed(Some(reason), Aligned::new(site.number)).put_in(news);
         Ok(Verdict::Owes(Reply::CloseOk))
     }
 

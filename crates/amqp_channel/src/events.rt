@@ -21,10 +21,12 @@ pub struct Agreed {
 }
 
 /// The code and the text of a close.
+///
+/// The text comes first, so that in an event its words lie over those of a method's arguments, and all are moved word by word.
 #[derive(PartialEq, Eq, Debug, Drop)]
 pub struct Reason {
-    pub code: u16,
     pub text: ShortStr,
+    pub code: u16,
 }
 
 /// What an end tells of what it takes.

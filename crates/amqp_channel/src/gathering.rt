@@ -167,7 +167,12 @@ impl Gathering {
                         Ok(Part::Kept)
                     }
                     Filling::Full => {
-                        content.body.extend_from_slice(octets)?;
+                        // A body that one frame has whole is given as much memory as it has octets.
+                        if content.body.is_empty() {
+                            content.body = Vec::from_slice(*content.body.allocator(), octets)?;
+                        } else {
+                            content.body.extend_from_slice(octets)?;
+                        }
                         Ok(Part::Completed(self.take_whole()))
                     }
                 }

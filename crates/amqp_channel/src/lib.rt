@@ -32,7 +32,7 @@ pub use crate::events::{Agreed, Event, Reason, blocked_reason, reason_of};
 pub use crate::gathering::Gathering;
 pub use crate::life::Life;
 pub use crate::news::{Lone, News};
-pub use crate::read::read_call;
+pub use crate::read::{read_call, unread_of};
 pub use crate::side::Side;
 pub use crate::standing::Standing;
 pub use crate::states::ChannelState;

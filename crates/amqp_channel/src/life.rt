@@ -78,7 +78,7 @@ impl Life {
                 let active = bit_at(0, &method);
                 self.standing.pause(!active);
                 News::Flow(Aligned::new(site.number), active).put_in(news);
-                Ok(Verdict::Owes(Reply::FlowOk(active)))
+                Ok(Verdict::Owes(Reply::flow_ok(active)))
             }
             Kind::ChannelFlowOk => {
                 if !self.standing.awaits_flow_ok() {

@@ -3,12 +3,32 @@
 use crate::codes::CloseCode;
 use crate::side::Side;
 
-/// What an end owes in reply, on the same channel.
+/// What an end owes in reply, on the same channel. It is one octet, since a verdict that is two is put together and taken apart at each step.
 #[derive(Clone, Copy)]
 pub enum Reply {
     OpenOk,
     CloseOk,
-    FlowOk(bool),
+    /// flow-ok, active
+    FlowOkActive,
+    /// flow-ok, not active
+    FlowOkInactive,
+}
+
+impl Reply {
+    ghost use Rattle.std.specs.Prelude.{◌≡◌};
+    ghost use Rattle.amqp_model.specs.Notes.{FlowOk};
+    ghost use Rattle.amqp_channel.specs.VerdictView.{reply_kind};
+
+    /// The reply to a flow.
+    pub(crate) fn flow_ok(active: bool) -> Reply
+        ensures { reply_kind result ≡ FlowOk active }
+    {
+        if active {
+            Reply::FlowOkActive
+        } else {
+            Reply::FlowOkInactive
+        }
+    }
 }
 
 /// What comes of a frame, beside what it tells the application: that goes where the caller has room for it.

@@ -1,5 +1,6 @@
 pub mod EntryLemmas
 pub mod CoreLemmas
+pub mod MethodRead
 pub mod KindLemmas
 pub mod LeavingLemmas
 pub mod HandshakeLemmas

@@ -1,11 +1,12 @@
 //! What an end that is kept with its history has noted, told and said, the octets that it was fed, and those that it wrote.
 //!
 //! Room for all that a call adds is made before the call, so what is added takes no memory.
-ghost use Rattle.std.specs.Prelude.{◌≡◌, ◌+◌, ◌<◌, ◌≤◌, [], ◌∷◌, ◌++◌, ℕ, length, map, replicate, vec_len, vec_capacity, option_to_list, OnOk};
+ghost use Rattle.std.specs.Prelude.{◌≡◌, ◌+◌, ◌<◌, ◌≤◌, [], ◌∷◌, ◌++◌, ℕ, length, map, replicate, vec_len, vec_capacity, option_to_list, Some, OnOk};
 ghost use Rattle.std.specs.HashMap.{spare};
 ghost use Rattle.std.proofs.Props.{props};
+ghost use Rattle.amqp_model.specs.Items.{FlowOkItem};
 ghost use Rattle.amqp_model.specs.Traces as traces;
-ghost use Rattle.amqp_model.specs.Traces.{IsPut, telling_at};
+ghost use Rattle.amqp_model.specs.Traces.{IsPut, telling_above, telling_at};
 ghost use Rattle.amqp_channel.specs.Roles.{role_of};
 ghost use Rattle.amqp_core.specs.AccountView.{note_there};
 ghost use Rattle.amqp_core.specs.AskNoting.{count_asked, notes_asked};
@@ -86,7 +87,8 @@ fn word_of_reply(reply: Reply) -> Word
     match reply {
         Reply::OpenOk => Word::OpenOk,
         Reply::CloseOk => Word::CloseOk,
-        Reply::FlowOk(_) => Word::FlowOk,
+        Reply::FlowOkActive => Word::FlowOk,
+        Reply::FlowOkInactive => Word::FlowOk,
     }
 }
 
@@ -272,6 +274,31 @@ impl Ledger {
         }
     }
 
+    /// A flow-ok is said in the life that its channel has then.
+    fn say_flow_ok(&mut self, channel: u16, active: bool)
+        requires room { vec_len self.old.said < vec_capacity self.old.said }
+        ensures said { said_in self.new ≡ said_in self.old ++ telling_above channel (lives_in (role_of self.old.side) (notes_in self.old) channel) (Some (FlowOkItem active)) }
+        ensures notes_same { self.new.notes ≡ self.old.notes }
+        ensures lives_same { self.new.lives ≡ self.old.lives }
+        ensures told_same { self.new.told ≡ self.old.told }
+        ensures fed_same { self.new.fed ≡ self.old.fed }
+        ensures written_same { self.new.written ≡ self.old.written }
+        ensures side { self.new.side ≡ self.old.side }
+    {
+        if channel != 0 {
+            let life = self.lives.of(channel);
+            let item = Item::FlowOk(active);
+            push_within(
+                &mut self.said,
+                Telling {
+                    channel,
+                    life,
+                    item,
+                },
+            );
+        }
+    }
+
     /// What is said by what an end owes: a flow-ok.
     fn say_owed(&mut self, owed: Owed)
         requires room { vec_len self.old.said < vec_capacity self.old.said }
@@ -283,19 +310,10 @@ impl Ledger {
         ensures written_same { self.new.written ≡ self.old.written }
         ensures side { self.new.side ≡ self.old.side }
     {
-        if let Owed::OnChannel(channel, Reply::FlowOk(active)) = owed {
-            if channel != 0 {
-                let life = self.lives.of(channel);
-                let item = Item::FlowOk(active);
-                push_within(
-                    &mut self.said,
-                    Telling {
-                        channel,
-                        life,
-                        item,
-                    },
-                );
-            }
+        match owed {
+            Owed::OnChannel(channel, Reply::FlowOkActive) => self.say_flow_ok(channel, true),
+            Owed::OnChannel(channel, Reply::FlowOkInactive) => self.say_flow_ok(channel, false),
+            _ => {}
         }
     }
 

@@ -109,8 +109,12 @@ fn stage_reply(
     match reply {
         Reply::OpenOk => outbox.stage_method(number, &bare(alloc, Kind::ChannelOpenOk)),
         Reply::CloseOk => outbox.stage_method(number, &bare(alloc, Kind::ChannelCloseOk)),
-        Reply::FlowOk(active) => {
-            let method = flow_ok(alloc, active)?;
+        Reply::FlowOkActive => {
+            let method = flow_ok(alloc, true)?;
+            outbox.stage_method(number, &method)
+        }
+        Reply::FlowOkInactive => {
+            let method = flow_ok(alloc, false)?;
             outbox.stage_method(number, &method)
         }
     }

@@ -27,9 +27,9 @@ use crate::faults::OutOfMemory;
 use crate::one_end::{Core, Decision, Fault, Outcome, closes_with, discards};
 use crate::owed::Owed;
 use crate::stage::Stage;
-use amqp_channel::{Aligned, CloseCode, News, Unread, read_call};
+use amqp_channel::{Aligned, CloseCode, News, Unread, read_call, unread_of};
 use amqp_frame::FrameKind;
-use amqp_method::Method;
+use amqp_method::{Method, read_method};
 
 /// What an end puts that finds fault.
 pub(crate) fn owed_at(closing: bool, fault: Fault) -> Owed
@@ -130,7 +130,8 @@ impl Core {
         closes_with(unread.code())
     }
 
-    /// A method frame.
+    /// A method frame. The method is taken from where it was read: each answer that it is wrapped in on the way is one move more.
+    #[tactic(auto, unfolding(amqp_model::specs::Methods::method_at))]
     fn on_call(
         &mut self,
         number: u16,
@@ -147,10 +148,12 @@ impl Core {
         if self.stage.is_closing() {
             return self.on_call_leaving(number, payload, news);
         }
-        let read = read_call(self.alloc, payload)?;
-        match read {
+        match read_method(self.alloc, payload) {
             Ok(method) => self.on_method(number, method, news),
-            Err(unread) => Ok(self.on_unread(number, unread, news)),
+            Err(fault) => {
+                let unread = unread_of(fault)?;
+                Ok(self.on_unread(number, unread, news))
+            }
         }
     }
 

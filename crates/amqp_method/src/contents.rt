@@ -11,6 +11,7 @@ use crate::maybe_boxed::DropInBox;
 use crate::messages::Message;
 use crate::methods::Method;
 use std::alloc::Global;
+use std::mem::forget;
 
 /// A method that a content follows: basic.publish, return, deliver or get-ok.
 #[derive(Debug, Drop, PartialEq, Eq)]
@@ -116,13 +117,17 @@ impl DropInBox for Content {
     }
 }
 
-/// The properties go first, each where it lies. That none is left then is looked at once more, for the sake of what follows.
+/// The properties go first, each where it lies. None is left then, so the header, which is large, has nothing more to give back.
 #[inline(never)]
 fn drop_with_properties(mut content: Box<Content>) {
     content.header.properties.clear();
-    if content.header.properties.are_none() {
-        drop_parts(content);
-    }
+    let Content {
+        method,
+        header,
+        body: _,
+    } = Box::into_inner(content);
+    forget(header);
+    drop_args(method.into_method().into_args());
 }
 
 /// Where the properties are known to be none, only the method and the body are read.

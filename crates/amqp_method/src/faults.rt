@@ -69,11 +69,13 @@ impl MethodFaultKind {
 }
 
 /// A fault, and its place: the offset in the payload.
+///
+/// The kind comes first, so that where an answer is a method or a fault, it lies over the method's kind, and over no word of the arguments.
 #[derive(Clone, Copy, PartialEq, Eq, Debug, Error)]
 #[error("{kind} at octet {at}")]
 pub struct MethodFault {
-    pub at: usize,
     pub kind: MethodFaultKind,
+    pub at: usize,
 }
 
 impl MethodFault {

@@ -1,14 +1,12 @@
 -- Reading a pair and adding it to those before.
-use Rattle.std.proofs.Common.{◌≡◌, ℕ, zero, suc, ◌-◌, ◌≤◌, List, ◌∷◌, length, take, drop, Some, Ok, ltb, false, refl, arith, rules}
+use Rattle.std.proofs.Common.{◌≡◌, ℕ, zero, suc, ◌-◌, ◌≤◌, List, ◌∷◌, length, take, drop, Some, Ok, ltb, false, refl, arith}
 use Rattle.std.proofs.lemmas.Bool.{le-ltb}
 use Rattle.byteorder.specs.Endian.{big_number}
 use Rattle.amqp_value.specs.Reading.{Reader, counted, name_at, named, under, after_tag, tagged, tag_of, width_of, scalar_of, value_at}
 use Rattle.amqp_value.specs.Values.{scalar, long_string}
-use Rattle.amqp_value.specs.View.{view}
 use Rattle.amqp_value.specs.declared.tag.ScalarTag.{ScalarTag}
 use Rattle.amqp_value.specs.declared.tag.ScalarTag.TheVariants as scalars
 use Rattle.amqp_value.specs.declared.tag.Tag.TheVariants.{Fixed}
-use Rattle.amqp_value.specs.declared.values.Value.{LongString, the_lemmas}
 
 -- after a name, what is read under it
 pub named-is : {X : Type 0} (read : Reader X) (end : ℕ) (octets name field : List ℕ) → name_at end octets ≡ Ok (name, field) → named read end octets ≡ under name (read end field)
@@ -28,9 +26,6 @@ pub long_string-read : (levels end octet : ℕ) (rest text after : List ℕ) →
 unfolding value_at tagged after_tag
 long_string-read zero end octet rest text after is read = rw (is, read) refl
 long_string-read (suc levels) end octet rest text after is read = rw (is, read) refl
-
-pub view-LongString : (text : List ℕ) → view (LongString text) ≡ long_string text
-view-LongString text = search (rules, the_lemmas)
 
 pub width-most : (tag : ScalarTag) → width_of tag ≤ 8
 width-most scalars.Boolean = omega arith

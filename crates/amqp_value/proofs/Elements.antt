@@ -1,9 +1,9 @@
 -- Reading elements one after the other, as a loop does.
-use Rattle.std.proofs.Common.{◌≡◌, ℕ, zero, suc, ◌-◌, ◌≤◌, ◌<◌, ◌==◌, Bool, true, false, cond, ltb, List, [], ◌∷◌, ◌++◌, length, take, drop, Option, Some, None, Result, Ok, Err, refl, sym, ap, ◌∙◌, append_assoc, arith, inl, inr, length-drop}
-use Rattle.std.proofs.lemmas.Bool.{eqb-true}
-use Rattle.std.proofs.lemmas.List.{append-nil}
+use Rattle.std.proofs.Common.{◌≡◌, ℕ, zero, suc, ◌+◌, ◌-◌, ◌≤◌, ◌<◌, ◌==◌, Bool, true, false, cond, ltb, List, [], ◌∷◌, ◌++◌, length, take, drop, Option, Some, None, Result, Ok, Err, refl, sym, ap, ◌∙◌, append_assoc, arith, inl, inr, length-drop}
+use Rattle.std.proofs.lemmas.Bool.{eqb-true, cases_lt}
+use Rattle.std.proofs.lemmas.List.{append-nil, drop-drop, drop_all}
 use Rattle.byteorder.specs.Endian.{big_number}
-use Rattle.amqp_value.specs.Reading.{◌>>=◌, Fails, Reader, prefix_of, counted, name_at, many, elements, named, after_tag, tagged, tag_of, value_at}
+use Rattle.amqp_value.specs.Reading.{◌>>=◌, Fails, Reader, AddsOne, prefix_of, counted, name_at, many, elements, named, after_tag, tagged, tag_of, value_at}
 use Rattle.amqp_value.specs.Values.{Datum}
 use Rattle.amqp_value.specs.declared.fault.ValueFault.{ValueFault}
 use Rattle.amqp_value.specs.declared.tag.Tag.{Tag}
@@ -30,9 +30,14 @@ done x = Ok x
 pub ok_is : {A : Type 0} (x y : A) → done x ≡ done y → x ≡ y
 ok_is x y e = cc
 
--- what is read has an octet at least
+-- octets with which others end
+abbrev pub IsEnd : List ℕ → List ℕ → Type 0
+IsEnd after octets = (n : ℕ) × (after ≡ drop n octets)
+
+-- what is read has an octet at least, and the octets end with those after it
 pub record Consumes {X : Type 0} (read : Reader X) (end : ℕ) : Type 0 where
   pub consumes : (octets : List ℕ) (x : X × List ℕ) → read end octets ≡ Ok x → length x.1 < length octets
+  pub leaves : (octets : List ℕ) (x : X × List ℕ) → read end octets ≡ Ok x → IsEnd x.1 octets
 
 many-fuel : {X : Type 0} (read : Reader X) (end : ℕ) → Consumes read end → (f g : ℕ) (octets : List ℕ) → length octets ≤ f → length octets ≤ g → many read f end octets ≡ many read g end octets
 unfolding many
@@ -76,6 +81,16 @@ goes_on read end h prefix octets x after total long is so_far =
     rw (elements-next read end h octets long, is) (regroup prefix x (elements read end after)) in
     sym one ∙ so_far
 
+-- the same, for an element that was added
+pub adds_on : {X : Type 0} (read : Reader X) (end : ℕ) → Consumes read end → (prefix longer : List X) (octets rest : List ℕ) (total : Result (List X) ValueFault)
+    → AddsOne prefix (read end octets) rest longer → 0 < length octets → length octets ≤ end → with_prefix prefix (elements read end octets) ≡ total
+    → (length rest ≤ end) × (with_prefix longer (elements read end rest) ≡ total)
+adds_on read end h prefix longer octets rest total one long within so_far =
+    let shorter = h.consumes octets (one.element, rest) one.is_read in (
+      omega arith,
+      rw one.is_added (goes_on read end h prefix octets one.element rest total long one.is_read so_far),
+    )
+
 pub ends : {X : Type 0} (read : Reader X) (end : ℕ) → Consumes read end → (e : ValueFault) (prefix : List X) (octets : List ℕ) (total : Result (List X) ValueFault)
     → 0 < length octets → Fails e (read end octets) → with_prefix prefix (elements read end octets) ≡ total → Fails e total
 ends read end h e prefix octets total long (inl memory) so_far = inl memory
@@ -91,57 +106,88 @@ is_done read end prefix (octet ∷ octets) total none so_far = absurd (omega ari
 
 -- ---- what a field leaves
 
-pub prefix_of-shorter : (n end : ℕ) (octets : List ℕ) (x : List ℕ × List ℕ) → prefix_of n end octets ≡ Ok x → length x.1 ≤ length octets
-prefix_of-shorter n end octets x e =
+-- octets that others end with are the last of them, as many as they are
+pub IsEnd-last : (after octets : List ℕ) → IsEnd after octets → after ≡ drop (length octets - length after) octets
+IsEnd-last after octets (n, e) =
+    elim (cases_lt n (length octets)) [
+      | inl lt ↦ let same : length octets - length after ≡ n = omega (arith, ap length e, length-drop n octets) in e ∙ ap (λ m. drop m octets) (sym same)
+      | inr le ↦
+          let none : length after ≡ 0 = omega (arith, ap length e, length-drop n octets) in
+          let all : drop (length octets - length after) octets ≡ [] = drop_all _ octets (omega arith) in
+          e ∙ drop_all n octets le ∙ sym all
+    ]
+
+IsEnd-shorter : (after octets : List ℕ) → IsEnd after octets → length after ≤ length octets
+IsEnd-shorter after octets (n, e) = rw e (omega (arith, length-drop n octets))
+
+IsEnd-trans : (after rest octets : List ℕ) → IsEnd after rest → IsEnd rest octets → IsEnd after octets
+IsEnd-trans after rest octets (n, e) (m, f) = (m + n, e ∙ ap (drop n) f ∙ drop-drop n m octets)
+
+prefix_of-leaves : (n end : ℕ) (octets : List ℕ) (x : List ℕ × List ℕ) → prefix_of n end octets ≡ Ok x → IsEnd x.1 octets
+prefix_of-leaves n end octets x e =
     let g = guard_ok (ltb (length octets) n) _ _ x e in
     let is : (take n octets, drop n octets) ≡ x = ok_is _ _ g.1 in
-    rw (← is) (omega (arith, length-drop n octets))
+    (n, ap (λ y. y.1) (sym is))
 
-pub counted-shorter : (end : ℕ) (octets : List ℕ) (x : List ℕ × List ℕ) → counted end octets ≡ Ok x → length x.1 ≤ length octets
-counted-shorter end octets x e =
+counted-leaves : (end : ℕ) (octets : List ℕ) (x : List ℕ × List ℕ) → counted end octets ≡ Ok x → IsEnd x.1 octets
+counted-leaves end octets x e =
     let g = guard_ok (ltb (length octets) 4) _ _ x e in
     let k = guard_ok (ltb (length octets - 4) (big_number 4 octets)) _ _ x g.1 in
     let n = big_number 4 octets in
     let is : (take n (drop 4 octets), drop n (drop 4 octets)) ≡ x = ok_is _ _ k.1 in
-    rw (← is) (omega (arith, length-drop n (drop 4 octets), length-drop 4 octets))
+    (4 + n, ap (λ y. y.1) (sym is) ∙ drop-drop n 4 octets)
 
-pub name_at-shorter : (end : ℕ) (octets : List ℕ) (x : List ℕ × List ℕ) → name_at end octets ≡ Ok x → length x.1 < length octets
-name_at-shorter end [] x e = absurd cc
-name_at-shorter end (n ∷ octets) x e =
-    let g = guard_ok (ltb (length octets) n) _ _ x e in
-    let is : (take n octets, drop n octets) ≡ x = ok_is _ _ g.1 in
-    rw (← is) (omega (arith, length-drop n octets))
+name_at-consumes : (end : ℕ) → Consumes name_at end
+name_at-consumes end = record { consumes = name_at-shorter end; leaves = name_at-leaves end }
+  where
+    name_at-leaves : (end : ℕ) (octets : List ℕ) (x : List ℕ × List ℕ) → name_at end octets ≡ Ok x → IsEnd x.1 octets
+    name_at-leaves end [] x e = absurd cc
+    name_at-leaves end (n ∷ octets) x e =
+        let g = guard_ok (ltb (length octets) n) _ _ x e in
+        let is : (take n octets, drop n octets) ≡ x = ok_is _ _ g.1 in
+        (suc n, ap (λ y. y.1) (sym is))
 
-after_tag-shorter : (inner : Option (Reader Datum)) (end : ℕ) (octets rest : List ℕ) (tag : Option Tag) (x : Datum × List ℕ) → after_tag inner end octets rest tag ≡ Ok x → length x.1 ≤ length rest
+    name_at-shorter : (end : ℕ) (octets : List ℕ) (x : List ℕ × List ℕ) → name_at end octets ≡ Ok x → length x.1 < length octets
+    name_at-shorter end [] x e = absurd cc
+    name_at-shorter end (n ∷ octets) x e =
+        let g = guard_ok (ltb (length octets) n) _ _ x e in
+        let is : (take n octets, drop n octets) ≡ x = ok_is _ _ g.1 in
+        rw (← is) (omega (arith, length-drop n octets))
+
+after_tag-leaves : (inner : Option (Reader Datum)) (end : ℕ) (octets rest : List ℕ) (tag : Option Tag) (x : Datum × List ℕ) → after_tag inner end octets rest tag ≡ Ok x → IsEnd x.1 rest
 unfolding after_tag
-after_tag-shorter inner end octets rest None x e = absurd cc
-after_tag-shorter inner end octets rest (Some (Fixed tag)) x e =
+after_tag-leaves inner end octets rest None x e = absurd cc
+after_tag-leaves inner end octets rest (Some (Fixed tag)) x e =
     let b = bind_ok (prefix_of _ end rest) _ x e in
-    rw (← ok_is _ _ b.2) (prefix_of-shorter _ end rest b.0 b.1)
-after_tag-shorter inner end octets rest (Some LongString) x e =
+    rw (← ok_is _ _ b.2) (prefix_of-leaves _ end rest b.0 b.1)
+after_tag-leaves inner end octets rest (Some LongString) x e =
     let b = bind_ok (counted end rest) _ x e in
-    rw (← ok_is _ _ b.2) (counted-shorter end rest b.0 b.1)
-after_tag-shorter inner end octets rest (Some ByteArray) x e =
+    rw (← ok_is _ _ b.2) (counted-leaves end rest b.0 b.1)
+after_tag-leaves inner end octets rest (Some ByteArray) x e =
     let b = bind_ok (counted end rest) _ x e in
-    rw (← ok_is _ _ b.2) (counted-shorter end rest b.0 b.1)
-after_tag-shorter None end octets rest (Some Array) x e = absurd cc
-after_tag-shorter (Some read) end octets rest (Some Array) x e =
+    rw (← ok_is _ _ b.2) (counted-leaves end rest b.0 b.1)
+after_tag-leaves None end octets rest (Some Array) x e = absurd cc
+after_tag-leaves (Some read) end octets rest (Some Array) x e =
     let b = bind_ok (counted end rest) _ x e in
     let d = bind_ok (elements read (end - length b.0.1) b.0.0) _ x b.2 in
-    rw (← ok_is _ _ d.2) (counted-shorter end rest b.0 b.1)
-after_tag-shorter None end octets rest (Some Table) x e = absurd cc
-after_tag-shorter (Some read) end octets rest (Some Table) x e =
+    rw (← ok_is _ _ d.2) (counted-leaves end rest b.0 b.1)
+after_tag-leaves None end octets rest (Some Table) x e = absurd cc
+after_tag-leaves (Some read) end octets rest (Some Table) x e =
     let b = bind_ok (counted end rest) _ x e in
     let d = bind_ok (elements (named read) (end - length b.0.1) b.0.0) _ x b.2 in
-    rw (← ok_is _ _ d.2) (counted-shorter end rest b.0 b.1)
+    rw (← ok_is _ _ d.2) (counted-leaves end rest b.0 b.1)
 
-pub tagged-consumes : (inner : Option (Reader Datum)) (end : ℕ) → Consumes (tagged inner) end
+tagged-consumes : (inner : Option (Reader Datum)) (end : ℕ) → Consumes (tagged inner) end
 unfolding tagged
-tagged-consumes inner end = record { consumes = tagged_case inner end }
+tagged-consumes inner end = record { consumes = tagged-shorter inner end; leaves = tagged-leaves inner end }
   where
-    tagged_case : (inner : Option (Reader Datum)) (end : ℕ) (octets : List ℕ) (x : Datum × List ℕ) → tagged inner end octets ≡ Ok x → length x.1 < length octets
-    tagged_case inner end [] x e = absurd cc
-    tagged_case inner end (octet ∷ rest) x e = let h = after_tag-shorter inner end (octet ∷ rest) rest (tag_of octet) x e in omega arith
+    tagged-leaves : (inner : Option (Reader Datum)) (end : ℕ) (octets : List ℕ) (x : Datum × List ℕ) → tagged inner end octets ≡ Ok x → IsEnd x.1 octets
+    tagged-leaves inner end [] x e = absurd cc
+    tagged-leaves inner end (octet ∷ rest) x e = IsEnd-trans x.1 rest (octet ∷ rest) (after_tag-leaves inner end (octet ∷ rest) rest (tag_of octet) x e) (1, refl)
+
+    tagged-shorter : (inner : Option (Reader Datum)) (end : ℕ) (octets : List ℕ) (x : Datum × List ℕ) → tagged inner end octets ≡ Ok x → length x.1 < length octets
+    tagged-shorter inner end [] x e = absurd cc
+    tagged-shorter inner end (octet ∷ rest) x e = omega (arith, IsEnd-shorter x.1 rest (after_tag-leaves inner end (octet ∷ rest) rest (tag_of octet) x e))
 
 pub value_at-consumes : (levels end : ℕ) → Consumes (value_at levels) end
 unfolding value_at
@@ -153,12 +199,22 @@ unfolding named
 named-shorter read end h octets x e =
     let b = bind_ok (name_at end octets) _ x e in
     let d = bind_ok (read end b.0.1) _ x b.2 in
-    let first = name_at-shorter end octets b.0 b.1 in
+    let first = (name_at-consumes end).consumes octets b.0 b.1 in
     let second = h.consumes b.0.1 d.0 d.1 in
     rw (← ok_is _ _ d.2) (omega arith)
 
+named-leaves : {X : Type 0} (read : Reader X) (end : ℕ) → Consumes read end → (octets : List ℕ) (x : (List ℕ × X) × List ℕ) → named read end octets ≡ Ok x → IsEnd x.1 octets
+unfolding named
+named-leaves read end h octets x e =
+    let b = bind_ok (name_at end octets) _ x e in
+    let d = bind_ok (read end b.0.1) _ x b.2 in
+    rw (← ok_is _ _ d.2) (IsEnd-trans d.0.1 b.0.1 octets (h.leaves b.0.1 d.0 d.1) ((name_at-consumes end).leaves octets b.0 b.1))
+
 pub named-consumes : {X : Type 0} (read : Reader X) (end : ℕ) → Consumes read end → Consumes (named read) end
-named-consumes read end h = record { consumes = named-shorter read end h }
+named-consumes read end h = record { consumes = named-shorter read end h; leaves = named-leaves read end h }
+
+pub pair-consumes : (levels end : ℕ) → Consumes (named (value_at levels)) end
+pair-consumes levels end = named-consumes (value_at levels) end (value_at-consumes levels end)
 
 -- ---- a name, and what is read after it
 

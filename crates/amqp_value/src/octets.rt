@@ -1,11 +1,12 @@
 //! Octets of which a few lie in place.
 
-ghost use Rattle.std.specs.Prelude.{◌≡◌, ◌≤◌, length, take, slice_index, IfOk};
+ghost use Rattle.std.specs.Prelude.{◌≡◌, ◌≤◌, length, take, slice_index, IfOk, IfSome};
 ghost use Rattle.std.specs.Prelude.{nat_eq, ◌==◌};
 ghost use Rattle.std.specs.Cmp.{partial_equiv_from_equiv};
 ghost use Rattle.std.specs.Cmp.Lexicographic.{pointwise, nat_list_eq_equiv};
 
 use crate::fault::OutOfMemory;
+use byteorder::{BigEndian, ByteOrder};
 use std::alloc::{AllocError, Global};
 use std::convert::AsSlice;
 use std::fmt;
@@ -18,8 +19,11 @@ pub(crate) const IN_PLACE: usize = 23;
 /// How many octets three words have.
 const ROOM: usize = 24;
 
+/// How many octets a word has.
+const WORD: usize = 8;
+
 /// How many octets two words have.
-const FEW: usize = 16;
+const TWO_WORDS: usize = 16;
 
 /// Any octets: a long string or a byte array of a table. At most 23 lie in place and take no memory of their own when they are read or copied.
 #[derive(Drop)]
@@ -158,12 +162,45 @@ impl Octets {
                 store: Store::Allocated(Vec::from_slice(alloc, &octets[..len])?),
             });
         }
-        Ok(Octets {
-            store: Store::InPlace {
-                word: [],
-                octets: in_place(octets, len),
-            },
-        })
+        Ok(Octets::in_place(in_place(octets, len)))
+    }
+
+    /// The first `len` octets, where they are few, and so many stand there that words can be copied in place of them.
+    #[inline(always)]
+    pub(crate) fn words(octets: &[u8], len: usize) -> Option<Octets>
+        requires within { len ≤ length octets.now }
+        ensures { IfSome result (λ s. s ≡ take len octets.now) }
+    {
+        if len <= TWO_WORDS && octets.len() >= TWO_WORDS {
+            return Some(Octets::in_place(two_words(octets, len)));
+        }
+        if len <= IN_PLACE && octets.len() >= IN_PLACE {
+            return Some(Octets::in_place(filled(octets, len)));
+        }
+        if len <= WORD && octets.len() >= WORD {
+            return Some(Octets::in_place(one_word(octets, len)));
+        }
+        None
+    }
+
+    /// Octets that lie in place.
+    #[inline(always)]
+    fn in_place(octets: [u8; ROOM]) -> Octets
+        requires { slice_index octets 23 ≤ 23 }
+        ensures { result ≡ take (slice_index octets 23) octets }
+    {
+        Octets {
+            store: Store::InPlace { word: [], octets },
+        }
+    }
+
+    /// Whether they lie in place, so that no memory is to be given back for them.
+    #[inline(always)]
+    pub(crate) fn are_in_place(&self) -> bool {
+        match &self.store {
+            Store::InPlace { .. } => true,
+            Store::Allocated(_) => false,
+        }
     }
 }
 
@@ -177,8 +214,8 @@ fn in_place(octets: &[u8], len: usize) -> [u8; ROOM]
     ensures octets { take len result ≡ take len octets.now }
     ensures len { slice_index result 23 ≡ len }
 {
-    if len <= FEW && octets.len() >= FEW {
-        return few(octets, len);
+    if len <= TWO_WORDS && octets.len() >= TWO_WORDS {
+        return two_words(octets, len);
     }
     if octets.len() >= IN_PLACE {
         return filled(octets, len);
@@ -186,17 +223,34 @@ fn in_place(octets: &[u8], len: usize) -> [u8; ROOM]
     copied(octets, len)
 }
 
+/// One word of them, whatever stands after the first `len`.
+#[inline(always)]
+fn one_word(octets: &[u8], len: usize) -> [u8; ROOM]
+    requires within { len ≤ 8 }
+    requires room { 8 ≤ length octets.now }
+    ensures octets { take len result ≡ take len octets.now }
+    ensures len { slice_index result 23 ≡ len }
+{
+    let word = BigEndian::read_u64(octets);
+    let mut room = [0; ROOM];
+    BigEndian::write_u64(&mut room, word);
+    room[IN_PLACE] = len as u8;
+    room
+}
+
 /// Two words of them, whatever stands after the first `len`.
 #[inline(always)]
-fn few(octets: &[u8], len: usize) -> [u8; ROOM]
+fn two_words(octets: &[u8], len: usize) -> [u8; ROOM]
     requires within { len ≤ 16 }
     requires room { 16 ≤ length octets.now }
     ensures octets { take len result ≡ take len octets.now }
     ensures len { slice_index result 23 ≡ len }
 {
+    let first = BigEndian::read_u64(octets);
+    let second = BigEndian::read_u64(&octets[WORD..]);
     let mut room = [0; ROOM];
-    room[..8].copy_from_slice(&octets[..8]);
-    room[8..FEW].copy_from_slice(&octets[8..FEW]);
+    BigEndian::write_u64(&mut room, first);
+    BigEndian::write_u64(&mut room[WORD..], second);
     room[IN_PLACE] = len as u8;
     room
 }

@@ -1,18 +1,18 @@
 //! Reading a table from the prefix of octets.
 
-ghost use Rattle.std.specs.Prelude.{◌≡◌, ◌⊎◌, ◌++◌, ◌∷◌, [], ◌+◌, ◌≤◌, ◌<◌, ℕ, List, length, take, drop, map, IfOk, IfErr, IfSome, Ok, Err, vec_len, vec_capacity};
+ghost use Rattle.std.specs.Prelude.{◌≡◌, ◌⊎◌, ◌++◌, ◌∷◌, [], ◌+◌, ◌-◌, ◌≤◌, ◌<◌, ℕ, List, length, take, drop, map, IfOk, IfErr, IfSome, None, Ok, Err, vec_len, vec_capacity};
 ghost use Rattle.amqp_value.specs.Faults.{fault_at, out_of_memory};
 ghost use Rattle.amqp_value.specs.Encoding.{EncodesTable};
 ghost use Rattle.amqp_value.specs.Tables.{table_view, read_view};
 ghost use Rattle.amqp_value.specs.FirstFault.{FirstFault, PassesCounted};
-ghost use Rattle.amqp_value.specs.Reading.{fault_here as place_fault, Gives, Adds, under, prefix_of, counted, name_at, width_of, scalar_of, elements, named, value_at, table_at};
+ghost use Rattle.amqp_value.specs.Reading.{fault_here as place_fault, Gives, Adds, AddsOne, under, prefix_of, counted, name_at, width_of, scalar_of, elements, named, value_at, table_at};
 ghost use Rattle.amqp_value.specs.Values.{scalar, long_string, Pairs};
 ghost use Rattle.amqp_value.specs.View.{view, named_view, pairs_view};
 ghost use Rattle.amqp_value.specs.declared.fault.ValueFault.{ValueFault};
 ghost use Rattle.amqp_value.specs.declared.fault.ValueFaultKind.TheVariants.{Ends};
 
 use crate::fault::{ValueFault, ValueFaultKind};
-use crate::octets::{IN_PLACE, Octets};
+use crate::octets::Octets;
 use crate::short_str::ShortStr;
 use crate::tables::{MAX_DEPTH, Table};
 use crate::tag::{ScalarTag, Tag, tag_from};
@@ -85,15 +85,13 @@ fn counted_text(alloc: Global, octets: &[u8], end: usize) -> Result<(Octets, &[u
     Ok((Octets::prefix(alloc, text, text.len())?, after))
 }
 
-/// A length octet and that many octets, these and all that follow the length octet, and those after the name.
+/// A length octet and that many octets, and those after them.
 #[inline(always)]
-fn name_octets(octets: &[u8], end: usize) -> Result<(&[u8], &[u8], &[u8]), ValueFault>
+fn name_octets(octets: &[u8], end: usize) -> Result<(&[u8], &[u8]), ValueFault>
     requires { length octets.now ≤ end }
-    ensures read { Gives (λ x. (x.0.now, x.2.now)) result (name_at end octets.now) }
-    ensures within { IfOk result (λ x. length x.0.now + length x.2.now < length octets.now) }
+    ensures read { Gives (λ x. (x.0.now, x.1.now)) result (name_at end octets.now) }
+    ensures within { IfOk result (λ x. length x.0.now + length x.1.now < length octets.now) }
     ensures short { IfOk result (λ x. length x.0.now ≤ 255) }
-    ensures prefix { IfOk result (λ x. x.0.now ≡ take (length x.0.now) x.1.now) }
-    ensures room { IfOk result (λ x. length x.0.now ≤ length x.1.now) }
 {
     let Some((length, after)) = octets.split_first() else {
         return Err(fault_here(octets, end, ValueFaultKind::PassesItsEnd));
@@ -102,8 +100,7 @@ fn name_octets(octets: &[u8], end: usize) -> Result<(&[u8], &[u8], &[u8]), Value
     if after.len() < length {
         return Err(fault_here(octets, end, ValueFaultKind::PassesItsEnd));
     }
-    let (name, field) = after.split_at(length);
-    Ok((name, after, field))
+    Ok(after.split_at(length))
 }
 
 /// Puts a value where there is none that is to be dropped.
@@ -211,12 +208,11 @@ fn scalar_octets(octets: &[u8]) -> Option<(ScalarTag, &[u8], &[u8])>
     }
 }
 
-/// The octets from the text on, of a long string that lies whole in the octets and is short, how many of them are the text, and those after it.
+/// A long string that lies whole in the octets and is short, and the octets after it.
 #[inline(always)]
 #[tactic(auto, unfolding(crate::specs::Reading::value_at, crate::specs::Reading::tagged, crate::specs::Reading::after_tag))]
-fn short_text(octets: &[u8]) -> Option<(&[u8], usize, &[u8])>
-    ensures within { IfSome result (λ x. x.1 ≤ length x.0.now) }
-    ensures read { IfSome result (λ x. (levels end : ℕ) → value_at levels end octets.now ≡ Ok (long_string (take x.1 x.0.now), x.2.now)) }
+fn short_text(octets: &[u8]) -> Option<(Octets, &[u8])>
+    ensures { IfSome result (λ x. (levels end : ℕ) → value_at levels end octets.now ≡ Ok (long_string x.0, x.1.now)) }
 {
     let (octet, rest) = octets.split_first()?;
     if *octet != b'S' || rest.len() < 4 {
@@ -224,10 +220,23 @@ fn short_text(octets: &[u8]) -> Option<(&[u8], usize, &[u8])>
     }
     let count = BigEndian::read_u32(rest) as usize;
     let text = &rest[4..];
-    if count > IN_PLACE || text.len() < count {
+    if text.len() < count {
         return None;
     }
-    Some((text, count, &text[count..]))
+    Some((Octets::words(text, count)?, &text[count..]))
+}
+
+/// A name that lies whole in the octets and is short, and the octets after it.
+#[inline(always)]
+fn short_name(octets: &[u8]) -> Option<(ShortStr, &[u8])>
+    ensures { IfSome result (λ x. (end : ℕ) → name_at end octets.now ≡ Ok (x.0, x.1.now)) }
+{
+    let (length, after) = octets.split_first()?;
+    let length = usize::from(*length);
+    if after.len() < length {
+        return None;
+    }
+    Some((ShortStr::words(after, length)?, &after[length..]))
 }
 
 /// Reads a tag with its value, and puts the value where it is to stay. The answer is the octets after it.
@@ -307,50 +316,61 @@ fn read_items(
     Ok(values)
 }
 
-/// Adds a pair whose value has neither a fixed size nor is a short text.
+/// Reads a pair of a table, and adds it. The answer is how many octets are left after it.
 #[inline(never)]
 #[cycle(read)]
-fn push_value<'a>(
+fn read_pair(
     alloc: Global,
     pairs: &mut Vec<(ShortStr, Value)>,
-    name: ShortStr,
-    octets: &'a [u8],
+    octets: &[u8],
     end: usize,
     levels: usize,
-) -> Result<&'a [u8], ValueFault>
+) -> Result<usize, ValueFault>
     requires { length octets.now ≤ end }
-    ensures { Adds (map named_view pairs.old.items) (λ x. x.now) result (under name (value_at levels end octets.now)) (map named_view pairs.new.items) }
+    ensures read { Adds (map named_view pairs.old.items) (λ left. drop (length octets.now - left) octets.now) result (named (value_at levels) end octets.now) (map named_view pairs.new.items) }
+    ensures within { IfOk result (λ left. left ≤ length octets.now) }
 {
+    let (name, field) = name_octets(octets, end)?;
+    let name = ShortStr::prefix(alloc, name, name.len())?;
     let pair = pairs.push_mut((name, Value::Void))?;
-    read_value(alloc, octets, end, levels, &mut pair.1)
+    let after = read_value(alloc, field, end, levels, &mut pair.1)?;
+    Ok(after.len())
 }
 
-/// Reads a pair of a table, and adds it. The answer is the octets after it.
+/// Adds a pair whose value is a short text, where there is room for it. The answer is the octets after it.
 #[inline(always)]
-#[cycle(read)]
-fn read_pair<'a>(
-    alloc: Global,
+fn push_short_text<'a>(
     pairs: &mut Vec<(ShortStr, Value)>,
-    octets: &'a [u8],
-    end: usize,
-    levels: usize,
-) -> Result<&'a [u8], ValueFault>
-    requires { length octets.now ≤ end }
-    ensures { Adds (map named_view pairs.old.items) (λ x. x.now) result (named (value_at levels) end octets.now) (map named_view pairs.new.items) }
+    name: ShortStr,
+    field: &'a [u8],
+) -> Option<&'a [u8]>
+    requires room { vec_len pairs.old < vec_capacity pairs.old }
+    ensures added { IfSome result (λ rest. (levels end : ℕ) → AddsOne (map named_view pairs.old.items) (under name (value_at levels end field.now)) rest.now (map named_view pairs.new.items)) }
+    ensures kept { result ≡ None → pairs.new.items ≡ pairs.old.items }
 {
-    pairs.reserve(1)?;
-    let (name, from_name, field) = name_octets(octets, end)?;
-    let name = ShortStr::prefix(alloc, from_name, name.len())?;
+    let (text, after) = short_text(field)?;
+    pairs.push_reserved((name, Value::LongString(text)));
+    Some(after)
+}
+
+/// Reads a pair that takes no memory, and adds it: the name is short, the value has a fixed size or is a short text, and there is room
+/// among the pairs. The answer is the octets after it.
+///
+/// Most pairs are such. No fault is told here, nor met: [`read_pair`] reads what this one leaves.
+#[inline(always)]
+fn read_short_pair<'a>(pairs: &mut Vec<(ShortStr, Value)>, octets: &'a [u8]) -> Option<&'a [u8]>
+    ensures added { IfSome result (λ rest. (levels end : ℕ) → AddsOne (map named_view pairs.old.items) (named (value_at levels) end octets.now) rest.now (map named_view pairs.new.items)) }
+    ensures kept { result ≡ None → pairs.new.items ≡ pairs.old.items }
+{
+    if pairs.len() == pairs.capacity() {
+        return None;
+    }
+    let (name, field) = short_name(octets)?;
     if let Some((tag, value, after)) = scalar_octets(field) {
         push_scalar(pairs, name, tag, value);
-        return Ok(after);
+        return Some(after);
     }
-    if let Some((text, len, after)) = short_text(field) {
-        let text = Octets::prefix(alloc, text, len)?;
-        pairs.push_reserved((name, Value::LongString(text)));
-        return Ok(after);
-    }
-    push_value(alloc, pairs, name, field, end, levels)
+    push_short_text(pairs, name, field)
 }
 
 /// The pairs of a table, whose octets these are.
@@ -367,7 +387,13 @@ fn read_pairs(
     let mut pairs = Vec::with_capacity(alloc, body.len().div_ceil(EXPECTED_PAIR).min(FEW))?;
     let mut rest = body;
     while !rest.is_empty() {
-        rest = read_pair(alloc, &mut pairs, rest, end, levels)?;
+        rest = match read_short_pair(&mut pairs, rest) {
+            Some(after) => after,
+            None => {
+                let left = read_pair(alloc, &mut pairs, rest, end, levels)?;
+                &rest[rest.len() - left..]
+            }
+        };
     }
     Ok(pairs)
 }

@@ -1,6 +1,6 @@
 //! Short strings.
 
-ghost use Rattle.std.specs.Prelude.{◌≡◌, ◌≤◌, ◌<◌, ◌↔◌, ◌⊎◌, length, take, IfOk, IfErr, Err};
+ghost use Rattle.std.specs.Prelude.{◌≡◌, ◌≤◌, ◌<◌, ◌↔◌, ◌⊎◌, length, take, IfOk, IfErr, IfSome, Err};
 ghost use Rattle.std.specs.Prelude.{nat_eq, ◌==◌};
 ghost use Rattle.std.specs.Cmp.{partial_equiv_from_equiv};
 ghost use Rattle.std.specs.Cmp.Lexicographic.{pointwise, nat_list_eq_equiv};
@@ -114,5 +114,22 @@ impl ShortStr {
     {
         let text = Octets::prefix(alloc, octets, len)?;
         Ok(ShortStr { text })
+    }
+
+    /// The first `len` octets, where they are few, and so many stand there that words can be copied in place of them.
+    #[inline(always)]
+    pub(crate) fn words(octets: &[u8], len: usize) -> Option<ShortStr>
+        requires within { len ≤ length octets.now }
+        requires short { len ≤ 255 }
+        ensures { IfSome result (λ s. s ≡ take len octets.now) }
+    {
+        let text = Octets::words(octets, len)?;
+        Some(ShortStr { text })
+    }
+
+    /// Whether it lies in place, so that no memory is to be given back for it.
+    #[inline(always)]
+    pub(crate) fn is_in_place(&self) -> bool {
+        self.text.are_in_place()
     }
 }

@@ -7,6 +7,7 @@ ghost use Rattle.amqp_value.specs.View.{view, items_view, pairs_view};
 use crate::fault::OutOfMemory;
 use crate::octets::Octets;
 use crate::short_str::ShortStr;
+use std::mem::forget;
 
 /// A field value, one variant for each tag. A value that is written again keeps its tag.
 #[derive(Debug, Drop, PartialEq, Eq)]
@@ -117,14 +118,13 @@ pub(crate) fn copy_pairs(
     Ok(copies)
 }
 
-/// Drops a value. Those of fixed size have nothing to give back.
+/// Whether a value lies in place, so that no memory is to be given back for it.
 #[inline(always)]
-fn drop_value(value: Value) {
+fn is_in_place(value: &Value) -> bool {
     match value {
-        Value::LongString(text) => drop(text),
-        Value::ByteArray(octets) => drop(octets),
-        Value::Array(values) => drop(values),
-        Value::Table(pairs) => drop(pairs),
+        Value::LongString(text) => text.are_in_place(),
+        Value::ByteArray(octets) => octets.are_in_place(),
+        Value::Array(_) | Value::Table(_) => false,
         Value::Boolean(_)
         | Value::ShortShortInt(_)
         | Value::ShortShortUint(_)
@@ -139,16 +139,19 @@ fn drop_value(value: Value) {
         | Value::Double(_)
         | Value::Decimal { .. }
         | Value::Timestamp(_)
-        | Value::Void => {}
+        | Value::Void => true,
     }
 }
 
-/// Drops pairs, the last first. Each is looked at where it lies, so that what has nothing to give back, as most do, isn't moved to be dropped.
+/// Drops pairs, the last first. Each is looked at where it lies: what has no memory to give back, as most haven't, isn't read to be dropped.
 #[inline(always)]
 pub(crate) fn drop_pairs(mut pairs: Vec<(ShortStr, Value)>) {
-    while let Some((name, value)) = pairs.pop() {
-        drop(name);
-        drop_value(value);
+    while let Some((name, value)) = pairs.last() {
+        if name.is_in_place() && is_in_place(value) {
+            forget(pairs.pop());
+        } else {
+            drop(pairs.pop());
+        }
     }
     pairs.destroy_empty();
 }

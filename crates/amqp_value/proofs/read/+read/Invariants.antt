@@ -5,19 +5,16 @@ use Rattle.amqp_value.proofs.Elements.{with_prefix}
 use Rattle.amqp_value.proofs.read.+read.Given as goal
 
 abbrev pub decreases-read_items : goal.decreases-read_items
-decreases-read_items l = 4 * l.levels + 3
+decreases-read_items l = 3 * l.levels + 2
 
 abbrev pub decreases-read_pairs : goal.decreases-read_pairs
-decreases-read_pairs l = 4 * l.levels + 3
+decreases-read_pairs l = 3 * l.levels + 2
 
 abbrev pub decreases-read_pair : goal.decreases-read_pair
-decreases-read_pair l = 4 * l.levels + 2
-
-abbrev pub decreases-push_value : goal.decreases-push_value
-decreases-push_value l = 4 * l.levels + 1
+decreases-read_pair l = 3 * l.levels + 1
 
 abbrev pub decreases-read_value : goal.decreases-read_value
-decreases-read_value l = 4 * l.levels
+decreases-read_value l = 3 * l.levels
 
 abbrev pub invariant-read_items-loop-rest : goal.invariant-read_items-loop-rest
 invariant-read_items-loop-rest l =

@@ -1,12 +1,12 @@
-use Rattle.std.proofs.Common.{◌≡◌, ◌≤◌, ◌-◌, ℕ, List, Ok, length, take, drop, arith}
+use Rattle.std.proofs.Common.{◌≡◌, ◌≤◌, ◌-◌, ◌∙◌, ℕ, List, Ok, length, take, drop, ap, arith}
 use Rattle.std.proofs.lemmas.List.{length-drop, take_all}
 use Rattle.byteorder.specs.Endian.{big_number}
 use Rattle.amqp_value.specs.Reading.{counted}
 use Rattle.amqp_value.proofs.Adding.{counted-is, long_string-read}
 use Rattle.amqp_value.proofs.read.short_text.Goals as goal
 
-pub returns-clause-read : goal.returns-clause-read
-returns-clause-read c = λ levels end.
+pub returns : goal.returns
+returns c = λ levels end.
     let rest : List ℕ = c.in_ok-octet.rest.now in
     let n : ℕ = c.read_u32-count.result in
     let is_n : n ≡ big_number 4 rest = c.read_u32-count.ensures in
@@ -16,4 +16,5 @@ returns-clause-read c = λ levels end.
     let there : n ≤ length (drop 4 rest) = rw (← text) c.if-text-count.false in
     let fits : n ≤ length rest - 4 = omega (arith, length-drop 4 rest) in
     let read : counted end rest ≡ Ok (take n (drop 4 rest), drop n (drop 4 rest)) = rw is_n (counted-is end rest long (rw (← is_n) fits)) in
-    rw (c.in_ok-octet.ensures.cases.0, text, after) (long_string-read levels end c.in_ok-octet.octet.now rest (take n (drop 4 rest)) (drop n (drop 4 rest)) c.if-octet-ne83.false read)
+    let kept : c.in_ok-words.field-0 ≡ take n (drop 4 rest) = c.in_ok-words.ensures ∙ ap (take n) text in
+    rw (c.in_ok-octet.ensures.cases.0, kept, text, after) (long_string-read levels end c.in_ok-octet.octet.now rest (take n (drop 4 rest)) (drop n (drop 4 rest)) c.if-octet-ne83.false read)
