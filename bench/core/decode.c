@@ -91,7 +91,7 @@ int main(void) {
     at = put(unit, at, TABLE_HEADER, sizeof TABLE_HEADER - 1);
     at = put(unit, at, TABLE, sizeof TABLE - 1);
     at = put(unit, at, "\xce", 1);
-    measure("rabbitmq-c: publish, a table, 64 octets", unit, put_body(unit, at, 64));
+    measure("rabbitmq-c: publish, header with a table, 64 octets", unit, put_body(unit, at, 64));
     measure("rabbitmq-c: basic.ack", ACK, sizeof ACK - 1);
     return 0;
 }

@@ -226,7 +226,7 @@ impl Channel {
         if let Channel::Closing = self {
             return Ok(self.take_closing(site, &method, news));
         }
-        if is_of_connection(method.kind()) || !site.side.may_take(method.kind()) {
+        if is_of_connection(&method) || !site.side.takes(&method) {
             return Ok(Verdict::Faults(CloseCode::CommandInvalid));
         }
         if site.channel_max < site.number {

@@ -1,9 +1,10 @@
 //! The two sides of a connection, and which methods each may put and take.
 ghost use Rattle.std.specs.Prelude.{◌≡◌};
+ghost use Rattle.amqp_method.specs.MethodView.{method_view};
 ghost use Rattle.amqp_model.specs.Notes.{is_client as is_client_role};
 ghost use Rattle.amqp_channel.specs.Roles.{role_of, sent_by, taken_by};
 
-use amqp_method::{Kind, sends};
+use amqp_method::{Kind, Method, sends};
 
 /// The sides of a connection, as values.
 #[derive(Clone, Copy, PartialEq, Eq, Debug)]
@@ -40,5 +41,12 @@ impl Side {
             Side::Client => sends(false, kind),
             Side::Server => sends(true, kind),
         }
+    }
+
+    /// The same of a method that is at hand, which needs no look at the table.
+    pub fn takes(self, method: &Method) -> bool
+        ensures { result ≡ taken_by (role_of self) (method_view method.now).kind }
+    {
+        method.is_sent_by(!self.is_client())
     }
 }

@@ -46,12 +46,12 @@ pub(crate) fn carries_content(method: &Method) -> bool
     ensures table { result ≡ has_content (method_view method.now).kind }
     ensures model { result ≡ content_follows (method_view method.now) }
 {
-    method.kind().has_content()
+    method.has_content()
 }
 
 /// Whether the method is of the class connection.
-pub fn is_of_connection(kind: Kind) -> bool
-    ensures { result ≡ (class_of kind == 10) }
+pub fn is_of_connection(method: &Method) -> bool
+    ensures { result ≡ (class_of (method_view method.now).kind == 10) }
 {
-    kind.class_id() == 10
+    method.class_id() == 10
 }

@@ -299,10 +299,10 @@ impl Core {
             News::Unblocked.put_in(news);
             return Ok(Decision::Proceeds(Owed::Nothing));
         }
-        if is_of_connection(kind) {
+        if is_of_connection(method) {
             return Ok(closes_with(CloseCode::CommandInvalid));
         }
-        if !side.may_take(kind) {
+        if !side.takes(method) {
             return Ok(closes_with(CloseCode::CommandInvalid));
         }
         Ok(closes_with(CloseCode::ChannelError))

@@ -6,7 +6,7 @@ ghost use Rattle.amqp_method.specs.Rows.{field_view};
 ghost use Rattle.amqp_method.specs.Sorts.{sort_by, begins_content};
 
 use crate::fields::Field;
-use crate::table::{Sender, row_for};
+use crate::table::row_for;
 
 /// The methods, in the order of `amqp0-9-1.xml`.
 #[derive(Clone, Copy, PartialEq, Eq, Debug)]
@@ -147,11 +147,7 @@ pub fn schema(kind: Kind) -> &'static [Field]
 pub fn sends(client: bool, kind: Kind) -> bool
     ensures { result ≡ is_sent client kind }
 {
-    match row_for(kind).sender {
-        Sender::Client => client,
-        Sender::Server => !client,
-        Sender::Both => true,
-    }
+    row_for(kind).sender.permits(client)
 }
 
 #[tactic(auto, unfolding(crate::specs::Kinds::with_id))]

@@ -28,6 +28,7 @@ mod places;
 mod properties;
 mod reading;
 mod requests;
+mod row_ref;
 mod table;
 mod texts;
 mod writing;

@@ -7,6 +7,8 @@ use crate::faults::OutOfMemory;
 use crate::fields::{Arg, copy_args, drop_args_apart};
 use crate::kinds::{Kind, schema};
 use crate::lengths::args_length;
+use crate::row_ref::RowRef;
+use crate::table::Row;
 use std::alloc::Global;
 use thiserror::Error;
 
@@ -18,7 +20,7 @@ pub struct Misfit;
 /// A method with its arguments, which fit it.
 #[derive(Debug, PartialEq, Eq)]
 pub struct Method {
-    kind: Kind,
+    kind: RowRef,
     args: Vec<Arg>,
     pub ghost fit: { Fits (call kind (args_view args.items)) },
 }
@@ -55,14 +57,20 @@ impl Method {
     ghost use Rattle.std.specs.Prelude.{length, IsOk, IfOk};
     ghost use Rattle.amqp_value.specs.Lengths.{capped};
     ghost use Rattle.amqp_method.specs.MethodView.{method_view};
+    ghost use Rattle.amqp_method.specs.Kinds.{class_of, has_content, sends};
+    ghost use Rattle.amqp_method.specs.Methods.{row};
     ghost use Rattle.amqp_method.specs.Plain.{plain_method};
+    ghost use Rattle.amqp_method.specs.Rows.{row_view};
 
     /// The method with these arguments. [`fits`] tells whether they fit.
     pub fn new(kind: Kind, args: Vec<Arg>) -> Method
         requires { Fits (call kind (args_view args.items)) }
         ensures { method_view result ≡ call kind (args_view args.items) }
     {
-        Method { kind, args }
+        Method {
+            kind: RowRef::new(kind),
+            args,
+        }
     }
 
     /// The method with these arguments, if they fit it. Those that don't are dropped.
@@ -73,13 +81,41 @@ impl Method {
         if !fits(kind, &args) {
             return Err(Misfit);
         }
-        Ok(Method { kind, args })
+        Ok(Method::new(kind, args))
     }
 
     pub fn kind(&self) -> Kind
         ensures { result ≡ (method_view self.now).kind }
     {
-        self.kind
+        self.kind.kind()
+    }
+
+    /// What the table says of its kind.
+    pub(crate) fn row(&self) -> &'static Row
+        ensures { row_view result.now ≡ row (method_view self.now).kind }
+    {
+        self.kind.row()
+    }
+
+    /// The class id.
+    pub fn class_id(&self) -> u16
+        ensures { result ≡ class_of (method_view self.now).kind }
+    {
+        self.row().class
+    }
+
+    /// Whether a content header and a content body follow.
+    pub fn has_content(&self) -> bool
+        ensures { result ≡ has_content (method_view self.now).kind }
+    {
+        self.row().content
+    }
+
+    /// Whether the client sends the method, or the server.
+    pub fn is_sent_by(&self, client: bool) -> bool
+        ensures { result ≡ sends client (method_view self.now).kind }
+    {
+        self.row().sender.permits(client)
     }
 
     /// The arguments: one for each field of the [`schema`] that isn't reserved, in order.
@@ -103,7 +139,7 @@ impl Method {
         ensures { call result.0 (args_view result.1.items) ≡ method_view self }
     {
         let Method { kind, args } = self;
-        (kind, args)
+        (kind.kind(), args)
     }
 
     /// How many octets [`write_method`](crate::write_method) writes of the method. `u64::MAX` stands for every number from
@@ -111,7 +147,7 @@ impl Method {
     pub fn payload_length(&self) -> u64
         ensures { result ≡ capped (length (plain_method (method_view self.now))) }
     {
-        4_u64.saturating_add(args_length(schema(self.kind), &self.args))
+        4_u64.saturating_add(args_length(self.row().fields, &self.args))
     }
 
     /// The allocator of the arguments.
@@ -125,7 +161,7 @@ impl Method {
     {
         let args = copy_args(&self.args)?;
         Ok(Method {
-            kind: self.kind,
+            kind: self.kind.copy(),
             args,
         })
     }

@@ -5,7 +5,7 @@ ghost use Rattle.amqp_method.specs.Requests.{is_request as asks, answered, is_re
 
 use crate::kinds::Kind;
 use crate::methods::Method;
-use crate::table::{Wanted, row_for};
+use crate::table::Wanted;
 
 /// The last class whose methods have answers of their own: connection is 10, and channel is 20.
 const CHANNEL: u16 = 20;
@@ -17,7 +17,7 @@ impl Method {
     pub fn is_request(&self) -> bool
         ensures { result ≡ asks (method_view self.now) }
     {
-        match row_for(self.kind()).wanted {
+        match self.row().wanted {
             Wanted::Always => true,
             Wanted::Never => false,
             Wanted::UnlessNoWait(place) => self.bit_at(place) != Some(true),

@@ -12,11 +12,11 @@ word_back : (octets : List ℕ) (word : ℕ) → IsBytes octets → 8 ≤ length
 word_back octets word fits long is =
     ap (big_bytes 8) (is ∙ sym (big_from-take 0 8 8 octets (omega arith))) ∙ big_bytes-back 8 (take 8 octets) (length-take-le 8 octets long) (IsBytes-take 8 octets fits)
 
--- sixteen octets, eight of them in the first word
-pub few_in_words : (len : ℕ) (octets later room part others more : List ℕ) (first second : ℕ) → IsBytes octets → len ≤ 16 → 16 ≤ length octets → later ≡ drop 8 octets
+-- sixteen octets, eight of them in the first word; what follows in the room is written last
+pub few_in_words : (len : ℕ) (octets later room part last others more : List ℕ) (first second : ℕ) → IsBytes octets → len ≤ 16 → 16 ≤ length octets → later ≡ drop 8 octets
     → first ≡ big_number 8 octets → second ≡ big_number 8 later → room ≡ big_bytes 8 first ++ others → part ≡ big_bytes 8 second ++ more
-    → take len (put_mid 8 16 room part) ≡ take len octets
-few_in_words len octets later room part others more first second fits few long is_later is_first is_second is_room is_part =
+    → take len (put_mid 16 8 (put_mid 8 16 room part) last) ≡ take len octets
+few_in_words len octets later room part last others more first second fits few long is_later is_first is_second is_room is_part =
     let front = take 8 octets in
     let back = take 8 (drop 8 octets) in
     let post = post_of 8 16 room in
@@ -29,6 +29,8 @@ few_in_words len octets later room part others more first second fits few long i
     ∙ ap (λ others. front ++ others) (append_assoc back more post)
     ∙ sym (append_assoc front back (more ++ post))
     ∙ ap (λ words. words ++ (more ++ post)) (sym (take-add 8 8 octets)) in
-    ap (take len) words
-    ∙ take-append-le len (take 16 octets) (more ++ post) (omega (arith, length-take-le 16 octets long))
+    let sixteen : length (take 16 octets) ≡ 16 = length-take-le 16 octets long in
+    let both : take 16 (put_mid 8 16 room part) ≡ take 16 octets = ap (take 16) words ∙ take_at (take 16 octets) (more ++ post) 16 sixteen in
+    ap (λ front. take len (front ++ (last ++ post_of 16 8 (put_mid 8 16 room part)))) both
+    ∙ take-append-le len (take 16 octets) (last ++ post_of 16 8 (put_mid 8 16 room part)) (omega (arith, sixteen))
     ∙ take-take len 16 octets few

@@ -206,7 +206,8 @@ impl Octets {
 
 /// Room that begins with the first `len` octets, and ends with their number.
 ///
-/// Few are copied as they are moved later, in words.
+/// Few are copied as they are moved later, in words. Their number is written as a word too: a word that was written in parts is waited
+/// for when it is read.
 #[inline(always)]
 fn in_place(octets: &[u8], len: usize) -> [u8; ROOM]
     requires within { len ≤ length octets.now }
@@ -234,7 +235,7 @@ fn one_word(octets: &[u8], len: usize) -> [u8; ROOM]
     let word = BigEndian::read_u64(octets);
     let mut room = [0; ROOM];
     BigEndian::write_u64(&mut room, word);
-    room[IN_PLACE] = len as u8;
+    BigEndian::write_u64(&mut room[TWO_WORDS..], len as u64);
     room
 }
 
@@ -251,7 +252,7 @@ fn two_words(octets: &[u8], len: usize) -> [u8; ROOM]
     let mut room = [0; ROOM];
     BigEndian::write_u64(&mut room, first);
     BigEndian::write_u64(&mut room[WORD..], second);
-    room[IN_PLACE] = len as u8;
+    BigEndian::write_u64(&mut room[TWO_WORDS..], len as u64);
     room
 }
 
