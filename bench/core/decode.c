@@ -9,7 +9,7 @@
 #include <amqp.h>
 #include <amqp_framing.h>
 
-enum { ROUNDS = 5, PIECE = 65536, STREAM = 200000000 };
+enum { ROUNDS = 2, PIECE = 65536, STREAM = 200000000 };
 
 static const char PUBLISH[] = "\x01\x00\x01\x00\x00\x00\x1c\x00\x3c\x00\x28\x00\x00\x06" "orders" "\x0d" "order.created" "\x00\xce";
 static const char PLAIN_HEADER[] = "\x02\x00\x01\x00\x00\x00\x0e\x00\x3c\x00\x00\x00\x00\x00\x00\x00\x00\x04\x00\x00\x00\xce";
@@ -82,16 +82,24 @@ static void measure(const char *name, const char *unit, size_t length) {
     free(stream);
 }
 
-int main(void) {
+int main(int words, char **word) {
+    const char *name = words > 1 ? word[1] : "";
     char unit[4096];
-    size_t at = put(unit, 0, PUBLISH, sizeof PUBLISH - 1);
-    at = put(unit, at, PLAIN_HEADER, sizeof PLAIN_HEADER - 1);
-    measure("rabbitmq-c: publish, header, 1024 octets", unit, put_body(unit, at, 1024));
-    at = put(unit, 0, PUBLISH, sizeof PUBLISH - 1);
-    at = put(unit, at, TABLE_HEADER, sizeof TABLE_HEADER - 1);
-    at = put(unit, at, TABLE, sizeof TABLE - 1);
-    at = put(unit, at, "\xce", 1);
-    measure("rabbitmq-c: publish, header with a table, 64 octets", unit, put_body(unit, at, 64));
-    measure("rabbitmq-c: basic.ack", ACK, sizeof ACK - 1);
+    if (strcmp(name, "content") == 0) {
+        size_t at = put(unit, 0, PUBLISH, sizeof PUBLISH - 1);
+        at = put(unit, at, PLAIN_HEADER, sizeof PLAIN_HEADER - 1);
+        measure("rabbitmq-c: publish, header, 1024 octets", unit, put_body(unit, at, 1024));
+    } else if (strcmp(name, "table") == 0) {
+        size_t at = put(unit, 0, PUBLISH, sizeof PUBLISH - 1);
+        at = put(unit, at, TABLE_HEADER, sizeof TABLE_HEADER - 1);
+        at = put(unit, at, TABLE, sizeof TABLE - 1);
+        at = put(unit, at, "\xce", 1);
+        measure("rabbitmq-c: publish, header with a table, 64 octets", unit, put_body(unit, at, 64));
+    } else if (strcmp(name, "ack") == 0) {
+        measure("rabbitmq-c: basic.ack", ACK, sizeof ACK - 1);
+    } else {
+        fputs("content, table or ack\n", stderr);
+        return 2;
+    }
     return 0;
 }
