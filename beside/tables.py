@@ -61,7 +61,7 @@ def methods_of_code():
     """The rows of table.rt, each under the kind that row_for gives it to."""
     code = text_of("crates/amqp_method/src/table.rt")
     statics = {}
-    row = r'static (\w+): Row =\s*method!\(\w+ (\d+) (\d+) "([^"]+)" from (\w+), content (\w+), answers (None|Some\(Kind::(\w+)\))(?:,\s*wants (\w+)(?:\((\d+)\))?)?;([^;]*)\);'
+    row = r'static (\w+): Row =\s*method!\((\d+) (\d+) "([^"]+)" from (\w+), content (\w+), answers (None|Some\(Kind::(\w+)\))(?:,\s*wants (\w+)(?:\((\d+)\))?)?;([^;]*)\);'
     for name, *cells in re.findall(row, code):
         statics[name] = cells
     given = re.findall(r"Kind::(\w+) => &(\w+),", code)

@@ -43,7 +43,7 @@ impl Side {
         }
     }
 
-    /// The same of a method that is at hand, which needs no look at the table.
+    /// Whether an end of this side may take this method.
     pub fn takes(self, method: &Method) -> bool
         ensures { result ≡ taken_by (role_of self) (method_view method.now).kind }
     {

@@ -49,36 +49,40 @@ fn are_in_order(tally: &[Entry]) -> bool {
     true
 }
 
-/// The places of what was asked in a life, in order.
+/// What was asked in a life, in order.
 fn asked_in(
     alloc: Global,
     said: &[Said],
     life: Life,
     way: Direction,
-) -> Result<Vec<usize>, Trouble> {
-    let mut places = Vec::new(alloc);
-    for (place, one) in said.iter().enumerate() {
+) -> Result<Vec<&Item>, Trouble> {
+    let mut items = Vec::new(alloc);
+    for one in said {
         if one.life == life && one.direction == way {
-            places.push(place)?;
+            items.push(&one.item)?;
         }
     }
-    Ok(places)
+    Ok(items)
 }
 
-/// The places of what was not put as an answer to a flow.
-fn without_answers(alloc: Global, sent: &[Item]) -> Result<Vec<usize>, Trouble> {
-    let mut places = Vec::new(alloc);
-    for (place, item) in sent.iter().enumerate() {
+/// What was not put as an answer to a flow.
+fn without_answers(alloc: Global, sent: &[Item]) -> Result<Vec<&Item>, Trouble> {
+    let mut items = Vec::new(alloc);
+    for item in sent {
         match item {
             Item::FlowOk(_) => {}
-            _ => places.push(place)?,
+            _ => items.push(item)?,
         }
     }
-    Ok(places)
+    Ok(items)
 }
 
-fn is_same(said: &[Said], place: usize, sent: &[Item], other: usize) -> bool {
-    place < said.len() && other < sent.len() && said[place].item == sent[other]
+fn are_same(items: &[&Item], others: &[&Item]) -> bool {
+    items.len() == others.len()
+        && items
+            .iter()
+            .zip(others.iter())
+            .all(|(one, other)| **one == **other)
 }
 
 /// Checks what was sent in a life against what was asked, and answers how many items that were.
@@ -91,10 +95,7 @@ fn check_asked(
 ) -> Result<usize, Trouble> {
     let asked = asked_in(alloc, said, life, way)?;
     let found = without_answers(alloc, sent)?;
-    check(asked.len() == found.len(), Rule::Sent)?;
-    for (place, other) in asked.iter().zip(found.iter()) {
-        check(is_same(said, *place, sent, *other), Rule::Sent)?;
-    }
+    check(are_same(&asked, &found), Rule::Sent)?;
     Ok(asked.len())
 }
 

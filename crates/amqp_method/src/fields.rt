@@ -105,7 +105,7 @@ pub(crate) fn copy_args(args: &Vec<Arg>) -> Result<Vec<Arg>, OutOfMemory>
     Ok(copies)
 }
 
-/// Drops each argument, the last first. Most hold no memory, so the few kinds that do are told apart from them.
+/// Drops each argument, the last first. Most hold no memory, so the few kinds that do are looked for first.
 #[inline(always)]
 pub(crate) fn drop_args(mut args: Vec<Arg>) {
     while let Some(arg) = args.pop() {

@@ -5,9 +5,9 @@ ghost use Rattle.amqp_method.specs.Views.{args_view};
 
 use crate::faults::OutOfMemory;
 use crate::fields::{Arg, copy_args, drop_args_apart};
+use crate::kind_word::KindWord;
 use crate::kinds::{Kind, schema};
 use crate::lengths::args_length;
-use crate::row_ref::RowRef;
 use crate::table::Row;
 use std::alloc::Global;
 use thiserror::Error;
@@ -20,7 +20,7 @@ pub struct Misfit;
 /// A method with its arguments, which fit it.
 #[derive(Debug, PartialEq, Eq)]
 pub struct Method {
-    kind: RowRef,
+    kind: KindWord,
     args: Vec<Arg>,
     pub ghost fit: { Fits (call kind (args_view args.items)) },
 }
@@ -68,7 +68,7 @@ impl Method {
         ensures { method_view result ≡ call kind (args_view args.items) }
     {
         Method {
-            kind: RowRef::new(kind),
+            kind: KindWord::new(kind),
             args,
         }
     }

@@ -43,7 +43,6 @@ pub(crate) enum Wanted {
 
 /// What the standard says of a method.
 pub(crate) struct Row {
-    pub(crate) kind: Kind,
     pub(crate) class: u16,
     pub(crate) id: u16,
     pub(crate) name: &'static str,
@@ -56,28 +55,27 @@ pub(crate) struct Row {
     pub(crate) arguments: usize,
 }
 
-/// A row: the kind, the class id and the method id, the name, who sends the method, whether content follows, the request that it
+/// A row: the class id and the method id, the name, who sends the method, whether content follows, the request that it
 /// answers, the reply that it wants, if it wants one, and the fields.
 macro_rules! method {
-    ($own:ident $class:literal $id:literal $name:literal from $sender:ident, content $content:literal, answers $answers:expr;
+    ($class:literal $id:literal $name:literal from $sender:ident, content $content:literal, answers $answers:expr;
         $($reserved:ident $kind:ident $label:literal),*) => {
-        method!($own $class $id $name from $sender, content $content, answers $answers, wants Never;
+        method!($class $id $name from $sender, content $content, answers $answers, wants Never;
             $($reserved $kind $label),*)
     };
-    ($own:ident $class:literal $id:literal $name:literal from $sender:ident, content $content:literal, answers $answers:expr,
+    ($class:literal $id:literal $name:literal from $sender:ident, content $content:literal, answers $answers:expr,
         wants $wanted:ident; $($reserved:ident $kind:ident $label:literal),*) => {
-        method!($own $class $id $name from $sender, content $content, answers $answers, wanted Wanted::$wanted;
+        method!($class $id $name from $sender, content $content, answers $answers, wanted Wanted::$wanted;
             $($reserved $kind $label),*)
     };
-    ($own:ident $class:literal $id:literal $name:literal from $sender:ident, content $content:literal, answers $answers:expr,
+    ($class:literal $id:literal $name:literal from $sender:ident, content $content:literal, answers $answers:expr,
         wants $wanted:ident($place:literal); $($reserved:ident $kind:ident $label:literal),*) => {
-        method!($own $class $id $name from $sender, content $content, answers $answers, wanted Wanted::$wanted($place);
+        method!($class $id $name from $sender, content $content, answers $answers, wanted Wanted::$wanted($place);
             $($reserved $kind $label),*)
     };
-    ($own:ident $class:literal $id:literal $name:literal from $sender:ident, content $content:literal, answers $answers:expr,
+    ($class:literal $id:literal $name:literal from $sender:ident, content $content:literal, answers $answers:expr,
         wanted $wanted:expr; $($reserved:ident $kind:ident $label:literal),*) => {
         Row {
-            kind: Kind::$own,
             class: $class,
             id: $id,
             name: $name,
@@ -115,254 +113,245 @@ macro_rules! count_of {
 }
 
 static CONNECTION_START: Row =
-    method!(ConnectionStart 10 10 "connection.start" from Server, content false, answers None;
+    method!(10 10 "connection.start" from Server, content false, answers None;
     field Octet "version-major", field Octet "version-minor", field Table "server-properties",
     field LongStr "mechanisms", field LongStr "locales");
 
 static CONNECTION_START_OK: Row =
-    method!(ConnectionStartOk 10 11 "connection.start-ok" from Client, content false, answers Some(Kind::ConnectionStart);
+    method!(10 11 "connection.start-ok" from Client, content false, answers Some(Kind::ConnectionStart);
     field Table "client-properties", field ShortStr "mechanism", field LongStr "response",
     field ShortStr "locale");
 
 static CONNECTION_SECURE: Row =
-    method!(ConnectionSecure 10 20 "connection.secure" from Server, content false, answers None;
+    method!(10 20 "connection.secure" from Server, content false, answers None;
     field LongStr "challenge");
 
 static CONNECTION_SECURE_OK: Row =
-    method!(ConnectionSecureOk 10 21 "connection.secure-ok" from Client, content false, answers Some(Kind::ConnectionSecure);
+    method!(10 21 "connection.secure-ok" from Client, content false, answers Some(Kind::ConnectionSecure);
     field LongStr "response");
 
 static CONNECTION_TUNE: Row =
-    method!(ConnectionTune 10 30 "connection.tune" from Server, content false, answers None;
+    method!(10 30 "connection.tune" from Server, content false, answers None;
     field Short "channel-max", field Long "frame-max", field Short "heartbeat");
 
 static CONNECTION_TUNE_OK: Row =
-    method!(ConnectionTuneOk 10 31 "connection.tune-ok" from Client, content false, answers Some(Kind::ConnectionTune);
+    method!(10 31 "connection.tune-ok" from Client, content false, answers Some(Kind::ConnectionTune);
     field Short "channel-max", field Long "frame-max", field Short "heartbeat");
 
 static CONNECTION_OPEN: Row =
-    method!(ConnectionOpen 10 40 "connection.open" from Client, content false, answers None;
+    method!(10 40 "connection.open" from Client, content false, answers None;
     field ShortStr "virtual-host", reserved ShortStr "reserved-1", reserved Bit "reserved-2");
 
 static CONNECTION_OPEN_OK: Row =
-    method!(ConnectionOpenOk 10 41 "connection.open-ok" from Server, content false, answers Some(Kind::ConnectionOpen);
+    method!(10 41 "connection.open-ok" from Server, content false, answers Some(Kind::ConnectionOpen);
     reserved ShortStr "reserved-1");
 
 static CONNECTION_CLOSE: Row =
-    method!(ConnectionClose 10 50 "connection.close" from Both, content false, answers None;
+    method!(10 50 "connection.close" from Both, content false, answers None;
     field Short "reply-code", field ShortStr "reply-text", field Short "class-id", field Short "method-id");
 
 static CONNECTION_CLOSE_OK: Row =
-    method!(ConnectionCloseOk 10 51 "connection.close-ok" from Both, content false, answers Some(Kind::ConnectionClose););
+    method!(10 51 "connection.close-ok" from Both, content false, answers Some(Kind::ConnectionClose););
 
 static CONNECTION_BLOCKED: Row =
-    method!(ConnectionBlocked 10 60 "connection.blocked" from Server, content false, answers None;
+    method!(10 60 "connection.blocked" from Server, content false, answers None;
     field ShortStr "reason");
 
 static CONNECTION_UNBLOCKED: Row =
-    method!(ConnectionUnblocked 10 61 "connection.unblocked" from Server, content false, answers None;);
+    method!(10 61 "connection.unblocked" from Server, content false, answers None;);
 
-static CHANNEL_OPEN: Row =
-    method!(ChannelOpen 20 10 "channel.open" from Client, content false, answers None;
+static CHANNEL_OPEN: Row = method!(20 10 "channel.open" from Client, content false, answers None;
     reserved ShortStr "reserved-1");
 
 static CHANNEL_OPEN_OK: Row =
-    method!(ChannelOpenOk 20 11 "channel.open-ok" from Server, content false, answers Some(Kind::ChannelOpen);
+    method!(20 11 "channel.open-ok" from Server, content false, answers Some(Kind::ChannelOpen);
     reserved LongStr "reserved-1");
 
-static CHANNEL_FLOW: Row =
-    method!(ChannelFlow 20 20 "channel.flow" from Both, content false, answers None;
+static CHANNEL_FLOW: Row = method!(20 20 "channel.flow" from Both, content false, answers None;
     field Bit "active");
 
 static CHANNEL_FLOW_OK: Row =
-    method!(ChannelFlowOk 20 21 "channel.flow-ok" from Both, content false, answers Some(Kind::ChannelFlow);
+    method!(20 21 "channel.flow-ok" from Both, content false, answers Some(Kind::ChannelFlow);
     field Bit "active");
 
-static CHANNEL_CLOSE: Row =
-    method!(ChannelClose 20 40 "channel.close" from Both, content false, answers None;
+static CHANNEL_CLOSE: Row = method!(20 40 "channel.close" from Both, content false, answers None;
     field Short "reply-code", field ShortStr "reply-text", field Short "class-id", field Short "method-id");
 
 static CHANNEL_CLOSE_OK: Row =
-    method!(ChannelCloseOk 20 41 "channel.close-ok" from Both, content false, answers Some(Kind::ChannelClose););
+    method!(20 41 "channel.close-ok" from Both, content false, answers Some(Kind::ChannelClose););
 
 static EXCHANGE_DECLARE: Row =
-    method!(ExchangeDeclare 40 10 "exchange.declare" from Client, content false, answers None, wants UnlessNoWait(6);
+    method!(40 10 "exchange.declare" from Client, content false, answers None, wants UnlessNoWait(6);
     reserved Short "reserved-1", field ShortStr "exchange", field ShortStr "type", field Bit "passive",
     field Bit "durable", field Bit "auto-delete", field Bit "internal", field Bit "no-wait",
     field Table "arguments");
 
 static EXCHANGE_DECLARE_OK: Row =
-    method!(ExchangeDeclareOk 40 11 "exchange.declare-ok" from Server, content false, answers Some(Kind::ExchangeDeclare););
+    method!(40 11 "exchange.declare-ok" from Server, content false, answers Some(Kind::ExchangeDeclare););
 
 static EXCHANGE_DELETE: Row =
-    method!(ExchangeDelete 40 20 "exchange.delete" from Client, content false, answers None, wants UnlessNoWait(2);
+    method!(40 20 "exchange.delete" from Client, content false, answers None, wants UnlessNoWait(2);
     reserved Short "reserved-1", field ShortStr "exchange", field Bit "if-unused", field Bit "no-wait");
 
 static EXCHANGE_DELETE_OK: Row =
-    method!(ExchangeDeleteOk 40 21 "exchange.delete-ok" from Server, content false, answers Some(Kind::ExchangeDelete););
+    method!(40 21 "exchange.delete-ok" from Server, content false, answers Some(Kind::ExchangeDelete););
 
 static EXCHANGE_BIND: Row =
-    method!(ExchangeBind 40 30 "exchange.bind" from Client, content false, answers None, wants UnlessNoWait(3);
+    method!(40 30 "exchange.bind" from Client, content false, answers None, wants UnlessNoWait(3);
     reserved Short "reserved-1", field ShortStr "destination", field ShortStr "source",
     field ShortStr "routing-key", field Bit "no-wait", field Table "arguments");
 
 static EXCHANGE_BIND_OK: Row =
-    method!(ExchangeBindOk 40 31 "exchange.bind-ok" from Server, content false, answers Some(Kind::ExchangeBind););
+    method!(40 31 "exchange.bind-ok" from Server, content false, answers Some(Kind::ExchangeBind););
 
 static EXCHANGE_UNBIND: Row =
-    method!(ExchangeUnbind 40 40 "exchange.unbind" from Client, content false, answers None, wants UnlessNoWait(3);
+    method!(40 40 "exchange.unbind" from Client, content false, answers None, wants UnlessNoWait(3);
     reserved Short "reserved-1", field ShortStr "destination", field ShortStr "source",
     field ShortStr "routing-key", field Bit "no-wait", field Table "arguments");
 
 static EXCHANGE_UNBIND_OK: Row =
-    method!(ExchangeUnbindOk 40 51 "exchange.unbind-ok" from Server, content false, answers Some(Kind::ExchangeUnbind););
+    method!(40 51 "exchange.unbind-ok" from Server, content false, answers Some(Kind::ExchangeUnbind););
 
 static QUEUE_DECLARE: Row =
-    method!(QueueDeclare 50 10 "queue.declare" from Client, content false, answers None, wants UnlessNoWait(5);
+    method!(50 10 "queue.declare" from Client, content false, answers None, wants UnlessNoWait(5);
     reserved Short "reserved-1", field ShortStr "queue", field Bit "passive", field Bit "durable",
     field Bit "exclusive", field Bit "auto-delete", field Bit "no-wait", field Table "arguments");
 
 static QUEUE_DECLARE_OK: Row =
-    method!(QueueDeclareOk 50 11 "queue.declare-ok" from Server, content false, answers Some(Kind::QueueDeclare);
+    method!(50 11 "queue.declare-ok" from Server, content false, answers Some(Kind::QueueDeclare);
     field ShortStr "queue", field Long "message-count", field Long "consumer-count");
 
 static QUEUE_BIND: Row =
-    method!(QueueBind 50 20 "queue.bind" from Client, content false, answers None, wants UnlessNoWait(3);
+    method!(50 20 "queue.bind" from Client, content false, answers None, wants UnlessNoWait(3);
     reserved Short "reserved-1", field ShortStr "queue", field ShortStr "exchange",
     field ShortStr "routing-key", field Bit "no-wait", field Table "arguments");
 
 static QUEUE_BIND_OK: Row =
-    method!(QueueBindOk 50 21 "queue.bind-ok" from Server, content false, answers Some(Kind::QueueBind););
+    method!(50 21 "queue.bind-ok" from Server, content false, answers Some(Kind::QueueBind););
 
 static QUEUE_UNBIND: Row =
-    method!(QueueUnbind 50 50 "queue.unbind" from Client, content false, answers None, wants Always;
+    method!(50 50 "queue.unbind" from Client, content false, answers None, wants Always;
     reserved Short "reserved-1", field ShortStr "queue", field ShortStr "exchange",
     field ShortStr "routing-key", field Table "arguments");
 
 static QUEUE_UNBIND_OK: Row =
-    method!(QueueUnbindOk 50 51 "queue.unbind-ok" from Server, content false, answers Some(Kind::QueueUnbind););
+    method!(50 51 "queue.unbind-ok" from Server, content false, answers Some(Kind::QueueUnbind););
 
 static QUEUE_PURGE: Row =
-    method!(QueuePurge 50 30 "queue.purge" from Client, content false, answers None, wants UnlessNoWait(1);
+    method!(50 30 "queue.purge" from Client, content false, answers None, wants UnlessNoWait(1);
     reserved Short "reserved-1", field ShortStr "queue", field Bit "no-wait");
 
 static QUEUE_PURGE_OK: Row =
-    method!(QueuePurgeOk 50 31 "queue.purge-ok" from Server, content false, answers Some(Kind::QueuePurge);
+    method!(50 31 "queue.purge-ok" from Server, content false, answers Some(Kind::QueuePurge);
     field Long "message-count");
 
 static QUEUE_DELETE: Row =
-    method!(QueueDelete 50 40 "queue.delete" from Client, content false, answers None, wants UnlessNoWait(3);
+    method!(50 40 "queue.delete" from Client, content false, answers None, wants UnlessNoWait(3);
     reserved Short "reserved-1", field ShortStr "queue", field Bit "if-unused", field Bit "if-empty",
     field Bit "no-wait");
 
 static QUEUE_DELETE_OK: Row =
-    method!(QueueDeleteOk 50 41 "queue.delete-ok" from Server, content false, answers Some(Kind::QueueDelete);
+    method!(50 41 "queue.delete-ok" from Server, content false, answers Some(Kind::QueueDelete);
     field Long "message-count");
 
 static BASIC_QOS: Row =
-    method!(BasicQos 60 10 "basic.qos" from Client, content false, answers None, wants Always;
+    method!(60 10 "basic.qos" from Client, content false, answers None, wants Always;
     field Long "prefetch-size", field Short "prefetch-count", field Bit "global");
 
 static BASIC_QOS_OK: Row =
-    method!(BasicQosOk 60 11 "basic.qos-ok" from Server, content false, answers Some(Kind::BasicQos););
+    method!(60 11 "basic.qos-ok" from Server, content false, answers Some(Kind::BasicQos););
 
 static BASIC_CONSUME: Row =
-    method!(BasicConsume 60 20 "basic.consume" from Client, content false, answers None, wants UnlessNoWait(5);
+    method!(60 20 "basic.consume" from Client, content false, answers None, wants UnlessNoWait(5);
     reserved Short "reserved-1", field ShortStr "queue", field ShortStr "consumer-tag", field Bit "no-local",
     field Bit "no-ack", field Bit "exclusive", field Bit "no-wait", field Table "arguments");
 
 static BASIC_CONSUME_OK: Row =
-    method!(BasicConsumeOk 60 21 "basic.consume-ok" from Server, content false, answers Some(Kind::BasicConsume);
+    method!(60 21 "basic.consume-ok" from Server, content false, answers Some(Kind::BasicConsume);
     field ShortStr "consumer-tag");
 
 static BASIC_CANCEL: Row =
-    method!(BasicCancel 60 30 "basic.cancel" from Both, content false, answers None, wants UnlessNoWait(1);
+    method!(60 30 "basic.cancel" from Both, content false, answers None, wants UnlessNoWait(1);
     field ShortStr "consumer-tag", field Bit "no-wait");
 
 static BASIC_CANCEL_OK: Row =
-    method!(BasicCancelOk 60 31 "basic.cancel-ok" from Both, content false, answers Some(Kind::BasicCancel);
+    method!(60 31 "basic.cancel-ok" from Both, content false, answers Some(Kind::BasicCancel);
     field ShortStr "consumer-tag");
 
-static BASIC_PUBLISH: Row =
-    method!(BasicPublish 60 40 "basic.publish" from Client, content true, answers None;
+static BASIC_PUBLISH: Row = method!(60 40 "basic.publish" from Client, content true, answers None;
     reserved Short "reserved-1", field ShortStr "exchange", field ShortStr "routing-key",
     field Bit "mandatory", field Bit "immediate");
 
-static BASIC_RETURN: Row =
-    method!(BasicReturn 60 50 "basic.return" from Server, content true, answers None;
+static BASIC_RETURN: Row = method!(60 50 "basic.return" from Server, content true, answers None;
     field Short "reply-code", field ShortStr "reply-text", field ShortStr "exchange",
     field ShortStr "routing-key");
 
-static BASIC_DELIVER: Row =
-    method!(BasicDeliver 60 60 "basic.deliver" from Server, content true, answers None;
+static BASIC_DELIVER: Row = method!(60 60 "basic.deliver" from Server, content true, answers None;
     field ShortStr "consumer-tag", field LongLong "delivery-tag", field Bit "redelivered",
     field ShortStr "exchange", field ShortStr "routing-key");
 
 static BASIC_GET: Row =
-    method!(BasicGet 60 70 "basic.get" from Client, content false, answers None, wants Always;
+    method!(60 70 "basic.get" from Client, content false, answers None, wants Always;
     reserved Short "reserved-1", field ShortStr "queue", field Bit "no-ack");
 
 static BASIC_GET_OK: Row =
-    method!(BasicGetOk 60 71 "basic.get-ok" from Server, content true, answers Some(Kind::BasicGet);
+    method!(60 71 "basic.get-ok" from Server, content true, answers Some(Kind::BasicGet);
     field LongLong "delivery-tag", field Bit "redelivered", field ShortStr "exchange",
     field ShortStr "routing-key", field Long "message-count");
 
 static BASIC_GET_EMPTY: Row =
-    method!(BasicGetEmpty 60 72 "basic.get-empty" from Server, content false, answers Some(Kind::BasicGet);
+    method!(60 72 "basic.get-empty" from Server, content false, answers Some(Kind::BasicGet);
     reserved ShortStr "reserved-1");
 
-static BASIC_ACK: Row = method!(BasicAck 60 80 "basic.ack" from Both, content false, answers None;
+static BASIC_ACK: Row = method!(60 80 "basic.ack" from Both, content false, answers None;
     field LongLong "delivery-tag", field Bit "multiple");
 
-static BASIC_REJECT: Row =
-    method!(BasicReject 60 90 "basic.reject" from Client, content false, answers None;
+static BASIC_REJECT: Row = method!(60 90 "basic.reject" from Client, content false, answers None;
     field LongLong "delivery-tag", field Bit "requeue");
 
 static BASIC_RECOVER_ASYNC: Row =
-    method!(BasicRecoverAsync 60 100 "basic.recover-async" from Client, content false, answers None;
+    method!(60 100 "basic.recover-async" from Client, content false, answers None;
     field Bit "requeue");
 
 static BASIC_RECOVER: Row =
-    method!(BasicRecover 60 110 "basic.recover" from Client, content false, answers None, wants Always;
+    method!(60 110 "basic.recover" from Client, content false, answers None, wants Always;
     field Bit "requeue");
 
 static BASIC_RECOVER_OK: Row =
-    method!(BasicRecoverOk 60 111 "basic.recover-ok" from Server, content false, answers Some(Kind::BasicRecover););
+    method!(60 111 "basic.recover-ok" from Server, content false, answers Some(Kind::BasicRecover););
 
-static BASIC_NACK: Row =
-    method!(BasicNack 60 120 "basic.nack" from Both, content false, answers None;
+static BASIC_NACK: Row = method!(60 120 "basic.nack" from Both, content false, answers None;
     field LongLong "delivery-tag", field Bit "multiple", field Bit "requeue");
 
 static TX_SELECT: Row =
-    method!(TxSelect 90 10 "tx.select" from Client, content false, answers None, wants Always;);
+    method!(90 10 "tx.select" from Client, content false, answers None, wants Always;);
 
 static TX_SELECT_OK: Row =
-    method!(TxSelectOk 90 11 "tx.select-ok" from Server, content false, answers Some(Kind::TxSelect););
+    method!(90 11 "tx.select-ok" from Server, content false, answers Some(Kind::TxSelect););
 
 static TX_COMMIT: Row =
-    method!(TxCommit 90 20 "tx.commit" from Client, content false, answers None, wants Always;);
+    method!(90 20 "tx.commit" from Client, content false, answers None, wants Always;);
 
 static TX_COMMIT_OK: Row =
-    method!(TxCommitOk 90 21 "tx.commit-ok" from Server, content false, answers Some(Kind::TxCommit););
+    method!(90 21 "tx.commit-ok" from Server, content false, answers Some(Kind::TxCommit););
 
 static TX_ROLLBACK: Row =
-    method!(TxRollback 90 30 "tx.rollback" from Client, content false, answers None, wants Always;);
+    method!(90 30 "tx.rollback" from Client, content false, answers None, wants Always;);
 
 static TX_ROLLBACK_OK: Row =
-    method!(TxRollbackOk 90 31 "tx.rollback-ok" from Server, content false, answers Some(Kind::TxRollback););
+    method!(90 31 "tx.rollback-ok" from Server, content false, answers Some(Kind::TxRollback););
 
 static CONFIRM_SELECT: Row =
-    method!(ConfirmSelect 85 10 "confirm.select" from Client, content false, answers None, wants UnlessNoWait(0);
+    method!(85 10 "confirm.select" from Client, content false, answers None, wants UnlessNoWait(0);
     field Bit "no-wait");
 
 static CONFIRM_SELECT_OK: Row =
-    method!(ConfirmSelectOk 85 11 "confirm.select-ok" from Server, content false, answers Some(Kind::ConfirmSelect););
+    method!(85 11 "confirm.select-ok" from Server, content false, answers Some(Kind::ConfirmSelect););
 
 /// The row of a kind.
 #[tactic(auto, unfolding(crate::specs::Methods::row))]
 pub(crate) fn row_for(kind: Kind) -> &'static Row
-    ensures row { row_view result.now ≡ row kind }
-    ensures kind { result.now.kind ≡ kind }
+    ensures { row_view result.now ≡ row kind }
 {
     match kind {
         Kind::ConnectionStart => &CONNECTION_START,

@@ -9,7 +9,7 @@
 //! last frame of its channel, of the whole row where the channel has none, and moves the octets on the smaller side of
 //! its place; those before it only where as many octets were written as the frame has. So the worst is a row of many
 //! octets of which none is written, and frames that go near its beginning: each moves nearly all of the row. A write
-//! reads the slots of the frames that it begins, and moves nothing.
+//! reads the slots of the frames that it begins, and moves nothing: what it wrote is dropped later, before a frame is staged.
 ghost use Rattle.std.specs.Prelude.{◌≡◌, ◌+◌, ◌^◌, ◌<◌, ◌≤◌, ◌==◌, [], ◌∷◌, ◌++◌, length, drop, IfErr, OnOk, OnErr, Err};
 ghost use Rattle.amqp_method.specs.HeaderView.{header_view};
 ghost use Rattle.amqp_method.specs.MethodView.{method_view};
@@ -29,6 +29,9 @@ use amqp_method::{Header, Method};
 use amqp_model::arrangement;
 use std::alloc::Global;
 use std::marker::Model;
+
+/// How many octets most frames of a method or of a header have at most.
+const USUAL_FRAME: usize = 512;
 
 /// What an end has put and not written, and the frames that it is about to put.
 ///
@@ -119,11 +122,21 @@ impl Outbox {
         }
     }
 
-    /// Drops the octets that are written, where these are more than the others.
-    fn drop_written(&mut self)
+    /// Whether the octets that are written are dropped now, where so many are to come.
+    ///
+    /// To drop them moves those after them. So it is done where these are few, or where there is no room after them and they
+    /// are fewer than those that are dropped. Hence an octet that is written pays for at most one that is moved.
+    fn drops_before(&self, coming: usize) -> bool {
+        let left = self.octets.len() - self.written;
+        let room = self.octets.capacity().saturating_sub(self.octets.len());
+        left < self.written / 4 || (room < coming && left < self.written)
+    }
+
+    /// Drops the octets that are written, if it is time to, where so many are to come.
+    fn drop_written(&mut self, coming: usize)
         ensures { self.new ≡ self.old }
     {
-        if self.octets.len() - self.written < self.written {
+        if self.drops_before(coming) {
             forget(&mut self.octets, self.written);
             self.begun -= self.written;
             self.arranged -= self.written;
@@ -147,6 +160,7 @@ impl Outbox {
         ensures same { self.new ≡ self.old }
         ensures err { IfErr result (λ e. e ≡ out_of_memory) }
     {
+        self.drop_written(octets);
         self.octets.reserve(octets)?;
         self.slots.reserve(frames)?;
         Ok(())
@@ -159,7 +173,7 @@ impl Outbox {
         ensures too_long { result ≡ Err too_long → length (plain_method (method_view method.now)) < 2 ^ 32 → CountsAllFit (method_view method.now).args → ⊥ }
         ensures same { OnErr result (self.new ≡ self.old) }
     {
-        self.drop_written();
+        self.drop_written(USUAL_FRAME);
         self.drop_begun();
         let at = self.octets.len();
         append_method(&mut self.octets, channel, method)?;
@@ -175,7 +189,7 @@ impl Outbox {
         ensures too_long { result ≡ Err too_long → length (plain_header (header_view header.now)) < 2 ^ 32 → CountsPresentFit (header_view header.now).properties → ⊥ }
         ensures same { OnErr result (self.new ≡ self.old) }
     {
-        self.drop_written();
+        self.drop_written(USUAL_FRAME);
         self.drop_begun();
         let at = self.octets.len();
         append_header(&mut self.octets, channel, header)?;
@@ -190,7 +204,7 @@ impl Outbox {
         ensures too_long { result ≡ Err too_long → 2 ^ 32 ≤ length part.now }
         ensures same { OnErr result (self.new ≡ self.old) }
     {
-        self.drop_written();
+        self.drop_written(part.len());
         self.drop_begun();
         let at = self.octets.len();
         append_body(&mut self.octets, channel, part)?;

@@ -356,7 +356,7 @@ fn push_short_text<'a>(
 /// Reads a pair that takes no memory, and adds it: the name is short, the value has a fixed size or is a short text, and there is room
 /// among the pairs. The answer is the octets after it.
 ///
-/// Most pairs are such. No fault is told here, nor met: [`read_pair`] reads what this one leaves.
+/// Most pairs are such. It reports no fault, and meets none: [`read_pair`] reads what this one leaves.
 #[inline(always)]
 fn read_short_pair<'a>(pairs: &mut Vec<(ShortStr, Value)>, octets: &'a [u8]) -> Option<&'a [u8]>
     ensures added { IfSome result (λ rest. (levels end : ℕ) → AddsOne (map named_view pairs.old.items) (named (value_at levels) end octets.now) rest.now (map named_view pairs.new.items)) }

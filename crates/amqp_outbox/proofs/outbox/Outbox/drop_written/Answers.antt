@@ -7,8 +7,8 @@ use Rattle.amqp_outbox.proofs.outbox.Outbox.drop_written.Goals as goal
 pub invariant_of-self : goal.invariant_of-self
 invariant_of-self c = sound _ _ _ _ _ _ (written-dropped c.self.inside _ c.self.invariant c.forget.ensures refl refl refl refl refl refl) (kept c.self.inside c.self.invariant)
 
-pub returns-then-len-self : goal.returns-then-len-self
-returns-then-len-self c =
+pub returns-then-drops_before : goal.returns-then-drops_before
+returns-then-drops_before c =
     let x = c.self.inside in
     let y : Inside = record x { octets = c.forget.new.items; written = 0; begun = x.begun - x.written; arranged = x.arranged - x.written } in
     same_view x y _ _ _ c.self.view_is refl (written-dropped x y c.self.invariant c.forget.ensures refl refl refl refl refl refl)
