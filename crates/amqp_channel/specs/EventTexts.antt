@@ -7,6 +7,10 @@ use Rattle.amqp_method.specs.Texts.{bit_text, text_of_message}
 use Rattle.amqp_channel.specs.declared.events.Event.{Event}
 use Rattle.amqp_channel.specs.declared.events.Event.TheVariants.{Negotiated, Opened, Told, Flow, FlowOk, ChannelClosed, ConnectionClosed, Discarded, Blocked, Unblocked, Quiet}
 use Rattle.amqp_channel.specs.declared.events.Reason.{Reason}
+use Rattle.amqp_channel.specs.declared.side.Side.{Side}
+use Rattle.amqp_channel.specs.declared.side.Side.TheVariants.{Client, Server}
+use Rattle.amqp_channel.specs.declared.states.ChannelState.{ChannelState}
+use Rattle.amqp_channel.specs.declared.states.ChannelState.TheVariants as state
 
 -- a word and a channel
 abbrev pub channel_text : (word : List ℕ) → (channel : ℕ) → List ℕ
@@ -37,3 +41,13 @@ event_text (Discarded channel) = channel_text (codes "discarded") channel
 event_text (Blocked reason) = codes "blocked " ++ quoted reason
 event_text Unblocked = codes "unblocked"
 event_text Quiet = codes "quiet"
+
+abbrev pub side_text : Side → List ℕ
+side_text Client = codes "client"
+side_text Server = codes "server"
+
+abbrev pub state_text : ChannelState → List ℕ
+state_text state.Free = codes "free"
+state_text state.Opening = codes "opening"
+state_text state.Open = codes "open"
+state_text state.Closing = codes "closing"

@@ -2,6 +2,7 @@ pub mod Roles
 pub mod Messages
 pub mod Filling
 pub mod ContentView
+pub mod DeferredView
 pub mod GatheringView
 pub mod GatheringKept
 pub mod Closes

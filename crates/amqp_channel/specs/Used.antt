@@ -26,6 +26,15 @@ used_view used (suc n) = kept_at (get nat_eq used (suc n))
 abbrev pub NoneFreeBelow : Used → ℕ → Type 0
 NoneFreeBelow used low = (j : ℕ) → suc j < low → is_free (used_view used (suc j)) ≡ false
 
+-- no channel that is kept is Free: as many are kept as are in use
+abbrev pub NoneKeptFree : Used → Type 0
+NoneKeptFree used = (number : ℕ) (channel : Channel) → get nat_eq used number ≡ Some channel → is_free (channel_view channel) ≡ false
+
+-- nor is one of another number
+abbrev pub NoneElseFree : Used → (number : ℕ) → Type 0
+NoneElseFree used number =
+    (other : ℕ) (channel : Channel) → other ≢ number → get nat_eq used other ≡ Some channel → is_free (channel_view channel) ≡ false
+
 -- what stands at the place is the channel of the number
 abbrev pub HoldsAt : Used → (place number : ℕ) → Type 0
 HoldsAt used place number = (channel : Channel) → slice_get (values used) place ≡ Some channel → used_view used number ≡ channel_view channel
@@ -37,6 +46,11 @@ WritesAt used place number = (channel : Channel) → used_view (with_value_at us
 -- and the channels of the other numbers stay
 abbrev pub KeepsOthersAt : Used → (place number : ℕ) → Type 0
 KeepsOthersAt used place number = (channel : Channel) (other : ℕ) → other ≢ number → used_view (with_value_at used place channel) other ≡ used_view used other
+
+-- and what is kept of them is what was kept
+abbrev pub KeepsEntriesAt : Used → (place number : ℕ) → Type 0
+KeepsEntriesAt used place number =
+    (channel : Channel) (other : ℕ) → other ≢ number → get nat_eq (with_value_at used place channel) other ≡ get nat_eq used other
 
 -- this end has put a close of the channel
 abbrev pub is_closing_at : model.Channel → Bool

@@ -1,6 +1,7 @@
 //! The channels of a connection, by number.
 //!
-//! A channel is kept from its open to its end, so memory is bounded by the channels in use, whatever their numbers are.
+//! A channel is kept from its open to its end, and none that is Free is kept: memory is bounded by the channels in use,
+//! whatever their numbers are.
 ghost use Rattle.std.specs.Prelude.{◌≡◌, ◌≢◌, ◌+◌, ◌<◌, ◌≤◌, true, false, not, ℕ, suc, Ok, IfOk, IfNone, IfSome, OnErr, OnOk, MatchOption, None};
 ghost use Rattle.amqp_method.specs.MethodView.{method_view};
 ghost use Rattle.amqp_model.specs.Asks.{is_free, first_free};
@@ -11,7 +12,7 @@ ghost use Rattle.amqp_model.specs.FrameVerdict.{as_lives};
 ghost use Rattle.amqp_model.specs.Methods.{header_at};
 ghost use Rattle.amqp_model.specs.Verdict.{when_closing};
 ghost use Rattle.amqp_channel.specs.ChannelView.{channel_view};
-ghost use Rattle.amqp_channel.specs.Used.{is_closing_at, used_view, HoldsAt, KeepsOthersAt, NoneFreeBelow, WritesAt};
+ghost use Rattle.amqp_channel.specs.Used.{is_closing_at, used_view, HoldsAt, KeepsEntriesAt, KeepsOthersAt, NoneElseFree, NoneFreeBelow, NoneKeptFree, WritesAt};
 ghost use Rattle.indexmap.specs.IndexMap.{index_map_len};
 ghost use Rattle.amqp_channel.specs.Roles.{role_of};
 ghost use Rattle.amqp_channel.specs.VerdictView.{verdict_view, Decides, LeavesAfter};
@@ -35,6 +36,7 @@ pub struct Channels {
     low: u16,
     ghost low_is_least: { 1 ≤ low },
     ghost taken_below: { NoneFreeBelow used low },
+    ghost none_free: { NoneKeptFree used },
 }
 
 /// Written out, so that no crate above proves again of each part that it can be dropped.
@@ -57,9 +59,11 @@ fn take_out(used: &mut IndexMap<u16, Channel>, low: u16, number: u16) -> u16
     requires free { is_free (used_view used.old number) ≡ true }
     requires least { 1 ≤ low }
     requires taken { (j : ℕ) → suc j < low → suc j ≢ number → is_free (used_view used.old (suc j)) ≡ false }
+    requires none { NoneElseFree used.old number }
     ensures same { (other : ℕ) → used_view used.new other ≡ used_view used.old other }
     ensures least { 1 ≤ result }
     ensures taken { NoneFreeBelow used.new result }
+    ensures none { NoneKeptFree used.new }
 {
     let _ = used.swap_remove(&number);
     if number < low { number } else { low }
@@ -71,9 +75,11 @@ fn tidy(used: &mut IndexMap<u16, Channel>, low: u16, number: u16, over: bool) ->
     requires free { over ≡ is_free (used_view used.old number) }
     requires least { 1 ≤ low }
     requires taken { (j : ℕ) → suc j < low → suc j ≢ number → is_free (used_view used.old (suc j)) ≡ false }
+    requires none { NoneElseFree used.old number }
     ensures same { (other : ℕ) → used_view used.new other ≡ used_view used.old other }
     ensures least { 1 ≤ result }
     ensures taken { NoneFreeBelow used.new result }
+    ensures none { NoneKeptFree used.new }
 {
     if !over {
         return low;
@@ -143,6 +149,8 @@ impl Channels {
         ensures holds { IfSome result (λ place. HoldsAt self.now.used place number) }
         ensures written { IfSome result (λ place. WritesAt self.now.used place number) }
         ensures others { IfSome result (λ place. KeepsOthersAt self.now.used place number) }
+        ensures entries { IfSome result (λ place. KeepsEntriesAt self.now.used place number) }
+        ensures taken { IfSome result (λ place. is_free (channels_view self.now number) ≡ false) }
         ensures none { IfNone result (channels_view self.now number ≡ Free) }
     {
         if let Some((key, _)) = self.used.as_slice().get_index(self.last) {

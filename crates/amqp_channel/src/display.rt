@@ -2,11 +2,13 @@
 ghost use Rattle.std.specs.Prelude.{◌++◌, codes, Some};
 ghost use Rattle.std.specs.Fmt.{WritesOnOk, decimal};
 ghost use Rattle.amqp_value.specs.Text.{quoted};
-ghost use Rattle.amqp_channel.specs.EventTexts.{channel_text, flow_text, reason_text, closer_text, event_text};
+ghost use Rattle.amqp_channel.specs.EventTexts.{channel_text, flow_text, reason_text, closer_text, event_text, side_text, state_text};
 ghost use Rattle.amqp_method.specs.MessageView.{message_view};
 ghost use Rattle.amqp_method.specs.Texts.{bit_text, text_of_message};
 
 use crate::events::{Event, Reason};
+use crate::side::Side;
+use crate::states::ChannelState;
 use amqp_method::Message;
 use amqp_value::write_quoted;
 use std::fmt;
@@ -126,5 +128,31 @@ impl fmt::Display for Event {
             Event::Unblocked => f.write_str("unblocked"),
             Event::Quiet => f.write_str("quiet"),
         }
+    }
+}
+
+/// Prints `client` or `server`.
+impl fmt::Display for Side {
+    ghost output = { λ side. Some (side_text side) };
+
+    fn fmt<W: fmt::Write>(&self, f: &mut fmt::Formatter<W>) -> fmt::Result {
+        f.write_str(match self {
+            Side::Client => "client",
+            Side::Server => "server",
+        })
+    }
+}
+
+/// Prints the state in one word: `free`, `opening`, `open` or `closing`.
+impl fmt::Display for ChannelState {
+    ghost output = { λ state. Some (state_text state) };
+
+    fn fmt<W: fmt::Write>(&self, f: &mut fmt::Formatter<W>) -> fmt::Result {
+        f.write_str(match self {
+            ChannelState::Free => "free",
+            ChannelState::Opening => "opening",
+            ChannelState::Open => "open",
+            ChannelState::Closing => "closing",
+        })
     }
 }

@@ -6,6 +6,7 @@ ghost use Rattle.amqp_method.specs.Places.{number_in, octets_in};
 ghost use Rattle.amqp_model.specs.Methods.{octets_at};
 ghost use Rattle.amqp_method.specs.MethodView.{method_view};
 ghost use Rattle.amqp_model.specs.Events.{reason_in};
+ghost use Rattle.amqp_channel.specs.EventView.{event_view, reason_there};
 ghost use Rattle.amqp_channel.specs.Reasons.{reason_view, IsClose, AreOfClose, BeginsWithText};
 
 use amqp_method::{Arg, FieldKind, Kind, Message, Method, OutOfMemory};
@@ -54,6 +55,53 @@ pub enum Event {
     Unblocked,
     /// A step of the handshake, a heartbeat, or a close that crosses this end's own.
     Quiet,
+}
+
+impl Reason {
+    /// An equal reason.
+    pub fn copy(&self) -> Result<Reason, OutOfMemory>
+        ensures { IfOk result (λ reason. reason_view reason ≡ reason_view self.now) }
+    {
+        let text = self.text.copy()?;
+        Ok(Reason {
+            text,
+            code: self.code,
+        })
+    }
+}
+
+/// An equal reason, if there is one.
+fn copy_reason(reason: &Option<Reason>) -> Result<Option<Reason>, OutOfMemory>
+    ensures { IfOk result (λ copy. reason_there copy ≡ reason_there reason.now) }
+{
+    match reason {
+        Some(reason) => Ok(Some(reason.copy()?)),
+        None => Ok(None),
+    }
+}
+
+impl Event {
+    /// An equal event.
+    pub fn copy(&self) -> Result<Event, OutOfMemory>
+        ensures { IfOk result (λ event. event_view event ≡ event_view self.now) }
+    {
+        let copied = match self {
+            Event::Negotiated(agreed) => Event::Negotiated(*agreed),
+            Event::Opened(channel) => Event::Opened(*channel),
+            Event::Told(channel, message) => Event::Told(*channel, message.copy()?),
+            Event::Flow(channel, active) => Event::Flow(*channel, *active),
+            Event::FlowOk(channel, active) => Event::FlowOk(*channel, *active),
+            Event::ChannelClosed(channel, reason) => {
+                Event::ChannelClosed(*channel, copy_reason(reason)?)
+            }
+            Event::ConnectionClosed(reason) => Event::ConnectionClosed(copy_reason(reason)?),
+            Event::Discarded(channel) => Event::Discarded(*channel),
+            Event::Blocked(reason) => Event::Blocked(reason.copy()?),
+            Event::Unblocked => Event::Unblocked,
+            Event::Quiet => Event::Quiet,
+        };
+        Ok(copied)
+    }
 }
 
 /// The number that an argument of 16 bits is.

@@ -1,16 +1,18 @@
 //! The content under way on a channel.
-ghost use Rattle.std.specs.Prelude.{◌≡◌, ◌+◌, ℕ, IfOk, OnErr};
+ghost use Rattle.std.specs.Prelude.{◌≡◌, ◌+◌, ◌++◌, [], ℕ, IfOk, OnOk, OnErr};
 ghost use Rattle.amqp_method.specs.CarrierView.{carrier_view};
+ghost use Rattle.amqp_method.specs.HeaderView.{properties_view};
 ghost use Rattle.amqp_model.specs.Contents.{Body as BodyPart};
 ghost use Rattle.amqp_model.specs.FrameVerdict.{is_gathering};
-ghost use Rattle.amqp_model.specs.Gathering.{Nothing, HeaderDue, step, remains};
+ghost use Rattle.amqp_model.specs.Gathering.{Nothing, HeaderDue, BodyDue, step, remains};
 ghost use Rattle.amqp_model.specs.Methods.{header_at};
-ghost use Rattle.amqp_model.specs.Readings.{header_reading};
+ghost use Rattle.amqp_model.specs.Readings.{HeaderOf, header_reading};
 ghost use Rattle.amqp_channel.specs.Filling.{filling_of};
 ghost use Rattle.amqp_channel.specs.GatheringKept.{IsBodyDue, IsKeptIn};
 ghost use Rattle.amqp_channel.specs.GatheringView.{gathering_view, step_view};
 ghost use Rattle.amqp_channel.specs.Headings.{header_verdict, heading_verdict, HeadingLeaves};
 
+use crate::deferred::{Deferred, is_deferred};
 use crate::read::read_content_header;
 use amqp_method::{Content, OutOfMemory};
 use std::alloc::Global;
@@ -24,6 +26,8 @@ pub enum Gathering {
     HeaderDue(Box<Content>),
     /// The header was taken too, and some of the body.
     BodyDue(Box<Content>),
+    /// The same, where the header is kept as its octets.
+    Deferred(Box<Deferred>),
 }
 
 /// Why a part of a content can't come next.
@@ -89,7 +93,7 @@ impl Gathering {
     {
         match self {
             Gathering::Nothing => false,
-            Gathering::HeaderDue(_) | Gathering::BodyDue(_) => true,
+            Gathering::HeaderDue(_) | Gathering::BodyDue(_) | Gathering::Deferred(_) => true,
         }
     }
 
@@ -107,6 +111,7 @@ impl Gathering {
         match mem::replace(self, Gathering::Nothing) {
             Gathering::Nothing => Ok(Heading::Misplaced),
             Gathering::BodyDue(_) => Ok(Heading::Misplaced),
+            Gathering::Deferred(_) => Ok(Heading::Misplaced),
             Gathering::HeaderDue(content) => self.read_due(alloc, payload, most, content),
         }
     }
@@ -140,8 +145,36 @@ impl Gathering {
         if size == 0 {
             return Ok(Heading::Completed(content));
         }
+        if is_deferred(&content.header, payload.len()) {
+            return self.defer(alloc, payload, content);
+        }
         *self = Gathering::BodyDue(content);
         Ok(Heading::Kept)
+    }
+
+    /// Keeps the octets of a header that was read. Out of memory, it is due still.
+    fn defer(
+        &mut self,
+        alloc: Global,
+        payload: &[u8],
+        content: Box<Content>,
+    ) -> Result<Heading, OutOfMemory>
+        requires read { header_reading (header_at payload.now) ≡ HeaderOf content.value.header.body_size (properties_view content.value.header.properties) }
+        requires none { content.value.body.items ≡ [] }
+        ensures kept { IfOk result (λ heading. heading ≡ Heading.Kept) }
+        ensures left { OnOk result (gathering_view self.new ≡ BodyDue (carrier_view content.value.method) content.value.header.body_size (properties_view content.value.header.properties) []) }
+        ensures err { OnErr result (gathering_view self.new ≡ HeaderDue (carrier_view content.value.method)) }
+    {
+        match Deferred::new(alloc, payload, content) {
+            Ok(deferred) => {
+                *self = Gathering::Deferred(deferred);
+                Ok(Heading::Kept)
+            }
+            Err(content) => {
+                *self = Gathering::HeaderDue(content);
+                Err(OutOfMemory)
+            }
+        }
     }
 
     /// Takes a part of a body, and appends it to what is kept. Being out of memory leaves what is kept as it was.
@@ -167,12 +200,25 @@ impl Gathering {
                         Ok(Part::Kept)
                     }
                     Filling::Full => {
-                        // A body that one frame has whole is given as much memory as it has octets.
-                        if content.body.is_empty() {
-                            content.body = Vec::from_slice(*content.body.allocator(), octets)?;
-                        } else {
-                            content.body.extend_from_slice(octets)?;
-                        }
+                        append_last(&mut content.body, octets)?;
+                        Ok(Part::Completed(self.take_whole()))
+                    }
+                }
+            }
+            Gathering::Deferred(deferred) => {
+                match fill(deferred.size(), deferred.content.body.len(), octets.len()) {
+                    Filling::Past => {
+                        *self = Gathering::Nothing;
+                        Ok(Part::Misfits(Misfit::PastSize))
+                    }
+                    Filling::Short => {
+                        deferred.content.body.extend_from_slice(octets)?;
+                        Ok(Part::Kept)
+                    }
+                    Filling::Full => {
+                        let alloc = *deferred.content.body.allocator();
+                        deferred.read_header(alloc)?;
+                        append_last(&mut deferred.content.body, octets)?;
                         Ok(Part::Completed(self.take_whole()))
                     }
                 }
@@ -188,7 +234,22 @@ impl Gathering {
     {
         match mem::replace(self, Gathering::Nothing) {
             Gathering::BodyDue(content) => content,
+            Gathering::Deferred(deferred) => Box::into_inner(deferred).content,
             Gathering::Nothing | Gathering::HeaderDue(_) => unreachable!(),
         }
     }
+}
+
+/// Appends the last part of a body. A body that one frame has whole is given as much memory as it has octets.
+#[inline(always)]
+fn append_last(body: &mut Vec<u8>, octets: &[u8]) -> Result<(), OutOfMemory>
+    ensures ok { OnOk result (body.new.items ≡ body.old.items ++ octets.now) }
+    ensures err { OnErr result (body.new.items ≡ body.old.items) }
+{
+    if body.is_empty() {
+        *body = Vec::from_slice(*body.allocator(), octets)?;
+    } else {
+        body.extend_from_slice(octets)?;
+    }
+    Ok(())
 }

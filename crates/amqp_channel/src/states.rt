@@ -32,6 +32,7 @@ impl Gathering {
             Gathering::Nothing => 0,
             Gathering::HeaderDue(_) => 0,
             Gathering::BodyDue(content) => content.body.len(),
+            Gathering::Deferred(deferred) => deferred.content.body.len(),
         }
     }
 }

@@ -1,5 +1,5 @@
 -- Messages: methods alone, and methods that a content follows (AMQP 0-9-1 specification, 4.2.6).
-use Rattle.std.specs.Prelude.{◌≡◌, ℕ, List, [], replicate, Bool, true, false, Option, Some, None}
+use Rattle.std.specs.Prelude.{◌≡◌, ℕ, List, [], length, replicate, Bool, true, false, Option, Some, None}
 use Rattle.amqp_method.specs.Arguments.{Argument, Call}
 use Rattle.amqp_method.specs.CarrierView.{carrier_view}
 use Rattle.amqp_method.specs.HeaderView.{properties_view}
@@ -41,3 +41,12 @@ is_content (form.Content content) = true
 -- a content follows exactly when the kind has one
 abbrev pub KindFits : Form → Type 0
 KindFits f = has_content (letter f).call.kind ≡ is_content f
+
+-- the size of the body that the header of a content says
+abbrev pub said_size : Form → ℕ
+said_size (form.Plain method) = 0
+said_size (form.Content content) = (boxed_value content).header.body_size
+
+-- it is the length of the body
+abbrev pub SizeFits : Form → Type 0
+SizeFits f = said_size f ≡ length (letter f).body

@@ -5,6 +5,7 @@ ghost use Rattle.amqp_method.specs.HeaderView.{header_view, properties_view};
 ghost use Rattle.amqp_method.specs.MessageView.{message_view};
 ghost use Rattle.amqp_method.specs.Lent.{value_view, lent_view, lent_views};
 ghost use Rattle.amqp_method.specs.MethodView.{method_view};
+ghost use Rattle.amqp_method.specs.Methods.{row};
 ghost use Rattle.amqp_method.specs.Plain.{left_by};
 ghost use Rattle.amqp_method.specs.Rows.{field_view};
 ghost use Rattle.amqp_method.specs.Texts.{bit_text, argument_text, field_text, fields_text, text_of_method, space_text, parted, property_names, property_text, properties_text, text_of_properties, text_of_header, body_text, content_text, text_of_message};
@@ -12,7 +13,7 @@ ghost use Rattle.amqp_method.specs.Views.{arg_view, args_view};
 
 use crate::fields::{Arg, Field};
 use crate::headers::{Header, Properties};
-use crate::kinds::schema;
+use crate::kinds::{Kind, schema};
 use crate::messages::Message;
 use crate::methods::Method;
 use crate::properties::{Lent, lent_properties, property_name};
@@ -82,6 +83,24 @@ fn write_fields<W: fmt::Write>(
         rest = args_after(field, rest);
     }
     Ok(())
+}
+
+/// Prints the class and the method by name, as `basic.get-ok`.
+impl fmt::Display for Kind {
+    ghost output = { λ kind. Some (row kind).name };
+
+    fn fmt<W: fmt::Write>(&self, f: &mut fmt::Formatter<W>) -> fmt::Result {
+        f.write_str(self.name())
+    }
+}
+
+/// Prints the argument as a method's text has it after its name: a bit as 0 or 1, a number in decimal, strings in quotes.
+impl fmt::Display for Arg {
+    ghost output = { λ arg. Some (argument_text (arg_view arg)) };
+
+    fn fmt<W: fmt::Write>(&self, f: &mut fmt::Formatter<W>) -> fmt::Result {
+        write_arg(f, self)
+    }
 }
 
 /// Prints what [`method_text`](crate::method_text) gives, without memory of its own.

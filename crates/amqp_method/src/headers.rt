@@ -118,7 +118,7 @@ impl Properties {
     }
 
     /// Takes each away.
-    pub(crate) fn clear(&mut self)
+    pub fn clear(&mut self)
         ensures { properties_view self.new ≡ replicate 14 None }
     {
         clear_place(&mut self.content_type);

@@ -1,5 +1,5 @@
 //! A message: a method, and the content that follows it, if it has one.
-ghost use Rattle.amqp_method.specs.Messages.{KindFits};
+ghost use Rattle.amqp_method.specs.Messages.{KindFits, SizeFits};
 
 use crate::contents::{Carrier, Content};
 use crate::faults::OutOfMemory;
@@ -19,10 +19,11 @@ enum Form {
 pub struct Message {
     form: Form,
     pub ghost kind_fits: { KindFits form },
+    pub ghost size_fits: { SizeFits form },
 }
 
 impl Message {
-    ghost use Rattle.std.specs.Prelude.{◌≡◌, true, false, Some, None, IfOk, MatchOption};
+    ghost use Rattle.std.specs.Prelude.{◌≡◌, ◌↔◌, true, false, Some, None, IsOk, IfOk, IfErr, MatchOption};
     ghost use Rattle.amqp_method.specs.HeaderView.{properties_view};
     ghost use Rattle.amqp_method.specs.Kinds.{has_content};
     ghost use Rattle.amqp_method.specs.Messages.{letter_alone, letter_with, content_letter};
@@ -37,6 +38,18 @@ impl Message {
         Message {
             form: Form::Plain(method),
         }
+    }
+
+    /// A method alone, if no content follows it. One that a content follows is given back.
+    pub fn try_plain(method: Method) -> Result<Message, Method>
+        ensures ok { IfOk result (λ m. message_view m ≡ letter_alone (method_view method)) }
+        ensures when { IsOk result ↔ (has_content (method_view method).kind ≡ false) }
+        ensures back { IfErr result (λ m. method_view m ≡ method_view method) }
+    {
+        if method.has_content() {
+            return Err(method);
+        }
+        Ok(Message::plain(method))
     }
 
     /// A method with its content.
@@ -55,6 +68,22 @@ impl Message {
         Message {
             form: Form::Content(MaybeBoxed::Here(content)),
         }
+    }
+
+    /// A method with its content, if a content follows it. Otherwise all is given back.
+    pub fn try_content(
+        method: Method,
+        properties: Properties,
+        body: Vec<u8>,
+    ) -> Result<Message, (Method, Properties, Vec<u8>)>
+        ensures ok { IfOk result (λ m. message_view m ≡ letter_with (method_view method) (properties_view properties) body.items) }
+        ensures when { IsOk result ↔ (has_content (method_view method).kind ≡ true) }
+        ensures back { IfErr result (λ p. (method_view p.0 ≡ method_view method) × (properties_view p.1 ≡ properties_view properties) × (p.2.items ≡ body.items)) }
+    {
+        if !method.has_content() {
+            return Err((method, properties, body));
+        }
+        Ok(Message::content(method, properties, body))
     }
 
     /// The message that a content makes. Its octets stay in the box, so little is moved.

@@ -12,3 +12,4 @@ pub mod Values
 pub mod View
 pub mod Lengths
 pub mod Pairs
+pub mod Queries

@@ -19,8 +19,11 @@ quoted_octet octet =
     if nat_le 32 octet && (nat_le octet 126 && (if octet == 34 || octet == 92 then false else true)) then octet ∷ []
     else 92 ∷ 120 ∷ octet_digits octet
 
+abbrev pub escaped : List ℕ → List ℕ
+escaped octets = flat_map quoted_octet octets
+
 abbrev pub quoted : List ℕ → List ℕ
-quoted octets = 34 ∷ (flat_map quoted_octet octets ++ 34 ∷ [])
+quoted octets = 34 ∷ (escaped octets ++ 34 ∷ [])
 
 abbrev pub truth_text : Bool → List ℕ
 truth_text false = codes "t:0"

@@ -3,7 +3,7 @@
 ghost use Rattle.std.specs.Prelude.{◌≡◌, ◌<◌, [], ◌∷◌, ◌++◌, codes, Some};
 ghost use Rattle.std.specs.Fmt.{WritesOnOk, decimal, signed_decimal};
 ghost use Rattle.amqp_value.specs.Tables.{table_view};
-ghost use Rattle.amqp_value.specs.Text.{octet_digits, hexadecimal, quoted_octet, quoted, truth_text, comma_before, value_text, items_text, pairs_text, text_of_table};
+ghost use Rattle.amqp_value.specs.Text.{octet_digits, hexadecimal, quoted_octet, escaped, quoted, truth_text, comma_before, value_text, items_text, pairs_text, text_of_table};
 ghost use Rattle.amqp_value.specs.View.{view, items_view, pairs_view};
 
 use crate::short_str::ShortStr;
@@ -53,15 +53,24 @@ fn write_quoted_octet<W: fmt::Write>(f: &mut fmt::Formatter<W>, octet: u8) -> fm
     write_escape(f, octet)
 }
 
+/// Writes octets without memory of its own: those from 20 to 7e but the quote and the backslash as their characters, every
+/// other one as `\x` and two digits.
+fn write_escaped<W: fmt::Write>(f: &mut fmt::Formatter<W>, octets: &[u8]) -> fmt::Result
+    ensures { WritesOnOk W.write_str_gives f.old result (escaped octets.now) f.new }
+{
+    for octet in octets {
+        write_quoted_octet(f, *octet)?;
+    }
+    Ok(())
+}
+
 /// Writes octets in quotes, without memory of its own: those from 20 to 7e but the quote and the backslash as their
 /// characters, every other one as `\x` and two digits.
 pub fn write_quoted<W: fmt::Write>(f: &mut fmt::Formatter<W>, octets: &[u8]) -> fmt::Result
     ensures { WritesOnOk W.write_str_gives f.old result (quoted octets.now) f.new }
 {
     f.write_str("\"")?;
-    for octet in octets {
-        write_quoted_octet(f, *octet)?;
-    }
+    write_escaped(f, octets)?;
     f.write_str("\"")
 }
 
@@ -196,6 +205,15 @@ fn write_pairs<W: fmt::Write>(f: &mut fmt::Formatter<W>, pairs: &[(ShortStr, Val
         write_value(f, &pair.1)?;
     }
     Ok(())
+}
+
+impl fmt::Display for ShortStr {
+    ghost output = { λ text. Some (escaped text) };
+
+    /// The octets from 20 to 7e but the quote and the backslash as their characters, every other one as `\x` and two digits.
+    fn fmt<W: fmt::Write>(&self, f: &mut fmt::Formatter<W>) -> fmt::Result {
+        write_escaped(f, self.as_bytes())
+    }
 }
 
 impl fmt::Display for Value {

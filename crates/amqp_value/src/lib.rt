@@ -8,6 +8,7 @@ mod from;
 mod laws;
 mod length;
 mod octets;
+mod queries;
 mod read;
 mod short_str;
 mod tables;

@@ -5,6 +5,7 @@ ghost use Rattle.std.specs.Prelude.{nat_eq, ◌==◌};
 ghost use Rattle.std.specs.Cmp.{partial_equiv_from_equiv};
 ghost use Rattle.std.specs.Cmp.Lexicographic.{pointwise, nat_list_eq_equiv};
 
+use crate::display::write_quoted;
 use crate::fault::OutOfMemory;
 use byteorder::{BigEndian, ByteOrder};
 use std::alloc::{AllocError, Global};
@@ -73,9 +74,9 @@ impl Eq for Octets {
 }
 
 impl fmt::Debug for Octets {
+    /// In quotes, as in the texts of methods.
     fn fmt<W: fmt::Write>(&self, f: &mut fmt::Formatter<W>) -> fmt::Result {
-        let octets = self.as_bytes();
-        write!(f, "{octets:?}")
+        write_quoted(f, self.as_bytes())
     }
 }
 

@@ -22,7 +22,8 @@ use std::alloc::Global;
 use std::mem::{forget, replace};
 
 /// How many octets a pair of a table, and a value of an array, are expected to have. Room for as many as the
-/// octets then hold is made at once, but for no more than a few, since a long value looks like many.
+/// octets then hold is made at once, but for no more than a few, since a long value looks like many. What is left over is
+/// given back, so a table takes the memory of its pairs and values and no more.
 const EXPECTED_PAIR: usize = 12;
 
 const EXPECTED_VALUE: usize = 8;
@@ -313,6 +314,7 @@ fn read_items(
         let place = values.push_mut(Value::Void)?;
         rest = read_value(alloc, rest, end, levels, place)?;
     }
+    values.shrink_to_fit();
     Ok(values)
 }
 
@@ -395,6 +397,7 @@ fn read_pairs(
             }
         };
     }
+    pairs.shrink_to_fit();
     Ok(pairs)
 }
 

@@ -1,18 +1,20 @@
 //! Short strings.
 
-ghost use Rattle.std.specs.Prelude.{◌≡◌, ◌≤◌, ◌<◌, ◌↔◌, ◌⊎◌, length, take, IfOk, IfErr, IfSome, Err};
+ghost use Rattle.std.specs.Prelude.{◌≡◌, ◌≤◌, ◌<◌, ◌↔◌, ◌⊎◌, length, take, IfOk, IfErr, IfSome, MatchOption, Err};
+ghost use Rattle.std.specs.Str.{IsUtf8};
 ghost use Rattle.std.specs.Prelude.{nat_eq, ◌==◌};
 ghost use Rattle.std.specs.Cmp.{partial_equiv_from_equiv};
 ghost use Rattle.std.specs.Cmp.Lexicographic.{pointwise, nat_list_eq_equiv};
 ghost use Rattle.amqp_value.specs.Faults.{fault_at, out_of_memory};
 ghost use Rattle.amqp_value.specs.declared.fault.ValueFaultKind.TheVariants.{TooLong};
 
+use crate::display::write_quoted;
 use crate::fault::{OutOfMemory, ValueFault, ValueFaultKind};
 use crate::octets::Octets;
 use std::alloc::{AllocError, Global};
 use std::convert::AsSlice;
-use std::fmt;
 use std::marker::Model;
+use std::{fmt, str};
 
 /// At most 255 octets, any octets.
 #[derive(Drop)]
@@ -53,9 +55,9 @@ impl Eq for ShortStr {
 }
 
 impl fmt::Debug for ShortStr {
+    /// In quotes, as in the texts of methods.
     fn fmt<W: fmt::Write>(&self, f: &mut fmt::Formatter<W>) -> fmt::Result {
-        let octets = self.as_bytes();
-        write!(f, "{octets:?}")
+        write_quoted(f, self.as_bytes())
     }
 }
 
@@ -66,6 +68,13 @@ impl ShortStr {
         ensures short { length self.now ≤ 255 }
     {
         self.text.as_bytes()
+    }
+
+    /// The octets as text, if they are UTF-8.
+    pub fn as_str(&self) -> Option<&str>
+        ensures { MatchOption result (IsUtf8 self.now → ⊥) (λ text. text.now ≡ self.now) }
+    {
+        str::from_utf8(self.as_bytes()).ok()
     }
 
     /// How many octets.
@@ -95,6 +104,15 @@ impl ShortStr {
             });
         }
         Ok(ShortStr::prefix(alloc, octets, octets.len())?)
+    }
+
+    /// The octets of a text. TooLong at 0 for more than 255.
+    pub fn text(alloc: Global, text: &str) -> Result<ShortStr, ValueFault>
+        ensures ok { IfOk result (λ s. s ≡ text.now) }
+        ensures too_long { (result ≡ Err (fault_at 0 TooLong)) ↔ (255 < length text.now) }
+        ensures err { IfErr result (λ e. (e ≡ fault_at 0 TooLong) ⊎ (e ≡ out_of_memory)) }
+    {
+        ShortStr::new(alloc, text.as_bytes())
     }
 
     /// An equal short string.

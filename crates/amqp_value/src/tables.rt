@@ -6,6 +6,7 @@ ghost use Rattle.amqp_value.specs.View.{pairs_view};
 
 use crate::fault::{OutOfMemory, ValueFault, ValueFaultKind};
 use crate::length::table_length;
+use crate::queries::find;
 use crate::short_str::ShortStr;
 use crate::values::{Value, copy_pairs, drop_pairs, nests_within};
 use std::alloc::Global;
@@ -126,12 +127,7 @@ impl Table {
         ensures { MatchOption result (value_named name.now (table_view self.now) ≡ None)
             (λ value. value_named name.now (table_view self.now) ≡ Some (view value.now)) }
     {
-        for pair in &self.pairs {
-            if pair.0.as_bytes() == name {
-                return Some(&pair.1);
-            }
-        }
-        None
+        find(&self.pairs, name)
     }
 
     /// How many octets [`write_table`](crate::write_table) writes of the table. `u64::MAX` stands for every number from

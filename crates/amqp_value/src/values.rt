@@ -1,12 +1,13 @@
 //! Field values.
 
 ghost use Rattle.std.specs.Prelude.{◌≡◌, ◌≤◌, ◌↔◌, IsTrue, IfOk};
-ghost use Rattle.amqp_value.specs.Values.{depth};
+ghost use Rattle.amqp_value.specs.Values.{depth, long_string};
 ghost use Rattle.amqp_value.specs.View.{view, items_view, pairs_view};
 
 use crate::fault::OutOfMemory;
 use crate::octets::Octets;
 use crate::short_str::ShortStr;
+use std::alloc::Global;
 use std::mem::forget;
 
 /// A field value, one variant for each tag. A value that is written again keeps its tag.
@@ -53,6 +54,13 @@ pub enum Value {
 }
 
 impl Value {
+    /// A long string of this text.
+    pub fn string(alloc: Global, text: &str) -> Result<Value, OutOfMemory>
+        ensures { IfOk result (λ v. view v ≡ long_string text.now) }
+    {
+        Ok(Value::LongString(Octets::new(alloc, text.as_bytes())?))
+    }
+
     /// An equal value.
     pub fn copy(&self) -> Result<Value, OutOfMemory>
         ensures { IfOk result (λ v. view v ≡ view self.now) }

@@ -35,8 +35,8 @@ read_items-loop-rest-preserved t c =
 
 pub read_items-returns : goal.read_items-returns
 read_items-returns t c =
-    is_done (value_at c.args.levels) c.args.end (map view c.loop-rest.values.items) c.loop-rest.rest.now (elements (value_at c.args.levels) c.args.end c.args.body.now)
-    (none_left c.loop-rest.rest.now _ c.is_empty.ensures c.loop-rest-test.false) c.loop-rest.invariant.1
+    rw c.shrink_to_fit.ensures.items (is_done (value_at c.args.levels) c.args.end (map view c.loop-rest.values.items) c.loop-rest.rest.now
+    (elements (value_at c.args.levels) c.args.end c.args.body.now) (none_left c.loop-rest.rest.now _ c.is_empty.ensures c.loop-rest-test.false) c.loop-rest.invariant.1)
 
 pub read_pair-returns-in_err-name-clause-read : goal.read_pair-returns-in_err-name-clause-read
 read_pair-returns-in_err-name-clause-read t c =
@@ -119,5 +119,5 @@ read_pairs-loop-rest-preserved t c =
 
 pub read_pairs-returns : goal.read_pairs-returns
 read_pairs-returns t c =
-    is_done (named (value_at c.args.levels)) c.args.end (map named_view c.loop-rest.pairs.items) c.loop-rest.rest.now (elements (named (value_at c.args.levels)) c.args.end c.args.body.now)
-    (none_left c.loop-rest.rest.now _ c.is_empty.ensures c.loop-rest-test.false) c.loop-rest.invariant.1
+    rw c.shrink_to_fit.ensures.items (is_done (named (value_at c.args.levels)) c.args.end (map named_view c.loop-rest.pairs.items) c.loop-rest.rest.now
+    (elements (named (value_at c.args.levels)) c.args.end c.args.body.now) (none_left c.loop-rest.rest.now _ c.is_empty.ensures c.loop-rest-test.false) c.loop-rest.invariant.1)

@@ -1,7 +1,7 @@
 use Rattle.std.proofs.Common.{◌≡◌, slice_get, Some, ap, sym, ◌∙◌}
 use Rattle.std.proofs.lemmas.Bool.{eqb-true}
 use Rattle.std.proofs.lemmas.Map.Made.{lookup_key_passes}
-use Rattle.amqp_channel.proofs.PlaceLemmas.{holds_at, keeps_others_at, writes_at}
+use Rattle.amqp_channel.proofs.PlaceLemmas.{holds_at, keeps_entries_at, keeps_others_at, taken_at_place, writes_at}
 use Rattle.amqp_channel.proofs.channels.Channels.place_of.Goals as goal
 
 stood : (c : goal.Then-key-number) → slice_get c.args.self.now.used.entries c.args.self.now.last ≡ Some (c.args.number, c.in-Some.field-0-1.now)
@@ -18,6 +18,13 @@ returns-then-key-number-clause-written c = writes_at c.args.self.now.used c.args
 pub returns-then-key-number-clause-others : goal.returns-then-key-number-clause-others
 returns-then-key-number-clause-others c = keeps_others_at c.args.self.now.used c.args.self.now.last c.args.number c.in-Some.field-0-1.now c.requires c.as_slice.ensures.unique (stood c)
 
+pub returns-then-key-number-clause-entries : goal.returns-then-key-number-clause-entries
+returns-then-key-number-clause-entries c = keeps_entries_at c.args.self.now.used c.args.self.now.last c.args.number c.in-Some.field-0-1.now c.requires c.as_slice.ensures.unique (stood c)
+
+pub returns-then-key-number-clause-taken : goal.returns-then-key-number-clause-taken
+returns-then-key-number-clause-taken c =
+    taken_at_place c.args.self.now.used c.args.self.now.last c.args.number c.in-Some.field-0-1.now c.requires c.as_slice.ensures.unique (stood c) c.args.self.now.none_free
+
 found : (c : goal.In-Some-get_full) → slice_get c.args.self.now.used.entries c.in-Some-get_full.place ≡ Some (c.args.number, c.in-Some-get_full.field-0-2.now)
 found c =
     let same = eqb-true c.args.number c.in-Some-get_full.field-0-1.now (lookup_key_passes _ c.args.self.now.used.entries c.in-Some-get_full.field-0-1.now (sym c.in-Some-get_full.ensures.key)) in
@@ -31,3 +38,10 @@ returns-clause-written c = writes_at c.args.self.now.used c.in-Some-get_full.pla
 
 pub returns-clause-others : goal.returns-clause-others
 returns-clause-others c = keeps_others_at c.args.self.now.used c.in-Some-get_full.place c.args.number c.in-Some-get_full.field-0-2.now c.requires c.as_slice.ensures.unique (found c)
+
+pub returns-clause-entries : goal.returns-clause-entries
+returns-clause-entries c = keeps_entries_at c.args.self.now.used c.in-Some-get_full.place c.args.number c.in-Some-get_full.field-0-2.now c.requires c.as_slice.ensures.unique (found c)
+
+pub returns-clause-taken : goal.returns-clause-taken
+returns-clause-taken c =
+    taken_at_place c.args.self.now.used c.in-Some-get_full.place c.args.number c.in-Some-get_full.field-0-2.now c.requires c.as_slice.ensures.unique (found c) c.args.self.now.none_free

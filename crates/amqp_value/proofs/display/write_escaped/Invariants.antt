@@ -2,7 +2,7 @@ use Rattle.std.proofs.Common.{take}
 use Rattle.std.specs.Fmt.{HasWritten, IsPlainFormatter}
 use Rattle.std.specs.List.{flat_map}
 use Rattle.amqp_value.specs.Text.{quoted_octet}
-use Rattle.amqp_value.proofs.display.write_quoted.Given as goal
+use Rattle.amqp_value.proofs.display.write_escaped.Given as goal
 
 abbrev pub invariant-loop-octet : goal.invariant-loop-octet
 invariant-loop-octet g l =

@@ -1,6 +1,0 @@
-use Rattle.std.proofs.Common.{◌≡◌}
-use Rattle.amqp_value.proofs.PairLemmas.{named_from}
-use Rattle.amqp_value.proofs.tables.Table.get.Given as goal
-
-abbrev pub invariant-loop-pair : goal.invariant-loop-pair
-invariant-loop-pair l = named_from l.pair-index l.self.pairs.items l.name ≡ named_from 0 l.self.pairs.items l.name
