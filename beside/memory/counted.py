@@ -55,7 +55,7 @@ for name, octets, each, most in (
     ("a long body", f"030001{70_000:08x}{'5a' * 70_000}ce", 24, 4),
     ("many frames", "08000000000000ce" * 10_000, 33, 7),
     ("a string far inside", method(DECLARE + in_tables(31, f"53{10_000:08x}{'5a' * 10_000}")), 30, 4),
-    ("many values", method(DECLARE + in_tables(1, f"41{10_000:08x}{'56' * 10_000}")), 175, 66),
+    ("many values", method(DECLARE + in_tables(1, f"41{10_000:08x}{'56' * 10_000}")), 215, 66),
 ):
     length = len(octets) // 2
     _, asked, greatest = counted(octets)

@@ -43,3 +43,4 @@ pub mod CountsLives
 pub mod LedgerView
 pub mod TracedFields
 pub mod TracedView
+pub mod Texts

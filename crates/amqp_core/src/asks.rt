@@ -10,7 +10,7 @@ use amqp_method::Message;
 use amqp_value::ShortStr;
 
 /// What an application asks of an end: it is refused, or its frames are put at once.
-#[derive(Debug, Drop)]
+#[derive(Debug, Drop, PartialEq, Eq)]
 pub enum Ask {
     /// Opens the lowest channel that is free. Only a client opens channels.
     Open,

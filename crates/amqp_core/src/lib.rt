@@ -12,6 +12,7 @@ mod answering;
 mod asking;
 mod asks;
 mod config;
+mod display;
 mod end;
 mod endpoint;
 mod faults;

@@ -12,6 +12,7 @@ use amqp_channel::Side;
 use amqp_method::{encoded_is_read, write_method};
 use amqp_value::{ShortStr, Table};
 use std::alloc::Global;
+use std::fmt;
 
 /// No smaller frame may be agreed, and no frame of the handshake may be longer.
 pub(crate) const FRAME_MIN: u64 = 4096;
@@ -28,7 +29,7 @@ const START_LENGTH: u64 = 8 + 4 + 2 + 4 + 4;
 const START_OK_LENGTH: u64 = 8 + 4 + 1 + 4 + 1;
 
 /// What a client says of itself, in start-ok and in open.
-#[derive(Debug, Drop)]
+#[derive(Drop)]
 pub struct ClientHello {
     /// What the program is and can do, by name: product, version, capabilities.
     pub properties: Table,
@@ -51,6 +52,24 @@ pub struct ServerHello {
     pub mechanisms: Vec<u8>,
     /// The names of the locales, parted by spaces.
     pub locales: Vec<u8>,
+}
+
+/// Without the response, which holds the credentials.
+impl fmt::Debug for ClientHello {
+    fn fmt<W: fmt::Write>(&self, f: &mut fmt::Formatter<W>) -> fmt::Result {
+        let properties = &self.properties;
+        let mechanism = &self.mechanism;
+        let locale = &self.locale;
+        let virtual_host = &self.virtual_host;
+        write!(
+            f,
+            "ClientHello {{ properties: {properties}, mechanism: {mechanism:?}, "
+        )?;
+        write!(
+            f,
+            "locale: {locale:?}, virtual_host: {virtual_host:?}, .. }}"
+        )
+    }
 }
 
 impl ClientHello {
