@@ -69,7 +69,7 @@ by_standing : (role : Role) (config : Config role) (ask : Ask) (channel : ℕ) (
     → IsTraceOf role config old history → Stands role config old history
     → IsTraceOf role config new (then_put (frames_asked old.endpoint.end ask) history)
 by_standing role config ask channel old new history laws writes kept traced (tracing.stands stands) = asked role config ask channel old new history laws writes kept traced stands
-by_standing role config ask channel old new history laws writes kept traced (tracing.failed limit opening opens failed) =
+by_standing role config ask channel old new history laws writes kept traced (tracing.failed limit opening opens failed shown) =
     absurd (failed_takes old.endpoint.end.phase (sym failed.stands.phase) (ap takes_octets (is_running_then role old.endpoint.end ask kept.accepts.allowed)))
 by_standing role config ask channel old new history laws writes kept traced (tracing.ran_out unfinished out) =
     absurd (failed_takes old.endpoint.end.phase out.failed (ap takes_octets (is_running_then role old.endpoint.end ask kept.accepts.allowed)))

@@ -3,9 +3,10 @@ use Rattle.std.proofs.Common.{◌≡◌, Bool, true, false, not, ℕ, List, ◌�
 use Rattle.std.proofs.Math.Logic.{∥∥₁_map}
 use Rattle.std.proofs.lemmas.Bool.{true≢false, false≢true}
 use Rattle.amqp_frame.specs.Stream.{Stream}
-use Rattle.amqp_model.specs.Asks.{Ask, Refusal, ask_verdict, first_refusal, frames_asked, is_running, refusal, refused_or_put, when, NotRunning, Puts}
+use Rattle.amqp_model.specs.Asks.{Ask, Refusal, ask_verdict, first_refusal, frames_asked, is_running, refusal, refused_or_put, when, NotRunning, Puts, Refused}
 use Rattle.amqp_model.specs.Bounds.{AskStaysWithin, EndIsWithin}
 use Rattle.amqp_model.specs.Channels.{Agreed, End, Phase, Handshake, AwaitsProtocolHeader, AwaitsStart, AwaitsStartOk, AwaitsTune, AwaitsTuneOk, AwaitsOpen, AwaitsOpenOk, Running, Closing, Closed, Failed}
+use Rattle.amqp_model.specs.EndLaws.{AskOfHistory}
 use Rattle.amqp_model.specs.EndVerdict.{takes_octets}
 use Rattle.amqp_model.specs.Endpoint as model
 use Rattle.amqp_model.specs.Endpoint.{after_answer, after_ask, awaits_opening}
@@ -21,7 +22,7 @@ use Rattle.amqp_model.specs.Outputs.{Output, after_puts}
 use Rattle.amqp_model.specs.Pieces.{AskHolds, HoldsUnfinished}
 use Rattle.amqp_outbox.specs.OutboxView.{Outgoing}
 use Rattle.amqp_core.specs.Asked.{IsAccepted, IsRefused}
-use Rattle.amqp_core.specs.Asking.{AcceptsAsk, RefusesAsk}
+use Rattle.amqp_core.specs.Asking.{AcceptsAsk, AskIsOfHistory, RefusesAsk}
 use Rattle.amqp_core.specs.Bounded.{IsBounded}
 use Rattle.amqp_core.specs.CoreView.{core_end}
 use Rattle.amqp_core.specs.Faults.{refusal_view}
@@ -31,7 +32,7 @@ use Rattle.amqp_core.specs.declared.endpoint.Endpoint.{Endpoint}
 use Rattle.amqp_core.specs.declared.faults.AskFault.{AskFault}
 use Rattle.amqp_core.specs.declared.settings.Settings.{Settings}
 use Rattle.amqp_core.proofs.FeedLemmas.{sound_with}
-use Rattle.amqp_core.proofs.OpenedLemmas.{asked_opened}
+use Rattle.amqp_core.proofs.OpenedLemmas.{asked_opened, asked_takes}
 
 -- An ask is accepted by an end alone whose connection is Running.
 
@@ -67,13 +68,14 @@ never_both Server Closing o e = false≢true e
 never_both Server Closed o e = false≢true e
 never_both Server Failed o e = false≢true e
 
-fields_asked : (role : Role) (old new : End) (heard : ℕ) (stream : Stream) → old.phase ≡ Running → FieldsFit role old heard stream → new.agreed ≡ old.agreed → is_opened new.phase ≡ true → FieldsFit role new heard stream
-fields_asked role old new heard stream running fit agreed reads = record {
+fields_asked : (role : Role) (old new : End) (heard : ℕ) (stream : Stream) → old.phase ≡ Running → FieldsFit role old heard stream → new.agreed ≡ old.agreed → is_opened new.phase ≡ true → takes_octets new.phase ≡ true → FieldsFit role new heard stream
+fields_asked role old new heard stream running fit agreed reads takes = record {
   agreed = subst IfAgreedFits (sym agreed) fit.agreed;
   opening = λ e. absurd (never_both role new.phase reads e);
   opened = λ e. fit.opened (not_awaited role old.phase running);
   awaited = λ e. reads;
   within = fit.within;
+  over = λ over. absurd (true≢false (sym takes ∙ over));
   ready = λ e. record { running = (fit.ready (ap takes_octets running)).running; limit_is = (fit.ready (ap takes_octets running)).limit_is ∙ ap frame_limit (sym agreed) };
 }
 
@@ -90,8 +92,9 @@ agreed_fits (Some agreed) fits = record { channel_most = fits.channel_most; fram
 pub accepts : (settings : Settings) (ask : Ask) (old : model.Endpoint) (after : End) (before new : Outgoing) → IsAccepted settings ask old.end after before new → old.output ≡ before.output → IfAgreedFits old.end.agreed
     → AskedFit (role_for settings) old.end ask (frames_asked old.end ask)
     → ((history : History) (fed written : List ℕ) → AcceptedFollows (role_for settings) (config_view settings) old history fed written ask (frames_asked old.end ask))
+    → ((history : History) → AskOfHistory (role_for settings) (config_view settings) false old.end history ask)
     → AcceptsAsk (role_for settings) (config_view settings) ask old (record { end = after; unfinished = old.unfinished; output = new.output })
-accepts settings ask old after before new is out fits asked law =
+accepts settings ask old after before new is out fits asked law counted =
     let left = left_is (role_for settings) (config_view settings) old ask after new.output is.allowed is.end_is (ap (λ (o : Outgoing). o.output) is.output_is ∙ ap (after_puts (frames_asked old.end ask)) (sym out)) in
     let verdict : ask_verdict (role_for settings) old.end ask ≡ Puts (frames_asked old.end ask) = ap (λ r. refused_or_put r (frames_asked old.end ask)) is.allowed in
     let fit = asked is.reads_back (agreed_fits old.end.agreed fits) verdict in
@@ -102,6 +105,7 @@ accepts settings ask old after before new is out fits asked law =
       made = is.made;
       follows = λ history fed written stands. subst (λ (e : model.Endpoint). EndpointStandsFor (role_for settings) (config_view settings) e (then_put (frames_asked old.end ask) history) fed written) (sym left)
           (law history fed written stands (record { reads_back = is.reads_back; fit = fit }) is.made verdict);
+      of_history = λ history fed written stands. sym (counted history stands.stands) ∙ verdict;
     }
 
 pub accepted_sound : (ask : Ask) (old new : Endpoint) → IsSound old → new.core.settings ≡ old.core.settings → new.splitter ≡ old.splitter → new.heard ≡ old.heard → IsAccepted old.core.settings ask (core_end old.core) (core_end new.core) old.outbox new.outbox
@@ -115,7 +119,8 @@ accepted_sound ask old new sound settings splitter heard is holds keeps accepts_
     let running = is_running_then (role_at old) (core_end old.core) ask is.allowed in
     let agreed : (core_end new.core).agreed ≡ (core_end old.core).agreed = ap (λ (e : End). e.agreed) is.end_is ∙ keeps is.reads_back.method verdict in
     let reads : is_opened (core_end new.core).phase ≡ true = ap (λ (e : End). is_opened e.phase) is.end_is ∙ asked_opened (role_at old) (config_view old.core.settings) (frames_asked (core_end old.core) ask) (core_end old.core) (ap is_opened running) in
-    let fields : FieldsFit (role_at old) (core_end new.core) old.heard old.splitter = fields_asked (role_at old) (core_end old.core) (core_end new.core) old.heard old.splitter running sound.fields agreed reads in
+    let takes : takes_octets (core_end new.core).phase ≡ true = ap (λ (e : End). takes_octets e.phase) is.end_is ∙ asked_takes (role_at old) (config_view old.core.settings) (frames_asked (core_end old.core) ask) (core_end old.core) (ap takes_octets running) in
+    let fields : FieldsFit (role_at old) (core_end new.core) old.heard old.splitter = fields_asked (role_at old) (core_end old.core) (core_end new.core) old.heard old.splitter running sound.fields agreed reads takes in
     sound_with old.core.settings new settings sound.writes (ap (λ (o : Outgoing). o.staged) is.output_is)
     (subst (λ h. FieldsFit (role_at old) (core_end new.core) h new.splitter) (sym heard) (subst (λ (s : Stream). FieldsFit (role_at old) (core_end new.core) old.heard s) (sym splitter) fields))
     (subst (λ (e : model.Endpoint). HoldsUnfinished (role_at old) e) (sym accepts_it.left) (holds sound.holds is.reads_back))
@@ -123,11 +128,25 @@ accepted_sound ask old new sound settings splitter heard is holds keeps accepts_
 
 -- A refused ask changes nothing.
 
-pub refuses : (settings : Settings) (ask : Ask) (fault : AskFault) (old : model.Endpoint) (after : End) (before new : Outgoing) → IsRefused settings ask fault old.end after before new → old.output ≡ before.output → RefusesAsk (role_for settings) ask fault old (record { end = after; unfinished = old.unfinished; output = new.output })
-refuses settings ask fault old after before new is out =
+-- what comes of the ask is what every history gives for which the end stands
+abbrev pub AskCounted : (role : Role) → Ask → model.Endpoint → Type 0
+AskCounted role ask old = (config : Config role) (history : History) → AskOfHistory role config false old.end history ask
+
+refused_so : (role : Role) (ask : Ask) (fault : AskFault) (old : model.Endpoint) → refusal_view fault ≡ refusal role old.end ask → AskCounted role ask old
+    → (config : Config role) (reason : Refusal) → refusal_view fault ≡ Some reason → AskIsOfHistory role config ask old (Refused reason)
+refused_so role ask fault old refused counted config reason some history fed written stands =
+    sym (counted config history stands.stands) ∙ ap (λ r. refused_or_put r (frames_asked old.end ask)) (sym refused ∙ some)
+
+pub refuses : (settings : Settings) (ask : Ask) (fault : AskFault) (old : model.Endpoint) (after : End) (before new : Outgoing) → IsRefused settings ask fault old.end after before new → old.output ≡ before.output → AskCounted (role_for settings) ask old
+    → RefusesAsk (role_for settings) ask fault old (record { end = after; unfinished = old.unfinished; output = new.output })
+refuses settings ask fault old after before new is out counted =
     let output : new.output ≡ old.output = ap (λ (o : Outgoing). o.output) is.output_same ∙ sym out in
     let end : after ≡ old.end = is.end_same in
-    record { refused = is.refused; same = λ i. record { end = end i; unfinished = old.unfinished; output = output i } }
+    record {
+      refused = is.refused;
+      same = λ i. record { end = end i; unfinished = old.unfinished; output = output i };
+      of_history = refused_so (role_for settings) ask fault old is.refused counted;
+    }
 
 pub refused_sound : (ask : Ask) (fault : AskFault) (old new : Endpoint) → IsSound old → new.core.settings ≡ old.core.settings → new.splitter ≡ old.splitter → new.heard ≡ old.heard → IsRefused old.core.settings ask fault (core_end old.core) (core_end new.core) old.outbox new.outbox → RefusesAsk (role_at old) ask fault (endpoint_view old) (endpoint_view new) → IsSound new
 refused_sound ask fault old new sound settings splitter heard is refuses_it =
@@ -139,6 +158,6 @@ refused_sound ask fault old new sound settings splitter heard is refuses_it =
     (subst (λ (e : End). IsBounded (role_at old) (config_view old.core.settings) e) (sym is.end_same) sound.bounded)
 
 -- An ask that is refused before anything is done.
-pub refused_at_once : {A : Type 0} (role : Role) (ask : Ask) (result : Result A AskFault) (endpoint : model.Endpoint) → IfErr result (λ fault. refusal_view fault ≡ refusal role endpoint.end ask) → IfErr result (λ fault. RefusesAsk role ask fault endpoint endpoint)
-refused_at_once role ask (Ok value) endpoint refused = tt
-refused_at_once role ask (Err fault) endpoint refused = record { refused = refused; same = refl }
+pub refused_at_once : {A : Type 0} (role : Role) (ask : Ask) (result : Result A AskFault) (endpoint : model.Endpoint) → IfErr result (λ fault. refusal_view fault ≡ refusal role endpoint.end ask) → AskCounted role ask endpoint → IfErr result (λ fault. RefusesAsk role ask fault endpoint endpoint)
+refused_at_once role ask (Ok value) endpoint refused counted = tt
+refused_at_once role ask (Err fault) endpoint refused counted = record { refused = refused; same = refl; of_history = refused_so role ask fault endpoint refused counted }

@@ -17,8 +17,8 @@ new_is role end pending output e p o =
     ∙ ap (λ (x : Output). record { end = new_end role; unfinished = []; output = x }) o)
 
 fields_new : (role : Role) (stream : Stream) → stream.pending ≡ [] → stream.fault ≡ None → stream.limit ≡ 4096 → FieldsFit role (new_end role) 0 stream
-fields_new Client stream p f l = record { agreed = tt; opening = λ e. p; opened = λ e. refl; awaited = λ e. refl; within = omega arith; ready = λ e. record { running = f; limit_is = l } }
-fields_new Server stream p f l = record { agreed = tt; opening = λ e. p; opened = λ e. refl; awaited = λ e. absurd (true≢false e); within = omega arith; ready = λ e. record { running = f; limit_is = l } }
+fields_new Client stream p f l = record { agreed = tt; opening = λ e. p; opened = λ e. refl; awaited = λ e. refl; within = omega arith; over = λ e. p; ready = λ e. record { running = f; limit_is = l } }
+fields_new Server stream p f l = record { agreed = tt; opening = λ e. p; opened = λ e. refl; awaited = λ e. absurd (true≢false e); within = omega arith; over = λ e. p; ready = λ e. record { running = f; limit_is = l } }
 
 pub fields_begin : (role : Role) (end : End) (stream : Stream) → end ≡ new_end role → stream.pending ≡ [] → stream.fault ≡ None → stream.limit ≡ 4096 → FieldsFit role end 0 stream
 fields_begin role end stream e p f l = subst (λ (x : End). FieldsFit role x 0 stream) (sym e) (fields_new role stream p f l)

@@ -1,7 +1,7 @@
 -- A piece that is given to the splitter: what comes of each of its answers, and what holds of the end then.
 use Rattle.std.proofs.Common.{◌≡◌, ◌<◌, ◌≤◌, ◌&&◌, not, get_or, Bool, true, false, cond, ℕ, suc, List, [], ◌++◌, map, length, take, All, Option, Some, None, Result, Ok, Err, refl, ap, sym, ◌∙◌, subst, arith}
 use Rattle.std.proofs.Math.Logic.{∥∥₁_elim}
-use Rattle.std.proofs.lemmas.Bool.{false≢true}
+use Rattle.std.proofs.lemmas.Bool.{true≢false, false≢true}
 use Rattle.std.proofs.lemmas.List.Elements.{All-from_get_or}
 use Rattle.amqp_frame.specs.Splitter.{Completes, Waits, FirstFault, Faults, after_feed_ref, after_taking, place_after}
 use Rattle.amqp_frame.specs.Stream.{Stream}
@@ -197,6 +197,7 @@ fields_rest role end heard taken pending stream new r fit e = record {
   opened = fit.opened;
   awaited = fit.awaited;
   within = fit.within;
+  over = λ over. absurd (true≢false (sym (reads role end.phase r).octets ∙ over));
   ready = λ octets. record { running = ap (λ (s : Stream). s.fault) e ∙ (fit.ready octets).running; limit_is = ap (λ (s : Stream). s.limit) e ∙ (fit.ready octets).limit_is };
 }
 
@@ -207,6 +208,7 @@ fields_frame role old new heard stream after tuned taken r fit e t agreed read_o
   opened = λ not_awaited. fit.opened (reads role old.phase r).opened;
   awaited = λ not_awaited. read_on;
   within = fit.within;
+  over = λ over. ap (λ (s : Stream). s.pending) t ∙ ap (λ (s : Stream). s.pending) e;
   ready = λ octets. record {
     running = ap (λ (s : Stream). s.fault) t ∙ (ap (λ (s : Stream). s.fault) e ∙ (fit.ready (reads role old.phase r).octets).running);
     limit_is = ap (λ (s : Stream). s.limit) t;
@@ -216,13 +218,14 @@ fields_frame role old new heard stream after tuned taken r fit e t agreed read_o
 failed_octets : (phase : Phase) → Failed ≡ phase → takes_octets phase ≡ false
 failed_octets phase e = ap takes_octets (sym e)
 
-pub fields_failed : (role : Role) (new : End) (heard : ℕ) (stream : Stream) → Failed ≡ new.phase → IfAgreedFits new.agreed → heard ≡ 0 → FieldsFit role new heard stream
-fields_failed role new heard stream e agreed none = record {
+pub fields_failed : (role : Role) (new : End) (heard : ℕ) (stream : Stream) → Failed ≡ new.phase → IfAgreedFits new.agreed → heard ≡ 0 → stream.pending ≡ [] → FieldsFit role new heard stream
+fields_failed role new heard stream e agreed none unfinished = record {
   agreed = agreed;
   opening = λ awaits. absurd (false≢true (sym (failed_awaits role new.phase e) ∙ awaits));
   opened = λ not_awaited. none;
   awaited = λ not_awaited. ap is_opened (sym e);
   within = omega (arith, none);
+  over = λ over. unfinished;
   ready = λ octets. absurd (false≢true (sym (failed_octets new.phase e) ∙ octets));
 }
 

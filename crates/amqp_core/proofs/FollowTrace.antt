@@ -2,6 +2,8 @@
 use Rattle.std.proofs.Common.{◌≡◌, inl, inr, true, false, not, ℕ, List, [], ◌∷◌, ◌++◌, map, take, Option, Some, None, option_to_list, refl, ap, sym, ◌∙◌, subst}
 use Rattle.std.proofs.lemmas.Bool.{false≢true, true≢false}
 use Rattle.std.proofs.lemmas.List.{append-nil, append_assoc}
+use Rattle.amqp_frame.specs.Frame.{octets as frame_octets}
+use Rattle.amqp_frame.specs.Splitting.{stream}
 use Rattle.amqp_frame.specs.declared.faults.FrameFaultKind.{FrameFaultKind}
 use Rattle.amqp_frame.specs.declared.faults.FrameFaultKind.TheVariants as kinds
 use Rattle.amqp_model.specs.Channels.{End, Phase, Closed}
@@ -9,23 +11,26 @@ use Rattle.amqp_model.specs.Closes as closes
 use Rattle.amqp_model.specs.Closes.{AllReadBack, frame_of}
 use Rattle.amqp_model.specs.EndLaws.{VerdictOfHistory}
 use Rattle.amqp_model.specs.EndVerdict.{end_puts, end_verdict, facts_at, goes_on}
-use Rattle.amqp_model.specs.Endpoint.{Feeding, awaits_opening, greeting, owed_at_fault, outcome_of}
+use Rattle.amqp_model.specs.Endpoint.{Endpoint, Feeding, awaits_opening, fault_told, greeting, owed_at_fault, outcome_of}
+use Rattle.amqp_model.specs.Events.{Fault, Faults}
 use Rattle.amqp_model.specs.Frame.{Frame}
-use Rattle.amqp_model.specs.FrameVerdict.{methods_put}
+use Rattle.amqp_model.specs.FrameVerdict.{Facts, methods_put}
 use Rattle.amqp_model.specs.Histories.{Took, History}
 use Rattle.amqp_model.specs.Items.{Item}
 use Rattle.amqp_model.specs.LawfulHistories.{then_put, then_taken}
 use Rattle.amqp_model.specs.Methods.{Method}
-use Rattle.amqp_model.specs.Negotiation.{Config}
+use Rattle.amqp_model.specs.Negotiation.{Config, frame_limit}
 use Rattle.amqp_model.specs.Notes.{Role, Client, Server}
 use Rattle.amqp_model.specs.OctetLaws as octets
-use Rattle.amqp_model.specs.OctetLaws.{EndpointStandsFor, HasFailed, Follows}
-use Rattle.amqp_model.specs.Octets.{has_opened}
+use Rattle.amqp_model.specs.OctetLaws.{EndpointStandsFor, HasFailed, Follows, TellsLast}
+use Rattle.amqp_model.specs.Octets.{FedAs, frames_taken, has_opened, in_frames, in_opening, opening_read}
 use Rattle.amqp_model.specs.ReadingBack.{WritesReadBack, GreetingReadsBack}
 use Rattle.amqp_model.specs.Readings.{reading}
 use Rattle.amqp_model.specs.Sent.{life_on, told}
 use Rattle.amqp_model.specs.Traces.{IsTaken, Noted, noted, PutsTellNothing, SaysMethod, TellsEvent, TracePuts, telling_at}
 use Rattle.amqp_core.specs.AccountView.{Came, IsAccount, item_in_outcome, puts_alone, came_of_frame}
+use Rattle.amqp_core.specs.FaultShown as shows
+use Rattle.amqp_core.specs.FaultShown.{ShowsFault}
 use Rattle.amqp_core.specs.Noting.{lives_in, notes_owed, said_by_owed, told_by}
 use Rattle.amqp_core.specs.OwedView.{owed_view}
 use Rattle.amqp_core.specs.Settings.{config_view, role_for}
@@ -35,6 +40,7 @@ use Rattle.amqp_core.specs.Tracing.{Kept, IsTraceOf, Stands, OpensWith, TraceGro
 use Rattle.amqp_core.specs.declared.owed.Owed.{Owed}
 use Rattle.amqp_core.specs.declared.settings.Settings.{Settings}
 use Rattle.amqp_core.proofs.FeedTrace.{Lists, frame-listed, puts-listed}
+use Rattle.amqp_core.proofs.OfHistoryLemmas.{ReadsEach, facts_same, puts_same}
 use Rattle.amqp_core.proofs.TraceLemmas.{told-goes, told-stops}
 
 -- the laws of traces, of an end with these settings
@@ -44,6 +50,7 @@ pub record TraceLaws (role : Role) (config : Config role) : Type 0 where
   pub puts_tell : (frames : List Frame) (history : History) → PutsTellNothing role config frames history
   pub says : (channel : ℕ) (method : Method) (history : History) → SaysMethod role channel method history
   pub verdict : (end : End) (history : History) (frame : Frame) → VerdictOfHistory role config false end history frame
+  pub reads : (end : End) (history : History) → ReadsEach role end history
   pub writes : WritesReadBack role config
 
 -- how the lists have grown by what came
@@ -111,9 +118,47 @@ pub stood : (role : Role) (config : Config role) (new : Kept) (history : History
 stood role config new history fed written f w stands = tracing.stands
     (subst (λ xs. EndpointStandsFor role config new.endpoint history xs new.written) (sym f) (subst (λ ys. EndpointStandsFor role config new.endpoint history fed ys) (sym w) stands))
 
-fell : (role : Role) (config : Config role) (limit : ℕ) (opening : List ℕ) (new : Kept) (history : History) (fed written : List ℕ) → OpensWith role history opening → new.fed ≡ fed → new.written ≡ written → HasFailed role config limit opening history fed written new.endpoint → Stands role config new history
-fell role config limit opening new history fed written opens f w failed = tracing.failed limit opening opens
+fell : (role : Role) (config : Config role) (limit : ℕ) (opening : List ℕ) (new : Kept) (history : History) (fed written : List ℕ) → OpensWith role history opening → new.fed ≡ fed → new.written ≡ written → HasFailed role config limit opening history fed written new.endpoint → ShowsFault role config limit history fed → Stands role config new history
+fell role config limit opening new history fed written opens f w failed shown = tracing.failed limit opening opens
     (subst (λ xs. HasFailed role config limit opening history xs new.written new.endpoint) (sym f) (subst (λ ys. HasFailed role config limit opening history fed ys new.endpoint) (sym w) failed))
+    (subst (λ xs. ShowsFault role config limit history xs) (sym f) shown)
+
+-- The octets fed end with those that are unfinished, and then with those taken.
+
+record EndsWith (xs last : List ℕ) : Type 0 where
+  pub earlier : List ℕ
+  pub octets_are : xs ≡ earlier ++ last
+
+ends_unfinished : (role : Role) (limit : ℕ) (history : History) (fed unfinished : List ℕ) → FedAs role limit history fed unfinished → EndsWith fed unfinished
+ends_unfinished role limit history fed unfinished (in_opening missing some opening none is) = record { earlier = []; octets_are = sym is }
+ends_unfinished role limit history fed unfinished (in_frames opened is fit rest) = record {
+  earlier = opening_read role ++ stream (frames_taken history);
+  octets_are = is ∙ sym (append_assoc (opening_read role) (stream (frames_taken history)) unfinished);
+}
+
+ends_taken : (fed unfinished taken last : List ℕ) → EndsWith fed unfinished → unfinished ++ taken ≡ last → EndsWith (fed ++ taken) last
+ends_taken fed unfinished taken last ends is = record {
+  earlier = ends.earlier;
+  octets_are = ap (λ xs. xs ++ taken) ends.octets_are ∙ (append_assoc ends.earlier unfinished taken ∙ ap (λ xs. ends.earlier ++ xs) is);
+}
+
+-- So of an end that fails it is known with what its history ends.
+
+shown_in_frame : (role : Role) (config : Config role) (old : Endpoint) (history : History) (fed written piece : List ℕ) (count : ℕ) (frame : Frame) (fault : Fault)
+    → EndpointStandsFor role config old history fed written → ReadsEach role old.end history → old.unfinished ++ take count piece ≡ frame_octets frame → end_verdict config old.end frame ≡ Faults fault
+    → VerdictOfHistory role config false old.end history frame → ShowsFault role config (frame_limit old.end.agreed) (then_taken config old.end frame history) (fed ++ take count piece)
+shown_in_frame role config old history fed written piece count frame fault stands reads whole verdict law =
+    let ends = ends_taken fed old.unfinished (take count piece) (frame_octets frame) (ends_unfinished role (frame_limit old.end.agreed) history fed old.unfinished stands.read) whole in
+    shows.in_frame history frame fault ends.earlier stands.lawful (sym (law stands.stands) ∙ verdict)
+    (ap (λ puts. then_put puts (Took frame ∷ history)) (puts_same role config old.end history frame reads stands.stands)) ends.octets_are
+
+shown_in_octets : (role : Role) (config : Config role) (old : Endpoint) (history : History) (fed written piece : List ℕ) (count : ℕ) (kind : FrameFaultKind)
+    → EndpointStandsFor role config old history fed written → ReadsEach role old.end history → TellsLast (frame_limit old.end.agreed) (old.unfinished ++ take count piece) kind
+    → ShowsFault role config (frame_limit old.end.agreed) (then_put (map frame_of (owed_at_fault config old.end kind)) history) (fed ++ take count piece)
+shown_in_octets role config old history fed written piece count kind stands reads tells =
+    let ends = ends_taken fed old.unfinished (take count piece) (old.unfinished ++ take count piece) (ends_unfinished role (frame_limit old.end.agreed) history fed old.unfinished stands.read) refl in
+    shows.in_octets history kind ends.earlier (old.unfinished ++ take count piece) stands.lawful tells
+    (ap (λ (facts : Facts role). then_put (map frame_of (methods_put facts (Faults (fault_told kind)))) history) (facts_same role config old.end history 0 reads stands.stands)) ends.octets_are
 
 traced_by : (role : Role) (config : Config role) (new : Kept) (after : History) → Lists role config new.notes new.told new.said after → Stands role config new after → IsTraceOf role config new after
 traced_by role config new after lists standing = record { noted = lists.noted; told = lists.told; said = lists.said; stands = standing }
@@ -154,15 +199,30 @@ follow-trace settings old new piece fed count took item owed history laws grow a
     let config = config_view settings in
     let law = told-stops role config old.endpoint.end history frame (laws.verdict old.endpoint.end history frame) laws.puts_tell stands.stands (ap goes_on verdict) in
     let lists = with_frame settings old new old.endpoint.end frame took item owed history laws grow (account.takes frame phase whole) law traced in
-    record { after = then_taken config old.endpoint.end frame history; grows = grown.faults frame fault phase whole verdict outcome; trace = traced_by role config new _ lists (fell role config _ _ new _ _ _ (inl refl) f w failed) }
-follow-trace settings old new piece fed count took item owed history laws grow account f w traced stands not_closed (octets.tells kind phase shows outcome failed) =
+    record {
+      after = then_taken config old.endpoint.end frame history;
+      grows = grown.faults frame fault phase whole verdict outcome;
+      trace = traced_by role config new _ lists (fell role config _ _ new _ _ _ (inl refl) f w failed
+          (shown_in_frame role config old.endpoint history old.fed old.written piece fed.taken frame fault stands (laws.reads old.endpoint.end history) whole.is_frame verdict (laws.verdict old.endpoint.end history frame)));
+    }
+follow-trace settings old new piece fed count took item owed history laws grow account f w traced stands not_closed (octets.tells kind phase tells outcome failed) =
     let role = role_for settings in
     let config = config_view settings in
-    let lists = alone settings old new took item owed (owed_at_fault config old.endpoint.end kind) history laws grow (account.tells kind phase shows) (fault_back role config old.endpoint.end kind laws.writes) traced in
-    record { after = then_put (map frame_of (owed_at_fault config old.endpoint.end kind)) history; grows = grown.tells kind phase shows outcome; trace = traced_by role config new _ lists (fell role config _ _ new _ _ _ (inl refl) f w failed) }
+    let lists = alone settings old new took item owed (owed_at_fault config old.endpoint.end kind) history laws grow (account.tells kind phase tells) (fault_back role config old.endpoint.end kind laws.writes) traced in
+    record {
+      after = then_put (map frame_of (owed_at_fault config old.endpoint.end kind)) history;
+      grows = grown.tells kind phase tells outcome;
+      trace = traced_by role config new _ lists (fell role config _ _ new _ _ _ (inl refl) f w failed
+          (shown_in_octets role config old.endpoint history old.fed old.written piece fed.taken kind stands (laws.reads old.endpoint.end history) tells));
+    }
 follow-trace settings old new piece fed count took item owed history laws grow account f w traced stands not_closed (octets.differs awaits outcome failed) =
     let role = role_for settings in
     let config = config_view settings in
     let lists = alone settings old new took item owed [] history laws grow (account.differs awaits outcome) tt traced in
-    record { after = history; grows = grown.differs awaits outcome; trace = traced_by role config new history lists (fell role config _ _ new history _ _ (inr (refl, none_put role history old.endpoint.end.phase awaits stands.opens)) f w failed) }
+    record {
+      after = history;
+      grows = grown.differs awaits outcome;
+      trace = traced_by role config new history lists (fell role config _ _ new history _ _ (inr (refl, none_put role history old.endpoint.end.phase awaits stands.opens)) f w failed
+          (shows.in_opening (none_put role history old.endpoint.end.phase awaits stands.opens)));
+    }
 follow-trace settings old new piece fed count took item owed history laws grow account f w traced stands not_closed (octets.refuses closed is) = absurd (not_closed closed)

@@ -1,7 +1,7 @@
 -- Octets of the protocol header: what comes of each comparison, and what holds of the end then.
 use Rattle.std.proofs.Common.{◌≡◌, ◌≢◌, inr, ◌+◌, ◌-◌, ◌<◌, ◌≤◌, true, get_or, ℕ, suc, List, [], ◌++◌, map, length, take, drop, slice_index, Option, Some, None, Result, Ok, Err, refl, ap, sym, ◌∙◌, subst, arith}
 use Rattle.std.proofs.Math.Seq.{take-length}
-use Rattle.std.proofs.lemmas.Bool.{false≢true}
+use Rattle.std.proofs.lemmas.Bool.{true≢false, false≢true}
 use Rattle.std.proofs.lemmas.List.{append-nil, length-drop, length-take-le, take-append-drop}
 use Rattle.amqp_frame.specs.Stream.{Stream}
 use Rattle.amqp_model.specs.Channels.{Channel, End, Phase, Handshake, AwaitsStartOk, Running, Closing, Closed, Failed}
@@ -124,6 +124,7 @@ fields_part role end heard more stream awaits fit within = record {
   opened = λ e. absurd (false≢true (sym e ∙ awaits));
   awaited = λ e. absurd (false≢true (sym e ∙ awaits));
   within = within;
+  over = fit.over;
   ready = fit.ready;
 }
 
@@ -135,5 +136,6 @@ fields_greeted role old new channels heard stream awaits octets none fit is = su
   opened = λ e. refl;
   awaited = λ e. refl;
   within = omega arith;
+  over = λ e. absurd (true≢false e);
   ready = λ e. record { running = (fit.ready octets).running; limit_is = (fit.ready octets).limit_is ∙ ap frame_limit none };
 })

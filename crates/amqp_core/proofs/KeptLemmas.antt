@@ -1,12 +1,13 @@
 -- What is known of an end between two calls, in both forms.
 use Rattle.std.proofs.Common.{◌≡◌, ◌<◌, ◌≤◌, ◌+◌, Bool, true, false, Option, Some, None, ℕ, List, [], ◌∷◌, length, refl, sym, ap, subst, arith}
+use Rattle.std.proofs.lemmas.Bool.{true≢false}
 use Rattle.amqp_frame.specs.Stream.{Stream}
-use Rattle.amqp_model.specs.Channels.{Agreed, End}
+use Rattle.amqp_model.specs.Channels.{Agreed, End, Phase, Handshake, Running, Closing, Closed, Failed}
 use Rattle.amqp_model.specs.EndVerdict.{takes_octets}
 use Rattle.amqp_model.specs.Endpoint.{awaits_opening}
 use Rattle.amqp_model.specs.Fitting.{IfAgreedFits}
 use Rattle.amqp_model.specs.Negotiation.{frame_limit}
-use Rattle.amqp_model.specs.Notes.{Role}
+use Rattle.amqp_model.specs.Notes.{Role, Client, Server}
 use Rattle.amqp_model.specs.Outputs.{Output}
 use Rattle.amqp_model.specs.Pieces.{AreBegun, HoldsUnfinished, reads_frames}
 use Rattle.amqp_core.specs.CoreView.{core_end}
@@ -57,5 +58,31 @@ below_by true role end heard pending stream e fit takes count below =
 below_by false role end heard pending stream e fit takes count below =
     omega (arith, fit.opened e, below, (fit.ready takes).limit_is)
 
-pub pending_below : (role : Role) (end : End) (heard pending : ℕ) (stream : Stream) → FieldsFit role end heard stream → takes_octets end.phase ≡ true → pending ≡ length stream.pending → pending < stream.limit → heard + pending < frame_limit end.agreed
+pending_below : (role : Role) (end : End) (heard pending : ℕ) (stream : Stream) → FieldsFit role end heard stream → takes_octets end.phase ≡ true → pending ≡ length stream.pending → pending < stream.limit → heard + pending < frame_limit end.agreed
 pending_below role end heard pending stream fit takes count below = below_by (awaits_opening role end.phase) role end heard pending stream refl fit takes count below
+
+-- and none, where the end takes no octets
+
+over_phase : (phase : Phase) → takes_octets phase ≡ false → awaits_opening Server phase ≡ false
+over_phase (Handshake step) e = absurd (true≢false e)
+over_phase Running e = refl
+over_phase Closing e = refl
+over_phase Closed e = refl
+over_phase Failed e = refl
+
+over_reads : (role : Role) (end : End) → takes_octets end.phase ≡ false → awaits_opening role end.phase ≡ false
+over_reads Client end e = refl
+over_reads Server end e = over_phase end.phase e
+
+pub pending_over : (role : Role) (end : End) (heard pending : ℕ) (stream : Stream) → FieldsFit role end heard stream → pending ≡ length stream.pending → takes_octets end.phase ≡ false → heard + pending ≡ 0
+pending_over role end heard pending stream fit count over =
+    let none : length stream.pending ≡ 0 = ap (λ (xs : List ℕ). length xs) (fit.over over) in
+    omega (arith, fit.opened (over_reads role end over), count, none)
+
+-- so fewer are pending than a frame may have in every phase
+any_below : (b : Bool) (role : Role) (end : End) (heard pending : ℕ) (stream : Stream) → takes_octets end.phase ≡ b → FieldsFit role end heard stream → pending ≡ length stream.pending → pending < stream.limit → heard + pending < frame_limit end.agreed
+any_below true role end heard pending stream e fit count below = pending_below role end heard pending stream fit e count below
+any_below false role end heard pending stream e fit count below = omega (arith, pending_over role end heard pending stream fit count e, least end.agreed fit.agreed)
+
+pub pending_within : (role : Role) (end : End) (heard pending : ℕ) (stream : Stream) → FieldsFit role end heard stream → pending ≡ length stream.pending → pending < stream.limit → heard + pending < frame_limit end.agreed
+pending_within role end heard pending stream fit count below = any_below (takes_octets end.phase) role end heard pending stream refl fit count below

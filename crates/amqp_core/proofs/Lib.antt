@@ -39,3 +39,8 @@ pub mod FollowTrace
 pub mod AskNotingLemmas
 pub mod AskTrace
 pub mod TracedLemmas
+pub mod QueryLemmas
+pub mod FeedFaultLemmas
+pub mod OfHistoryLemmas
+pub mod OutputLemmas
+pub mod CutLemmas

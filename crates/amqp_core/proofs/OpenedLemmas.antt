@@ -4,7 +4,7 @@ use Rattle.std.proofs.lemmas.Bool.{false≢true}
 use Rattle.amqp_method.specs.declared.kinds.Kind.TheVariants as kinds
 use Rattle.amqp_model.specs.Channels.{End, Phase, Handshake, Running, Closing, Closed, Failed, HandshakeStep, AwaitsProtocolHeader, AwaitsStart, AwaitsStartOk, AwaitsTune, AwaitsTuneOk, AwaitsOpen, AwaitsOpenOk}
 use Rattle.amqp_model.specs.Closes.{Owed, frame_of}
-use Rattle.amqp_model.specs.EndVerdict.{facts_at}
+use Rattle.amqp_model.specs.EndVerdict.{facts_at, takes_octets}
 use Rattle.amqp_model.specs.Events.{FrameVerdict, Proceeds, RefusesContent, Faults}
 use Rattle.amqp_model.specs.Frame.{Frame}
 use Rattle.amqp_model.specs.FrameVerdict.{methods_put}
@@ -98,3 +98,24 @@ frame_opened role config end r frame o =
 pub asked_opened : (role : Role) (config : Config role) (frames : List Frame) (end : End) → is_opened end.phase ≡ true → is_opened (end_after_put role config frames end).phase ≡ true
 asked_opened role config [] end o = o
 asked_opened role config (frame ∷ later) end o = asked_opened role config later _ (put_opened role config frame.channel (reading_of frame) frame end o)
+
+-- What an end puts as it is asked lets it take octets as before.
+
+either_takes : (b : Bool) (one other : Phase) → takes_octets one ≡ true → takes_octets other ≡ true → takes_octets (cond b one other) ≡ true
+either_takes true one other p q = p
+either_takes false one other p q = q
+
+phase_takes : (role : Role) (r : Reading) (phase : Phase) → takes_octets phase ≡ true → takes_octets (phase_put role r phase) ≡ true
+phase_takes role r (Handshake step) t = either_takes _ Closing _ refl (either_takes (put_ends_handshake role r) Running _ refl refl)
+phase_takes role r Running t = either_takes _ Closing Running refl refl
+phase_takes role r Closing t = refl
+phase_takes role r Closed t = t
+phase_takes role r Failed t = t
+
+put_takes : (role : Role) (config : Config role) (number : ℕ) (r : Reading) (frame : Frame) (end : End) → takes_octets end.phase ≡ true → takes_octets (end_after role config number (PutHere r frame) end).phase ≡ true
+put_takes role config zero r frame end t = phase_takes role r end.phase t
+put_takes role config (suc n) r frame end t = t
+
+pub asked_takes : (role : Role) (config : Config role) (frames : List Frame) (end : End) → takes_octets end.phase ≡ true → takes_octets (end_after_put role config frames end).phase ≡ true
+asked_takes role config [] end t = t
+asked_takes role config (frame ∷ later) end t = asked_takes role config later _ (put_takes role config frame.channel (reading_of frame) frame end t)

@@ -14,6 +14,7 @@ use Rattle.amqp_model.specs.OctetLaws.{EndpointStandsFor, HasFailed, WroteFollow
 use Rattle.amqp_model.specs.Octets.{FedAs, frames_put, opening_written}
 use Rattle.amqp_model.specs.Outputs.{Output, output_octets}
 use Rattle.amqp_model.specs.RunningOut.{RanOut, RunsOut, RanOutWrites, out_of_memory}
+use Rattle.amqp_core.specs.FaultShown.{ShowsFault}
 use Rattle.amqp_core.specs.Feeding.{SameEndpoint, ran_out_of}
 use Rattle.amqp_core.specs.Tracing as tracing
 use Rattle.amqp_core.specs.Tracing.{Kept, Stands, ran_out, with_unfinished}
@@ -33,10 +34,11 @@ stands-wrote role config old new history n wrote failed out within endpoint_is f
     tracing.stands (subst (λ (e : Endpoint). EndpointStandsFor role config e history new.fed new.written) (sym endpoint_is)
     (subst (λ f. EndpointStandsFor role config (after_wrote n old.endpoint) history f new.written) (sym fed_is)
     (subst (λ w. EndpointStandsFor role config (after_wrote n old.endpoint) history old.fed w) (sym written_is) (wrote old.endpoint stands within))))
-stands-wrote role config old new history n wrote failed out within endpoint_is fed_is written_is (tracing.failed limit opening opens stands) =
+stands-wrote role config old new history n wrote failed out within endpoint_is fed_is written_is (tracing.failed limit opening opens stands shown) =
     tracing.failed limit opening opens (subst (λ (e : Endpoint). HasFailed role config limit opening history new.fed new.written e) (sym endpoint_is)
     (subst (λ f. HasFailed role config limit opening history f new.written (after_wrote n old.endpoint)) (sym fed_is)
     (subst (λ w. HasFailed role config limit opening history old.fed w (after_wrote n old.endpoint)) (sym written_is) (failed limit opening stands within))))
+    (subst (λ f. ShowsFault role config limit history f) (sym fed_is) shown)
 stands-wrote role config old new history n wrote failed out within endpoint_is fed_is written_is (ran_out unfinished stands) =
     ran_out unfinished (subst (λ (e : Endpoint). RanOut role config (with_unfinished e unfinished) history new.fed new.written) (sym endpoint_is)
     (subst (λ f. RanOut role config (with_unfinished (after_wrote n old.endpoint) unfinished) history f new.written) (sym fed_is)
@@ -63,7 +65,7 @@ stands-out role config old new history law runs octets same fed_is written_is (t
     (subst (λ f. RanOut role config (with_unfinished new.endpoint old.endpoint.unfinished) history f new.written) (sym fed_is)
     (subst (λ w. RanOut role config (with_unfinished new.endpoint old.endpoint.unfinished) history old.fed w) (sym written_is)
     (run_out_reads role config old.endpoint new.endpoint history old.fed old.written (law (as_failed old.endpoint.end) new.endpoint.end) same (runs stands octets))))
-stands-out role config old new history law runs octets same fed_is written_is (tracing.failed limit opening opens stands) =
+stands-out role config old new history law runs octets same fed_is written_is (tracing.failed limit opening opens stands shown) =
     absurd (failed_takes old.endpoint.end.phase (sym stands.stands.phase) octets)
 stands-out role config old new history law runs octets same fed_is written_is (ran_out unfinished stands) =
     absurd (failed_takes old.endpoint.end.phase stands.failed octets)

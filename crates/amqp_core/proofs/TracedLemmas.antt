@@ -40,6 +40,7 @@ use Rattle.amqp_core.specs.declared.faults.CoreFault.TheVariants as core
 use Rattle.amqp_core.specs.declared.owed.Owed.{Owed}
 use Rattle.amqp_core.specs.declared.settings.Settings.{Settings}
 use Rattle.amqp_core.proofs.FollowTrace.{ListsGrow, TraceLaws, follow-trace, stood}
+use Rattle.amqp_core.proofs.OfHistoryLemmas.{ReadsEach}
 use Rattle.amqp_core.proofs.StandingLemmas.{failed_takes, stands-out, stands-wrote}
 
 closed_takes : (phase : Phase) → phase ≡ Closed → takes_octets phase ≡ true → ⊥
@@ -55,7 +56,7 @@ by_standing : (settings : Settings) (old new : Kept) (piece : List ℕ) (fed : F
     → ∥ TraceGrows (role_for settings) (config_view settings) old.endpoint piece fed history new ∥₁
 by_standing settings old new piece fed count took item owed history laws octets grow account f w follows traced (tracing.stands stands) =
     ∥∥₁_map₂ laws (follows stands) (λ l then. follow-trace settings old new piece fed count took item owed history l grow account f w traced stands (λ closed. closed_takes old.endpoint.end.phase closed octets) then)
-by_standing settings old new piece fed count took item owed history laws octets grow account f w follows traced (tracing.failed limit opening opens failed) =
+by_standing settings old new piece fed count took item owed history laws octets grow account f w follows traced (tracing.failed limit opening opens failed shown) =
     absurd (failed_takes old.endpoint.end.phase (sym failed.stands.phase) octets)
 by_standing settings old new piece fed count took item owed history laws octets grow account f w follows traced (tracing.ran_out unfinished out) =
     absurd (failed_takes old.endpoint.end.phase out.failed octets)
@@ -153,9 +154,9 @@ traces-same role config old new on there = ∥∥₁_map there (λ t. (t.0, on t
 pub trace-laws : (role : Role) (config : Config role)
     → ((frames : List Frame) (history : History) → TracePuts frames history) → ((history : History) (frame : Frame) → TellsEvent role config history frame)
     → ((frames : List Frame) (history : History) → PutsTellNothing role config frames history) → ((channel : ℕ) (method : Method) (history : History) → SaysMethod role channel method history)
-    → ((end : End) (history : History) (frame : Frame) → VerdictOfHistory role config false end history frame) → AllReadsBack role config → ∥ ConfigWrites config ∥₁ → ∥ TraceLaws role config ∥₁
-trace-laws role config puts tells puts_tell says verdict back writes =
-    ∥∥₁_map writes (λ w. record { puts = puts; tells = tells; puts_tell = puts_tell; says = says; verdict = verdict; writes = back w })
+    → ((end : End) (history : History) (frame : Frame) → VerdictOfHistory role config false end history frame) → ((end : End) (history : History) → ReadsEach role end history) → AllReadsBack role config → ∥ ConfigWrites config ∥₁ → ∥ TraceLaws role config ∥₁
+trace-laws role config puts tells puts_tell says verdict reads back writes =
+    ∥∥₁_map writes (λ w. record { puts = puts; tells = tells; puts_tell = puts_tell; says = says; verdict = verdict; reads = reads; writes = back w })
 
 -- What stays between two calls.
 

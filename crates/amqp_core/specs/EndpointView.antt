@@ -43,6 +43,8 @@ pub record FieldsFit (role : Role) (end : model.End) (heard : ℕ) (stream : Str
   pub opened : awaits_opening role end.phase ≡ false → heard ≡ 0
   pub awaited : awaits_opening role end.phase ≡ false → is_opened end.phase ≡ true
   pub within : heard < 8
+  -- an end that takes no octets keeps none
+  pub over : takes_octets end.phase ≡ false → stream.pending ≡ []
   pub ready : takes_octets end.phase ≡ true → IsReady (frame_limit end.agreed) stream
 
 -- what holds of an end between two calls

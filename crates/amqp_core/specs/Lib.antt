@@ -24,6 +24,13 @@ pub mod Feeding
 pub mod Hearing
 pub mod Following
 pub mod EndView
+pub mod Counted
+pub mod OfHistory
+pub mod OutputOrder
+pub mod Queries
+pub mod Beginning
+pub mod Cuts
+pub mod FeedFaults
 pub mod AskView
 pub mod Asked
 pub mod Refusals
@@ -37,6 +44,7 @@ pub mod LifeCounts
 pub mod CountView
 pub mod Noting
 pub mod AskNoting
+pub mod FaultShown
 pub mod Tracing
 pub mod Overs
 pub mod CountsLives
@@ -44,3 +52,4 @@ pub mod LedgerView
 pub mod TracedFields
 pub mod TracedView
 pub mod Texts
+pub mod TracedQueries

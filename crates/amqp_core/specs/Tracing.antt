@@ -10,7 +10,10 @@ use Rattle.amqp_model.specs.Octets.{opening_written}
 use Rattle.amqp_model.specs.OctetLaws.{EndpointStandsFor, HasFailed}
 use Rattle.amqp_model.specs.RunningOut.{RanOut}
 use Rattle.amqp_model.specs.Sent.{Telling, told, said}
+use Rattle.amqp_model.specs.Outputs.{Output}
 use Rattle.amqp_model.specs.Traces.{Noted, trace}
+use Rattle.amqp_core.specs.FaultShown.{ShowsFault}
+use Rattle.amqp_core.specs.OutputOrder.{IsInOrder}
 
 -- An end with what was noted, told and said, the octets that it was fed, and those of its output that were written.
 pub record Kept : Type 0 where
@@ -29,10 +32,12 @@ with_unfinished endpoint unfinished = record { end = endpoint.end; unfinished = 
 abbrev pub OpensWith : Role → History → (opening : List ℕ) → Type 0
 OpensWith role history opening = (opening ≡ opening_written role) ⊎ ((opening ≡ PROTOCOL_HEADER) × (history ≡ []))
 
--- The end stands for the history; or it has failed with it, and its octets show why; or it ran out of memory.
+-- The end stands for the history; or it has failed with it, and the octets fed and the history end with the fault and
+-- what it makes the end put; or it ran out of memory.
 pub data Stands (role : Role) (config : Config role) (kept : Kept) (history : History) : Type 0 where
   stands : EndpointStandsFor role config kept.endpoint history kept.fed kept.written → Stands role config kept history
-  failed : (limit : ℕ) (opening : List ℕ) → OpensWith role history opening → HasFailed role config limit opening history kept.fed kept.written kept.endpoint → Stands role config kept history
+  failed : (limit : ℕ) (opening : List ℕ) → OpensWith role history opening → HasFailed role config limit opening history kept.fed kept.written kept.endpoint
+      → ShowsFault role config limit history kept.fed → Stands role config kept history
   ran_out : (unfinished : List ℕ) → RanOut role config (with_unfinished kept.endpoint unfinished) history kept.fed kept.written → Stands role config kept history
 
 -- It is a trace of the history: its notes are those of the history's frames, its items those that the history tells and says,
@@ -42,6 +47,12 @@ pub record IsTraceOf (role : Role) (config : Config role) (kept : Kept) (history
   pub told : kept.told ≡ told role config history
   pub said : kept.said ≡ said role history
   pub stands : Stands role config kept history
+
+-- the octets written and the output are in order, after what the end began with
+pub record IsWrittenInOrder (role : Role) (history : History) (written : List ℕ) (output : Output) : Type 0 where
+  pub opening : List ℕ
+  pub opens : OpensWith role history opening
+  pub order : IsInOrder opening history written output
 
 -- the lists are the same
 pub record SameLists (one other : Kept) : Type 0 where

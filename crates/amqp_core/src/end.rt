@@ -47,7 +47,7 @@ use crate::stage::Phase;
 use crate::taken::{Taken, told};
 use amqp_channel::{Agreed, ChannelState, News, Side};
 use amqp_method::{Kind, Message};
-use amqp_model::{bounds, octets, one_end, traces};
+use amqp_model::{answers, arrangement, bounds, fitting, octets, one_end, replies, traces};
 use amqp_value::ShortStr;
 use std::alloc::Global;
 use std::marker::PhantomData;
@@ -80,18 +80,25 @@ pub struct End<R: Role> {
 
 impl<R: Role> End<R> {
     ghost use Rattle.amqp_core.specs.AccountView.{IsAccount, came_by};
+    ghost use Rattle.amqp_core.specs.Beginning.{BeginsHistory};
     ghost use Rattle.amqp_core.specs.EndView.{config_at, endpoint_of, role_played, settings_at};
+    ghost use Rattle.amqp_core.specs.FeedFaults.{FeedFaults};
     ghost use Rattle.amqp_core.specs.Feeding.{SameEndpoint, ran_out_of};
     ghost use Rattle.amqp_core.specs.Growth.{GrowsLittle};
     ghost use Rattle.amqp_core.specs.Overs.{IsOver};
+    ghost use Rattle.amqp_core.specs.Queries.{AgreedOfHistory, DueOfHistory, GatheredOfHistory, OutputIsInOrder, PendingOfHistory, PhaseOfHistory, StateOfHistory, VerdictsOfHistory, WritesOn};
 
     /// An end as it begins. A client has the protocol header to write, a server nothing.
     pub fn new(alloc: Global, config: Config<R>) -> Result<End<R>, ConfigFault>
         ensures begins { IfOk result (λ end. endpoint_of end ≡ new_endpoint (role_played end)) }
         ensures settings { IfOk result (λ end. settings_at end ≡ settings_of R.hello_of config) }
         ensures faultless { IfOk result (λ end. config_fault (role_played end) (config_at end) ≡ None) }
+        // It stands for the empty history, and what it writes of itself reads back.
+        ensures history { IfOk result (λ end. BeginsHistory end) }
         ensures fault { IfErr result (λ fault. config_fault_view fault ≡ config_fault (role_for (settings_of R.hello_of config)) (config_view (settings_of R.hello_of config))) }
     {
+        octets::octets_follow();
+        fitting::owed_read_back();
         let settings = config.into_settings();
         if let Some(fault) = settings.fault() {
             return Err(fault);
@@ -118,8 +125,14 @@ impl<R: Role> End<R> {
             → ∥ GoesOn (role_played self.old) (config_at self.old) (ran_out result) (endpoint_of self.old) history fed written piece.now (after_feed (role_played self.old) (config_at self.old) (endpoint_of self.old) piece.now) (endpoint_of self.new) ∥₁ }
         // A closed or failed end says so, and takes no memory.
         ensures memory { ran_out result ≡ true → takes_octets (endpoint_of self.old).end.phase ≡ true }
+        // After a fault the end has failed. One that is closed, or had failed before, takes nothing and stays as it is.
+        ensures faults { FeedFaults result (endpoint_of self.old) (endpoint_of self.new) }
+        // What the end does with a frame is what each of these histories gives.
+        ensures verdicts { VerdictsOfHistory self.old }
         ensures settings { settings_at self.new ≡ settings_at self.old }
     {
+        octets::cut_changes_nothing();
+        one_end::record_reads();
         let mut account = Account::new(false);
         let mut news = None;
         let answer = self.advance(piece, &mut account, &mut news);
@@ -188,8 +201,13 @@ impl<R: Role> End<R> {
 
     /// The octets to send next. They stay until [`End::wrote`] says that they were sent.
     pub fn output(&self) -> &[u8]
-        ensures { result.now ≡ output_octets (endpoint_of self.now).output }
+        ensures octets { result.now ≡ output_octets (endpoint_of self.now).output }
+        // The frames stand in it by the rules, and with what was written those of each channel are in the order put.
+        ensures order { OutputIsInOrder self.now }
     {
+        arrangement::output_follows();
+        one_end::closes_are_put_last();
+        fitting::owed_read_back();
         self.inner.outbox.output()
     }
 
@@ -197,21 +215,27 @@ impl<R: Role> End<R> {
     pub fn wrote(&mut self, octets: usize)
         requires { octets ≤ length (output_octets (endpoint_of self.old).output) }
         ensures written { endpoint_of self.new ≡ after_wrote octets (endpoint_of self.old) }
+        ensures history { WritesOn self.old octets self.new }
         ensures settings { settings_at self.new ≡ settings_at self.old }
     {
+        octets::octets_follow();
+        arrangement::write_keeps_arranged();
+        arrangement::output_follows();
         self.inner.wrote(octets);
     }
 
     /// How far the connection is.
     pub fn phase(&self) -> Phase
-        ensures { result ≡ phase_name (endpoint_of self.now).end.phase }
+        ensures phase { result ≡ phase_name (endpoint_of self.now).end.phase }
+        ensures history { PhaseOfHistory self.now result }
     {
         self.inner.core.stage.phase()
     }
 
     /// What tune-ok settled: known from the moment on that a client has put it, or that a server has taken it.
     pub fn agreed(&self) -> Option<Agreed>
-        ensures { agreed_there result ≡ (endpoint_of self.now).end.agreed }
+        ensures agreed { agreed_there result ≡ (endpoint_of self.now).end.agreed }
+        ensures history { AgreedOfHistory self.now (agreed_there result) }
     {
         self.inner.core.stage.agreed()
     }
@@ -221,15 +245,21 @@ impl<R: Role> End<R> {
         ensures state { state_view result ≡ channel_state (endpoint_of self.now).end channel }
         // So no more channels than were agreed are other than Free.
         ensures others { OthersAreFree (endpoint_of self.now).end channel }
+        ensures history { StateOfHistory self.now channel (state_view result) }
     {
         bounds::answers_are_bounded();
+        one_end::answers_are_of_history();
+        answers::states_are_of_notes();
         self.inner.core.channel_state(channel)
     }
 
     /// How many octets were taken of a frame that isn't whole yet, or of the protocol header: fewer than a frame may have.
     pub fn pending(&self) -> usize
         ensures count { result ≡ length (endpoint_of self.now).unfinished }
-        ensures below { takes_octets (endpoint_of self.now).end.phase ≡ true → result < frame_limit (endpoint_of self.now).end.agreed }
+        ensures below { result < frame_limit (endpoint_of self.now).end.agreed }
+        // A closed or failed end keeps none.
+        ensures none { takes_octets (endpoint_of self.now).end.phase ≡ false → result ≡ 0 }
+        ensures history { PendingOfHistory self.now result }
     {
         self.inner.pending()
     }
@@ -238,8 +268,12 @@ impl<R: Role> End<R> {
     pub fn gathered(&self, channel: u16) -> usize
         ensures gathered { result ≡ gathered (endpoint_of self.now).end channel }
         ensures most { result ≤ (config_at self.now).max_body }
+        ensures history { GatheredOfHistory self.now channel result }
     {
         bounds::answers_are_bounded();
+        one_end::answers_are_of_history();
+        one_end::record_reads();
+        answers::octets_are_of_body();
         self.inner.core.gathered(channel)
     }
 
@@ -249,7 +283,12 @@ impl<R: Role> End<R> {
         ensures request { result ≡ reply_due (endpoint_of self.now).end channel }
         // Of each channel at most 1,024 requests are kept, and one at a client.
         ensures most { IsBounded (role_played self.now) (config_at self.now) (endpoint_of self.now).end }
+        ensures history { DueOfHistory self.now channel result }
     {
+        one_end::answers_are_of_history();
+        one_end::record_reads();
+        replies::unanswered_are_kept();
+        fitting::owed_read_back();
         self.inner.core.reply_due(channel)
     }
 

@@ -37,7 +37,7 @@ use crate::settings::Settings;
 use crate::stage::Stage;
 use amqp_channel::{News, Side};
 use amqp_frame::{PROTOCOL_HEADER, Splitter, faults_are_judged, one_frame_at_start};
-use amqp_model::{bounds, fitting, octets, pieces};
+use amqp_model::{bounds, fitting, octets, one_end, pieces};
 use amqp_outbox::Outbox;
 use std::alloc::Global;
 
@@ -307,7 +307,8 @@ impl Endpoint {
     pub(crate) fn pending(&self) -> usize
         requires { IsSound self.now }
         ensures count { result ≡ length (endpoint_view self.now).unfinished }
-        ensures below { takes_octets (phase_at self.now.core.stage) ≡ true → result < frame_limit (agreed_at self.now.core.stage) }
+        ensures below { result < frame_limit (agreed_at self.now.core.stage) }
+        ensures none { takes_octets (phase_at self.now.core.stage) ≡ false → result ≡ 0 }
     {
         self.heard + self.splitter.pending()
     }
@@ -321,6 +322,7 @@ impl Endpoint {
         ensures size { IfOk result (λ place. IsSizeOf (endpoint_view self.now).end.agreed place.frame_max) }
         ensures least { IfOk result (λ place. negotiation.FRAME_MIN ≤ place.frame_max) }
     {
+        one_end::ask_is_of_history();
         self.core.allow(ask)
     }
 
@@ -338,6 +340,7 @@ impl Endpoint {
         fitting::frames_fit();
         bounds::ends_are_bounded();
         octets::octets_follow();
+        one_end::ask_is_of_history();
         match self.core.ask(&mut self.outbox, ask) {
             Ok(number) => Ok(number),
             Err(fault) => Err(fault),

@@ -9,6 +9,7 @@ ghost use Rattle.amqp_model.specs.Readings.{Reading};
 ghost use Rattle.amqp_channel.specs.declared.news.News.{News};
 ghost use Rattle.amqp_channel.specs.declared.verdict.Site.{Site};
 ghost use Rattle.amqp_channel.specs.declared.verdict.Verdict.{Verdict};
+ghost use Rattle.amqp_core.specs.Cuts.{CutsChangeNothing};
 ghost use Rattle.amqp_core.specs.Laws.{PutsAsEnd, StepsAsEnd};
 ghost use Rattle.amqp_model.specs.Methods.{MethodKind};
 ghost use Rattle.amqp_model.specs.Notes.{Role};
@@ -29,6 +30,12 @@ pub fn sent_is_taken()
 /// An end that is kept with its history, and has not failed, stands for each history that it is the trace of.
 pub fn unfailed_traces_stand()
     ensures { (role : Role) (config : Config role) (kept : Kept) (history : History) → StandsUnlessFailed role config kept history }
+{}
+
+/// How octets are cut into pieces changes nothing, from wherever an end stands: the same is reported, in the same order, and
+/// the same end is left, with the same output. So it stands for the same histories then.
+pub fn cuts_change_nothing()
+    ensures { CutsChangeNothing }
 {}
 
 /// What is decided on one channel of a connection that is Running is the end's verdict, and where it goes on, what the end

@@ -1,11 +1,13 @@
 //! An end of a connection that is kept with its history.
-ghost use Rattle.std.specs.Prelude.{◌≡◌, ◌≢◌, ◌+◌, ◌<◌, ◌≤◌, ℕ, List, [], true, ◌++◌, length, map, take as first, vec_len, vec_capacity, IfOk, IfErr, OnOk, OnErr};
+ghost use Rattle.std.specs.Prelude.{◌≡◌, ◌≢◌, ◌+◌, ◌<◌, ◌≤◌, ℕ, List, [], true, false, ◌++◌, length, map, take as first, vec_len, vec_capacity, IfOk, IfErr, OnOk, OnErr};
 ghost use Rattle.amqp_model.specs.Answers.{channel_state, gathered, reply_due};
 ghost use Rattle.amqp_model.specs.Asks.{frames_asked};
 ghost use Rattle.amqp_model.specs.Endpoint.{after_feed, after_wrote, new_endpoint};
+ghost use Rattle.amqp_model.specs.Bounds.{OthersAreFree};
 ghost use Rattle.amqp_model.specs.EndVerdict.{takes_octets};
 ghost use Rattle.amqp_model.specs.Fitting.{ConfigWrites};
 ghost use Rattle.amqp_model.specs.Histories.{History};
+ghost use Rattle.amqp_model.specs.Negotiation.{frame_limit};
 ghost use Rattle.amqp_model.specs.LawfulHistories.{then_put};
 ghost use Rattle.amqp_model.specs.Outputs.{output_octets};
 ghost use Rattle.amqp_channel.specs.EventView.{agreed_there};
@@ -15,6 +17,7 @@ ghost use Rattle.amqp_core.specs.Answering.{ran_out};
 ghost use Rattle.amqp_core.specs.AskView.{ask_view};
 ghost use Rattle.amqp_core.specs.Asked.{number_taken};
 ghost use Rattle.amqp_core.specs.Asking.{AcceptsAsk, RefusesAsk};
+ghost use Rattle.amqp_core.specs.Bounded.{IsBounded};
 ghost use Rattle.amqp_core.specs.EndView as ends;
 ghost use Rattle.amqp_core.specs.Feeding.{IsFed};
 ghost use Rattle.amqp_core.specs.LedgerView.{HasRoom};
@@ -35,7 +38,7 @@ use crate::tellings::Telling;
 use crate::tracing::{make_room, put, room_for_ask, take};
 use amqp_channel::{Agreed, ChannelState};
 use amqp_method::Kind;
-use amqp_model::{arrangement, octets, one_end, traces};
+use amqp_model::{answers, arrangement, fitting, octets, one_end, replies, traces};
 
 /// An end of a connection, kept with its history: a note of each frame that it put and took, the items that it told and said,
 /// and all octets that it was fed and that it wrote.
@@ -58,6 +61,8 @@ const MOST_PUT: usize = 8192;
 const MOST_NOTED: usize = 3;
 
 impl<R: Role> Traced<R> {
+    ghost use Rattle.amqp_core.specs.FeedFaults.{FeedFaults};
+    ghost use Rattle.amqp_core.specs.TracedQueries.{AgreedOfHistory, DueOfHistory, GatheredOfHistory, OutputOfHistory, PendingOfHistory, PhaseOfHistory, StateOfHistory, VerdictsOfHistory};
     ghost use Rattle.amqp_core.specs.TracedView.{config_at, role_played, settings_at, traced_of};
 
     /// An end with its history, as it begins.
@@ -86,9 +91,14 @@ impl<R: Role> Traced<R> {
             → ∥ TraceGoesOn (role_played self.old) (config_at self.old) (ran_out result) (traced_of self.old).endpoint piece.now (after_feed (role_played self.old) (config_at self.old) (traced_of self.old).endpoint piece.now) history (traced_of self.new) ∥₁ }
         // A closed or failed end says so, and takes no memory.
         ensures memory { ran_out result ≡ true → takes_octets (traced_of self.old).endpoint.end.phase ≡ true }
+        // After a fault the end has failed. One that is closed, or had failed before, takes nothing and stays as it is.
+        ensures faults { FeedFaults result (traced_of self.old).endpoint (traced_of self.new).endpoint }
+        // What the end does with a frame is what its history gives.
+        ensures verdicts { VerdictsOfHistory self.old }
         ensures settings { settings_at self.new ≡ settings_at self.old }
     {
         octets::cut_changes_nothing();
+        one_end::record_reads();
         one_end::failed_follows();
         traces::memory_runs_out();
         if let Some(fault) = self.end.over() {
@@ -131,7 +141,9 @@ impl<R: Role> Traced<R> {
 
     /// The octets to send next.
     pub fn output(&self) -> &[u8]
-        ensures { result.now ≡ output_octets (traced_of self.now).endpoint.output }
+        ensures octets { result.now ≡ output_octets (traced_of self.now).endpoint.output }
+        // The frames stand in it by the rules, and with what was written those of each channel are in the order put.
+        ensures order { OutputOfHistory self.now }
     {
         self.end.output()
     }
@@ -154,43 +166,67 @@ impl<R: Role> Traced<R> {
 
     /// How far the connection is.
     pub fn phase(&self) -> Phase
-        ensures { result ≡ phase_name (traced_of self.now).endpoint.end.phase }
+        ensures phase { result ≡ phase_name (traced_of self.now).endpoint.end.phase }
+        ensures history { PhaseOfHistory self.now result }
     {
         self.end.phase()
     }
 
     /// What tune-ok settled.
     pub fn agreed(&self) -> Option<Agreed>
-        ensures { agreed_there result ≡ (traced_of self.now).endpoint.end.agreed }
+        ensures agreed { agreed_there result ≡ (traced_of self.now).endpoint.end.agreed }
+        ensures history { AgreedOfHistory self.now (agreed_there result) }
     {
         self.end.agreed()
     }
 
-    /// The state of a channel.
+    /// The state of a channel. Channel 0 and the numbers above the agreed maximum are Free.
     pub fn channel_state(&self, channel: u16) -> ChannelState
-        ensures { state_view result ≡ channel_state (traced_of self.now).endpoint.end channel }
+        ensures state { state_view result ≡ channel_state (traced_of self.now).endpoint.end channel }
+        // So no more channels than were agreed are other than Free.
+        ensures others { OthersAreFree (traced_of self.now).endpoint.end channel }
+        ensures history { StateOfHistory self.now channel (state_view result) }
     {
+        one_end::answers_are_of_history();
+        answers::states_are_of_notes();
         self.end.channel_state(channel)
     }
 
-    /// How many octets were taken of a frame that isn't whole yet, or of the protocol header.
+    /// How many octets were taken of a frame that isn't whole yet, or of the protocol header: fewer than a frame may
+    /// have.
     pub fn pending(&self) -> usize
-        ensures { result ≡ length (traced_of self.now).endpoint.unfinished }
+        ensures count { result ≡ length (traced_of self.now).endpoint.unfinished }
+        ensures below { result < frame_limit (traced_of self.now).endpoint.end.agreed }
+        // A closed or failed end keeps none.
+        ensures none { takes_octets (traced_of self.now).endpoint.end.phase ≡ false → result ≡ 0 }
+        ensures history { PendingOfHistory self.now result }
     {
         self.end.pending()
     }
 
-    /// How many octets are kept of the body of a content that isn't whole yet.
+    /// How many octets are kept of the body of a content that isn't whole yet, in phase Running on an Open channel.
     pub fn gathered(&self, channel: u16) -> usize
-        ensures { result ≡ gathered (traced_of self.now).endpoint.end channel }
+        ensures gathered { result ≡ gathered (traced_of self.now).endpoint.end channel }
+        ensures most { result ≤ (config_at self.now).max_body }
+        ensures history { GatheredOfHistory self.now channel result }
     {
+        one_end::answers_are_of_history();
+        one_end::record_reads();
+        answers::octets_are_of_body();
         self.end.gathered(channel)
     }
 
     /// The request that is to be answered next on a channel.
     pub fn reply_due(&self, channel: u16) -> Option<Kind>
-        ensures { result ≡ reply_due (traced_of self.now).endpoint.end channel }
+        ensures request { result ≡ reply_due (traced_of self.now).endpoint.end channel }
+        // Of each channel at most 1,024 requests are kept, and one at a client.
+        ensures most { IsBounded (role_played self.now) (config_at self.now) (traced_of self.now).endpoint.end }
+        ensures history { DueOfHistory self.now channel result }
     {
+        one_end::answers_are_of_history();
+        one_end::record_reads();
+        replies::unanswered_are_kept();
+        fitting::owed_read_back();
         self.end.reply_due(channel)
     }
 

@@ -89,6 +89,7 @@ pub(crate) fn take<R: Role>(
     octets::cut_changes_nothing();
     one_end::failed_follows();
     one_end::verdict_is_of_history();
+    one_end::record_reads();
     traces::memory_runs_out();
     traces::frames_are_noted();
     traces::events_are_told();

@@ -11,7 +11,7 @@ use Rattle.amqp_core.proofs.laws.unfailed_traces_stand.Goals as goal
 
 by_standing : (role : Role) (config : Config role) (kept : Kept) (history : History) → Stands role config kept history → kept.endpoint.end.phase ≢ Failed → EndpointStandsFor role config kept.endpoint history kept.fed kept.written
 by_standing role config kept history (tracing.stands stands) running = stands
-by_standing role config kept history (tracing.failed limit opening opens failed) running = absurd (running (sym failed.stands.phase))
+by_standing role config kept history (tracing.failed limit opening opens failed shown) running = absurd (running (sym failed.stands.phase))
 by_standing role config kept history (tracing.ran_out unfinished out) running = absurd (running out.failed)
 
 pub returns : goal.returns

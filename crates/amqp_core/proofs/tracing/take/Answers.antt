@@ -1,7 +1,8 @@
 -- The lists go on with what came of the piece, or, out of memory, stay as they are.
-use Rattle.std.proofs.Common.{◌≡◌, ◌≤◌, length, false, refl, sym, ◌∙◌, subst}
+use Rattle.std.proofs.Common.{◌≡◌, ◌≤◌, length, false, suc, refl, sym, ◌∙◌, subst}
 use Rattle.std.proofs.lemmas.List.{length-take-le}
 use Rattle.amqp_model.specs.Endpoint.{after_feed}
+use Rattle.amqp_model.specs.Histories.{entries_on}
 use Rattle.amqp_channel.specs.Roles.{role_of}
 use Rattle.amqp_core.specs.EndView.{config_at, endpoint_of, role_played, settings_at}
 use Rattle.amqp_core.specs.TracedFields.{kept_of}
@@ -39,7 +40,7 @@ returns-clause-history g c = λ history traced.
     traced-took settings (ran_out c.advance-answer.result) old new c.args.piece.now fed account.octets (note_there account.took) (item_kept account.item) account.owed history
     went
     (trace-laws role config c.frames_are_noted.ensures.put (c.events_are_told.ensures.event role config) (c.events_are_told.ensures.put role config) (c.messages_are_said.ensures.method role)
-    (c.verdict_is_of_history.ensures role config false) (c.owed_read_back.ensures.all role config) end.kept.writes)
+    (c.verdict_is_of_history.ensures role config false) (λ end history n. c.record_reads.ensures.channel role (end.channels (suc n)) (entries_on (suc n) history)) (c.owed_read_back.ensures.all role config) end.kept.writes)
     c.requires.takes
     (lists-grow (role_of ledger.side) role old new (note_there account.took) (item_kept account.item) account.owed c.requires.plays
     (record { notes = c.enter.ensures.notes; told = c.enter.ensures.told; said = c.enter.ensures.said }))

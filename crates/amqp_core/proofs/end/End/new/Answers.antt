@@ -1,7 +1,10 @@
 -- What holds of an endpoint holds of the end.
-use Rattle.std.proofs.Common.{sym, ap, ◌∙◌}
-use Rattle.amqp_model.specs.Endpoint.{new_endpoint}
-use Rattle.amqp_core.specs.Settings.{role_for}
+use Rattle.std.proofs.Common.{[], sym, ap, ◌∙◌, subst}
+use Rattle.std.proofs.Math.Logic.{∥∥₁_map}
+use Rattle.amqp_model.specs.Endpoint.{Endpoint, new_endpoint}
+use Rattle.amqp_model.specs.OctetLaws.{EndpointStandsFor}
+use Rattle.amqp_core.specs.EndpointView.{role_at}
+use Rattle.amqp_core.specs.Settings.{config_view, role_for}
 use Rattle.amqp_core.specs.declared.settings.Settings.{Settings}
 use Rattle.amqp_core.proofs.KeptLemmas.{sound_kept}
 use Rattle.amqp_core.proofs.end.End.new.Goals as goal
@@ -14,3 +17,14 @@ invariant_of-result g c = record {
 
 pub returns-clause-begins : goal.returns-clause-begins
 returns-clause-begins g c = c.in_ok-inner.ensures.view ∙ ap (λ (s : Settings). new_endpoint (role_for s)) (sym c.in_ok-inner.ensures.settings)
+
+pub returns-clause-history : goal.returns-clause-history
+returns-clause-history g c =
+    let inner = c.in_ok-inner.inner in
+    let role = role_at inner in
+    let config = config_view inner.core.settings in
+    record {
+      stands = subst (λ (e : Endpoint). EndpointStandsFor role config e [] [] []) (sym (returns-clause-begins g c)) (c.octets_follow.ensures.new role config);
+      writes = c.in_ok-inner.ensures.sound.writes;
+      reads_back = ∥∥₁_map c.in_ok-inner.ensures.sound.writes (c.owed_read_back.ensures.all role config);
+    }

@@ -1,5 +1,5 @@
 -- What is asked of the core is asked of the end.
-use Rattle.std.proofs.Common.{refl}
+use Rattle.std.proofs.Common.{false, refl}
 use Rattle.amqp_core.specs.AskView.{lent_view}
 use Rattle.amqp_core.specs.CoreView.{core_end}
 use Rattle.amqp_core.specs.EndpointView.{endpoint_view, role_at}
@@ -13,6 +13,7 @@ returns-in-Ok-clause-accepted c =
     let old = c.args.self.now in accepts old.core.settings (lent_view c.args.ask) (endpoint_view old) (core_end c.ask.new.self) old.outbox c.ask.new.outbox c.in-Ok.ensures.accepted refl c.requires.fields.agreed
     (c.frames_fit.ensures.asked (role_at old) (core_end old.core) (lent_view c.args.ask) (frames_asked (core_end old.core) (lent_view c.args.ask)))
     (λ history fed written. c.octets_follow.ensures.accepted (role_at old) (config_view old.core.settings) (endpoint_view old) history fed written (lent_view c.args.ask) (frames_asked (core_end old.core) (lent_view c.args.ask)))
+    (λ history. c.ask_is_of_history.ensures (role_at old) (config_view old.core.settings) false (core_end old.core) history (lent_view c.args.ask))
 
 pub returns-in-Ok-clause-sound : goal.returns-in-Ok-clause-sound
 returns-in-Ok-clause-sound c =
@@ -27,6 +28,7 @@ returns-in-Ok-clause-sound c =
 pub returns-in-Err-clause-refused : goal.returns-in-Err-clause-refused
 returns-in-Err-clause-refused c =
     let old = c.args.self.now in refuses old.core.settings (lent_view c.args.ask) c.in-Err.fault (endpoint_view old) (core_end c.ask.new.self) old.outbox c.ask.new.outbox c.in-Err.ensures.refused refl
+    (λ config history. c.ask_is_of_history.ensures (role_at old) config false (core_end old.core) history (lent_view c.args.ask))
 
 pub returns-in-Err-clause-sound : goal.returns-in-Err-clause-sound
 returns-in-Err-clause-sound c =

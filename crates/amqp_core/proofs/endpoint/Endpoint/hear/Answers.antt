@@ -63,7 +63,7 @@ pub returns-clause-sound : goal.returns-clause-sound
 returns-clause-sound c =
     let old = c.args.self.now in
     sound_with old.core.settings (record { core = c.fail.new.self; splitter = old.splitter; heard = 0; outbox = c.begin_with.new.self }) c.fail.ensures.settings c.requires.sound.writes (ap (λ (o : Outgoing). o.staged) c.in-Ok-begin_with.ensures.ok)
-    (fields_failed (role_at old) (core_end c.fail.new.self) 0 old.splitter (sym (ap (λ (e : End). e.phase) c.fail.ensures.end)) (subst IfAgreedFits (sym (ap (λ (e : End). e.agreed) c.fail.ensures.end)) c.requires.sound.fields.agreed) refl)
+    (fields_failed (role_at old) (core_end c.fail.new.self) 0 old.splitter (sym (ap (λ (e : End). e.phase) c.fail.ensures.end)) (subst IfAgreedFits (sym (ap (λ (e : End). e.agreed) c.fail.ensures.end)) c.requires.sound.fields.agreed) refl (c.requires.sound.fields.opening c.requires.awaits))
     (piece_holds (role_at old) (config_view old.core.settings) (endpoint_view old) _ c.args.piece.now _ _ (c.unfinished_is_held.ensures.feed (role_at old) (config_view old.core.settings) (endpoint_view old) c.args.piece.now) c.requires.sound.holds (λ i. omega (arith, c.type_inv.piece i)) (returns-clause-fed c))
     (bounded_failed (role_at old) (config_view old.core.settings) (core_end c.fail.new.self) (sym (ap (λ (e : End). e.phase) c.fail.ensures.end)))
 

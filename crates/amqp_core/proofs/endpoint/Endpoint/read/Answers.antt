@@ -94,7 +94,8 @@ returns-in-Err-clause-sound c =
     let by = fed_by (role_at old) (core_end old.core) old.heard old.splitter old.outbox.output c.args.piece.now c.requires.reads c.requires.sound.fields c.requires.sound.holds (λ i. omega (arith, c.type_inv.piece i)) in
     let left = stop_leaves (role_at old) (config_view old.core.settings) (core_end old.core) (core_end c.stop.new.self) c.in-Err.fault.kind (is_out_of_memory c.stop.result) c.stop.ensures.end c.requires.sound.fields.agreed in
     sound_with old.core.settings (record { core = c.stop.new.self; splitter = c.feed_ref.follows.lender-at-none; heard = old.heard; outbox = c.stop.new.outbox }) c.stop.ensures.settings c.requires.sound.writes (ap (λ (o : Outgoing). o.staged) c.stop.ensures.output)
-    (fields_failed (role_at old) (core_end c.stop.new.self) old.heard c.feed_ref.follows.lender-at-none left.0 left.1 (c.requires.sound.fields.opened r.opened))
+    (fields_failed (role_at old) (core_end c.stop.new.self) old.heard c.feed_ref.follows.lender-at-none left.0 left.1 (c.requires.sound.fields.opened r.opened)
+    (after_stop old.splitter c.args.piece.now c.feed_ref.result c.in-Err.fault c.feed_ref.follows.lender-at-none c.feed_ref.follows.holds-at-none c.in-Err.is))
     (fed_holds (role_at old) (config_view old.core.settings) (endpoint_view old) _ old.splitter c.args.piece.now _ _ (c.unfinished_is_held.ensures.feed (role_at old) (config_view old.core.settings) (endpoint_view old) c.args.piece.now) by (returns-in-Err-clause-fed c))
     (bounded_failed (role_at old) (config_view old.core.settings) (core_end c.stop.new.self) left.0)
 

@@ -22,6 +22,6 @@ returns-clause-sound c =
     let old = c.args.self.now in
     let failed = sym (ap (λ (e : End). e.phase) c.fail.ensures.end) in
     sound_with old.core.settings (record { core = c.fail.new.self; splitter = c.new.result; heard = 0; outbox = old.outbox }) c.fail.ensures.settings c.requires.sound.writes c.requires.sound.staged
-    (fields_failed (role_at old) (core_end c.fail.new.self) 0 c.new.result failed (subst IfAgreedFits (sym (ap (λ (e : End). e.agreed) c.fail.ensures.end)) c.requires.sound.fields.agreed) refl)
+    (fields_failed (role_at old) (core_end c.fail.new.self) 0 c.new.result failed (subst IfAgreedFits (sym (ap (λ (e : End). e.agreed) c.fail.ensures.end)) c.requires.sound.fields.agreed) refl c.new.ensures.pending)
     (holds_failed (role_at old) (endpoint_view (record { core = c.fail.new.self; splitter = c.new.result; heard = 0; outbox = old.outbox })) failed)
     (bounded_failed (role_at old) (config_view old.core.settings) (core_end c.fail.new.self) failed)

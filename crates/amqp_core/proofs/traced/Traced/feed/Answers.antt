@@ -1,6 +1,7 @@
 -- The lists go on with what came of the piece, or, out of memory, stay as they are.
-use Rattle.std.proofs.Common.{◌≡◌, ◌≢◌, ◌+◌, ◌<◌, ◌≤◌, [], length, vec_len, vec_capacity, refl, ap, sym, ◌∙◌, subst, arith}
+use Rattle.std.proofs.Common.{suc, Err, ◌≡◌, ◌≢◌, ◌+◌, ◌<◌, ◌≤◌, [], length, vec_len, vec_capacity, refl, ap, sym, ◌∙◌, subst, arith}
 use Rattle.amqp_model.specs.Endpoint.{after_feed}
+use Rattle.amqp_model.specs.Histories.{entries_on}
 use Rattle.amqp_model.specs.Outputs.{Output, output_octets}
 use Rattle.amqp_channel.specs.Roles.{role_of}
 use Rattle.amqp_core.specs.Answering.{ran_out}
@@ -8,7 +9,11 @@ use Rattle.amqp_core.specs.EndView.{config_at, endpoint_of, role_played, setting
 use Rattle.amqp_core.specs.Settings.{role_for}
 use Rattle.amqp_core.specs.TracedFields.{kept_of}
 use Rattle.amqp_core.specs.Tracing.{TraceGoesOn}
+use Rattle.amqp_core.specs.declared.faults.CoreFault.TheVariants as core
 use Rattle.amqp_core.specs.declared.settings.Settings.{Settings}
+use Rattle.amqp_core.proofs.FeedFaultLemmas.{feed_faults, over_memory}
+use Rattle.amqp_core.proofs.OfHistoryLemmas.{verdicts_are}
+use Rattle.amqp_core.proofs.QueryLemmas.{unfailed_stands}
 use Rattle.amqp_core.proofs.TakenLemmas.{fed-told, octets-told, ran-told}
 use Rattle.amqp_core.proofs.TracedLemmas.{not-err, over-feed, traced-out, traced-same, traces-kept, traces-on, traces-same}
 use Rattle.amqp_core.proofs.traced.Traced.feed.Goals as goal
@@ -106,3 +111,64 @@ returns-clause-history g c = λ history traced.
     subst (λ b. ∥ TraceGoesOn role config b old c.args.piece.now (after_feed role config old c.args.piece.now) history (kept_of c.take-answer.new.end c.take-answer.new.ledger) ∥₁)
     (ran-told c.take-answer.new.news c.take-answer.result c.told.result c.told.ensures)
     (c.take-answer.ensures.history history (traced-same role config (kept_of self.end self.ledger) (kept_of self.end c.make_room-room.new.ledger) history refl c.make_room-room.ensures.same traced))
+
+pub returns-in-Some-clause-faults : goal.returns-in-Some-clause-faults
+returns-in-Some-clause-faults g c =
+    let end = c.args.self.now.end in
+    let laws = c.cut_changes_nothing.ensures in
+    feed_faults (role_played end) (config_at end) (Err c.in-Some.fault) (endpoint_of end) (endpoint_of end) c.args.piece.now (returns-in-Some-clause-fed g c)
+    (laws.closed (role_played end) (config_at end) (endpoint_of end) c.args.piece.now) (laws.failed (role_played end) (config_at end) (endpoint_of end) c.args.piece.now)
+    (over_memory (endpoint_of end).end.phase c.in-Some.fault c.in-Some.ensures)
+
+pub returns-then-is_err-clause-faults : goal.returns-then-is_err-clause-faults
+returns-then-is_err-clause-faults g c =
+    let end = c.args.self.now.end in
+    let laws = c.cut_changes_nothing.ensures in
+    feed_faults (role_played end) (config_at end) (Err core.OutOfMemory) (endpoint_of end) (endpoint_of c.run_out.new.self) c.args.piece.now
+    (record { answer = tt; taken = tt; left = c.run_out.ensures.left })
+    (laws.closed (role_played end) (config_at end) (endpoint_of end) c.args.piece.now) (laws.failed (role_played end) (config_at end) (endpoint_of end) c.args.piece.now)
+    (λ ran. c.in_default.ensures)
+
+pub returns-clause-faults : goal.returns-clause-faults
+returns-clause-faults g c =
+    let end = c.args.self.now.end in
+    let laws = c.cut_changes_nothing.ensures in
+    feed_faults (role_played end) (config_at end) c.told.result (endpoint_of end) (endpoint_of c.take-answer.new.end) c.args.piece.now (returns-clause-fed g c)
+    (laws.closed (role_played end) (config_at end) (endpoint_of end) c.args.piece.now) (laws.failed (role_played end) (config_at end) (endpoint_of end) c.args.piece.now)
+    (λ ran. c.in_default.ensures)
+
+pub returns-in-Some-clause-verdicts : goal.returns-in-Some-clause-verdicts
+returns-in-Some-clause-verdicts g c =
+    let self = c.args.self.now in
+    let role = role_played self.end in
+    let end = (endpoint_of self.end).end in
+    record {
+      one = self.traces;
+      each = λ history traced on.
+          verdicts_are role (config_at self.end) end history (λ n. c.record_reads.ensures.channel role (end.channels (suc n)) (entries_on (suc n) history))
+          (unfailed_stands role (config_at self.end) (kept_of self.end self.ledger) history traced on);
+    }
+
+pub returns-then-is_err-clause-verdicts : goal.returns-then-is_err-clause-verdicts
+returns-then-is_err-clause-verdicts g c =
+    let self = c.args.self.now in
+    let role = role_played self.end in
+    let end = (endpoint_of self.end).end in
+    record {
+      one = self.traces;
+      each = λ history traced on.
+          verdicts_are role (config_at self.end) end history (λ n. c.record_reads.ensures.channel role (end.channels (suc n)) (entries_on (suc n) history))
+          (unfailed_stands role (config_at self.end) (kept_of self.end self.ledger) history traced on);
+    }
+
+pub returns-clause-verdicts : goal.returns-clause-verdicts
+returns-clause-verdicts g c =
+    let self = c.args.self.now in
+    let role = role_played self.end in
+    let end = (endpoint_of self.end).end in
+    record {
+      one = self.traces;
+      each = λ history traced on.
+          verdicts_are role (config_at self.end) end history (λ n. c.record_reads.ensures.channel role (end.channels (suc n)) (entries_on (suc n) history))
+          (unfailed_stands role (config_at self.end) (kept_of self.end self.ledger) history traced on);
+    }

@@ -10,7 +10,7 @@ pub invariant_of-result : goal.invariant_of-result
 invariant_of-result g c =
     let end = c.args.end in
     let ledger = c.reserve.new.self in
-    let written = ap length c.output.ensures in
+    let written = ap length c.output.ensures.octets in
     record {
       plays = ap role_of (c.reserve.ensures.side ∙ c.new-ledger.ensures.side) ∙ c.side.ensures;
       room = omega (arith, c.in_ok-reserve.ensures.written, written);

@@ -26,7 +26,7 @@ returns-clause-history g c = λ history traced.
     (λ endpoint. c.memory_runs_out.ensures.wrote role config endpoint history old.fed old.written c.args.octets)
     c.requires c.wrote.ensures.written (λ i. map note_view (c.write.ensures.notes_same i).items) (λ i. map telling_view (c.write.ensures.told_same i).items)
     (λ i. map telling_view (c.write.ensures.said_same i).items) (λ i. (c.write.ensures.fed_same i).items)
-    (c.write.ensures.written ∙ ap (λ octets. old.written ++ take c.args.octets octets) c.output.ensures) traced)
+    (c.write.ensures.written ∙ ap (λ octets. old.written ++ take c.args.octets octets) c.output.ensures.octets) traced)
 
 pub invariant_of-self : goal.invariant_of-self
 invariant_of-self g c =
@@ -39,7 +39,7 @@ invariant_of-self g c =
     let left : output_octets (endpoint_of c.wrote.new.self).output ≡ drop c.args.octets (output_octets (endpoint_of end).output) =
     ap (λ (e : Endpoint). output_octets e.output) c.wrote.ensures.written ∙ (c.write_keeps_arranged.ensures.leaves c.args.octets (endpoint_of end).output c.requires).octets_are in
     let fewer : length (output_octets (endpoint_of c.wrote.new.self).output) ≡ length (output_octets (endpoint_of end).output) - c.args.octets = ap length left ∙ length-drop c.args.octets (output_octets (endpoint_of end).output) in
-    let there = length-take-le c.args.octets c.output.result.now (subst (λ octets. c.args.octets ≤ length octets) (sym c.output.ensures) c.requires) in
+    let there = length-take-le c.args.octets c.output.result.now (subst (λ octets. c.args.octets ≤ length octets) (sym c.output.ensures.octets) c.requires) in
     let moved : vec_len c.write.new.self.written ≡ vec_len ledger.written + c.args.octets = c.write.ensures.len ∙ ap (λ n. vec_len ledger.written + n) there in
     record {
       plays = ap role_of c.write.ensures.side ∙ (c.args.self.now.plays ∙ sym (ap (λ (s : Settings). role_for s) c.wrote.ensures.settings));
@@ -51,5 +51,5 @@ invariant_of-self g c =
           (λ endpoint. c.memory_runs_out.ensures.wrote role config endpoint history old.fed old.written c.args.octets)
           c.requires c.wrote.ensures.written (λ i. map note_view (c.write.ensures.notes_same i).items) (λ i. map telling_view (c.write.ensures.told_same i).items)
           (λ i. map telling_view (c.write.ensures.said_same i).items) (λ i. (c.write.ensures.fed_same i).items)
-          (c.write.ensures.written ∙ ap (λ octets. old.written ++ take c.args.octets octets) c.output.ensures) traced)) c.args.self.now.traces);
+          (c.write.ensures.written ∙ ap (λ octets. old.written ++ take c.args.octets octets) c.output.ensures.octets) traced)) c.args.self.now.traces);
     }

@@ -13,9 +13,9 @@ returns-then-written-clause-pushed g c =
     let count = c.min-count.result in
     let written = c.write_prefix-written in
     let n = written.result.octets in
-    let all : length (take count output) ≡ due c.args.limit old = length_due c.args.limit count old output c.output-output.ensures c.min-count.ensures in
+    let all : length (take count output) ≡ due c.args.limit old = length_due c.args.limit count old output c.output-output.ensures.octets c.min-count.ensures in
     let part : n < length (take count output) = written.ensures.part c.if-written.true in
-    let moved = moves c.args.limit count n old new output _ _ c.output-output.ensures c.min-count.ensures written.ensures.within
+    let moved = moves c.args.limit count n old new output _ _ c.output-output.ensures.octets c.min-count.ensures written.ensures.within
     c.wrote.ensures.written written.ensures.appended in
     (n, (omega arith, moved))
 
@@ -27,8 +27,8 @@ returns-clause-pushed g c =
     let count = c.min-count.result in
     let written = c.write_prefix-written in
     let n = written.result.octets in
-    let all : length (take count output) ≡ due c.args.limit old = length_due c.args.limit count old output c.output-output.ensures c.min-count.ensures in
+    let all : length (take count output) ≡ due c.args.limit old = length_due c.args.limit count old output c.output-output.ensures.octets c.min-count.ensures in
     let whole : n ≡ length (take count output) = written.ensures.all c.if-written.false in
-    let moved = moves c.args.limit count n old new output _ _ c.output-output.ensures c.min-count.ensures written.ensures.within
+    let moved = moves c.args.limit count n old new output _ _ c.output-output.ensures.octets c.min-count.ensures written.ensures.within
     c.wrote.ensures.written written.ensures.appended in
     (omega arith, moved)

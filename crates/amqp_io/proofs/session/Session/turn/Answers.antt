@@ -14,7 +14,7 @@ returns-in_err-push-clause-turned g c =
     let pull = c.in_ok-pull.ensures in
     let push = c.in_err-push.ensures in
     rw (p.1, p.2) (inr (pulled_and_pushed (role_in old) (config_in old) _ _ _ (intake_of old) between new _ _ _ _ _ _
-    pull.pulled push.to_give (ap length c.output-all.ensures) push.pushed pull.taken push.unfed push.events))
+    pull.pulled push.to_give (ap length c.output-all.ensures.octets) push.pushed pull.taken push.unfed push.events))
 
 pub returns-clause-turned : goal.returns-clause-turned
 returns-clause-turned g c =
@@ -24,5 +24,5 @@ returns-clause-turned g c =
     let pull = c.in_ok-pull.ensures in
     let push = c.in_ok-push.ensures in
     let both = pulled_and_pushed (role_in old) (config_in old) _ _ _ (intake_of old) between new _ _ _ _ _ _
-    pull.pulled push.to_give (ap length c.output-all.ensures) push.pushed pull.taken push.unfed push.events in
+    pull.pulled push.to_give (ap length c.output-all.ensures.octets) push.pushed pull.taken push.unfed push.events in
     (c.in_ok-push.field-0, both)

@@ -1,0 +1,16 @@
+-- The state of a channel is the one that every history counts.
+use Rattle.std.proofs.Common.{false}
+use Rattle.amqp_channel.specs.StateView.{state_view}
+use Rattle.amqp_core.specs.EndView.{config_at, endpoint_of, role_played}
+use Rattle.amqp_core.proofs.QueryLemmas.{state_is}
+use Rattle.amqp_core.proofs.end.End.channel_state.Goals as goal
+
+pub returns-clause-history : goal.returns-clause-history
+returns-clause-history g c = λ history fed written stands.
+    let end = c.args.self.now in
+    let role = role_played end in
+    let config = config_at end in
+    let kept = (endpoint_of end).end in
+    state_is role config false kept history c.args.channel (state_view c.channel_state.result)
+    (c.answers_are_of_history.ensures role config false kept history c.args.channel) (c.states_are_of_notes.ensures.open role config kept history)
+    stands.stands c.channel_state.ensures

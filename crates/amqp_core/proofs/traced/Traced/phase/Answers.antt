@@ -1,0 +1,16 @@
+-- The phase is the one that its history counts.
+use Rattle.amqp_core.specs.Counted.{is_failed}
+use Rattle.amqp_core.specs.TracedView.{config_at, role_played, traced_of}
+use Rattle.amqp_core.proofs.QueryLemmas.{phase_is, standing}
+use Rattle.amqp_core.proofs.traced.Traced.phase.Goals as goal
+
+pub returns-clause-history : goal.returns-clause-history
+returns-clause-history g c =
+    let self = c.args.self.now in
+    let role = role_played self in
+    let config = config_at self in
+    let kept = traced_of self in
+    record {
+      one = self.traces;
+      each = λ history traced. phase_is role config (is_failed kept.endpoint.end.phase) kept.endpoint.end history c.phase.result (standing role config kept history traced.stands).stands c.phase.ensures.phase;
+    }
