@@ -1,4 +1,5 @@
 mod OutboxFrames
+mod OutboxLaps
 mod OutboxLists
 mod OutboxMoves
 mod OutboxPlaces

@@ -1,4 +1,5 @@
 use Rattle.std.proofs.Common.{arith}
+use Rattle.amqp_outbox.proofs.OutboxLaps.{turns-counted}
 use Rattle.amqp_outbox.proofs.OutboxPlaces.{from_beginning, after_own}
 use Rattle.amqp_outbox.proofs.slots.place_of.Goals as goal
 
