@@ -1,4 +1,5 @@
 mod OutboxFrames
+mod OutboxLapMoves
 mod OutboxLaps
 mod OutboxLists
 mod OutboxMoves
@@ -6,5 +7,6 @@ mod OutboxPlaces
 mod OutboxRows
 mod OutboxSlots
 mod OutboxStates
+mod OutboxTurns
 mod OutboxWrites
 mod ReadLemmas

@@ -1,11 +1,11 @@
 -- Laps, and the place of a frame by them.
-use Rattle.std.proofs.Common.{◌≡◌, ℕ, zero, suc, ◌+◌, ◌-◌, ◌*◌, ◌<◌, ◌≤◌, Bool, true, false, cond, ◌==◌, nat_lt, ◌⊎◌, inl, inr, List, [], ◌∷◌, ◌++◌, length, map, take, drop, All, get_or, refl, sym, ap, ap₂, ◌∙◌, subst, arith, lt-ltb, le-ltb, eq-eqb, ne_eqb, eqb-true, ltb-true, ltb-false}
+use Rattle.std.proofs.Common.{◌≡◌, ℕ, zero, suc, ◌+◌, ◌-◌, ◌*◌, ◌<◌, ◌≤◌, Bool, true, false, cond, ◌==◌, nat_lt, ◌⊎◌, inl, inr, List, [], ◌∷◌, ◌++◌, length, map, take, drop, All, get_or, refl, sym, ap, ap₂, ◌∙◌, subst, arith, lt-ltb, le-ltb, eq-eqb, ne_eqb, eqb-true, ltb-true}
 use Rattle.std.proofs.lemmas.Bool.{eqb-false, cond-true, cond-false, and_parts, and_left, cases_lt, cases_eq, both_ways, false_from_ne_true}
-use Rattle.std.proofs.lemmas.List.{take_more}
+use Rattle.std.proofs.lemmas.List.{take_more, get_or_default}
 use Rattle.std.proofs.lemmas.List.Elements.{All-nil, All-cons, All-head, All-tail, All-weaker}
 use Rattle.amqp_frame.specs.Frame.{Frame}
-use Rattle.amqp_model.specs.Arrangement.{is_leaving, steps, turn, last_after, IsArranged, IsNext, HasChannel}
-use Rattle.amqp_outbox.specs.OutboxSlots.{slot_of, slot_turn, slot_last, slots_last, turns_before}
+use Rattle.amqp_model.specs.Arrangement.{is_leaving, steps, turn, IsArranged, IsNext, HasChannel}
+use Rattle.amqp_outbox.specs.OutboxSlots.{slot_of, slot_last, slots_last, turns_before}
 use Rattle.amqp_outbox.specs.OutboxLaps.{lap_after, slot_lap, laps_of, laps_last, moment, is_after, count_until, AllAfter, AreInOrder}
 use Rattle.amqp_outbox.specs.declared.slots.Slot.{Slot}
 
@@ -500,3 +500,60 @@ laps_last-append lap last (x ∷ xs) ys = laps_last-append (lap_after lap last x
 
 pub laps_last-more : (lap last : ℕ) (xs : List Slot) (i : ℕ) (d : Slot) → i < length xs → laps_last lap last (take (i + 1) xs) ≡ lap_after (laps_last lap last (take i xs)) (slots_last last (take i xs)) (get_or xs i d)
 laps_last-more lap last xs i d h = ap (laps_last lap last) (take_more xs i d h) ∙ laps_last-append lap last (take i xs) (get_or xs i d ∷ [])
+
+-- what a search for the count knows
+pub record Searched (at : ℕ) (slots : List Slot) (laps : List ℕ) (low high : ℕ) : Type 0 where
+  pub order : low ≤ high
+  pub within : high ≤ length slots
+  pub before : (k : ℕ) (d : Slot) → low ≡ suc k → is_after at (get_or slots k d) (get_or laps k 0) ≡ false
+  pub after : (d : Slot) → high < length slots → is_after at (get_or slots high d) (get_or laps high 0) ≡ true
+
+pub search-begun : (at : ℕ) (slots : List Slot) (laps : List ℕ) → Searched at slots laps 0 (length slots)
+search-begun at slots laps = record {
+  order = omega arith;
+  within = omega arith;
+  before = λ k d e. absurd (omega arith);
+  after = λ d h. absurd (omega arith);
+}
+
+pub search-lower : (at : ℕ) (slots : List Slot) (laps : List ℕ) (low high middle : ℕ) (d : Slot) → Searched at slots laps low high → low ≤ middle → middle < high
+    → is_after at (get_or slots middle d) (get_or laps middle 0) ≡ true → Searched at slots laps low middle
+search-lower at slots laps low high middle d s l h e =
+    let w = s.within in
+    record {
+      order = l;
+      within = omega arith;
+      before = s.before;
+      after = λ d2 m. ap (λ x. is_after at x (get_or laps middle 0)) (get_or_default slots middle d2 d (omega arith)) ∙ e;
+    }
+
+pub search-higher : (at : ℕ) (slots : List Slot) (laps : List ℕ) (low high middle : ℕ) (d : Slot) → Searched at slots laps low high → low ≤ middle → middle < high
+    → is_after at (get_or slots middle d) (get_or laps middle 0) ≡ false → Searched at slots laps (middle + 1) high
+search-higher at slots laps low high middle d s l h e =
+    let w = s.within in
+    record {
+      order = omega arith;
+      within = w;
+      before = λ k d2 z.
+          let same : k ≡ middle = omega arith in
+          ap (λ i. is_after at (get_or slots i d2) (get_or laps i 0)) same
+          ∙ (ap (λ x. is_after at x (get_or laps middle 0)) (get_or_default slots middle d2 d (omega arith)) ∙ e);
+      after = s.after;
+    }
+
+pub search-ended : (at : ℕ) (slots : List Slot) (laps : List ℕ) (low high : ℕ) → Searched at slots laps low high → high ≤ low → length slots ≡ length laps → AreInOrder at slots laps → low ≡ count_until at slots laps
+search-ended at slots laps low high s h e o = cases slots s o e refl
+  where
+    cases : (xs : List Slot) → Searched at xs laps low high → AreInOrder at xs laps → length xs ≡ length laps → slots ≡ xs → low ≡ count_until at xs laps
+    cases [] s o e same = let w = s.within in let r = s.order in omega arith
+    cases (x ∷ xs) s o e same =
+        let w = s.within in
+        let r = s.order in
+        let here : low ≡ high = omega arith in
+        count-found at (x ∷ xs) laps low x o e (omega arith) (λ k z. s.before k x z)
+        (λ l. ap (λ i. is_after at (get_or (x ∷ xs) i x) (get_or laps i 0)) here ∙ s.after x (omega arith))
+
+-- one frame more is begun
+pub lap-begun : (lap last i its now more : ℕ) (xs : List Slot) (d : Slot) → i < length xs → its ≡ laps_last lap last (take i xs) → now ≡ slots_last last (take i xs) → more ≡ lap_after its now (get_or xs i d)
+    → more ≡ laps_last lap last (take (i + 1) xs)
+lap-begun lap last i its now more xs d h e f g = g ∙ (ap₂ (λ p w. lap_after p w (get_or xs i d)) e f ∙ sym (laps_last-more lap last xs i d h))

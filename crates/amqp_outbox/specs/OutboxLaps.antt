@@ -1,6 +1,6 @@
 -- In which lap a frame's turn comes. The writer goes round the channels again and again, 1 to 65535, and each time is a lap: within a lap
 -- the frames of a row stand in the order of their channels.
-use Rattle.std.specs.Prelude.{◌≡◌, ℕ, suc, ◌+◌, ◌*◌, ◌≤◌, Bool, true, cond, ◌==◌, nat_lt, List, [], ◌∷◌, ◌++◌, length, map, take, drop, All}
+use Rattle.std.specs.Prelude.{◌≡◌, ℕ, suc, ◌+◌, ◌*◌, Bool, true, cond, ◌==◌, nat_lt, List, [], ◌∷◌, ◌++◌, map, take, drop, All}
 use Rattle.amqp_frame.specs.Frame.{Frame}
 use Rattle.amqp_model.specs.Arrangement.{IsArranged, HasChannel}
 use Rattle.amqp_outbox.specs.OutboxSlots.{slot_of, slot_last}
@@ -50,9 +50,8 @@ AreInOrder at [] laps = Unit {0}
 AreInOrder at (slot ∷ later) [] = Unit {0}
 AreInOrder at (slot ∷ later) (lap ∷ laps) = (is_after at slot lap ≡ true → AllAfter at later laps) × AreInOrder at later laps
 
--- The lap of a frame at a place in a row: with it there, the row has the laps that it had and this one.
-abbrev pub IsLap : (lap last : ℕ) → Slot → List Slot → (laps : List ℕ) → (place its : ℕ) → Type 0
-IsLap lap last slot slots laps place its =
-    (f : Frame) (row : List Frame) → slot_of f ≡ slot → map slot_of row ≡ slots → IsArranged last row → All HasChannel row → HasChannel f
-    → laps ≡ laps_of lap last slots
-    → laps_of lap last (take place slots ++ slot ∷ drop place slots) ≡ take place laps ++ its ∷ drop place laps
+-- The lap of a frame at a place in a row: with it there, the others have the laps that they had.
+abbrev pub IsLap : (lap last : ℕ) → Slot → List Slot → (place its : ℕ) → Type 0
+IsLap lap last slot slots place its =
+    (f : Frame) (row : List Frame) → slot_of f ≡ slot → map slot_of row ≡ slots → IsArranged last row → All HasChannel row
+    → laps_of lap last (take place slots ++ slot ∷ drop place slots) ≡ take place (laps_of lap last slots) ++ its ∷ drop place (laps_of lap last slots)
