@@ -3,14 +3,13 @@ use Rattle.std.proofs.Common.{◌≡◌, ℕ, ◌+◌, ◌-◌, ◌^◌, ◌<◌
 use Rattle.std.proofs.lemmas.List.{drop_at, length-map, length-take-le, take-map, drop-map, drop-take, map-append, set_at}
 use Rattle.amqp_frame.specs.Frame.{Frame}
 use Rattle.amqp_outbox.specs.OutboxSlots.{slot_of, slots_last, moved_up}
-use Rattle.amqp_outbox.specs.OutboxLaps.{laps_of, laps_last}
+use Rattle.amqp_outbox.specs.OutboxLaps.{laps_of, laps_last, TakesLap}
 use Rattle.amqp_outbox.specs.OutboxFields.{row_laps, row_of, staged_of, IsSound}
 use Rattle.amqp_outbox.specs.declared.slots.Slot.{Slot}
 use Rattle.amqp_outbox.specs.declared.outbox.Outbox.TheInside.{Inside}
 use Rattle.amqp_outbox.proofs.OutboxLaps.{laps-from, laps_last-most, length-laps}
 use Rattle.amqp_outbox.proofs.OutboxLists.{moved_up-is, three, length-second}
 use Rattle.amqp_outbox.proofs.OutboxStates.{IsInLaps, in_laps}
-use Rattle.amqp_outbox.proofs.OutboxTurns.{TakesLap}
 
 -- nothing of the laps changes
 pub same_laps : (x y : Inside) → IsSound x → y.laps.items ≡ x.laps.items → y.lap ≡ x.lap → y.last ≡ x.last → y.slots_begun ≡ x.slots_begun

@@ -6,7 +6,7 @@ use Rattle.std.proofs.lemmas.List.Elements.{All-nil, All-cons, All-head, All-tai
 use Rattle.amqp_frame.specs.Frame.{Frame}
 use Rattle.amqp_model.specs.Arrangement.{is_leaving, steps, turn, IsArranged, IsNext, HasChannel}
 use Rattle.amqp_outbox.specs.OutboxSlots.{slot_of, slot_last, slots_last, turns_before}
-use Rattle.amqp_outbox.specs.OutboxLaps.{lap_after, slot_lap, laps_of, laps_last, moment, is_after, count_until, AllAfter, AreInOrder}
+use Rattle.amqp_outbox.specs.OutboxLaps.{lap_after, slot_lap, laps_of, laps_last, moment, is_after, count_until, AllAfter, AreInOrder, TakesLap}
 use Rattle.amqp_outbox.specs.declared.slots.Slot.{Slot}
 
 -- a frame of channel 0, which moves neither LAST nor the lap
@@ -297,7 +297,7 @@ leaving-laps lap last then now (g ∷ later) h =
 
 -- what is said of a row below
 abbrev pub Takes : (at its lap last : ℕ) → Frame → List Frame → ℕ → Type 0
-Takes at its lap last f row n = laps_of lap last (take n (map slot_of row) ++ slot_of f ∷ drop n (map slot_of row)) ≡ take n (laps_of lap last (map slot_of row)) ++ its ∷ drop n (laps_of lap last (map slot_of row))
+Takes at its lap last f row n = TakesLap its lap last n (slot_of f) (map slot_of row)
 
 abbrev pub GoesIn : (at its lap last : ℕ) → Frame → List Frame → Type 0
 GoesIn at its lap last f row =

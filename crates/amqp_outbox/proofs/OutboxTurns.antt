@@ -7,7 +7,7 @@ use Rattle.amqp_frame.specs.Frame.{Frame}
 use Rattle.amqp_model.specs.Arrangement.{is_leaving, steps, last_after, last_after_all, IsArranged, HasChannel}
 use Rattle.amqp_model.specs.ArrangementLaws.{PlaceIsAfterItsQueue}
 use Rattle.amqp_outbox.specs.OutboxSlots.{slot_of, slots_last, turns_before, EndsWithChannel, IsPlace}
-use Rattle.amqp_outbox.specs.OutboxLaps.{lap_after, laps_of, laps_last, moment, count_until, AreInOrder, IsLap}
+use Rattle.amqp_outbox.specs.OutboxLaps.{lap_after, laps_of, laps_last, moment, count_until, AreInOrder, Counts, TakesLap, IsLap}
 use Rattle.amqp_outbox.specs.declared.slots.Slot.{Slot}
 use Rattle.amqp_outbox.proofs.OutboxLaps.{moves, in_order, turns-counted, Takes, laps-in, zero-in, plain-counted, laps-from, laps-append, laps-at, laps-most, length-laps}
 use Rattle.amqp_outbox.proofs.OutboxLists.{take_past, drop_past}
@@ -45,14 +45,6 @@ last-of-row last (f ∷ row) l c = last-of-row (last_after last f) row (one (f.c
     one : (z : Bool) → cond z last f.channel < 65536
     one true = l
     one false = All-head HasChannel f row c
-
--- a slot takes a lap in a row, and the others keep theirs
-abbrev pub TakesLap : (next now w n : ℕ) → Slot → List Slot → Type 0
-TakesLap next now w n slot slots = laps_of now w (take n slots ++ slot ∷ drop n slots) ≡ take n (laps_of now w slots) ++ next ∷ drop n (laps_of now w slots)
-
--- what a search for a count answers
-abbrev pub Counts : (at n : ℕ) → List Slot → (laps : List ℕ) → Type 0
-Counts at n slots laps = AreInOrder at slots laps → n ≡ count_until at slots laps
 
 same_counts : (n a b : ℕ) (xs ys : List Slot) (ls ms : List ℕ) → a ≡ b → xs ≡ ys → ls ≡ ms → Counts a n xs ls → Counts b n ys ms
 same_counts n a b xs ys ls ms e f g h = subst (λ (x : ℕ). Counts x n ys ms) e (subst (λ (x : List Slot). Counts a n x ms) f (subst (λ (x : List ℕ). Counts a n xs x) g h))

@@ -1,5 +1,5 @@
--- In which lap a frame's turn comes. The writer goes round the channels again and again, 1 to 65535, and each time is a lap: within a lap
--- the frames of a row stand in the order of their channels.
+-- In which lap a frame's turn comes. The writer goes round the channels again and again, 1 to 65535, and each time is a
+-- lap: within a lap the frames of a row stand in the order of their channels.
 use Rattle.std.specs.Prelude.{◌≡◌, ℕ, suc, ◌+◌, ◌*◌, Bool, true, cond, ◌==◌, nat_lt, List, [], ◌∷◌, ◌++◌, map, take, drop, All}
 use Rattle.amqp_frame.specs.Frame.{Frame}
 use Rattle.amqp_model.specs.Arrangement.{IsArranged, HasChannel}
@@ -48,10 +48,21 @@ AllAfter at (slot ∷ later) (lap ∷ laps) = (is_after at slot lap ≡ true) ×
 abbrev pub AreInOrder : (moment : ℕ) → List Slot → (laps : List ℕ) → Type 0
 AreInOrder at [] laps = Unit {0}
 AreInOrder at (slot ∷ later) [] = Unit {0}
-AreInOrder at (slot ∷ later) (lap ∷ laps) = (is_after at slot lap ≡ true → AllAfter at later laps) × AreInOrder at later laps
+AreInOrder at (slot ∷ later) (lap ∷ laps) =
+    (is_after at slot lap ≡ true → AllAfter at later laps) × AreInOrder at later laps
 
--- The lap of a frame at a place in a row: with it there, the others have the laps that they had.
+-- a number is the count, in a row that is in order
+abbrev pub Counts : (moment count : ℕ) → List Slot → (laps : List ℕ) → Type 0
+Counts at count slots laps = AreInOrder at slots laps → count ≡ count_until at slots laps
+
+-- a slot takes a lap at a place in a row, and the others keep theirs
+abbrev pub TakesLap : (its lap last place : ℕ) → Slot → List Slot → Type 0
+TakesLap its lap last place slot slots =
+    laps_of lap last (take place slots ++ slot ∷ drop place slots)
+    ≡ take place (laps_of lap last slots) ++ its ∷ drop place (laps_of lap last slots)
+
+-- the lap of a frame that is put at a place in a row
 abbrev pub IsLap : (lap last : ℕ) → Slot → List Slot → (place its : ℕ) → Type 0
 IsLap lap last slot slots place its =
     (f : Frame) (row : List Frame) → slot_of f ≡ slot → map slot_of row ≡ slots → IsArranged last row → All HasChannel row
-    → laps_of lap last (take place slots ++ slot ∷ drop place slots) ≡ take place (laps_of lap last slots) ++ its ∷ drop place (laps_of lap last slots)
+    → TakesLap its lap last place slot slots

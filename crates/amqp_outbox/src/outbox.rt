@@ -4,12 +4,16 @@
 //! then moves each staged frame to its place and can't fail. An end stages all that a call puts, changes its own state,
 //! and puts; where staging fails it discards what it staged, and the output is as before.
 //!
+//! A frame's place is found by laps. The writer goes round the channels again and again, and each time is a lap: the
+//! frames of the row stand in the order of their laps, and within a lap in that of their channels. Where the last frame
+//! of the row is of the same channel, the new one stands after it, and nothing else is looked at. Otherwise the row is
+//! halved again and again: once where no frame of the channel waits, else some times for each doubling of how many do.
+//!
 //! `output` lends one slice, so a frame that goes before others has to move octets. Where one channel is active each
-//! frame goes last and nothing moves, nor is any slot looked at but the last. Otherwise a put reads the slots after the
-//! last frame of its channel, of the whole row where the channel has none, and moves the octets on the smaller side of
-//! its place; those before it only where as many octets were written as the frame has. So the worst is a row of many
-//! octets of which none is written, and frames that go near its beginning: each moves nearly all of the row. A write
-//! reads the slots of the frames that it begins, and moves nothing: what it wrote is dropped later, before a frame is staged.
+//! frame goes last, and nothing moves. Otherwise a put moves the octets on the smaller side of its place; those before
+//! it only where as many octets were written as the frame has. So the worst is a row of many octets of which none is
+//! written, and frames that go near its beginning: each moves nearly all of the row. A write reads the slots of the
+//! frames that it begins, and moves nothing: what it wrote is dropped later, before a frame is staged.
 ghost use Rattle.std.specs.Prelude.{◌≡◌, ℕ, ◌+◌, ◌^◌, ◌<◌, ◌≤◌, ◌==◌, [], ◌∷◌, ◌++◌, length, take, drop, slice_set, IfErr, OnOk, OnErr, Err};
 ghost use Rattle.amqp_method.specs.HeaderView.{header_view};
 ghost use Rattle.amqp_method.specs.MethodView.{method_view};
@@ -284,8 +288,8 @@ impl Outbox {
     }
 }
 
-/// Provides the lap of one slot more. So many slots wait, and the writer stands in a lap: a frame that would be put as the 2 ^ 64th of an
-/// end is refused, since its lap might pass the greatest number.
+/// Provides the lap of one slot more. So many slots wait, and the writer stands in a lap: the 2 ^ 64th frame of an end
+/// is refused, since its lap might pass the greatest number.
 fn provide_lap(
     laps: &mut Vec<u64>,
     slots: usize,

@@ -3,7 +3,7 @@
 //! Only lengths are kept, never offsets, so that a frame that moves leaves the other slots as they are.
 ghost use Rattle.std.specs.Prelude.{◌≡◌, ◌+◌, ◌^◌, ◌<◌, ◌≤◌, length, take, drop};
 ghost use Rattle.amqp_model.specs.ArrangementLaws.{PlaceIsAfterItsQueue};
-ghost use Rattle.amqp_outbox.specs.OutboxLaps.{lap_after, laps_of, laps_last, moment, is_after, count_until, AreInOrder, IsLap};
+ghost use Rattle.amqp_outbox.specs.OutboxLaps.{lap_after, laps_of, laps_last, moment, is_after, Counts, IsLap};
 ghost use Rattle.amqp_outbox.specs.OutboxSlots.{slot_length, slots_length, slot_last, slots_last, begun_by, EndsWithChannel, IsPlace};
 
 use amqp_frame::FrameKind;
@@ -135,9 +135,9 @@ pub(crate) fn begun_of(slots: &[Slot], octets: usize, lap: u64, last: u16) -> Be
 
 /// Where a frame stands in the row of others, after so many of them, and in which lap its turn comes.
 ///
-/// Where the last frame of the row is of its channel, it stands after it. Otherwise the last frame of its channel is looked for: a
-/// channel has its frames in laps that follow one another, so this takes the square of the logarithm of the row's length, and a
-/// single look where none of its frames waits.
+/// Where the last frame of the row is of its channel, it stands after it. Otherwise the last frame of its channel is
+/// looked for, in steps that double and then halve: a channel has its frames in laps that follow one another. Each look
+/// takes the logarithm of the row's length, and there is a single one where no frame of the channel waits.
 pub(crate) fn place_of(slots: &[Slot], laps: &[u64], slot: Slot, lap: u64, last: u16) -> Place
     requires laps_are { laps.now ≡ laps_of lap last slots.now }
     requires fits { lap + length slots.now + 1 < 2 ^ 64 }
@@ -220,7 +220,7 @@ fn newest_of(slots: &[Slot], channel: u16) -> usize
 fn count_until(slots: &[Slot], laps: &[u64], lap: u64, channel: u16) -> usize
     requires { length slots.now ≡ length laps.now }
     ensures within { result ≤ length slots.now }
-    ensures count { AreInOrder (moment lap channel) slots.now laps.now → result ≡ count_until (moment lap channel) slots.now laps.now }
+    ensures count { Counts (moment lap channel) result slots.now laps.now }
 {
     let mut low = 0;
     let mut high = slots.len();
