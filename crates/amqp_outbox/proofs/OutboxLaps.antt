@@ -557,3 +557,10 @@ search-ended at slots laps low high s h e o = cases slots s o e refl
 pub lap-begun : (lap last i its now more : ℕ) (xs : List Slot) (d : Slot) → i < length xs → its ≡ laps_last lap last (take i xs) → now ≡ slots_last last (take i xs) → more ≡ lap_after its now (get_or xs i d)
     → more ≡ laps_last lap last (take (i + 1) xs)
 lap-begun lap last i its now more xs d h e f g = g ∙ (ap₂ (λ p w. lap_after p w (get_or xs i d)) e f ∙ sym (laps_last-more lap last xs i d h))
+
+-- where the last frame of a row hasn't its turn after the moment, none has
+pub search-all : (at : ℕ) (slots : List Slot) (laps : List ℕ) (n : ℕ) (d : Slot) → n ≡ length slots → 0 < n → is_after at (get_or slots (n - 1) d) (get_or laps (n - 1) 0) ≡ false → length slots ≡ length laps → AreInOrder at slots laps → n ≡ count_until at slots laps
+search-all at slots laps n d e some h m o =
+    let s = search-higher at slots laps 0 (length slots) (n - 1) d (search-begun at slots laps) (omega arith) (omega arith) h in
+    let k : n - 1 + 1 ≡ n = omega arith in
+    sym k ∙ search-ended at slots laps (n - 1 + 1) (length slots) s (omega arith) m o

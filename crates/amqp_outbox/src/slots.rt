@@ -217,7 +217,22 @@ fn newest_of(slots: &[Slot], channel: u16) -> usize
 }
 
 /// How many frames of a row stand before the first that has its turn after a channel's in a lap.
+///
+/// Often that is after all of them, so the last one is looked at first.
 fn count_until(slots: &[Slot], laps: &[u64], lap: u64, channel: u16) -> usize
+    requires { length slots.now ≡ length laps.now }
+    ensures within { result ≤ length slots.now }
+    ensures count { Counts (moment lap channel) result slots.now laps.now }
+{
+    let all = slots.len();
+    if all > 0 && !slots[all - 1].is_after(laps[all - 1], lap, channel) {
+        return all;
+    }
+    count_by_halves(slots, laps, lap, channel)
+}
+
+/// The same, by looking at the middle of what is left.
+fn count_by_halves(slots: &[Slot], laps: &[u64], lap: u64, channel: u16) -> usize
     requires { length slots.now ≡ length laps.now }
     ensures within { result ≤ length slots.now }
     ensures count { Counts (moment lap channel) result slots.now laps.now }
