@@ -1,9 +1,12 @@
 mod OutboxFrames
+mod OutboxLapMoves
+mod OutboxLaps
 mod OutboxLists
 mod OutboxMoves
 mod OutboxPlaces
 mod OutboxRows
 mod OutboxSlots
 mod OutboxStates
+mod OutboxTurns
 mod OutboxWrites
 mod ReadLemmas

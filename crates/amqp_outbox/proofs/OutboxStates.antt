@@ -1,14 +1,16 @@
 -- The fields of an outbox beside the lists that they stand for.
-use Rattle.std.proofs.Common.{◌≡◌, ℕ, ◌+◌, List, ◌++◌, length, map, take, drop, All, sym, ap, ap₂, ◌∙◌, arith, append_assoc, length-append}
+use Rattle.std.proofs.Common.{◌≡◌, ℕ, ◌+◌, ◌^◌, ◌<◌, ◌≤◌, List, ◌++◌, length, map, take, drop, All, sym, ap, ap₂, ◌∙◌, arith, append_assoc, length-append, length-drop}
 use Rattle.std.proofs.lemmas.List.{drop_at, length-map, length-take-le}
 use Rattle.amqp_frame.specs.Frame.{Frame}
 use Rattle.amqp_frame.specs.Splitting.{stream}
 use Rattle.amqp_model.specs.Arrangement.{IsArranged, HasChannel}
 use Rattle.amqp_outbox.specs.OutboxSlots.{slot_of, frames_in}
+use Rattle.amqp_outbox.specs.OutboxLaps.{laps_of}
 use Rattle.amqp_outbox.specs.OutboxView.{Outgoing}
-use Rattle.amqp_outbox.specs.OutboxFields.{row_octets, row_slots, row_of, staged_octets, staged_slots, staged_of, outgoing_of, IsSound}
+use Rattle.amqp_outbox.specs.OutboxFields.{row_octets, row_slots, row_laps, row_of, staged_octets, staged_slots, staged_of, outgoing_of, IsSound}
 use Rattle.amqp_outbox.specs.declared.slots.Slot.{Slot}
 use Rattle.amqp_outbox.specs.declared.outbox.Outbox.TheInside.{Inside}
+use Rattle.amqp_outbox.proofs.OutboxLaps.{length-laps}
 use Rattle.amqp_outbox.proofs.OutboxLists.{second, three, four, length-second}
 use Rattle.amqp_outbox.proofs.OutboxRows.{row-read}
 
@@ -64,9 +66,17 @@ parts x gone ahead past row staged l =
       staged_is = ap₂ frames_in e c ∙ row-read staged;
     }
 
+-- the laps of a row, part by part: those of its frames stand after others, and more may stand after them
+pub record IsInLaps (x : Inside) (past own rest : List ℕ) (row staged : List Frame) : Type 0 where
+  pub laps : x.laps.items ≡ past ++ (own ++ rest)
+  pub past_are : length past ≡ x.slots_begun
+  pub laps_are : own ≡ laps_of x.lap x.last (map slot_of row)
+  pub rest_are : length staged ≤ length rest
+  pub left : x.lap + (length row + length staged) + 1 < 2 ^ 64
+
 -- fields that are laid out so are sound
-pub sound : (x : Inside) (gone ahead : List ℕ) (past : List Slot) (row staged : List Frame) → IsLaidOut x gone ahead past row staged → IsKept x.last row staged → IsSound x
-sound x gone ahead past row staged l k =
+pub sound : (x : Inside) (gone ahead : List ℕ) (past : List Slot) (row staged : List Frame) (laps_past laps laps_rest : List ℕ) → IsLaidOut x gone ahead past row staged → IsKept x.last row staged → IsInLaps x laps_past laps laps_rest row staged → IsSound x
+sound x gone ahead past row staged laps_past laps laps_rest l k i =
     let p = parts x gone ahead past row staged l in
     let a = ap length l.octets ∙ length-append gone (ahead ++ (stream row ++ stream staged)) in
     let b = length-append ahead (stream row ++ stream staged) in
@@ -74,6 +84,14 @@ sound x gone ahead past row staged l k =
     let d = ap length l.slots ∙ length-append past (map slot_of row ++ map slot_of staged) in
     let e = length-append (map slot_of row) (map slot_of staged) in
     let f = length-map row slot_of in
+    let staged_count = length-map staged slot_of in
+    let count = ap length i.laps_are ∙ length-laps x.lap x.last (map slot_of row) in
+    let in_part : row_laps x ≡ laps = ap (λ xs. drop x.slots_begun (take x.slots_arranged xs)) i.laps ∙ second laps_past laps laps_rest x.slots_begun x.slots_arranged (sym i.past_are) (let z = l.slots_arranged in omega arith) in
+    let g = ap length i.laps ∙ length-append laps_past (laps ++ laps_rest) in
+    let h = length-append laps laps_rest in
+    let past_are = i.past_are in
+    let rest_are = i.rest_are in
+    let left = i.left in
     record {
       written = omega arith;
       begun = omega arith;
@@ -87,6 +105,9 @@ sound x gone ahead past row staged l k =
       in_turn = rw p.row_is k.in_turn;
       row_channels = rw p.row_is k.row_channels;
       staged_channels = rw p.staged_is k.staged_channels;
+      laps_kept = let z = l.slots_arranged in omega arith;
+      laps_are = in_part ∙ (i.laps_are ∙ ap (laps_of x.lap x.last) (sym p.row_slots_are));
+      laps_left = let z = l.slots_arranged in let y = l.slots_begun in omega arith;
     }
 
 -- and these lists are what they stand for
@@ -119,3 +140,25 @@ laid_out x s =
 
 pub kept : (x : Inside) → IsSound x → IsKept x.last (row_of x) (staged_of x)
 kept x s = record { in_turn = s.in_turn; row_channels = s.row_channels; staged_channels = s.staged_channels }
+
+-- the laps of sound fields
+pub in_laps : (x : Inside) → IsSound x → IsInLaps x (take x.slots_begun x.laps.items) (row_laps x) (drop x.slots_arranged x.laps.items) (row_of x) (staged_of x)
+in_laps x s =
+    let a = s.slots_begun in
+    let b = s.slots_arranged in
+    let c = s.laps_kept in
+    let d = length-map (row_of x) slot_of in
+    let e = ap length s.row_described in
+    let f = length-second x.slots.items x.slots_begun x.slots_arranged s.slots_begun s.slots_arranged in
+    let g = length-map (staged_of x) slot_of in
+    let h = ap length s.staged_described in
+    let i = length-drop x.slots_arranged x.slots.items in
+    let j = length-drop x.slots_arranged x.laps.items in
+    let left = s.laps_left in
+    record {
+      laps = three x.laps.items x.slots_begun x.slots_arranged s.slots_begun (omega arith);
+      past_are = length-take-le x.slots_begun x.laps.items (omega arith);
+      laps_are = s.laps_are ∙ ap (laps_of x.lap x.last) (sym s.row_described);
+      rest_are = omega arith;
+      left = omega arith;
+    }

@@ -1,4 +1,5 @@
 pub mod OutboxSlots
+pub mod OutboxLaps
 pub mod OutboxView
 pub mod OutboxFields
 pub mod OutboxFrames

@@ -1,9 +1,10 @@
 -- What the fields of an outbox stand for.
-use Rattle.std.specs.Prelude.{◌≡◌, ◌≤◌, ℕ, List, length, map, take, drop, All}
+use Rattle.std.specs.Prelude.{◌≡◌, ◌+◌, ◌-◌, ◌^◌, ◌<◌, ◌≤◌, ℕ, List, length, map, take, drop, All}
 use Rattle.amqp_frame.specs.Frame.{Frame}
 use Rattle.amqp_frame.specs.Splitting.{stream}
 use Rattle.amqp_model.specs.Arrangement.{IsArranged, HasChannel}
 use Rattle.amqp_outbox.specs.OutboxSlots.{slot_of, frames_in}
+use Rattle.amqp_outbox.specs.OutboxLaps.{laps_of}
 use Rattle.amqp_outbox.specs.OutboxView.{Outgoing}
 use Rattle.amqp_outbox.specs.declared.slots.Slot.{Slot}
 use Rattle.amqp_outbox.specs.declared.outbox.Outbox.TheInside.{Inside}
@@ -17,6 +18,10 @@ row_slots x = drop x.slots_begun (take x.slots_arranged x.slots.items)
 
 abbrev pub row_of : Inside → List Frame
 row_of x = frames_in (row_slots x) (row_octets x)
+
+-- the laps of the row
+abbrev pub row_laps : Inside → List ℕ
+row_laps x = drop x.slots_begun (take x.slots_arranged x.laps.items)
 
 -- the octets and the slots that are staged
 abbrev pub staged_octets : Inside → List ℕ
@@ -47,3 +52,7 @@ pub record IsSound (x : Inside) : Type 0 where
   pub in_turn : IsArranged x.last (row_of x)
   pub row_channels : All HasChannel (row_of x)
   pub staged_channels : All HasChannel (staged_of x)
+  pub laps_kept : length x.slots.items ≤ length x.laps.items
+  pub laps_are : row_laps x ≡ laps_of x.lap x.last (row_slots x)
+  -- each frame that waits can have a lap of its own
+  pub laps_left : x.lap + (length x.slots.items - x.slots_begun) + 1 < 2 ^ 64

@@ -4,13 +4,17 @@
 //! then moves each staged frame to its place and can't fail. An end stages all that a call puts, changes its own state,
 //! and puts; where staging fails it discards what it staged, and the output is as before.
 //!
+//! A frame's place is found by laps. The writer goes round the channels again and again, and each time is a lap: the
+//! frames of the row stand in the order of their laps, and within a lap in that of their channels. Where the last frame
+//! of the row is of the same channel, the new one stands after it, and nothing else is looked at. Otherwise the row is
+//! halved again and again: once where no frame of the channel waits, else some times for each doubling of how many do.
+//!
 //! `output` lends one slice, so a frame that goes before others has to move octets. Where one channel is active each
-//! frame goes last and nothing moves, nor is any slot looked at but the last. Otherwise a put reads the slots after the
-//! last frame of its channel, of the whole row where the channel has none, and moves the octets on the smaller side of
-//! its place; those before it only where as many octets were written as the frame has. So the worst is a row of many
-//! octets of which none is written, and frames that go near its beginning: each moves nearly all of the row. A write
-//! reads the slots of the frames that it begins, and moves nothing: what it wrote is dropped later, before a frame is staged.
-ghost use Rattle.std.specs.Prelude.{◌≡◌, ◌+◌, ◌^◌, ◌<◌, ◌≤◌, ◌==◌, [], ◌∷◌, ◌++◌, length, drop, IfErr, OnOk, OnErr, Err};
+//! frame goes last, and nothing moves. Otherwise a put moves the octets on the smaller side of its place; those before
+//! it only where as many octets were written as the frame has. So the worst is a row of many octets of which none is
+//! written, and frames that go near its beginning: each moves nearly all of the row. A write reads the slots of the
+//! frames that it begins, and moves nothing: what it wrote is dropped later, before a frame is staged.
+ghost use Rattle.std.specs.Prelude.{◌≡◌, ℕ, ◌+◌, ◌^◌, ◌<◌, ◌≤◌, ◌==◌, [], ◌∷◌, ◌++◌, length, take, drop, slice_set, IfErr, OnOk, OnErr, Err};
 ghost use Rattle.amqp_method.specs.HeaderView.{header_view};
 ghost use Rattle.amqp_method.specs.MethodView.{method_view};
 ghost use Rattle.amqp_method.specs.Plain.{plain_method, plain_header, CountsAllFit, CountsPresentFit};
@@ -47,6 +51,10 @@ pub struct Outbox {
     slots: Vec<Slot>,
     slots_begun: usize,
     slots_arranged: usize,
+    /// the laps in which the frames of the row have their turn, each at the place of its slot
+    laps: Vec<u64>,
+    /// the lap in which the frame was begun that moved `last`
+    lap: u64,
     /// the channel above 0 whose frame was begun most recently, 0 at first
     last: u16,
 }
@@ -76,6 +84,8 @@ impl Outbox {
             slots: Vec::new(alloc),
             slots_begun: 0,
             slots_arranged: 0,
+            laps: Vec::new(alloc),
+            lap: 0,
             last: 0,
         }
     }
@@ -102,6 +112,7 @@ impl Outbox {
         self.arranged = octets.len();
         self.slots_begun = 0;
         self.slots_arranged = 0;
+        self.lap = 0;
         self.last = 0;
         Ok(())
     }
@@ -115,9 +126,10 @@ impl Outbox {
         self.written += octets;
         if ahead <= octets {
             let row = &self.slots[self.slots_begun..self.slots_arranged];
-            let begun = begun_of(row, octets - ahead, self.last);
+            let begun = begun_of(row, octets - ahead, self.lap, self.last);
             self.begun += begun.octets;
             self.slots_begun += begun.frames;
+            self.lap = begun.lap;
             self.last = begun.last;
         }
     }
@@ -150,6 +162,7 @@ impl Outbox {
     {
         if self.slots.len() - self.slots_begun < self.slots_begun {
             forget(&mut self.slots, self.slots_begun);
+            forget(&mut self.laps, self.slots_begun);
             self.slots_arranged -= self.slots_begun;
             self.slots_begun = 0;
         }
@@ -163,6 +176,7 @@ impl Outbox {
         self.drop_written(octets);
         self.octets.reserve(octets)?;
         self.slots.reserve(frames)?;
+        self.laps.reserve(frames)?;
         Ok(())
     }
 
@@ -175,6 +189,8 @@ impl Outbox {
     {
         self.drop_written(USUAL_FRAME);
         self.drop_begun();
+        let slots = self.slots.len();
+        provide_lap(&mut self.laps, slots, slots - self.slots_begun, self.lap)?;
         let at = self.octets.len();
         append_method(&mut self.octets, channel, method)?;
         let kind = FrameKind::Method;
@@ -191,6 +207,8 @@ impl Outbox {
     {
         self.drop_written(USUAL_FRAME);
         self.drop_begun();
+        let slots = self.slots.len();
+        provide_lap(&mut self.laps, slots, slots - self.slots_begun, self.lap)?;
         let at = self.octets.len();
         append_header(&mut self.octets, channel, header)?;
         let kind = FrameKind::Header;
@@ -206,6 +224,8 @@ impl Outbox {
     {
         self.drop_written(part.len());
         self.drop_begun();
+        let slots = self.slots.len();
+        provide_lap(&mut self.laps, slots, slots - self.slots_begun, self.lap)?;
         let at = self.octets.len();
         append_body(&mut self.octets, channel, part)?;
         let kind = FrameKind::Body;
@@ -239,12 +259,14 @@ impl Outbox {
         arrangement::put_keeps_arranged();
         let slot = self.slots[self.slots_arranged];
         let row = &self.slots[self.slots_begun..self.slots_arranged];
-        let place = place_of(row, slot, self.last);
-        let moved = length_from(row, place, self.arranged - self.begun);
+        let laps = &self.laps[self.slots_begun..self.slots_arranged];
+        let place = place_of(row, laps, slot, self.lap, self.last);
+        let moved = length_from(row, place.before, self.arranged - self.begun);
         let count = slot.length();
         let at = self.arranged - moved;
-        let first = self.slots_begun + place;
+        let first = self.slots_begun + place.before;
         move_up(&mut self.slots, first, self.slots_arranged + 1, 1);
+        put_lap(&mut self.laps, first, self.slots_arranged, place.lap);
         self.slots_arranged += 1;
         if count <= self.written && at - self.written < moved {
             move_down(&mut self.octets, self.written, at, self.arranged, count);
@@ -266,6 +288,30 @@ impl Outbox {
     }
 }
 
+/// Provides the lap of one slot more. So many slots wait, and the writer stands in a lap: the 2 ^ 64th frame of an end
+/// is refused, since its lap might pass the greatest number.
+fn provide_lap(
+    laps: &mut Vec<u64>,
+    slots: usize,
+    waiting: usize,
+    lap: u64,
+) -> Result<(), StageFault>
+    requires { slots ≤ length laps.old.items }
+    ensures ok { OnOk result (slots < length laps.new.items) }
+    ensures left { OnOk result (lap + waiting + 2 < 2 ^ 64) }
+    ensures same { (k : ℕ) → k ≤ slots → take k laps.new.items ≡ take k laps.old.items }
+    ensures kept { slots ≤ length laps.new.items }
+    ensures err { IfErr result (λ e. e ≡ out_of_memory) }
+{
+    if lap.saturating_add(waiting as u64) >= u64::MAX - 1 {
+        return Err(StageFault::OutOfMemory);
+    }
+    if laps.len() == slots {
+        laps.push(0)?;
+    }
+    Ok(())
+}
+
 /// Drops the first of the items.
 fn forget<T: Copy + Drop>(items: &mut Vec<T>, count: usize)
     requires { count ≤ length items.old.items }
@@ -284,6 +330,16 @@ fn move_up<T>(items: &mut Vec<T>, place: usize, end: usize, count: usize)
 {
     let part = &mut items.as_mut_slice()[place..end];
     part.rotate_right(count);
+}
+
+/// Puts the lap of the frame that stands at an end, and moves it up to an earlier place.
+fn put_lap(laps: &mut Vec<u64>, place: usize, end: usize, lap: u64)
+    requires order { place ≤ end }
+    requires end { end < length laps.old.items }
+    ensures { laps.new.items ≡ moved_up place (end + 1) 1 (slice_set laps.old.items end lap) }
+{
+    laps[end] = lap;
+    move_up(laps, place, end + 1, 1);
 }
 
 /// Moves so many octets, which stand at a place, down before those from an earlier place on. Those from a still earlier

@@ -2,8 +2,9 @@
 //!
 //! Only lengths are kept, never offsets, so that a frame that moves leaves the other slots as they are.
 ghost use Rattle.std.specs.Prelude.{◌≡◌, ◌+◌, ◌^◌, ◌<◌, ◌≤◌, length, take, drop};
-ghost use Rattle.amqp_model.specs.Arrangement.{steps};
-ghost use Rattle.amqp_outbox.specs.OutboxSlots.{slot_length, slots_length, slot_turn, slot_last, slots_last, begun_by, turns_before, EndsWithChannel, IsPlace};
+ghost use Rattle.amqp_model.specs.ArrangementLaws.{PlaceIsAfterItsQueue};
+ghost use Rattle.amqp_outbox.specs.OutboxLaps.{lap_after, laps_of, laps_last, moment, is_after, Counts, IsLap};
+ghost use Rattle.amqp_outbox.specs.OutboxSlots.{slot_length, slots_length, slot_last, slots_last, begun_by, EndsWithChannel, IsPlace};
 
 use amqp_frame::FrameKind;
 use amqp_model::arrangement;
@@ -19,23 +20,20 @@ pub(crate) struct Slot {
     pub(crate) leaving: bool,
 }
 
-/// How many frames of a row are begun, how many octets these have, and LAST then.
+/// How many frames of a row are begun, how many octets these have, and where the writer stands then: in a lap, at LAST.
 #[derive(Clone, Copy)]
 pub(crate) struct Begun {
     pub(crate) frames: usize,
     pub(crate) octets: usize,
+    pub(crate) lap: u64,
     pub(crate) last: u16,
 }
 
-/// How many channels are met counting up from one to another; after 65535 comes 1.
-fn steps_between(from: u16, to: u16) -> u32
-    ensures { result ≡ steps from to }
-{
-    if from < to {
-        u32::from(to - from)
-    } else {
-        u32::from(to) + 65535 - u32::from(from)
-    }
+/// The place of a frame in a row: after so many others, its turn in a lap.
+#[derive(Clone, Copy)]
+pub(crate) struct Place {
+    pub(crate) before: usize,
+    pub(crate) lap: u64,
 }
 
 impl Slot {
@@ -46,17 +44,26 @@ impl Slot {
         self.size as usize + 8
     }
 
-    /// How long the frame waits for its turn, after LAST.
-    fn turn(self, last: u16) -> u32
-        ensures { result ≡ slot_turn last self }
+    /// Whether the frame, whose turn is in the first lap, has it after a channel's in another lap.
+    fn is_after(self, its: u64, lap: u64, channel: u16) -> bool
+        ensures { result ≡ is_after (moment lap channel) self its }
     {
-        if self.leaving {
-            return 65536;
-        }
         if self.channel == 0 {
-            return 0;
+            return self.leaving;
         }
-        steps_between(last, self.channel)
+        lap < its || (lap == its && channel < self.channel)
+    }
+
+    /// The lap of the writer, once the frame is begun: before, it stood in a lap at LAST.
+    fn lap_after(self, lap: u64, last: u16) -> u64
+        requires { lap + 1 < 2 ^ 64 }
+        ensures { result ≡ lap_after lap last self }
+    {
+        if self.channel == 0 || last < self.channel {
+            lap
+        } else {
+            lap + 1
+        }
     }
 
     /// LAST, once the frame is begun.
@@ -97,11 +104,13 @@ pub(crate) fn length_from(slots: &[Slot], place: usize, total: usize) -> usize
 }
 
 /// The frames of a row that are begun, once so many of its octets are written.
-pub(crate) fn begun_of(slots: &[Slot], octets: usize, last: u16) -> Begun
+pub(crate) fn begun_of(slots: &[Slot], octets: usize, lap: u64, last: u16) -> Begun
     requires within { octets ≤ slots_length slots.now }
     requires fits { slots_length slots.now < 2 ^ 64 }
+    requires laps { lap + length slots.now < 2 ^ 64 }
     ensures frames { result.frames ≡ begun_by octets slots.now }
     ensures octets { result.octets ≡ slots_length (take result.frames slots.now) }
+    ensures lap { result.lap ≡ laps_last lap last (take result.frames slots.now) }
     ensures last { result.last ≡ slots_last last (take result.frames slots.now) }
     ensures count { result.frames ≤ length slots.now }
     ensures reached { octets ≤ result.octets }
@@ -109,6 +118,7 @@ pub(crate) fn begun_of(slots: &[Slot], octets: usize, last: u16) -> Begun
     let mut begun = Begun {
         frames: 0,
         octets: 0,
+        lap,
         last,
     };
     for slot in slots {
@@ -117,61 +127,125 @@ pub(crate) fn begun_of(slots: &[Slot], octets: usize, last: u16) -> Begun
         }
         begun.frames += 1;
         begun.octets += slot.length();
+        begun.lap = slot.lap_after(begun.lap, begun.last);
         begun.last = slot.last_after(begun.last);
     }
     begun
 }
 
-/// Where a frame stands in the row of others: after so many of them.
+/// Where a frame stands in the row of others, after so many of them, and in which lap its turn comes.
 ///
-/// The frames of its channel are looked for from the back, so that where its channel alone is active the place is found
-/// at once. Otherwise the slots after the last frame of its channel are read, of all channels where it has none.
-pub(crate) fn place_of(slots: &[Slot], slot: Slot, last: u16) -> usize
-    ensures within { result ≤ length slots.now }
-    ensures place { IsPlace last slot slots.now result }
+/// Where the last frame of the row is of its channel, it stands after it. Otherwise the last frame of its channel is
+/// looked for, in steps that double and then halve: a channel has its frames in laps that follow one another. Each look
+/// takes the logarithm of the row's length, and there is a single one where no frame of the channel waits.
+pub(crate) fn place_of(slots: &[Slot], laps: &[u64], slot: Slot, lap: u64, last: u16) -> Place
+    requires laps_are { laps.now ≡ laps_of lap last slots.now }
+    requires fits { lap + length slots.now + 1 < 2 ^ 64 }
+    ensures within { result.before ≤ length slots.now }
+    ensures place { IsPlace last slot slots.now result.before }
+    ensures lap { IsLap lap last slot slots.now result.before result.lap }
 {
     arrangement::put_keeps_arranged();
     if slot.leaving {
-        return slots.len();
+        return Place {
+            before: slots.len(),
+            lap: 0,
+        };
     }
     if slot.channel == 0 {
-        return first_later(slots, 0, slot, last);
+        return Place {
+            before: count_until(slots, laps, lap, last),
+            lap: 0,
+        };
     }
-    let own = through_channel(slots, slot.channel);
-    if own == 0 {
-        return first_later(slots, 0, slot, last);
-    }
-    first_later(slots, own, slot, slot.channel)
+    place_on(slots, laps, slot, lap, last)
 }
 
-/// How many slots stand up to the last one of a channel and with it, 0 where there is none.
-fn through_channel(slots: &[Slot], channel: u16) -> usize
+/// The same for a frame of a channel above 0.
+fn place_on(slots: &[Slot], laps: &[u64], slot: Slot, lap: u64, last: u16) -> Place
+    requires above { 0 < slot.channel }
+    requires as_many { length slots.now ≡ length laps.now }
+    requires laps_are { laps.now ≡ laps_of lap last slots.now }
+    requires fits { lap + length slots.now + 1 < 2 ^ 64 }
+    ensures within { result.before ≤ length slots.now }
+    ensures place { PlaceIsAfterItsQueue → IsPlace last slot slots.now result.before }
+    ensures lap { IsLap lap last slot slots.now result.before result.lap }
+{
+    let channel = slot.channel;
+    let mut own = newest_of(slots, channel);
+    let mut ahead: u64 = 0;
+    loop {
+        let next = next_lap(slots, laps, own, slot, lap, last);
+        let target = next.saturating_add(ahead);
+        let found = count_until(&slots[own..], &laps[own..], target, channel);
+        let before = own + found;
+        if found > 0 && slots[before - 1].channel == channel {
+            own = before;
+            ahead = ahead.saturating_mul(2).saturating_add(1);
+        } else if ahead == 0 {
+            return Place { before, lap: next };
+        } else {
+            ahead /= 2;
+        }
+    }
+}
+
+/// The lap of a channel's turn after so many of the slots: the last of these is of the channel, if there is one.
+fn next_lap(slots: &[Slot], laps: &[u64], own: usize, slot: Slot, lap: u64, last: u16) -> u64
+    requires above { 0 < slot.channel }
+    requires laps_are { laps.now ≡ laps_of lap last slots.now }
+    requires fits { lap + length slots.now + 1 < 2 ^ 64 }
+    requires within { own ≤ length slots.now }
+    requires ends { EndsWithChannel slot.channel (take own slots.now) }
+    ensures { result ≡ lap_after (laps_last lap last (take own slots.now)) (slots_last last (take own slots.now)) slot }
+{
+    if own == 0 {
+        return slot.lap_after(lap, last);
+    }
+    laps[own - 1] + 1
+}
+
+/// All the slots, where the last of them is of a channel, and else none.
+fn newest_of(slots: &[Slot], channel: u16) -> usize
     ensures within { result ≤ length slots.now }
     ensures own { EndsWithChannel channel (take result slots.now) }
 {
-    let mut count = slots.len();
-    while count > 0 {
-        if slots[count - 1].channel == channel {
-            return count;
-        }
-        count -= 1;
+    match slots.last() {
+        Some(newest) if newest.channel == channel => slots.len(),
+        _ => 0,
     }
-    0
 }
 
-/// The first slot, from one on, that has its turn later than a frame.
-fn first_later(slots: &[Slot], from: usize, slot: Slot, last: u16) -> usize
-    requires { from ≤ length slots.now }
+/// How many frames of a row stand before the first that has its turn after a channel's in a lap.
+///
+/// Often that is after all of them, so the last one is looked at first.
+fn count_until(slots: &[Slot], laps: &[u64], lap: u64, channel: u16) -> usize
+    requires { length slots.now ≡ length laps.now }
     ensures within { result ≤ length slots.now }
-    ensures place { result ≡ from + turns_before last slot (drop from slots.now) }
+    ensures count { Counts (moment lap channel) result slots.now laps.now }
 {
-    let mut now = last;
-    for at in from..slots.len() {
-        let next = slots[at];
-        if slot.turn(now) < next.turn(now) {
-            return at;
-        }
-        now = next.last_after(now);
+    let all = slots.len();
+    if all > 0 && !slots[all - 1].is_after(laps[all - 1], lap, channel) {
+        return all;
     }
-    slots.len()
+    count_by_halves(slots, laps, lap, channel)
+}
+
+/// The same, by looking at the middle of what is left.
+fn count_by_halves(slots: &[Slot], laps: &[u64], lap: u64, channel: u16) -> usize
+    requires { length slots.now ≡ length laps.now }
+    ensures within { result ≤ length slots.now }
+    ensures count { Counts (moment lap channel) result slots.now laps.now }
+{
+    let mut low = 0;
+    let mut high = slots.len();
+    while low < high {
+        let middle = low + (high - low) / 2;
+        if slots[middle].is_after(laps[middle], lap, channel) {
+            high = middle;
+        } else {
+            low = middle + 1;
+        }
+    }
+    low
 }
