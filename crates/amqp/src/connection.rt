@@ -7,7 +7,8 @@ use std::net::TcpStream;
 
 /// A TCP connection as a [`Stream`]. It keeps why a read or a write failed, which a session doesn't hand on.
 ///
-/// Where the calls of the TCP stream don't wait, one that would have to wait fails, as any that fails, and is told apart here.
+/// Where the calls of the TCP stream don't wait, one that would have to wait fails, as any that fails, and is told
+/// apart here.
 #[derive(Drop)]
 pub struct Connection {
     stream: TcpStream,

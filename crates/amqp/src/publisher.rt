@@ -119,8 +119,8 @@ impl Publisher {
         matches!(self.next, Step::CloseChannel) && self.may_go_on(end)
     }
 
-    /// Whether the server has done what the next step waits for. The channel is closed once the content is written: until then
-    /// the server may say why it doesn't take it.
+    /// Whether the server has done what the next step waits for. The channel is closed once the content is written:
+    /// until then the server may say why it doesn't take it.
     fn may_go_on(&self, end: &End<Client>) -> bool {
         if end.phase() != Phase::Running {
             return false;

@@ -66,8 +66,8 @@ fn run_publisher<N: Net + Clock, E: Write + Drop>(
     run
 }
 
-/// Takes the steps of the publisher until the connection is closed. Where a write fails, what the server had sent by then is
-/// heard first.
+/// Takes the steps of the publisher until the connection is closed. Where a write fails, what the server had sent by
+/// then is heard first.
 fn run_session<N: Net + Clock, E: Write + Drop>(
     session: &mut Session<Client, Connection>,
     publisher: &mut Publisher,
@@ -81,8 +81,8 @@ fn run_session<N: Net + Clock, E: Write + Drop>(
     run
 }
 
-/// Takes turns until the connection is closed: reads once, asks what follows from what came, and writes. Where the channel is
-/// to be closed it reads nothing before: a content that is written at once and its close leave together.
+/// Takes turns until the connection is closed: reads once, asks what follows from what came, and writes. Where the
+/// channel is to be closed it reads nothing before: a content that is written at once and its close leave together.
 fn take_turns<N: Net + Clock, E: Write + Drop>(
     session: &mut Session<Client, Connection>,
     publisher: &mut Publisher,

@@ -55,8 +55,8 @@ impl<'a, R: Net + Clock> Readiness<'a, R> {
         }
     }
 
-    /// Waits until more octets can move than could in the last calls of the stream, which would both have had to wait. It may
-    /// return earlier.
+    /// Waits until more octets can move than could in the last calls of the stream, which would both have had to
+    /// wait. It may return earlier.
     pub fn wait(&mut self) -> Result<(), Stop> {
         let left = self.left();
         if left.is_some_and(|left| left.is_zero()) {

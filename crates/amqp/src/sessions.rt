@@ -1,7 +1,7 @@
 //! What the subcommands over a stream do with a session: it is pulled, its events are dealt with, and then it is settled.
 //!
-//! A session over a socket whose calls don't wait reads and writes by turns, and waits only where it can do neither. So two ends
-//! that both write much don't wait for each other to read.
+//! A session over a socket whose calls don't wait reads and writes by turns, and waits only where it can do neither.
+//! So two ends that both write much don't wait for each other to read.
 use crate::connection::Connection;
 use crate::hellos::{client_config, server_config};
 use crate::printing::Stop;
@@ -13,8 +13,8 @@ use std::alloc::Global;
 use std::net::Net;
 use std::time::Clock;
 
-/// At most so many octets of an end's answers wait to be written. Where more do, it reads nothing until some are written, so
-/// that a peer that never reads can't fill the memory.
+/// At most so many octets of an end's answers wait to be written. Where more do, it reads nothing until some are
+/// written, so that a peer that never reads can't fill the memory.
 pub const ANSWERS: usize = 1_048_576;
 
 /// At most so many octets are written before the next read.
@@ -72,7 +72,8 @@ pub fn waiting<R: Role>(session: &Session<R, Connection>) -> usize {
     session.end().output().len()
 }
 
-/// Reads once what is there, and feeds the end, unless it has more than so many octets to write. It answers whether any came.
+/// Reads once what is there, and feeds the end, unless it has more than so many octets to write. It answers whether
+/// any came.
 pub fn pull_ready<R: Role>(
     session: &mut Session<R, Connection>,
     most: usize,
@@ -116,9 +117,9 @@ fn push_all<R: Role, N: Net + Clock>(
     Ok(())
 }
 
-/// After a read that came to this, writes some of what the end has put, or waits where nothing came and nothing can be written.
-/// Once the connection is closed, or after a fault, it writes all, so that the other end learns what was wrong. It answers whether
-/// the run is over: once the connection is closed, whatever was read after the close.
+/// After a read that came to this, writes some of what the end has put, or waits where nothing came and nothing can
+/// be written. Once the connection is closed, or after a fault, it writes all, so that the other end learns what was
+/// wrong. It answers whether the run is over: once the connection is closed, whatever was read after the close.
 pub fn settle<R: Role, N: Net + Clock>(
     session: &mut Session<R, Connection>,
     pulled: Result<bool, Stop>,

@@ -176,9 +176,9 @@ and prints the events as they come, in the form that `amqp check --help` lists. 
 the client opens and takes what is published on them. It answers no other request: a client that declares a queue waits for
 ever. Once the client has closed the connection, the run ends with status 0.
 
-It reads nothing while more than a megabyte of its answers waits to be written. It waits for a client to connect as long as
-that takes, and, unless --timeout says otherwise, also for one that says nothing, or that never reads what it is answered. A
-client that sends heartbeats now and then is not silent. A fault ends the run with status 1:
+It reads nothing while more than a megabyte of its answers waits to be written. It waits for a client to connect as long
+as that takes, and, unless --timeout says otherwise, also for one that says nothing, or never reads what it is answered.
+A client that sends heartbeats now and then is not silent. A fault ends the run with status 1:
 
     fault listen         nothing can listen at ADDR
     fault accept         no connection can be taken
@@ -226,8 +226,8 @@ With --confirm the client publishes the content as mandatory, and waits until th
 RabbitMQ's confirms). `published N` then says that the server has taken the content over.
 
 The client reads while it writes. Unless --timeout says otherwise, it waits as long as it takes for a server that says
-nothing, that never reads, that never confirms, or that wants no contents for now and never wants them again. A server that
-sends heartbeats now and then is not silent. The run ends with a fault, with status 1, in these cases:
+nothing, never reads, never confirms, or wants no contents for now and never wants them again. A server that sends
+heartbeats now and then is not silent. Otherwise the run ends with a fault, with status 1:
 
     fault short          the server closed the channel or the connection, or, with --confirm, it returned the content, since
                          no queue takes it, or said that it did not take it over
@@ -240,9 +240,10 @@ sends heartbeats now and then is not silent. The run ends with a fault, with sta
     fault fatal          there is no answer to what the server sent
     fault memory         out of memory
 
-A failure of the connection after such a close, return or refusal is still `fault short`, also where the close is read only
-after a write has failed. Standard error says in which step it went wrong, and why: of a close of the server with its code and
-text. It also says when the server takes no contents for now. Status 2 says that the command line can't be read.";
+After such a close, return or refusal a failure of the connection is still `fault short`, also where the close is read
+only once a write has failed. Standard error says in which step it went wrong, and why: of a close of the server with
+its code and text. It also says when the server takes no contents for now. Status 2 says that the command line can't be
+read.";
 
 pub const PUBLISH_EXAMPLE: &str = "\
 Example, to the queue `q`, which takes what is published to the default exchange with its name as the routing key:
