@@ -4,6 +4,7 @@ is the library that refuses a request for memory (memory/refuse.c)."""
 import os
 import pty
 import re
+import select
 import signal
 import socket
 import struct
@@ -536,6 +537,7 @@ CLOSE = frame(1, 0, "000a003200c80d7265706c792d7375636365737300000000")
 CLOSED = frame(1, 0, "000a0033")
 CHANNEL_OPENED = frame(1, 1, "0014000b00000000")
 HELLOS = [(HEADER, START), (START_OK, TUNE), (TUNE_OK + OPEN_HOST, OPEN_OK)]
+BLOCKED, UNBLOCKED = frame(1, 0, "000a003c036c6f77"), frame(1, 0, "000a003d")
 TWO_OCTETS = frame(2, 1, "003c000000000000000000020000") + frame(3, 1, "6869")
 MANDATORY = frame(1, 1, "003c0028000000017101") + TWO_OCTETS
 SELECT, SELECTED = frame(1, 1, "0055000a00"), frame(1, 1, "0055000b")
@@ -552,7 +554,7 @@ def publishes(what, options, script, printed, status, said, words=("", "q"), han
     server on standard error, and ends with the status."""
     server = Scripted([*HELLOS, *script], hangs_up)
     ran = run(["publish", *options, server.address, *words], b"hi")
-    said = f"amqp: {server.address}: {said}\n" if said else ""
+    said = f"amqp: {server.address}: {said.format(server.address)}\n" if said else ""
     compare(what, (f"{printed}\n", said, status), (ran.stdout.decode(), ran.stderr.decode(), ran.returncode))
     written = "".join(awaited for awaited, _ in [*HELLOS, *script])
     compare(f"{what}, what is written", written, server.ended())
@@ -570,6 +572,10 @@ def publishers():
     # the server says that it takes no contents, and then that it takes them again
     paused = [(OPEN, CHANNEL_OPENED + frame(1, 1, "0014001400")), (frame(1, 1, "0014001500"), frame(1, 1, "0014001401")), *closing(frame(1, 1, "0014001501") + content)]
     publishes("a server that pauses", [], paused, "published 2", 0, "the server takes no contents for now")
+    # the server says on the connection that it takes none, and why, and then that it takes them again
+    blocked = [(OPEN, CHANNEL_OPENED + BLOCKED + UNBLOCKED), *closing(content)]
+    said = 'the server takes no contents for now: blocked "low"\namqp: {}: the server takes contents again'
+    publishes("a server that is blocked for a while", [], blocked, "published 2", 0, said)
     selects = [(OPEN, CHANNEL_OPENED), (SELECT, SELECTED)]
     ack, nack = (frame(1, 1, f"003c00{kind}0000000000000001{'00'}") for kind in ("50", "78"))
     publishes("a content confirmed", ["--confirm"], [*selects, (MANDATORY, ack), *CLOSES], "published 2", 0, "")
@@ -585,6 +591,176 @@ def publishers():
 
 
 RESET = struct.pack("ii", 1, 0)
+
+
+class Large:
+    """A server to which a client publishes a large content: once the channel is open it does `then` with the connection, and hangs up. Its buffers are small,
+    so that what both sides write soon waits for the other to read."""
+
+    def __init__(self, then):
+        self.listener = socket.create_server(("127.0.0.1", 0))
+        for buffer in (socket.SO_RCVBUF, socket.SO_SNDBUF):
+            self.listener.setsockopt(socket.SOL_SOCKET, buffer, 65536)
+        self.address = "127.0.0.1:{}".format(self.listener.getsockname()[1])
+        self.then = then
+        self.thread = threading.Thread(target=self.follow, daemon=True)
+        self.thread.start()
+
+    def follow(self):
+        peer, _ = self.listener.accept()
+        peer.settimeout(20)
+        # what it writes last leaves before it hangs up
+        peer.setsockopt(socket.IPPROTO_TCP, socket.TCP_NODELAY, 1)
+        try:
+            for awaited, answer in [*HELLOS, (OPEN, CHANNEL_OPENED)]:
+                left = len(awaited) // 2
+                while left and (piece := peer.recv(left)):
+                    left -= len(piece)
+                peer.sendall(bytes.fromhex(answer))
+            self.then(peer)
+        except OSError:
+            pass
+        peer.close()
+
+    def ended(self):
+        self.thread.join(30)
+        self.listener.close()
+
+
+LARGE = 20_000_000
+
+
+def publishes_large(what, then, printed, said, status, options=()):
+    """`publish` of a large content to such a server ends in these lines, and within some seconds."""
+    server = Large(then)
+    began = time.monotonic()
+    try:
+        ran = run(["publish", *options, server.address, "", "q"], b"\x5a" * LARGE)
+    except subprocess.TimeoutExpired:
+        differences.append(f"{what}: it doesn't end")
+        return
+    seconds = time.monotonic() - began
+    said = f"amqp: {server.address}: {said}\n" if said else ""
+    compare(what, (f"{printed}\n", said, status), (ran.stdout.decode(), ran.stderr.decode(), ran.returncode))
+    if seconds > 30:
+        differences.append(f"{what}: {seconds:.0f} seconds")
+    server.ended()
+
+
+def read_to_end(peer):
+    """Takes all that comes, answers the closes, and reads until the client hangs up."""
+    came = b""
+    while piece := peer.recv(1 << 20):
+        came = came[-200:] + piece
+        if bytes.fromhex(CLOSE_CHANNEL) in came:
+            peer.sendall(bytes.fromhex(CLOSE_OK))
+            came = b""
+        elif bytes.fromhex(CLOSE) in came:
+            peer.sendall(bytes.fromhex(CLOSED))
+            came = b""
+
+
+def close_and_hang_up(peer):
+    peer.recv(100_000)
+    peer.sendall(bytes.fromhex(frame(1, 0, "000a00320140036f666600000000")))
+
+
+def close_channel_and_hang_up(peer):
+    peer.recv(100_000)
+    peer.sendall(bytes.fromhex(frame(1, 1, "001400280194026e6f00000000")))
+
+
+def write_before_reading(peer):
+    """Delivers more than the buffers of both sides hold, and reads nothing before that."""
+    size = 131_064 * 100
+    deliver = frame(1, 1, "003c003c0174000000000000000100000171") + frame(2, 1, f"003c0000{size:016x}0000") + frame(3, 1, "5a" * 131_064) * 100
+    peer.sendall(bytes.fromhex(deliver))
+    read_to_end(peer)
+
+
+def sleep_until_it_hangs_up(peer):
+    """Reads nothing, until the client is gone."""
+    poller = select.poll()
+    poller.register(peer, select.POLLRDHUP | select.POLLHUP | select.POLLERR)
+    poller.poll(20_000)
+
+
+def large_contents():
+    """A content that is larger than what the buffers between both sides hold."""
+    publishes_large("a large content", read_to_end, f"published {LARGE}", "", 0)
+    publishes_large("a connection closed in the middle", close_and_hang_up, "fault short", 'the server closed the connection: 320 "off"', 1)
+    publishes_large("a channel closed in the middle", close_channel_and_hang_up, "fault short", 'the server closed the channel: 404 "no"', 1)
+    publishes_large("a server that writes before it reads", write_before_reading, f"published {LARGE}", "", 0)
+    publishes_large("a server that never reads", sleep_until_it_hangs_up, "fault time-out", TIMED_OUT, 1, ["--timeout", "1"])
+
+
+TIMED_OUT = "no octet came or could be written for as long as the time-out"
+
+
+def time_outs():
+    """With --timeout nobody is waited for any longer, whatever is waited for."""
+    paused = "the server takes no contents for now\namqp: {}: " + TIMED_OUT
+    for what, hellos, given, said in (
+        ("a server that says nothing", [], "", TIMED_OUT),
+        ("a server that never opens the channel", HELLOS, "", TIMED_OUT),
+        ("a pause that never ends", [*HELLOS, (OPEN, CHANNEL_OPENED + frame(1, 1, "0014001400"))], "", paused),
+    ):
+        server = Scripted(hellos, False)
+        began = time.monotonic()
+        ran = run(["publish", "--timeout", "1", server.address, "", "q"], b"hi")
+        seconds = time.monotonic() - began
+        said = f"amqp: {server.address}: {said.format(server.address)}\n"
+        compare(what, ("fault time-out\n", said, 1), (ran.stdout.decode(), ran.stderr.decode(), ran.returncode))
+        compare(f"{what}, for how long", True, 0.9 < seconds < 10)
+        server.ended()
+    served = Served("--timeout", "1")
+    peer = served.connected()
+    name = "{}:{}".format(*peer.getsockname())
+    compare("a client that says nothing", (["fault time-out"], 1, f"amqp: {name}: {TIMED_OUT}\n"), served.ended()[:3])
+    peer.close()
+    # a client that opens and closes a channel again and again, and never reads the answers
+    served = Served("--timeout", "1")
+    peer = served.connected()
+    name = "{}:{}".format(*peer.getsockname())
+    peer.settimeout(20)
+    try:
+        peer.sendall(bytes.fromhex(HANDSHAKE))
+        for _ in range(1000):
+            peer.sendall(bytes.fromhex(CLOSE_CHANNEL + OPEN) * 1000)
+    except OSError:
+        pass
+    lines, status, said, memory = served.ended()
+    compare("a client that never reads", ([*STARTED, "fault time-out"], 1, f"amqp: {name}: {TIMED_OUT}\n"), ([*lines[:5], lines[-1]], status, said))
+    if memory > 40:
+        differences.append(f"a client that never reads: {memory:.0f} MB")
+    peer.close()
+    # where octets come or go now and then, nothing is given up
+    slow = Served("--timeout", "2")
+    peer = slow.connected()
+    for octet in bytes.fromhex(HEADER):
+        time.sleep(0.5)
+        peer.sendall(bytes([octet]))
+    compare("a slow protocol header", START, peer.recv(65536).hex())
+    peer.close()
+    compare("a slow client", (["quiet", "fault end-of-input"], 1), slow.ended()[:2])
+    # nobody takes the connection: the queue of the listener is full
+    listener = socket.socket()
+    listener.bind(("127.0.0.1", 0))
+    listener.listen(0)
+    address = listener.getsockname()
+    waiting = [socket.socket() for _ in range(4)]
+    for each in waiting:
+        each.setblocking(False)
+        each.connect_ex(address)
+    time.sleep(0.2)
+    ran = run(["publish", "--timeout", "1", "127.0.0.1:{}".format(address[1]), "", "q"], b"hi")
+    compare("a server that takes no connection", (b"fault connect\n", 1), (ran.stdout, ran.returncode))
+    for each in [*waiting, listener]:
+        each.close()
+    for words in (["serve", "127.0.0.1:0"], ["publish", "127.0.0.1:1", "", "q"]):
+        for seconds in ("0", "86401", "x", "-1"):
+            ran = run([*words, "--timeout", seconds])
+            compare(f"{words} --timeout {seconds}", (b"", 2), (ran.stdout, ran.returncode))
 
 
 def failing_connections():
@@ -610,6 +786,20 @@ def failing_connections():
     peer.close()
     os.kill(served.run.pid, signal.SIGCONT)
     compare("a failing write", (["quiet", "fault write"], 1, f"amqp: {name}: the connection failed in a write: {reset}\n"), served.ended()[:3])
+    # what the client had sent by then is heard
+    served = Served()
+    peer = served.connected()
+    name = "{}:{}".format(*peer.getsockname())
+    os.kill(served.run.pid, signal.SIGSTOP)
+    os.waitpid(served.run.pid, os.WUNTRACED)
+    size = 20_000
+    body = frame(2, 1, f"003c0000{size:016x}0000") + frame(3, 1, "5a" * size)
+    peer.sendall(bytes.fromhex(HANDSHAKE + PUBLISH + body + CLOSE))
+    peer.setsockopt(socket.SOL_SOCKET, socket.SO_LINGER, RESET)
+    peer.close()
+    os.kill(served.run.pid, signal.SIGCONT)
+    wanted = [*STARTED, TOLD[0], f"  header size={size}", f"  body {'5a' * size}", 'connection-closed 200 "reply-success"', "fault write"]
+    compare("a failing write, and what came before", (wanted, 1, f"amqp: {name}: the connection failed in a write: {reset}\n"), served.ended()[:3])
     # what comes after the close is left alone
     served = Served()
     peer = served.connected()
@@ -689,6 +879,7 @@ def hostile_peers():
     shake = bytes.fromhex(HANDSHAKE)
     hostile("a peer that hangs up", [], ["fault end-of-input"], hang_up, 40)
     hostile("a peer of another protocol", [b"GET / HTTP/1.1\r\n\r\n"], ["fault fatal"], "what came is at fault: the other end can't be answered", 40)
+    hostile("a peer that stops in the protocol header", [shake[:4]], ["fault end-of-input"], "the other end hung up inside the protocol header, of which 4 octets came", 40)
     hostile("a peer that stops in a frame", [shake[:60]], ["quiet", "quiet", "fault end-of-input"], "the other end hung up inside a frame, of which 8 octets came", 40)
     hostile("garbage after the handshake", [shake, b"\x77" * 1000], [*STARTED, "fault fatal"], "what came is at fault: the other end can't be answered", 40)
     hostile("100 MB of garbage", [shake, *[b"\0" * 1_000_000] * 100], [*STARTED, "fault fatal"], "what came is at fault: the other end can't be answered", 40)
@@ -746,7 +937,7 @@ def refuses(what, words, given, whole):
 
 
 # a run counts as large as this program was when it was begun, so the long scripts come after the runs whose memory is measured
-for part in (streams, payloads, large, hexadecimal, servers, running_servers, prefixes, clients, limits, documented_runs, protocol_headers, command_lines, failing_streams, loops, progress, served_clients, publishers, failing_connections, no_connections, hostile_peers, scripts, refusals):
+for part in (streams, payloads, large, hexadecimal, servers, running_servers, prefixes, clients, limits, documented_runs, protocol_headers, command_lines, failing_streams, loops, progress, served_clients, publishers, failing_connections, no_connections, hostile_peers, time_outs, large_contents, scripts, refusals):
     part()
 for difference in differences:
     print(difference)

@@ -1,4 +1,4 @@
-//! A stream over TCP that keeps the reason of a failure.
+//! A stream over TCP that keeps the reason of a failure, and tells whether a call would only have had to wait.
 ghost use Rattle.std.specs.Prelude.{◌≢◌, None};
 
 use amqp_io::{Stream, StreamFailed};
@@ -6,10 +6,15 @@ use std::io::{self, Read, Write};
 use std::net::TcpStream;
 
 /// A TCP connection as a [`Stream`]. It keeps why a read or a write failed, which a session doesn't hand on.
+///
+/// Where the calls of the TCP stream don't wait, one that would have to wait fails, as any that fails, and is told
+/// apart here.
 #[derive(Drop)]
 pub struct Connection {
     stream: TcpStream,
     failure: Option<io::Error>,
+    /// the last call that failed would have had to wait
+    would_wait: bool,
     /// changes in each call that fails
     failures: u64,
     /// changes in each read that meets the end of the input
@@ -31,6 +36,7 @@ impl Connection {
         Connection {
             stream,
             failure: None,
+            would_wait: false,
             failures: 0,
             ends: 0,
         }
@@ -39,6 +45,11 @@ impl Connection {
     /// Why the last call that failed did so, if one did.
     pub fn failure(&self) -> Option<io::Error> {
         self.failure
+    }
+
+    /// Whether the last call that failed did so only since it would have had to wait.
+    pub fn would_wait(&self) -> bool {
+        self.would_wait
     }
 }
 
@@ -61,6 +72,7 @@ impl Stream for Connection {
             }
             Err(failure) => {
                 self.failure = Some(failure);
+                self.would_wait = failure.kind() == io::ErrorKind::WouldBlock;
                 self.failures = changed(self.failures);
                 Err(StreamFailed)
             }
@@ -71,12 +83,15 @@ impl Stream for Connection {
         match self.stream.write(octets) {
             Ok(count) => {
                 if count == 0 && !octets.is_empty() {
+                    self.failure = None;
+                    self.would_wait = false;
                     self.failures = changed(self.failures);
                 }
                 Ok(count)
             }
             Err(failure) => {
                 self.failure = Some(failure);
+                self.would_wait = failure.kind() == io::ErrorKind::WouldBlock;
                 self.failures = changed(self.failures);
                 Err(StreamFailed)
             }

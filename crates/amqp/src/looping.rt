@@ -1,12 +1,13 @@
-//! The subcommand `loop`: both ends of a connection in one process, over two streams.
+//! The subcommand `loop`: both ends of a connection in one process, over two sockets.
 use crate::asks::{CHANNEL, ask, close_channel, close_connection, open_channel, publish};
+use crate::connection::Connection;
 use crate::printing::Stop;
 use crate::progress::Progress;
 use crate::sessions::{client_end, is_closed, pull, push_some, server_end};
 use crate::words::short;
 use amqp_command::Limits;
 use amqp_core::{Ask, ChannelState, Client, Phase, Role, Server};
-use amqp_io::{Session, Stream};
+use amqp_io::Session;
 use amqp_method::OutOfMemory;
 use amqp_text::{EXCHANGE, KEY, Load, Tally, pattern};
 use std::alloc::Global;
@@ -17,12 +18,12 @@ const AT_ONCE: usize = 4096;
 
 /// Publishes contents from a client to a server, whose streams are the two ends of one connection. It answers whether the server
 /// was told exactly these.
-pub fn run_loop<C: Stream, S: Stream, E: Write + Drop>(
+pub fn run_loop<E: Write + Drop>(
     alloc: Global,
     limits: Limits,
     load: Load,
-    to_server: &mut C,
-    to_client: &mut S,
+    to_server: Connection,
+    to_client: Connection,
     progress: &mut Progress<E>,
 ) -> Result<bool, Stop> {
     let end = client_end(alloc, limits)?;
@@ -32,12 +33,12 @@ pub fn run_loop<C: Stream, S: Stream, E: Write + Drop>(
     run
 }
 
-fn run_with_server<C: Stream, S: Stream, E: Write + Drop>(
+fn run_with_server<E: Write + Drop>(
     alloc: Global,
     limits: Limits,
     load: Load,
-    client: &mut Session<Client, C>,
-    to_client: &mut S,
+    client: &mut Session<Client, Connection>,
+    to_client: Connection,
     progress: &mut Progress<E>,
 ) -> Result<bool, Stop> {
     let end = server_end(alloc, limits)?;
@@ -47,11 +48,11 @@ fn run_with_server<C: Stream, S: Stream, E: Write + Drop>(
     run
 }
 
-fn run_with_source<C: Stream, S: Stream, E: Write + Drop>(
+fn run_with_source<E: Write + Drop>(
     alloc: Global,
     load: Load,
-    client: &mut Session<Client, C>,
-    server: &mut Session<Server, S>,
+    client: &mut Session<Client, Connection>,
+    server: &mut Session<Server, Connection>,
     progress: &mut Progress<E>,
 ) -> Result<bool, Stop> {
     let body = pattern(alloc, load.size as usize)?;
@@ -64,11 +65,11 @@ fn run_with_source<C: Stream, S: Stream, E: Write + Drop>(
     run
 }
 
-fn run_with_tally<C: Stream, S: Stream, E: Write + Drop>(
+fn run_with_tally<E: Write + Drop>(
     mut source: Source,
     load: Load,
-    client: &mut Session<Client, C>,
-    server: &mut Session<Server, S>,
+    client: &mut Session<Client, Connection>,
+    server: &mut Session<Server, Connection>,
     tally: &mut Tally,
     progress: &mut Progress<E>,
 ) -> Result<bool, Stop> {
@@ -79,11 +80,11 @@ fn run_with_tally<C: Stream, S: Stream, E: Write + Drop>(
 }
 
 /// The sides take turns until nothing moves any more: both are closed then, or will never be.
-fn turn_until_still<C: Stream, S: Stream, E: Write + Drop>(
+fn turn_until_still<E: Write + Drop>(
     source: &mut Source,
     load: Load,
-    client: &mut Session<Client, C>,
-    server: &mut Session<Server, S>,
+    client: &mut Session<Client, Connection>,
+    server: &mut Session<Server, Connection>,
     tally: &mut Tally,
     progress: &mut Progress<E>,
 ) -> Result<(), Stop> {
@@ -98,9 +99,9 @@ fn turn_until_still<C: Stream, S: Stream, E: Write + Drop>(
 }
 
 /// The client asks what it can and writes, the server takes that, and then the other way round. It answers whether any octet moved.
-fn take_turns<C: Stream, S: Stream>(
-    client: &mut Session<Client, C>,
-    server: &mut Session<Server, S>,
+fn take_turns(
+    client: &mut Session<Client, Connection>,
+    server: &mut Session<Server, Connection>,
     source: &mut Source,
     tally: &mut Tally,
 ) -> Result<bool, Stop> {
@@ -113,9 +114,9 @@ fn take_turns<C: Stream, S: Stream>(
 }
 
 /// One end writes some octets, and the other reads until they have come. It answers how many.
-fn pass<A: Role, B: Role, C: Stream, S: Stream>(
-    from: &mut Session<A, C>,
-    to: &mut Session<B, S>,
+fn pass<A: Role, B: Role>(
+    from: &mut Session<A, Connection>,
+    to: &mut Session<B, Connection>,
 ) -> Result<usize, Stop> {
     let written = push_some(from, AT_ONCE)?;
     let mut missing = written;
@@ -128,7 +129,7 @@ fn pass<A: Role, B: Role, C: Stream, S: Stream>(
     Ok(written)
 }
 
-fn hear_server<S: Stream>(server: &mut Session<Server, S>, tally: &mut Tally) {
+fn hear_server(server: &mut Session<Server, Connection>, tally: &mut Tally) {
     for _ in 0..u64::MAX {
         let Some(event) = server.next_event() else {
             break;
@@ -138,7 +139,7 @@ fn hear_server<S: Stream>(server: &mut Session<Server, S>, tally: &mut Tally) {
 }
 
 /// Drops the client's events. Its end knows how far it is.
-fn hear_client<C: Stream>(client: &mut Session<Client, C>) {
+fn hear_client(client: &mut Session<Client, Connection>) {
     for _ in 0..u64::MAX {
         let Some(_) = client.next_event() else {
             break;
@@ -185,7 +186,7 @@ impl Source {
     }
 
     /// Asks one thing, if nothing that was asked before waits to be written.
-    fn ask<C: Stream>(&mut self, client: &mut Session<Client, C>) -> Result<(), Stop> {
+    fn ask(&mut self, client: &mut Session<Client, Connection>) -> Result<(), Stop> {
         if !client.end().output().is_empty() || client.end().phase() != Phase::Running {
             return Ok(());
         }
@@ -202,11 +203,7 @@ impl Source {
     }
 
     /// Publishes the next content, or closes the channel, once it is open; or the connection, where the server closed the channel.
-    fn publish<C: Stream>(
-        &mut self,
-        client: &mut Session<Client, C>,
-        left: u32,
-    ) -> Result<(), Stop> {
+    fn publish(&mut self, client: &mut Session<Client, Connection>, left: u32) -> Result<(), Stop> {
         match client.end().channel_state(CHANNEL) {
             ChannelState::Open if left > 0 => {
                 ask(client, &self.content)?;
@@ -224,7 +221,7 @@ impl Source {
         }
     }
 
-    fn close_connection<C: Stream>(&mut self, client: &mut Session<Client, C>) -> Result<(), Stop> {
+    fn close_connection(&mut self, client: &mut Session<Client, Connection>) -> Result<(), Stop> {
         close_connection(self.alloc, client)?;
         self.next = Step::Nothing;
         Ok(())

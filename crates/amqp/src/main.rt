@@ -13,6 +13,7 @@ mod printing;
 mod progress;
 mod publisher;
 mod publishing;
+mod readiness;
 mod scripts;
 mod serving;
 mod sessions;
@@ -23,7 +24,7 @@ mod words;
 use crate::notes::Notes;
 use crate::progress::Progress;
 use crate::sockets::HERE;
-use amqp_command::{Destination, Limits, Request, request_of};
+use amqp_command::{Destination, Limits, Peer, Request, request_of};
 use amqp_text::Load;
 use std::alloc::Global;
 use std::io::{self, BufWriter, IsTerminal, Write};
@@ -56,11 +57,11 @@ fn run<W: Write>(rt: &HostRuntime, alloc: Global, request: Request, output: &mut
             checking::check_side(alloc, side, limits, &mut rt.reader(), output)
         }
         Request::Link(limits) => linking::link(alloc, limits, &mut rt.reader(), output),
-        Request::Serve(address, limits) => {
-            sockets::serve_at(rt, alloc, address.as_str(), limits, output, rt.stderr())
+        Request::Serve(peer, limits) => {
+            sockets::serve_at(rt, alloc, &peer, limits, output, rt.stderr())
         }
-        Request::Publish(address, destination, limits) => {
-            publish(rt, alloc, address.as_str(), destination, limits, output)
+        Request::Publish(peer, destination, limits) => {
+            publish(rt, alloc, &peer, destination, limits, output)
         }
         Request::Loop(load, limits) => run_loop(rt, alloc, load, limits, output),
     }
@@ -69,17 +70,17 @@ fn run<W: Write>(rt: &HostRuntime, alloc: Global, request: Request, output: &mut
 fn publish<W: Write>(
     rt: &HostRuntime,
     alloc: Global,
-    address: &str,
+    peer: &Peer,
     destination: Destination,
     limits: Limits,
     output: &mut W,
 ) -> u8 {
-    let mut notes = Notes::new(address, rt.stderr());
+    let mut notes = Notes::new(peer.address.as_str(), rt.stderr());
     let input = &mut rt.reader();
     sockets::publish_at(
         rt,
         alloc,
-        address,
+        peer,
         destination,
         limits,
         input,

@@ -28,17 +28,22 @@ impl<'a, E: Write + Drop> Notes<'a, E> {
         let _ = writeln!(self.errors, "amqp: {address}: {what}: {why}");
     }
 
-    /// Says why a run was given up. Where the connection failed, its failure is given.
-    pub fn say_stop(&mut self, stop: Stop, failure: Option<io::Error>) {
+    /// Says why a run was given up.
+    pub fn say_stop(&mut self, stop: Stop) {
         match stop {
             Stop::NotWritten(why) => self.say_why("standard output can't be written", &why),
             Stop::OutOfMemory => self.say("out of memory"),
             Stop::NotGiven(why) => self.say_why("standard input can't be read", &why),
             Stop::NotHex(_) => self.say("standard input isn't hexadecimal"),
             Stop::Config(fault) => self.say_why("no session with these limits", &fault),
-            Stop::NotRead => self.say_failure("the connection failed in a read", failure),
-            Stop::NotSent => self.say_failure("the connection failed in a write", failure),
-            Stop::HungUp(pending) => self.say_end(pending),
+            Stop::NotRead(failure) => self.say_failure("the connection failed in a read", failure),
+            Stop::NotSent(failure) => self.say_failure("the connection failed in a write", failure),
+            Stop::NotAwaited(why) => self.say_why("the connection can't be waited for", &why),
+            Stop::TimedOut => self.say(
+                "no octet came or could be written for as long as the time-out",
+            ),
+            Stop::HungUp(pending) => self.say_end("a frame", pending),
+            Stop::HungUpInHeader(pending) => self.say_end("the protocol header", pending),
             Stop::Core(fault) => self.say_why("what came is at fault", &fault),
             Stop::Refused(fault) => self.say_why("nothing can be sent", &fault),
         }
@@ -51,15 +56,15 @@ impl<'a, E: Write + Drop> Notes<'a, E> {
         }
     }
 
-    /// Says that the other end hung up, and how many octets came of a frame that isn't whole.
-    fn say_end(&mut self, pending: usize) {
+    /// Says that the other end hung up, and how many octets came of what isn't whole.
+    fn say_end(&mut self, what: &str, pending: usize) {
         if pending == 0 {
             return self.say("the other end hung up without a close");
         }
         let address = self.address;
         let _ = writeln!(
             self.errors,
-            "amqp: {address}: the other end hung up inside a frame, of which {pending} octets came"
+            "amqp: {address}: the other end hung up inside {what}, of which {pending} octets came"
         );
     }
 }

@@ -22,12 +22,39 @@ pub enum Stop {
     Refused(AskFault),
     /// The end found a fault in what came.
     Core(CoreFault),
-    /// A read of the connection failed.
-    NotRead,
-    /// A write to the connection failed.
-    NotSent,
+    /// A read of the connection failed, for this reason where there is one.
+    NotRead(Option<io::Error>),
+    /// A write to the connection failed, likewise.
+    NotSent(Option<io::Error>),
+    /// The connection can't be waited for.
+    NotAwaited(io::Error),
+    /// No octet came or could be written for as long as the time-out.
+    TimedOut,
     /// The other end hung up, with so many octets of a frame that isn't whole.
     HungUp(usize),
+    /// The other end hung up, with so many octets of a protocol header that isn't whole: at least 1.
+    HungUpInHeader(usize),
+}
+
+impl Stop {
+    /// Whether the connection failed or ended, or nothing moved on it for too long.
+    pub fn is_of_connection(self) -> bool {
+        match self {
+            Stop::NotRead(_)
+            | Stop::NotSent(_)
+            | Stop::NotAwaited(_)
+            | Stop::TimedOut
+            | Stop::HungUp(_)
+            | Stop::HungUpInHeader(_) => true,
+            Stop::NotWritten(_)
+            | Stop::NotGiven(_)
+            | Stop::NotHex(_)
+            | Stop::OutOfMemory
+            | Stop::Config(_)
+            | Stop::Refused(_)
+            | Stop::Core(_) => false,
+        }
+    }
 }
 
 impl From<io::Error> for Stop {
@@ -111,9 +138,12 @@ fn print_stop<W: Write>(stop: Stop, output: &mut W) -> io::Result<()> {
         Stop::OutOfMemory => print_word("memory", output),
         // what was to be sent can't be sent
         Stop::Refused(_) => print_word("short", output),
-        Stop::NotRead => print_word("read", output),
-        Stop::NotSent => print_word("write", output),
+        Stop::NotRead(_) => print_word("read", output),
+        Stop::NotSent(_) => print_word("write", output),
+        Stop::NotAwaited(_) => print_word("read", output),
+        Stop::TimedOut => print_word("time-out", output),
         Stop::HungUp(_) => print_word("end-of-input", output),
+        Stop::HungUpInHeader(_) => print_word("end-of-input", output),
     }
 }
 

@@ -25,8 +25,8 @@ const STEPS: u8 = 5;
 #[derive(Drop)]
 pub struct Publisher {
     alloc: Global,
-    /// the ask that publishes
-    content: Ask,
+    /// the ask that publishes, until the end has taken it over
+    content: Option<Ask>,
     /// the server is to confirm that it took the content
     confirm: bool,
     next: Step,
@@ -42,7 +42,7 @@ impl Publisher {
     pub fn new(alloc: Global, content: Ask, confirm: bool) -> Publisher {
         Publisher {
             alloc,
-            content,
+            content: Some(content),
             confirm,
             next: Step::OpenChannel,
             selected: false,
@@ -114,7 +114,13 @@ impl Publisher {
         }
     }
 
-    /// Whether the server has done what the next step waits for.
+    /// Whether the channel is closed next, without waiting for anything of the server.
+    pub fn closes_channel(&self, end: &End<Client>) -> bool {
+        matches!(self.next, Step::CloseChannel) && self.may_go_on(end)
+    }
+
+    /// Whether the server has done what the next step waits for. The channel is closed once the content is written:
+    /// until then the server may say why it doesn't take it.
     fn may_go_on(&self, end: &End<Client>) -> bool {
         if end.phase() != Phase::Running {
             return false;
@@ -124,7 +130,9 @@ impl Publisher {
             Step::OpenChannel => true,
             Step::SelectConfirms => channel == ChannelState::Open,
             Step::Publish => channel == ChannelState::Open && self.selected == self.confirm,
-            Step::CloseChannel => channel == ChannelState::Open && self.is_answered(),
+            Step::CloseChannel => {
+                channel == ChannelState::Open && self.is_answered() && end.output().is_empty()
+            }
             Step::CloseConnection => channel == ChannelState::Free,
             Step::Nothing => false,
         }
@@ -135,15 +143,24 @@ impl Publisher {
         !self.confirm || self.confirmed || self.refused
     }
 
-    fn ask<S: Stream>(&self, session: &mut Session<Client, S>) -> Result<(), Stop> {
+    fn ask<S: Stream>(&mut self, session: &mut Session<Client, S>) -> Result<(), Stop> {
         match self.next {
             Step::OpenChannel => open_channel(session),
             Step::SelectConfirms => select_confirms(self.alloc, session),
-            Step::Publish => ask(session, &self.content),
+            Step::Publish => self.publish(session),
             Step::CloseChannel => close_channel(self.alloc, session),
             Step::CloseConnection => close_connection(self.alloc, session),
             Step::Nothing => Ok(()),
         }
+    }
+
+    /// Asks the end to send the content, and lets it go once the end has put it.
+    fn publish<S: Stream>(&mut self, session: &mut Session<Client, S>) -> Result<(), Stop> {
+        if let Some(content) = &self.content {
+            ask(session, content)?;
+        }
+        self.content = None;
+        Ok(())
     }
 
     fn following(&self) -> Step {

@@ -1,29 +1,40 @@
-//! The subcommand `publish`, over a stream.
+//! The subcommand `publish`, over a socket.
 use crate::asks;
+use crate::connection::Connection;
 use crate::notes::Notes;
 use crate::printing::Stop;
 use crate::publisher::Publisher;
-use crate::sessions::{client_end, is_closed, pull, push_all, settle};
+use crate::readiness::Readiness;
+use crate::sessions::{ANSWERS, client_end, pull_ready, settle, waiting};
 use amqp_command::{Destination, Limits};
 use amqp_core::{Client, Event, Reason};
-use amqp_io::{Session, Stream};
+use amqp_io::Session;
 use amqp_method::{Kind, Method, OutOfMemory};
 use std::alloc::Global;
 use std::io::Write;
+use std::net::Net;
+use std::time::Clock;
 
 /// Publishes one content and closes the connection. It answers whether nothing told that the server did not take the content.
-pub fn publish<S: Stream, E: Write + Drop>(
+pub fn publish<N: Net + Clock, E: Write + Drop>(
     alloc: Global,
     limits: Limits,
     destination: Destination,
     body: Vec<u8>,
-    stream: &mut S,
+    connection: Connection,
+    readiness: &mut Readiness<'_, N>,
     notes: &mut Notes<'_, E>,
 ) -> Result<bool, Stop> {
     let mut publisher = publisher_of(alloc, destination, body)?;
-    let run = run_publisher(alloc, limits, &mut publisher, stream, notes);
+    let run = run_publisher(alloc, limits, &mut publisher, connection, readiness, notes);
+    let refused = publisher.is_refused();
     drop(publisher);
-    run
+    match run {
+        Ok(()) => Ok(!refused),
+        // the server's answer is known, whatever became of the connection after it
+        Err(stop) if refused && stop.is_of_connection() => Ok(false),
+        Err(stop) => Err(stop),
+    }
 }
 
 fn publisher_of(
@@ -40,55 +51,90 @@ fn publisher_of(
     Ok(Publisher::new(alloc, content, confirm))
 }
 
-fn run_publisher<S: Stream, E: Write + Drop>(
+fn run_publisher<N: Net + Clock, E: Write + Drop>(
     alloc: Global,
     limits: Limits,
     publisher: &mut Publisher,
-    stream: &mut S,
+    connection: Connection,
+    readiness: &mut Readiness<'_, N>,
     notes: &mut Notes<'_, E>,
-) -> Result<bool, Stop> {
+) -> Result<(), Stop> {
     let end = client_end(alloc, limits)?;
-    let mut session = Session::new(alloc, end, stream);
-    let run = run_session(&mut session, publisher, notes);
+    let mut session = Session::new(alloc, end, connection);
+    let run = run_session(&mut session, publisher, readiness, notes);
     drop(session);
     run
 }
 
-/// Takes the steps of the publisher until the connection is closed.
-fn run_session<S: Stream, E: Write + Drop>(
-    session: &mut Session<Client, S>,
+/// Takes the steps of the publisher until the connection is closed. Where a write fails, what the server had sent by
+/// then is heard first.
+fn run_session<N: Net + Clock, E: Write + Drop>(
+    session: &mut Session<Client, Connection>,
     publisher: &mut Publisher,
+    readiness: &mut Readiness<'_, N>,
     notes: &mut Notes<'_, E>,
-) -> Result<bool, Stop> {
-    push_all(session)?;
+) -> Result<(), Stop> {
+    let run = take_turns(session, publisher, readiness, notes);
+    if let Err(Stop::NotSent(_)) = run {
+        hear_rest(session, publisher, notes)?;
+    }
+    run
+}
+
+/// Takes turns until the connection is closed: reads once, asks what follows from what came, and writes. Where the
+/// channel is to be closed it reads nothing before: a content that is written at once and its close leave together.
+fn take_turns<N: Net + Clock, E: Write + Drop>(
+    session: &mut Session<Client, Connection>,
+    publisher: &mut Publisher,
+    readiness: &mut Readiness<'_, N>,
+    notes: &mut Notes<'_, E>,
+) -> Result<(), Stop> {
+    let mut most = ANSWERS;
     for _ in 0..u64::MAX {
-        if take_turn(session, publisher, notes)? {
+        let pulled = if publisher.closes_channel(session.end()) {
+            Ok(false)
+        } else {
+            pull_ready(session, most)
+        };
+        hear_all(session, publisher, notes)?;
+        let asked = ask_all(session, publisher)?;
+        most = most.saturating_add(asked);
+        if settle(session, pulled, readiness)? {
             break;
         }
     }
-    Ok(!publisher.is_refused())
+    Ok(())
 }
 
-/// Reads once, and does what follows from what came. It answers whether the run is over.
-fn take_turn<S: Stream, E: Write + Drop>(
-    session: &mut Session<Client, S>,
+/// Takes all steps that can be taken now. It answers how many octets they put.
+fn ask_all(
+    session: &mut Session<Client, Connection>,
+    publisher: &mut Publisher,
+) -> Result<usize, Stop> {
+    let before = waiting(session);
+    publisher.ask_all(session)?;
+    Ok(waiting(session).saturating_sub(before))
+}
+
+/// Reads what is there, and tells the publisher the events.
+fn hear_rest<E: Write + Drop>(
+    session: &mut Session<Client, Connection>,
     publisher: &mut Publisher,
     notes: &mut Notes<'_, E>,
-) -> Result<bool, Stop> {
-    let pulled = pull(session);
-    hear_all(session, publisher, notes)?;
-    publisher.ask_all(session)?;
-    let settled = settle(session, pulled);
-    // the server may take no more octets once it has closed the connection
-    if publisher.is_refused() && is_closed(session) {
-        return Ok(true);
+) -> Result<(), Stop> {
+    for _ in 0..u64::MAX {
+        let pulled = pull_ready(session, usize::MAX);
+        hear_all(session, publisher, notes)?;
+        let Ok(true) = pulled else {
+            break;
+        };
     }
-    settled
+    Ok(())
 }
 
 /// Tells the publisher the events that came.
-fn hear_all<S: Stream, E: Write + Drop>(
-    session: &mut Session<Client, S>,
+fn hear_all<E: Write + Drop>(
+    session: &mut Session<Client, Connection>,
     publisher: &mut Publisher,
     notes: &mut Notes<'_, E>,
 ) -> Result<(), OutOfMemory> {
@@ -124,6 +170,8 @@ fn note_event<E: Write + Drop>(event: &Event, notes: &mut Notes<'_, E>) -> Resul
         }
         Event::Told(_, message) => note_method(message.method(), notes)?,
         Event::Flow(_, false) => notes.say("the server takes no contents for now"),
+        Event::Blocked(_) => notes.say_why("the server takes no contents for now", event),
+        Event::Unblocked => notes.say("the server takes contents again"),
         _ => {}
     }
     Ok(())

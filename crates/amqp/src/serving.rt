@@ -1,56 +1,99 @@
-//! The subcommand `serve`, over a stream.
+//! The subcommand `serve`, over a socket.
+use crate::connection::Connection;
 use crate::printing::Stop;
-use crate::sessions::{pull, server_end, settle};
+use crate::readiness::Readiness;
+use crate::sessions::{ANSWERS, pull_ready, server_end, settle};
 use amqp_command::Limits;
 use amqp_core::{Event, Server};
-use amqp_io::{Session, Stream};
+use amqp_io::Session;
 use amqp_text::print_event;
 use amqp_text::statuses::DONE;
 use std::alloc::Global;
 use std::io::Write;
+use std::net::Net;
+use std::time::Clock;
 
 /// Serves one connection until it is closed: prints the events of its end, and answers what the end owes.
-pub fn serve<S: Stream, W: Write>(
+pub fn serve<N: Net + Clock, W: Write>(
     alloc: Global,
     limits: Limits,
-    stream: &mut S,
+    connection: Connection,
+    readiness: &mut Readiness<'_, N>,
     output: &mut W,
 ) -> Result<u8, Stop> {
     let end = server_end(alloc, limits)?;
-    let mut session = Session::new(alloc, end, stream);
-    let run = serve_session(&mut session, output);
+    let mut session = Session::new(alloc, end, connection);
+    let run = serve_session(&mut session, readiness, output);
     drop(session);
     run
 }
 
 /// Takes what comes until the connection is closed. The events of each read are printed before the next.
-fn serve_session<S: Stream, W: Write>(
-    session: &mut Session<Server, S>,
+fn serve_session<N: Net + Clock, W: Write>(
+    session: &mut Session<Server, Connection>,
+    readiness: &mut Readiness<'_, N>,
     output: &mut W,
 ) -> Result<u8, Stop> {
+    let mut greeted = false;
     for _ in 0..u64::MAX {
-        let pulled = pull(session);
-        print_events(session, output)?;
-        if settle(session, pulled)? {
-            break;
+        let pulled = pull_ready(session, ANSWERS);
+        greeted |= print_events(session, output)?;
+        match settle(session, pulled, readiness) {
+            Ok(true) => break,
+            Ok(false) => {}
+            Err(stop) => return give_up(session, stop, greeted, output),
         }
     }
     Ok(DONE)
 }
 
-/// Prints the events that came.
-fn print_events<S: Stream, W: Write>(
-    session: &mut Session<Server, S>,
+/// Why the run is given up. Where a write failed, what the client had sent by then is read and printed first.
+fn give_up<W: Write>(
+    session: &mut Session<Server, Connection>,
+    stop: Stop,
+    greeted: bool,
+    output: &mut W,
+) -> Result<u8, Stop> {
+    match stop {
+        Stop::NotSent(_) => {
+            print_rest(session, output)?;
+            Err(stop)
+        }
+        Stop::HungUp(pending) if !greeted && pending > 0 => Err(Stop::HungUpInHeader(pending)),
+        _ => Err(stop),
+    }
+}
+
+/// Reads what is there, and prints the events.
+fn print_rest<W: Write>(
+    session: &mut Session<Server, Connection>,
     output: &mut W,
 ) -> Result<(), Stop> {
+    for _ in 0..u64::MAX {
+        let pulled = pull_ready(session, usize::MAX);
+        print_events(session, output)?;
+        let Ok(true) = pulled else {
+            break;
+        };
+    }
+    Ok(())
+}
+
+/// Prints the events that came. It answers whether any did: the first tells that the protocol header is whole.
+fn print_events<W: Write>(
+    session: &mut Session<Server, Connection>,
+    output: &mut W,
+) -> Result<bool, Stop> {
+    let mut came = false;
     for _ in 0..u64::MAX {
         let Some(event) = session.next_event() else {
             break;
         };
+        came = true;
         print_owned(event, output)?;
     }
     output.flush()?;
-    Ok(())
+    Ok(came)
 }
 
 /// Prints an event, and lets it go.

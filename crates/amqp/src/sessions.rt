@@ -1,10 +1,24 @@
 //! What the subcommands over a stream do with a session: it is pulled, its events are dealt with, and then it is settled.
+//!
+//! A session over a socket whose calls don't wait reads and writes by turns, and waits only where it can do neither.
+//! So two ends that both write much don't wait for each other to read.
+use crate::connection::Connection;
 use crate::hellos::{client_config, server_config};
 use crate::printing::Stop;
+use crate::readiness::Readiness;
 use amqp_command::Limits;
 use amqp_core::{Client, End, Phase, Role, Server};
-use amqp_io::{IoFault, Session, Stream};
+use amqp_io::{IoFault, Session};
 use std::alloc::Global;
+use std::net::Net;
+use std::time::Clock;
+
+/// At most so many octets of an end's answers wait to be written. Where more do, it reads nothing until some are
+/// written, so that a peer that never reads can't fill the memory.
+pub const ANSWERS: usize = 1_048_576;
+
+/// At most so many octets are written before the next read.
+const AT_ONCE: usize = 65_536;
 
 /// A client with these limits.
 pub fn client_end(alloc: Global, limits: Limits) -> Result<End<Client>, Stop> {
@@ -19,15 +33,15 @@ pub fn server_end(alloc: Global, limits: Limits) -> Result<End<Server>, Stop> {
 }
 
 /// Whether the connection is closed.
-pub fn is_closed<R: Role, S: Stream>(session: &Session<R, S>) -> bool {
+pub fn is_closed<R: Role>(session: &Session<R, Connection>) -> bool {
     session.end().phase() == Phase::Closed
 }
 
 /// Why a session is given up after this fault.
-pub fn stop_of<R: Role, S: Stream>(session: &Session<R, S>, fault: IoFault) -> Stop {
+pub fn stop_of<R: Role>(session: &Session<R, Connection>, fault: IoFault) -> Stop {
     match fault {
-        IoFault::Read => Stop::NotRead,
-        IoFault::Write => Stop::NotSent,
+        IoFault::Read => Stop::NotRead(session.stream().failure()),
+        IoFault::Write => Stop::NotSent(session.stream().failure()),
         IoFault::EndOfInput => Stop::HungUp(session.end().pending()),
         IoFault::Core(fault) => Stop::Core(fault),
         IoFault::OutOfMemory => Stop::OutOfMemory,
@@ -35,8 +49,8 @@ pub fn stop_of<R: Role, S: Stream>(session: &Session<R, S>, fault: IoFault) -> S
 }
 
 /// Writes at most so many of the octets that the end has put. It answers how many.
-pub fn push_some<R: Role, S: Stream>(
-    session: &mut Session<R, S>,
+pub fn push_some<R: Role>(
+    session: &mut Session<R, Connection>,
     limit: usize,
 ) -> Result<usize, Stop> {
     match session.push(limit) {
@@ -45,33 +59,99 @@ pub fn push_some<R: Role, S: Stream>(
     }
 }
 
-/// Writes all that the end has put.
-pub fn push_all<R: Role, S: Stream>(session: &mut Session<R, S>) -> Result<(), Stop> {
-    let all = session.end().output().len();
-    push_some(session, all)?;
-    Ok(())
-}
-
 /// Reads once, and feeds the end. It answers how many octets came.
-pub fn pull<R: Role, S: Stream>(session: &mut Session<R, S>) -> Result<usize, Stop> {
+pub fn pull<R: Role>(session: &mut Session<R, Connection>) -> Result<usize, Stop> {
     match session.pull() {
         Ok(count) => Ok(count),
         Err(fault) => Err(stop_of(session, fault)),
     }
 }
 
-/// Writes all that the end has put, also after a fault, so that the other end learns what was wrong. It answers whether the
-/// run is over: once the connection is closed, whatever was read after the close.
-pub fn settle<R: Role, S: Stream>(
-    session: &mut Session<R, S>,
-    pulled: Result<usize, Stop>,
+/// How many octets the end has put that are not written.
+pub fn waiting<R: Role>(session: &Session<R, Connection>) -> usize {
+    session.end().output().len()
+}
+
+/// Reads once what is there, and feeds the end, unless it has more than so many octets to write. It answers whether
+/// any came.
+pub fn pull_ready<R: Role>(
+    session: &mut Session<R, Connection>,
+    most: usize,
 ) -> Result<bool, Stop> {
-    let pushed = push_all(session);
+    if waiting(session) > most {
+        return Ok(false);
+    }
+    match session.pull() {
+        Ok(_) => Ok(true),
+        Err(IoFault::Read) if session.stream().would_wait() => Ok(false),
+        Err(fault) => Err(stop_of(session, fault)),
+    }
+}
+
+/// Writes of what the end has put as much as the socket takes at once. It answers whether any octet went.
+fn push_ready<R: Role>(session: &mut Session<R, Connection>) -> Result<bool, Stop> {
+    let before = waiting(session);
+    match session.push(AT_ONCE) {
+        Ok(_) => {}
+        Err(IoFault::Write) if session.stream().would_wait() => {}
+        Err(fault) => return Err(stop_of(session, fault)),
+    }
+    Ok(waiting(session) < before)
+}
+
+/// Writes all that the end has put, and waits where the socket takes no more for now.
+fn push_all<R: Role, N: Net + Clock>(
+    session: &mut Session<R, Connection>,
+    readiness: &mut Readiness<'_, N>,
+) -> Result<(), Stop> {
+    for _ in 0..u64::MAX {
+        if waiting(session) == 0 {
+            break;
+        }
+        if push_ready(session)? {
+            readiness.moved();
+        } else {
+            readiness.wait()?;
+        }
+    }
+    Ok(())
+}
+
+/// After a read that came to this, writes some of what the end has put, or waits where nothing came and nothing can
+/// be written. Once the connection is closed, or after a fault, it writes all, so that the other end learns what was
+/// wrong. It answers whether the run is over: once the connection is closed, whatever was read after the close.
+pub fn settle<R: Role, N: Net + Clock>(
+    session: &mut Session<R, Connection>,
+    pulled: Result<bool, Stop>,
+    readiness: &mut Readiness<'_, N>,
+) -> Result<bool, Stop> {
     if is_closed(session) {
-        pushed?;
+        push_all(session, readiness)?;
         return Ok(true);
     }
-    pulled?;
-    pushed?;
-    Ok(false)
+    match pulled {
+        Ok(came) => {
+            exchange(session, came, readiness)?;
+            Ok(false)
+        }
+        Err(stop) => {
+            // the fault that came first is told
+            let _ = push_all(session, readiness);
+            Err(stop)
+        }
+    }
+}
+
+/// Writes what can be written at once. Where nothing can, and nothing came either, waits.
+fn exchange<R: Role, N: Net + Clock>(
+    session: &mut Session<R, Connection>,
+    came: bool,
+    readiness: &mut Readiness<'_, N>,
+) -> Result<(), Stop> {
+    let went = push_ready(session)?;
+    if came || went {
+        readiness.moved();
+        return Ok(());
+    }
+    readiness.wait()
 }

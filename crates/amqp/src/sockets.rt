@@ -6,13 +6,15 @@ use crate::notes::Notes;
 use crate::printing::{Stop, finish, flushed};
 use crate::progress::Progress;
 use crate::publishing::publish;
+use crate::readiness::Readiness;
 use crate::serving::serve;
-use amqp_command::{Destination, Limits};
+use amqp_command::{Destination, Limits, Peer};
 use amqp_text::statuses::{DONE, FAULT};
 use amqp_text::{Load, print_outcome};
 use std::alloc::{AllocError, Global};
 use std::io::{self, Read, Write};
-use std::net::{Net, SocketAddr, TcpListener, TcpStream};
+use std::net::{Net, SocketAddr, TcpListener, TcpStream, ToSocketAddrs};
+use std::time::{Clock, Duration};
 
 /// The step in which no connection came about.
 #[derive(Clone, Copy)]
@@ -73,9 +75,9 @@ fn finish_unconnected<W: Write, E: Write + Drop>(
             finish_line(step.line(), output)
         }
         Unconnected::NotWritten(failure) => {
-            finish_noted(Err(Stop::NotWritten(failure)), None, output, notes)
+            finish_noted(Err(Stop::NotWritten(failure)), output, notes)
         }
-        Unconnected::OutOfMemory => finish_noted(Err(Stop::OutOfMemory), None, output, notes),
+        Unconnected::OutOfMemory => finish_noted(Err(Stop::OutOfMemory), output, notes),
     }
 }
 
@@ -89,46 +91,53 @@ fn finish_line<W: Write>(line: &str, output: &mut W) -> u8 {
 /// Says and prints why the run was given up, if it was, and answers the exit status.
 fn finish_noted<W: Write, E: Write + Drop>(
     run: Result<u8, Stop>,
-    failure: Option<io::Error>,
     output: &mut W,
     notes: &mut Notes<'_, E>,
 ) -> u8 {
     let run = flushed(run, output);
     if let Err(stop) = run {
-        notes.say_stop(stop, failure);
+        notes.say_stop(stop);
     }
     finish(run, output)
 }
 
 /// Takes one connection at an address, and serves it.
-pub fn serve_at<R: Net<Stream = TcpStream, Listener = TcpListener>, W: Write, E: Write + Drop>(
-    rt: &R,
-    alloc: Global,
-    address: &str,
-    limits: Limits,
-    output: &mut W,
-    errors: E,
-) -> u8 {
+pub fn serve_at<
+    R: Net<Stream = TcpStream, Listener = TcpListener> + Clock,
+    W: Write,
+    E: Write + Drop,
+>(rt: &R, alloc: Global, peer: &Peer, limits: Limits, output: &mut W, errors: E) -> u8 {
+    let address = peer.address.as_str();
     match take_connection(rt, alloc, address, output) {
-        Ok((stream, peer)) => serve_peer(alloc, stream, peer, limits, output, errors),
+        Ok((stream, client)) => {
+            let mut notes = Notes::new(client.as_str(), errors);
+            serve_client(rt, alloc, stream, peer.time_out, limits, output, &mut notes)
+        }
         Err(fault) => finish_unconnected(fault, output, &mut Notes::new(address, errors)),
     }
 }
 
-/// Serves the connection of a peer, whose address is given.
-fn serve_peer<W: Write, E: Write + Drop>(
+/// Serves the connection of a client.
+fn serve_client<R: Net + Clock, W: Write, E: Write + Drop>(
+    rt: &R,
     alloc: Global,
     stream: TcpStream,
-    peer: String,
+    time_out: Option<Duration>,
     limits: Limits,
     output: &mut W,
-    errors: E,
+    notes: &mut Notes<'_, E>,
 ) -> u8 {
-    let mut connection = Connection::new(stream);
-    let run = serve(alloc, limits, &mut connection, output);
-    let failure = connection.failure();
-    drop(connection);
-    finish_noted(run, failure, output, &mut Notes::new(peer.as_str(), errors))
+    match Readiness::new(rt, alloc, &stream, time_out) {
+        Ok(mut readiness) => {
+            let connection = Connection::new(stream);
+            let run = serve(alloc, limits, connection, &mut readiness, output);
+            drop(readiness);
+            finish_noted(run, output, notes)
+        }
+        Err(failure) => {
+            finish_unconnected(Unconnected::Failed(Step::Accept, failure), output, notes)
+        }
+    }
 }
 
 /// Says where it listens, and takes one connection, with the address that it comes from. Nobody else is listened to after that.
@@ -203,14 +212,14 @@ fn leaves_port(address: &str) -> bool {
 
 /// Reads the body from the input, connects to an address, and publishes it.
 pub fn publish_at<
-    R: Net<Stream = TcpStream, Listener = TcpListener>,
+    R: Net<Stream = TcpStream, Listener = TcpListener> + Clock,
     I: Read,
     W: Write,
     E: Write + Drop,
 >(
     rt: &R,
     alloc: Global,
-    address: &str,
+    peer: &Peer,
     destination: Destination,
     limits: Limits,
     input: &mut I,
@@ -218,48 +227,99 @@ pub fn publish_at<
     notes: &mut Notes<'_, E>,
 ) -> u8 {
     match read_all(alloc, input) {
-        Ok(body) => publish_body(rt, alloc, address, destination, limits, body, output, notes),
-        Err(fault) => finish_noted(Err(Stop::from(fault)), None, output, notes),
+        Ok(body) => publish_body(rt, alloc, peer, destination, limits, body, output, notes),
+        Err(fault) => finish_noted(Err(Stop::from(fault)), output, notes),
     }
 }
 
-fn publish_body<R: Net<Stream = TcpStream, Listener = TcpListener>, W: Write, E: Write + Drop>(
+fn publish_body<
+    R: Net<Stream = TcpStream, Listener = TcpListener> + Clock,
+    W: Write,
+    E: Write + Drop,
+>(
     rt: &R,
     alloc: Global,
-    address: &str,
+    peer: &Peer,
     destination: Destination,
     limits: Limits,
     body: Vec<u8>,
     output: &mut W,
     notes: &mut Notes<'_, E>,
 ) -> u8 {
-    match TcpStream::connect(rt, address) {
-        Ok(stream) => publish_over(alloc, stream, destination, limits, body, output, notes),
+    match connect(rt, alloc, peer) {
+        Ok((stream, mut readiness)) => {
+            let connection = Connection::new(stream);
+            let run = publish_over(
+                alloc,
+                connection,
+                &mut readiness,
+                destination,
+                limits,
+                body,
+                output,
+                notes,
+            );
+            drop(readiness);
+            finish_noted(run, output, notes)
+        }
         Err(failure) => {
             finish_unconnected(Unconnected::Failed(Step::Connect, failure), output, notes)
         }
     }
 }
 
-fn publish_over<W: Write, E: Write + Drop>(
+/// A connection to the peer, and what waits for it.
+fn connect<'a, R: Net<Stream = TcpStream, Listener = TcpListener> + Clock>(
+    rt: &'a R,
     alloc: Global,
-    stream: TcpStream,
+    peer: &Peer,
+) -> io::Result<(TcpStream, Readiness<'a, R>)> {
+    let address = peer.address.as_str();
+    let stream = match peer.time_out {
+        Some(time_out) => connect_within(rt, address, time_out)?,
+        None => TcpStream::connect(rt, address)?,
+    };
+    let readiness = Readiness::new(rt, alloc, &stream, peer.time_out)?;
+    Ok((stream, readiness))
+}
+
+/// Connects to the first of the addresses that a name stands for at which a peer answers in time.
+fn connect_within<R: Net<Stream = TcpStream, Listener = TcpListener>>(
+    rt: &R,
+    address: &str,
+    time_out: Duration,
+) -> io::Result<TcpStream> {
+    let mut last = io::Error::from(io::ErrorKind::NotFound);
+    for found in address.to_socket_addrs(rt)? {
+        match TcpStream::connect_timeout(rt, &found, time_out) {
+            Ok(stream) => return Ok(stream),
+            Err(failure) => last = failure,
+        }
+    }
+    Err(last)
+}
+
+fn publish_over<N: Net + Clock, W: Write, E: Write + Drop>(
+    alloc: Global,
+    connection: Connection,
+    readiness: &mut Readiness<'_, N>,
     destination: Destination,
     limits: Limits,
     body: Vec<u8>,
     output: &mut W,
     notes: &mut Notes<'_, E>,
-) -> u8 {
+) -> Result<u8, Stop> {
     let size = body.len();
-    let mut connection = Connection::new(stream);
-    let run = publish(alloc, limits, destination, body, &mut connection, notes);
-    let failure = connection.failure();
-    drop(connection);
-    let run = match run {
-        Ok(taken) => print_published(taken, size, output),
-        Err(stop) => Err(stop),
-    };
-    finish_noted(run, failure, output, notes)
+    let taken = publish(
+        alloc,
+        limits,
+        destination,
+        body,
+        connection,
+        readiness,
+        notes,
+    )?;
+    print_published(taken, size, output)
 }
 
 fn print_published<W: Write>(taken: bool, size: usize, output: &mut W) -> Result<u8, Stop> {
@@ -299,18 +359,15 @@ fn loop_over<W: Write, E: Write + Drop>(
     notes: &mut Notes<'_, E>,
     progress: &mut Progress<E>,
 ) -> u8 {
-    let mut client = Connection::new(client);
-    let mut server = Connection::new(server);
-    let run = run_loop(alloc, limits, load, &mut client, &mut server, progress);
-    let failure = client.failure().or(server.failure());
-    drop(client);
-    drop(server);
+    let client = Connection::new(client);
+    let server = Connection::new(server);
+    let run = run_loop(alloc, limits, load, client, server, progress);
     progress.end();
     let run = match run {
         Ok(came) => print_outcome(came, load, output).map_err(Stop::NotWritten),
         Err(stop) => Err(stop),
     };
-    finish_noted(run, failure, output, notes)
+    finish_noted(run, output, notes)
 }
 
 /// The loopback address, with a port that the system chooses.

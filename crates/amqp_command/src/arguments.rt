@@ -1,7 +1,7 @@
 //! The subcommands with their options, and the request that words make of them.
 use crate::help;
-use crate::options::{limits_of, with_limits};
-use crate::requests::{Destination, Request, Start};
+use crate::options::{limits_of, time_out_of, time_out_option, with_limits};
+use crate::requests::{Destination, Peer, Request, Start};
 use amqp_channel::Side;
 use amqp_text::Load;
 use amqp_value::ShortStr;
@@ -39,8 +39,7 @@ fn request_in(alloc: Global, matches: &ArgMatches) -> Result<Request, Error> {
         return Ok(Request::Link(limits_of(link)));
     }
     if let Some(serve) = matches.subcommand_matches("serve") {
-        let address = text_of(alloc, serve, "address")?;
-        return Ok(Request::Serve(address, limits_of(serve)));
+        return Ok(Request::Serve(peer_of(alloc, serve)?, limits_of(serve)));
     }
     if let Some(publish) = matches.subcommand_matches("publish") {
         return publish_request(alloc, publish);
@@ -133,6 +132,7 @@ fn serve_command<'a>(alloc: Global) -> Result<Command<'a>, AllocError> {
         .long_about(help::SERVE_DETAILS)
         .after_long_help(help::SERVE_EXAMPLE)
         .arg(address)?;
+    let serve = serve.arg(time_out_option(alloc))?;
     with_limits(alloc, serve)
 }
 
@@ -153,6 +153,7 @@ fn publish_command<'a>(alloc: Global) -> Result<Command<'a>, AllocError> {
     let key = word(alloc, "key", "KEY", "The routing key, at most 255 octets");
     let publish = publish.arg(key)?;
     let publish = publish.arg(confirm_option(alloc))?;
+    let publish = publish.arg(time_out_option(alloc))?;
     with_limits(alloc, publish)
 }
 
@@ -212,10 +213,18 @@ fn load_of(matches: &ArgMatches) -> Load {
 
 fn publish_request(alloc: Global, matches: &ArgMatches) -> Result<Request, Error> {
     let destination = destination_of(alloc, matches)?;
-    match text_of(alloc, matches, "address") {
-        Ok(address) => Ok(Request::Publish(address, destination, limits_of(matches))),
+    match peer_of(alloc, matches) {
+        Ok(peer) => Ok(Request::Publish(peer, destination, limits_of(matches))),
         Err(AllocError) => Err(Error::from(AllocError)),
     }
+}
+
+fn peer_of(alloc: Global, matches: &ArgMatches) -> Result<Peer, AllocError> {
+    let address = text_of(alloc, matches, "address")?;
+    Ok(Peer {
+        address,
+        time_out: time_out_of(matches),
+    })
 }
 
 fn destination_of(alloc: Global, matches: &ArgMatches) -> Result<Destination, Error> {

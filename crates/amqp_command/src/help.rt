@@ -174,12 +174,17 @@ Listens at ADDR, which is a host's name or an IP address with a port, as `localh
 With the port 0 the system chooses one, and the address is printed with that. Then it takes one connection, as its server,
 and prints the events as they come, in the form that `amqp check --help` lists. It takes every user, opens the channels that
 the client opens and takes what is published on them. It answers no other request: a client that declares a queue waits for
-ever. Once the client has closed the connection, the run ends with status 0. A fault ends it with status 1:
+ever. Once the client has closed the connection, the run ends with status 0.
+
+It reads nothing while more than a megabyte of its answers waits to be written. It waits for a client to connect as long
+as that takes, and, unless --timeout says otherwise, also for one that says nothing, or never reads what it is answered.
+A client that sends heartbeats now and then is not silent. A fault ends the run with status 1:
 
     fault listen         nothing can listen at ADDR
     fault accept         no connection can be taken
     fault read           the connection failed in a read
-    fault write          the connection failed in a write
+    fault write          the connection failed in a write; what the client had sent by then was read and printed
+    fault time-out       no octet came from the client or could be written to it for as long as --timeout says
     fault end-of-input   the client hung up without a close
     fault peer CODE      the client broke the protocol, and was sent a close of the connection with this code
     fault fatal          there is no answer to what the client sent
@@ -218,21 +223,27 @@ client began to close. It does not say that the server took the content: of one 
 for an exchange that doesn't exist, or that no queue takes, nothing is heard.
 
 With --confirm the client publishes the content as mandatory, and waits until the server confirms it before it closes (by
-RabbitMQ's confirms). `published N` then says that the server has taken the content over. Otherwise the run ends with a
-fault, with status 1:
+RabbitMQ's confirms). `published N` then says that the server has taken the content over.
+
+The client reads while it writes. Unless --timeout says otherwise, it waits as long as it takes for a server that says
+nothing, never reads, never confirms, or wants no contents for now and never wants them again. A server that sends
+heartbeats now and then is not silent. Otherwise the run ends with a fault, with status 1:
 
     fault short          the server closed the channel or the connection, or, with --confirm, it returned the content, since
                          no queue takes it, or said that it did not take it over
-    fault connect        no connection to ADDR
+    fault connect        no connection to ADDR, or none within --timeout
     fault read           standard input can't be read, or the connection failed in a read
     fault write          the connection failed in a write
+    fault time-out       no octet came from the server or could be written to it for as long as --timeout says
     fault end-of-input   the server hung up without a close, as some do that refuse the login
     fault peer CODE      the server broke the protocol, and was sent a close of the connection with this code
     fault fatal          there is no answer to what the server sent
     fault memory         out of memory
 
-Standard error says in which step it went wrong, and why: of a close of the server with its code and text. Status 2 says that
-the command line can't be read.";
+After such a close, return or refusal a failure of the connection is still `fault short`, also where the close is read
+only once a write has failed. Standard error says in which step it went wrong, and why: of a close of the server with
+its code and text. It also says when the server takes no contents for now. Status 2 says that the command line can't be
+read.";
 
 pub const PUBLISH_EXAMPLE: &str = "\
 Example, to the queue `q`, which takes what is published to the default exchange with its name as the routing key:

@@ -8,4 +8,4 @@ mod requests;
 
 pub use crate::arguments::request_of;
 pub use crate::options::Limits;
-pub use crate::requests::{Destination, Request, Start};
+pub use crate::requests::{Destination, Peer, Request, Start};

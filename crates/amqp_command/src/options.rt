@@ -1,6 +1,7 @@
 //! The options with which an end is set up.
 use clap::{Arg, ArgAction, ArgMatches, Command, value_parser};
 use std::alloc::{AllocError, Global};
+use std::time::Duration;
 
 /// The limits of an end.
 #[derive(Clone, Copy)]
@@ -57,4 +58,20 @@ pub fn limits_of(matches: &ArgMatches) -> Limits {
         channel_max: channel_max.unwrap_or(Limits::DEFAULT.channel_max),
         max_body: max_body.unwrap_or(Limits::DEFAULT.max_body),
     }
+}
+
+/// The option of how long a connection may be silent. It has no default.
+pub fn time_out_option<'a>(alloc: Global) -> Arg<'a> {
+    Arg::new(alloc, "timeout")
+        .long("timeout")
+        .value_name("SECONDS")
+        .action(ArgAction::Set)
+        .value_parser(value_parser!(u32).range(1..=86_400))
+        .help("Give up where no octet comes or goes for so long: 1 to 86400 [default: never]")
+}
+
+/// The time for which a connection may be silent, where the option gives one.
+pub fn time_out_of(matches: &ArgMatches) -> Option<Duration> {
+    let seconds = matches.get_one::<u32>("timeout")?;
+    Some(Duration::from_secs(u64::from(seconds)))
 }

@@ -3,6 +3,7 @@ use crate::options::Limits;
 use amqp_channel::Side;
 use amqp_text::Load;
 use amqp_value::ShortStr;
+use std::time::Duration;
 
 /// What the command line asks for.
 #[derive(Drop)]
@@ -13,10 +14,10 @@ pub enum Request {
     Check(Side, Limits),
     /// Do what a script says with pairs of ends.
     Link(Limits),
-    /// Serve one connection at this address.
-    Serve(String, Limits),
-    /// Publish to the server at this address.
-    Publish(String, Destination, Limits),
+    /// Serve one connection of this peer.
+    Serve(Peer, Limits),
+    /// Publish to this peer.
+    Publish(Peer, Destination, Limits),
     /// Send contents from a client to a server here.
     Loop(Load, Limits),
 }
@@ -27,6 +28,15 @@ pub enum Start {
     Frame,
     /// The protocol header, and then a frame: a client's octets from the first.
     ProtocolHeader,
+}
+
+/// Where a peer is, or is awaited.
+#[derive(Drop)]
+pub struct Peer {
+    /// A host's name or an IP address, and a port.
+    pub address: String,
+    /// The connection is given up where no octet comes or goes for so long. With None it may take any time.
+    pub time_out: Option<Duration>,
 }
 
 /// Where a content is published, and whether the server is to confirm that it took it.
