@@ -4,3 +4,4 @@ mod faults;
 mod large;
 mod memory;
 mod splitting;
+mod writing;

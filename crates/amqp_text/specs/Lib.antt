@@ -1,3 +1,4 @@
 pub mod Hexadecimal
 pub mod Listing
+pub mod Payloads
 pub mod Tallies

@@ -1,13 +1,14 @@
 //! The contents that a server was told, measured against those that were published to it.
-ghost use Rattle.std.specs.Prelude.{◌≡◌, ◌+◌, List, [], ◌∷◌, false, true, IfOk, OnOk};
+ghost use Rattle.std.specs.Prelude.{◌≡◌, ◌+◌, ◌^◌, ◌⊎◌, ◌↔◌, List, [], ◌∷◌, false, true, IsTrue, IfOk, OnOk};
 ghost use Rattle.std.specs.Io.KnownBytes.{Appends};
 ghost use Rattle.amqp_channel.specs.declared.events.Event.{Event};
 ghost use Rattle.amqp_method.specs.MessageView.{message_view};
-ghost use Rattle.amqp_text.specs.Tallies.{body_of, Publishes, AreExactly, Heard, outcome_line, outcome_status};
+ghost use Rattle.amqp_method.specs.MethodView.{method_view};
+ghost use Rattle.amqp_text.specs.Tallies.{body_of, HasText, HasBody, Publishes, AreExactly, Heard, CountsOne, HearsAnother, outcome_line, outcome_status};
 
 use crate::statuses::{DONE, FAULT};
 use amqp_channel::Event;
-use amqp_method::{Kind, Message, OutOfMemory};
+use amqp_method::{Kind, Message, Method, OutOfMemory};
 use std::alloc::Global;
 use std::io::{self, Write};
 
@@ -43,14 +44,15 @@ pub struct Tally {
     body: Vec<u8>,
     /// how many of these came
     contents: u64,
-    /// something else came
+    /// something else came, or more than can be counted
     others: bool,
 }
 
 impl Tally {
     /// Nothing came yet of contents with this body.
     pub fn new(body: Vec<u8>) -> Tally
-        ensures { Heard result [] }
+        ensures heard { Heard result [] }
+        ensures body { result.body.items ≡ body.items }
     {
         Tally {
             body,
@@ -66,9 +68,10 @@ impl Tally {
         self.contents
     }
 
-    /// Whether so many of the contents came, and nothing else.
+    /// Whether so many of the contents came, and no other message.
     pub fn is_of(&self, count: u32) -> bool
-        ensures { (events : List Event) → Heard self.now events → result ≡ true → AreExactly self.now.body.items count events }
+        ensures { (events : List Event) → Heard self.now events
+            → IsTrue result ↔ AreExactly self.now.body.items count events }
     {
         self.contents == u64::from(count) && !self.others
     }
@@ -85,7 +88,8 @@ impl Tally {
     }
 
     fn hear_message(&mut self, message: &Message)
-        ensures content { self.new.others ≡ false → (self.old.others ≡ false) × Publishes self.old.body.items (message_view message.now) × (self.new.contents ≡ self.old.contents + 1) }
+        ensures content { self.new.others ≡ false → CountsOne self.old self.new (message_view message.now) }
+        ensures other { self.new.others ≡ true → HearsAnother self.old (message_view message.now) }
         ensures body { self.new.body.items ≡ self.old.body.items }
     {
         if !is_content(message, &self.body) {
@@ -99,21 +103,38 @@ impl Tally {
     }
 }
 
+/// Whether the argument at this place is this short string.
+fn has_text(method: &Method, place: usize, text: &[u8]) -> bool
+    ensures { IsTrue result ↔ HasText place (method_view method.now) text.now }
+{
+    match method.short_str_at(place) {
+        Some(found) => found.as_bytes() == text,
+        None => false,
+    }
+}
+
+/// Whether a content with this body follows the method.
+fn has_body(message: &Message, body: &[u8]) -> bool
+    ensures { IsTrue result ↔ HasBody body.now (message_view message.now) }
+{
+    match message.content_parts() {
+        Some((_, told)) => told == body,
+        None => false,
+    }
+}
+
 /// Whether the message publishes this body to the exchange without a name, with the key of the loop.
 fn is_content(message: &Message, body: &[u8]) -> bool
-    ensures { result ≡ true → Publishes body.now (message_view message.now) }
+    ensures { IsTrue result ↔ Publishes body.now (message_view message.now) }
 {
     let method = message.method();
     if method.kind() != Kind::BasicPublish {
         return false;
     }
-    let (Some(exchange), Some(key)) = (method.short_str_at(0), method.short_str_at(1)) else {
+    if !has_text(method, 0, EXCHANGE) || !has_text(method, 1, KEY) {
         return false;
-    };
-    let Some((_, told)) = message.content_parts() else {
-        return false;
-    };
-    exchange.as_bytes() == EXCHANGE && key.as_bytes() == KEY && told == body
+    }
+    has_body(message, body)
 }
 
 /// Prints how many contents came, or that others came or fewer, and answers the exit status.

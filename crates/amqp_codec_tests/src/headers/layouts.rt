@@ -1,7 +1,8 @@
 //! Content headers as the standard lays them out, read, written and printed.
 use crate::octets::{joined, octets};
 use amqp_method::{
-    Header, MethodFault, MethodFaultKind, Properties, header_text, read_header, write_header,
+    Header, MethodFault, MethodFaultKind, Properties, header_text, read_header, read_header_into,
+    write_header,
 };
 use amqp_value::ValueFaultKind;
 use std::alloc::Global;
@@ -355,4 +356,21 @@ fn assert_long_read(rt: &impl Abort, alloc: Global, octets: &[u8]) -> Result<(),
 fn a_header_with_long_properties(rt: HostRuntime) -> Result<(), Fail> {
     let octets = long_header(rt.alloc())?;
     assert_long_read(&rt, rt.alloc(), &octets)
+}
+
+/// Reads headers one after another into one, which has the text of the last one each time.
+fn read_into(rt: &impl Abort, alloc: Global, header: &mut Header) -> Result<(), Fail> {
+    for (octets, text) in HEADERS.iter().copied() {
+        read_header_into(alloc, octets, header)?;
+        assert_text(rt, alloc, header, text)?;
+    }
+    Ok(())
+}
+
+#[test]
+fn a_header_is_read_over_another(rt: HostRuntime) -> Result<(), Fail> {
+    let mut header = Header::default();
+    let read = read_into(&rt, rt.alloc(), &mut header);
+    drop(header);
+    read
 }

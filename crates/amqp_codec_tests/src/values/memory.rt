@@ -1,7 +1,7 @@
 //! What calls ask of the allocator. By themselves these tests compare answers; where requests are counted between the marks
 //! (`beside/memory/count.c`, preloaded), they show which call takes how much.
 use crate::marking::mark;
-use amqp_value::read_table;
+use amqp_value::{Table, Value, ValueFault, ValueFaultKind, read_table};
 use std::alloc::Global;
 use std::process::Abort;
 use std::test::Fail;
@@ -64,6 +64,42 @@ fn tables_take_what_they_have(rt: HostRuntime) -> Result<(), Fail> {
             pairs,
             "for {digits}"
         );
+    }
+    Ok(())
+}
+
+/// The count 4, and the pair of the name `a` and the truth value that holds.
+static ONE_PAIR: [u8; 8] = [0, 0, 0, 4, 1, b'a', b't', 1];
+
+/// Whether a table has that pair alone.
+fn is_one_pair(table: &Table) -> bool {
+    match table.pairs() {
+        [(name, Value::Boolean(true))] => name.as_bytes() == b"a".as_slice(),
+        _ => false,
+    }
+}
+
+/// What is said of the octets of one pair.
+fn read_one_pair(alloc: Global) -> Result<&'static str, ValueFault> {
+    let (table, taken) = match read_table(alloc, &ONE_PAIR) {
+        Ok(read) => read,
+        Err(fault) => return Err(fault),
+    };
+    let is_read = taken == ONE_PAIR.len() && is_one_pair(&table);
+    drop(table);
+    Ok(if is_read { "one pair" } else { "another table" })
+}
+
+/// A table is read, or memory is refused: where each request is refused in turn, `beside/memory/refused_calls.py` looks at what is
+/// printed.
+#[test]
+fn a_table_is_read_or_memory_is_refused(rt: HostRuntime) -> Result<(), Fail> {
+    match read_one_pair(rt.alloc()) {
+        Ok(read) => println!(rt; "table: {read}")?,
+        Err(fault) => {
+            assert!(rt; fault.kind == ValueFaultKind::OutOfMemory);
+            println!(rt; "table: no memory")?;
+        }
     }
     Ok(())
 }
