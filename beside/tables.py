@@ -1,6 +1,7 @@
 """Compares the tables of docs/PROTOCOL.md with the code and with the definitions, word by word."""
 
 import re
+import subprocess
 import sys
 
 differences = []
@@ -326,7 +327,14 @@ def constants():
             differences.append(f"constants: {path} has {value} for the {name}, and docs/PROTOCOL.md {rows.get(name)}")
 
 
-for part in (frames, constants, methods, tags, properties, faults, refusals, closes):
+def typed_methods():
+    """The typed methods are those that the script writes from the table."""
+    run = subprocess.run([sys.executable, "tools/typed_methods.py", "--check"], capture_output=True, text=True)
+    if run.returncode != 0:
+        differences.append("typed methods: " + (run.stdout.strip() or run.stderr.strip()).replace("\n", "; "))
+
+
+for part in (frames, constants, methods, typed_methods, tags, properties, faults, refusals, closes):
     try:
         part()
     except (OSError, ValueError, KeyError, IndexError, TypeError) as error:

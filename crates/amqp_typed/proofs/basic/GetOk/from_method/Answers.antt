@@ -1,0 +1,23 @@
+use Rattle.amqp_typed.proofs.Places.{kinds_5, kinds_in, made_5}
+use Rattle.amqp_method.specs.declared.kinds.Kind.TheVariants.{BasicGetOk}
+use Rattle.amqp_typed.proofs.basic.GetOk.from_method.Goals as goal
+
+pub long_long-requires : goal.long_long-requires
+long_long-requires c = (kinds_5 (kinds_in BasicGetOk c.in_ok-args.args _ c.in_ok-args.ensures.fit c.five-delivery_tag.ensures)).0
+
+pub bit-requires : goal.bit-requires
+bit-requires c = (kinds_5 (kinds_in BasicGetOk c.in_ok-args.args _ c.in_ok-args.ensures.fit c.five-delivery_tag.ensures)).1
+
+pub short_str-requires : goal.short_str-requires
+short_str-requires c = (kinds_5 (kinds_in BasicGetOk c.in_ok-args.args _ c.in_ok-args.ensures.fit c.five-delivery_tag.ensures)).2
+
+pub short_str-requires-2 : goal.short_str-requires-2
+short_str-requires-2 c = (kinds_5 (kinds_in BasicGetOk c.in_ok-args.args _ c.in_ok-args.ensures.fit c.five-delivery_tag.ensures)).3
+
+pub long-requires : goal.long-requires
+long-requires c = (kinds_5 (kinds_in BasicGetOk c.in_ok-args.args _ c.in_ok-args.ensures.fit c.five-delivery_tag.ensures)).4
+
+pub returns-clause-args : goal.returns-clause-args
+returns-clause-args c =
+    made_5 _ BasicGetOk c.in_ok-args.args c.in_ok-args.ensures.args c.five-delivery_tag.ensures
+    c.long_long.ensures c.bit.ensures c.short_str.ensures c.short_str-2.ensures c.long.ensures

@@ -1,0 +1,8 @@
+use Rattle.std.proofs.Common.{refl}
+use Rattle.amqp_typed.proofs.Places.{call_4}
+use Rattle.amqp_typed.proofs.basic.PublishRef.from_method.Goals as goal
+
+pub returns-clause-args : goal.returns-clause-args
+returns-clause-args c =
+    call_4 _ _ (c.is_kind.ensures.0 c.if-not-is_kind.false) c.args.method.now.fit refl
+    c.short_str_at.ensures c.short_str_at-2.ensures c.bit_at.ensures c.bit_at-2.ensures

@@ -1,0 +1,8 @@
+use Rattle.std.proofs.Common.{refl}
+use Rattle.amqp_typed.proofs.Places.{call_2}
+use Rattle.amqp_typed.proofs.queue.PurgeRef.from_method.Goals as goal
+
+pub returns-clause-args : goal.returns-clause-args
+returns-clause-args c =
+    call_2 _ _ (c.is_kind.ensures.0 c.if-not-is_kind.false) c.args.method.now.fit refl
+    c.short_str_at.ensures c.bit_at.ensures

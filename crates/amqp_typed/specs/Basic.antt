@@ -1,0 +1,143 @@
+-- What the structs of the class basic stand for: each the call of its method, with the fields as arguments in the order of the table.
+-- Written by `tools/typed_methods.py` from the table of methods in `docs/PROTOCOL.md`: change those and run it again.
+use Rattle.std.specs.Prelude.{[], ◌∷◌}
+use Rattle.amqp_value.specs.Tables.{table_view}
+use Rattle.amqp_method.specs.Arguments.{Call, call, bit, short, long, long_long, short_string, table}
+use Rattle.amqp_method.specs.declared.kinds.Kind.TheVariants.{BasicQos, BasicQosOk, BasicConsume, BasicConsumeOk, BasicCancel, BasicCancelOk, BasicPublish, BasicReturn, BasicDeliver, BasicGet, BasicGetOk, BasicGetEmpty, BasicAck, BasicReject, BasicRecoverAsync, BasicRecover, BasicRecoverOk, BasicNack}
+use Rattle.amqp_typed.specs.declared.basic.Qos.{Qos}
+use Rattle.amqp_typed.specs.declared.basic.QosOk.{QosOk}
+use Rattle.amqp_typed.specs.declared.basic.Consume.{Consume}
+use Rattle.amqp_typed.specs.declared.basic.ConsumeRef.{ConsumeRef}
+use Rattle.amqp_typed.specs.declared.basic.ConsumeOk.{ConsumeOk}
+use Rattle.amqp_typed.specs.declared.basic.ConsumeOkRef.{ConsumeOkRef}
+use Rattle.amqp_typed.specs.declared.basic.Cancel.{Cancel}
+use Rattle.amqp_typed.specs.declared.basic.CancelRef.{CancelRef}
+use Rattle.amqp_typed.specs.declared.basic.CancelOk.{CancelOk}
+use Rattle.amqp_typed.specs.declared.basic.CancelOkRef.{CancelOkRef}
+use Rattle.amqp_typed.specs.declared.basic.Publish.{Publish}
+use Rattle.amqp_typed.specs.declared.basic.PublishRef.{PublishRef}
+use Rattle.amqp_typed.specs.declared.basic.Return.{Return}
+use Rattle.amqp_typed.specs.declared.basic.ReturnRef.{ReturnRef}
+use Rattle.amqp_typed.specs.declared.basic.Deliver.{Deliver}
+use Rattle.amqp_typed.specs.declared.basic.DeliverRef.{DeliverRef}
+use Rattle.amqp_typed.specs.declared.basic.Get.{Get}
+use Rattle.amqp_typed.specs.declared.basic.GetRef.{GetRef}
+use Rattle.amqp_typed.specs.declared.basic.GetOk.{GetOk}
+use Rattle.amqp_typed.specs.declared.basic.GetOkRef.{GetOkRef}
+use Rattle.amqp_typed.specs.declared.basic.GetEmpty.{GetEmpty}
+use Rattle.amqp_typed.specs.declared.basic.Ack.{Ack}
+use Rattle.amqp_typed.specs.declared.basic.Reject.{Reject}
+use Rattle.amqp_typed.specs.declared.basic.RecoverAsync.{RecoverAsync}
+use Rattle.amqp_typed.specs.declared.basic.Recover.{Recover}
+use Rattle.amqp_typed.specs.declared.basic.RecoverOk.{RecoverOk}
+use Rattle.amqp_typed.specs.declared.basic.Nack.{Nack}
+
+abbrev pub qos_call : Qos → Call
+qos_call m = call BasicQos (long m.prefetch_size ∷ short m.prefetch_count ∷ bit m.global ∷ [])
+
+abbrev pub qos_ok_call : QosOk → Call
+qos_ok_call m = call BasicQosOk []
+
+abbrev pub consume_call : Consume → Call
+consume_call m =
+    call BasicConsume
+    (short_string m.queue ∷ short_string m.consumer_tag ∷ bit m.no_local ∷ bit m.no_ack
+    ∷ bit m.exclusive ∷ bit m.no_wait ∷ table (table_view m.arguments) ∷ [])
+
+abbrev pub consume_ref_call : ConsumeRef → Call
+consume_ref_call m =
+    call BasicConsume
+    (short_string m.queue.now ∷ short_string m.consumer_tag.now ∷ bit m.no_local ∷ bit m.no_ack
+    ∷ bit m.exclusive ∷ bit m.no_wait ∷ table (table_view m.arguments.now) ∷ [])
+
+abbrev pub consume_ok_call : ConsumeOk → Call
+consume_ok_call m = call BasicConsumeOk (short_string m.consumer_tag ∷ [])
+
+abbrev pub consume_ok_ref_call : ConsumeOkRef → Call
+consume_ok_ref_call m = call BasicConsumeOk (short_string m.consumer_tag.now ∷ [])
+
+abbrev pub cancel_call : Cancel → Call
+cancel_call m = call BasicCancel (short_string m.consumer_tag ∷ bit m.no_wait ∷ [])
+
+abbrev pub cancel_ref_call : CancelRef → Call
+cancel_ref_call m = call BasicCancel (short_string m.consumer_tag.now ∷ bit m.no_wait ∷ [])
+
+abbrev pub cancel_ok_call : CancelOk → Call
+cancel_ok_call m = call BasicCancelOk (short_string m.consumer_tag ∷ [])
+
+abbrev pub cancel_ok_ref_call : CancelOkRef → Call
+cancel_ok_ref_call m = call BasicCancelOk (short_string m.consumer_tag.now ∷ [])
+
+abbrev pub publish_call : Publish → Call
+publish_call m =
+    call BasicPublish
+    (short_string m.exchange ∷ short_string m.routing_key ∷ bit m.mandatory ∷ bit m.immediate ∷ [])
+
+abbrev pub publish_ref_call : PublishRef → Call
+publish_ref_call m =
+    call BasicPublish
+    (short_string m.exchange.now ∷ short_string m.routing_key.now ∷ bit m.mandatory
+    ∷ bit m.immediate ∷ [])
+
+abbrev pub return_call : Return → Call
+return_call m =
+    call BasicReturn
+    (short m.reply_code ∷ short_string m.reply_text ∷ short_string m.exchange
+    ∷ short_string m.routing_key ∷ [])
+
+abbrev pub return_ref_call : ReturnRef → Call
+return_ref_call m =
+    call BasicReturn
+    (short m.reply_code ∷ short_string m.reply_text.now ∷ short_string m.exchange.now
+    ∷ short_string m.routing_key.now ∷ [])
+
+abbrev pub deliver_call : Deliver → Call
+deliver_call m =
+    call BasicDeliver
+    (short_string m.consumer_tag ∷ long_long m.delivery_tag ∷ bit m.redelivered
+    ∷ short_string m.exchange ∷ short_string m.routing_key ∷ [])
+
+abbrev pub deliver_ref_call : DeliverRef → Call
+deliver_ref_call m =
+    call BasicDeliver
+    (short_string m.consumer_tag.now ∷ long_long m.delivery_tag ∷ bit m.redelivered
+    ∷ short_string m.exchange.now ∷ short_string m.routing_key.now ∷ [])
+
+abbrev pub get_call : Get → Call
+get_call m = call BasicGet (short_string m.queue ∷ bit m.no_ack ∷ [])
+
+abbrev pub get_ref_call : GetRef → Call
+get_ref_call m = call BasicGet (short_string m.queue.now ∷ bit m.no_ack ∷ [])
+
+abbrev pub get_ok_call : GetOk → Call
+get_ok_call m =
+    call BasicGetOk
+    (long_long m.delivery_tag ∷ bit m.redelivered ∷ short_string m.exchange
+    ∷ short_string m.routing_key ∷ long m.message_count ∷ [])
+
+abbrev pub get_ok_ref_call : GetOkRef → Call
+get_ok_ref_call m =
+    call BasicGetOk
+    (long_long m.delivery_tag ∷ bit m.redelivered ∷ short_string m.exchange.now
+    ∷ short_string m.routing_key.now ∷ long m.message_count ∷ [])
+
+abbrev pub get_empty_call : GetEmpty → Call
+get_empty_call m = call BasicGetEmpty []
+
+abbrev pub ack_call : Ack → Call
+ack_call m = call BasicAck (long_long m.delivery_tag ∷ bit m.multiple ∷ [])
+
+abbrev pub reject_call : Reject → Call
+reject_call m = call BasicReject (long_long m.delivery_tag ∷ bit m.requeue ∷ [])
+
+abbrev pub recover_async_call : RecoverAsync → Call
+recover_async_call m = call BasicRecoverAsync (bit m.requeue ∷ [])
+
+abbrev pub recover_call : Recover → Call
+recover_call m = call BasicRecover (bit m.requeue ∷ [])
+
+abbrev pub recover_ok_call : RecoverOk → Call
+recover_ok_call m = call BasicRecoverOk []
+
+abbrev pub nack_call : Nack → Call
+nack_call m = call BasicNack (long_long m.delivery_tag ∷ bit m.multiple ∷ bit m.requeue ∷ [])

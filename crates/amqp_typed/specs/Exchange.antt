@@ -1,0 +1,74 @@
+-- What the structs of the class exchange stand for: each the call of its method, with the fields as arguments in the order of the table.
+-- Written by `tools/typed_methods.py` from the table of methods in `docs/PROTOCOL.md`: change those and run it again.
+use Rattle.std.specs.Prelude.{[], ◌∷◌}
+use Rattle.amqp_value.specs.Tables.{table_view}
+use Rattle.amqp_method.specs.Arguments.{Call, call, bit, short_string, table}
+use Rattle.amqp_method.specs.declared.kinds.Kind.TheVariants.{ExchangeDeclare, ExchangeDeclareOk, ExchangeDelete, ExchangeDeleteOk, ExchangeBind, ExchangeBindOk, ExchangeUnbind, ExchangeUnbindOk}
+use Rattle.amqp_typed.specs.declared.exchange.Declare.{Declare}
+use Rattle.amqp_typed.specs.declared.exchange.DeclareRef.{DeclareRef}
+use Rattle.amqp_typed.specs.declared.exchange.DeclareOk.{DeclareOk}
+use Rattle.amqp_typed.specs.declared.exchange.Delete.{Delete}
+use Rattle.amqp_typed.specs.declared.exchange.DeleteRef.{DeleteRef}
+use Rattle.amqp_typed.specs.declared.exchange.DeleteOk.{DeleteOk}
+use Rattle.amqp_typed.specs.declared.exchange.Bind.{Bind}
+use Rattle.amqp_typed.specs.declared.exchange.BindRef.{BindRef}
+use Rattle.amqp_typed.specs.declared.exchange.BindOk.{BindOk}
+use Rattle.amqp_typed.specs.declared.exchange.Unbind.{Unbind}
+use Rattle.amqp_typed.specs.declared.exchange.UnbindRef.{UnbindRef}
+use Rattle.amqp_typed.specs.declared.exchange.UnbindOk.{UnbindOk}
+
+abbrev pub declare_call : Declare → Call
+declare_call m =
+    call ExchangeDeclare
+    (short_string m.exchange ∷ short_string m.type_name ∷ bit m.passive ∷ bit m.durable
+    ∷ bit m.auto_delete ∷ bit m.internal ∷ bit m.no_wait ∷ table (table_view m.arguments) ∷ [])
+
+abbrev pub declare_ref_call : DeclareRef → Call
+declare_ref_call m =
+    call ExchangeDeclare
+    (short_string m.exchange.now ∷ short_string m.type_name.now ∷ bit m.passive ∷ bit m.durable
+    ∷ bit m.auto_delete ∷ bit m.internal ∷ bit m.no_wait ∷ table (table_view m.arguments.now) ∷ [])
+
+abbrev pub declare_ok_call : DeclareOk → Call
+declare_ok_call m = call ExchangeDeclareOk []
+
+abbrev pub delete_call : Delete → Call
+delete_call m = call ExchangeDelete (short_string m.exchange ∷ bit m.if_unused ∷ bit m.no_wait ∷ [])
+
+abbrev pub delete_ref_call : DeleteRef → Call
+delete_ref_call m =
+    call ExchangeDelete
+    (short_string m.exchange.now ∷ bit m.if_unused ∷ bit m.no_wait ∷ [])
+
+abbrev pub delete_ok_call : DeleteOk → Call
+delete_ok_call m = call ExchangeDeleteOk []
+
+abbrev pub bind_call : Bind → Call
+bind_call m =
+    call ExchangeBind
+    (short_string m.destination ∷ short_string m.source ∷ short_string m.routing_key ∷ bit m.no_wait
+    ∷ table (table_view m.arguments) ∷ [])
+
+abbrev pub bind_ref_call : BindRef → Call
+bind_ref_call m =
+    call ExchangeBind
+    (short_string m.destination.now ∷ short_string m.source.now ∷ short_string m.routing_key.now
+    ∷ bit m.no_wait ∷ table (table_view m.arguments.now) ∷ [])
+
+abbrev pub bind_ok_call : BindOk → Call
+bind_ok_call m = call ExchangeBindOk []
+
+abbrev pub unbind_call : Unbind → Call
+unbind_call m =
+    call ExchangeUnbind
+    (short_string m.destination ∷ short_string m.source ∷ short_string m.routing_key ∷ bit m.no_wait
+    ∷ table (table_view m.arguments) ∷ [])
+
+abbrev pub unbind_ref_call : UnbindRef → Call
+unbind_ref_call m =
+    call ExchangeUnbind
+    (short_string m.destination.now ∷ short_string m.source.now ∷ short_string m.routing_key.now
+    ∷ bit m.no_wait ∷ table (table_view m.arguments.now) ∷ [])
+
+abbrev pub unbind_ok_call : UnbindOk → Call
+unbind_ok_call m = call ExchangeUnbindOk []

@@ -1,0 +1,1259 @@
+//! The methods of the class basic (`amqp0-9-1.xml`, class 60).
+// Written by `tools/typed_methods.py` from the table of methods in `docs/PROTOCOL.md`: change those and run it again.
+ghost use Rattle.std.specs.Prelude.{◌≡◌, ◌↔◌, IfOk, IfErr, IfSome, IsOk, IsOkAnd, IsSome, false, ◌∷◌, []};
+ghost use Rattle.amqp_value.specs.Values.{no_pairs};
+ghost use Rattle.amqp_method.specs.Arguments.{call, bit, short, long, long_long, short_string, table};
+ghost use Rattle.amqp_method.specs.HeaderView.{properties_view};
+ghost use Rattle.amqp_method.specs.MessageView.{message_view};
+ghost use Rattle.amqp_method.specs.Messages.{letter_with};
+ghost use Rattle.amqp_method.specs.MethodView.{method_view};
+ghost use Rattle.amqp_method.specs.declared.kinds.Kind.TheVariants.{BasicQos, BasicQosOk, BasicConsume, BasicConsumeOk, BasicCancel, BasicCancelOk, BasicPublish, BasicReturn, BasicDeliver, BasicGet, BasicGetOk, BasicGetEmpty, BasicAck, BasicReject, BasicRecoverAsync, BasicRecover, BasicRecoverOk, BasicNack};
+ghost use Rattle.amqp_typed.specs.Basic.{qos_call, qos_ok_call, consume_call, consume_ok_call, cancel_call, cancel_ok_call, publish_call, return_call, deliver_call, get_call, get_ok_call, get_empty_call, ack_call, reject_call, recover_async_call, recover_call, recover_ok_call, nack_call, consume_ref_call, consume_ok_ref_call, cancel_ref_call, cancel_ok_ref_call, publish_ref_call, return_ref_call, deliver_ref_call, get_ref_call, get_ok_ref_call};
+
+use crate::args::{
+    bare_method, bit, bit_at, five, four, is_kind, long, long_at, long_long, long_long_at,
+    method_of, one, own_args, seven, short, short_at, short_str, short_str_at, table, table_at,
+    two,
+};
+use amqp_method::{Arg, Kind, Message, Method, OutOfMemory, Properties};
+use amqp_value::{ShortStr, Table};
+use std::alloc::Global;
+
+/// Limits what the server sends ahead of acknowledgements. `basic.qos`, class 60, method 10.
+#[derive(Clone, Copy, PartialEq, Eq, Debug)]
+pub struct Qos {
+    /// In octets; 0 sets no limit.
+    pub prefetch_size: u32,
+    /// In messages; 0 sets no limit.
+    pub prefetch_count: u16,
+    /// The limits are those of the whole channel.
+    pub global: bool,
+}
+
+impl Qos {
+    /// With no bit set and `prefetch_size` 0.
+    pub fn new(prefetch_count: u16) -> Qos
+        ensures { qos_call result ≡ call BasicQos (long 0 ∷ short prefetch_count ∷ bit false ∷ []) }
+    {
+        Qos {
+            prefetch_size: 0,
+            prefetch_count,
+            global: false,
+        }
+    }
+
+    /// The method with these arguments.
+    pub fn into_method(self, alloc: Global) -> Result<Method, OutOfMemory>
+        ensures { IfOk result (λ m. method_view m ≡ qos_call self) }
+    {
+        method_of(
+            alloc,
+            Kind::BasicQos,
+            [
+                Arg::Long(self.prefetch_size),
+                Arg::Short(self.prefetch_count),
+                Arg::Bit(self.global),
+            ],
+        )
+    }
+
+    /// What the method says, or the method as it was if it is another.
+    pub fn from_method(method: Method) -> Result<Qos, Method>
+        ensures args { IfOk result (λ m. qos_call m ≡ method_view method) }
+        ensures when { IsOk result ↔ ((method_view method).kind ≡ BasicQos) }
+        ensures same { IfErr result (λ m. method_view m ≡ method_view method) }
+    {
+        match Qos::from_ref(&method) {
+            Some(qos) => Ok(qos),
+            None => Err(method),
+        }
+    }
+
+    /// What the method says, if it is this one.
+    pub fn from_ref(method: &Method) -> Option<Qos>
+        ensures args { IfSome result (λ m. qos_call m ≡ method_view method.now) }
+        ensures when { IsSome result ↔ ((method_view method.now).kind ≡ BasicQos) }
+    {
+        if !is_kind(method, Kind::BasicQos) {
+            return None;
+        }
+        Some(Qos {
+            prefetch_size: long_at(method, 0),
+            prefetch_count: short_at(method, 1),
+            global: bit_at(method, 2),
+        })
+    }
+}
+
+/// Confirms the limits. `basic.qos-ok`, class 60, method 11.
+#[derive(Clone, Copy, PartialEq, Eq, Debug)]
+pub struct QosOk;
+
+impl QosOk {
+    /// The method, which takes no memory.
+    pub fn into_method(self, alloc: Global) -> Result<Method, OutOfMemory>
+        ensures { IsOkAnd result (λ m. method_view m ≡ qos_ok_call self) }
+    {
+        Ok(bare_method(alloc, Kind::BasicQosOk))
+    }
+
+    /// What the method says, or the method as it was if it is another.
+    pub fn from_method(method: Method) -> Result<QosOk, Method>
+        ensures args { IfOk result (λ m. qos_ok_call m ≡ method_view method) }
+        ensures when { IsOk result ↔ ((method_view method).kind ≡ BasicQosOk) }
+        ensures same { IfErr result (λ m. method_view m ≡ method_view method) }
+    {
+        match QosOk::from_ref(&method) {
+            Some(qos_ok) => Ok(qos_ok),
+            None => Err(method),
+        }
+    }
+
+    /// What the method says, if it is this one.
+    pub fn from_ref(method: &Method) -> Option<QosOk>
+        ensures args { IfSome result (λ m. qos_ok_call m ≡ method_view method.now) }
+        ensures when { IsSome result ↔ ((method_view method.now).kind ≡ BasicQosOk) }
+    {
+        if is_kind(method, Kind::BasicQosOk) {
+            return Some(QosOk);
+        }
+        None
+    }
+}
+
+/// Starts a consumer of a queue. `basic.consume`, class 60, method 20.
+#[derive(Debug, Drop, PartialEq, Eq)]
+pub struct Consume {
+    pub queue: ShortStr,
+    /// A name of the consumer on its channel; empty for one that the server makes up.
+    pub consumer_tag: ShortStr,
+    /// No messages that this connection published.
+    pub no_local: bool,
+    /// Messages count as acknowledged as they are sent.
+    pub no_ack: bool,
+    /// No other consumer may use the queue.
+    pub exclusive: bool,
+    /// The server sends no reply.
+    pub no_wait: bool,
+    pub arguments: Table,
+}
+
+impl Consume {
+    /// With no bit set and an empty table.
+    pub fn new(alloc: Global, queue: ShortStr, consumer_tag: ShortStr) -> Consume
+        ensures { consume_call result ≡ call BasicConsume
+            (short_string queue ∷ short_string consumer_tag ∷ bit false ∷ bit false ∷ bit false
+            ∷ bit false ∷ table no_pairs ∷ []) }
+    {
+        Consume {
+            queue,
+            consumer_tag,
+            no_local: false,
+            no_ack: false,
+            exclusive: false,
+            no_wait: false,
+            arguments: Table::new(alloc),
+        }
+    }
+
+    /// The method with these arguments.
+    pub fn into_method(self, alloc: Global) -> Result<Method, OutOfMemory>
+        ensures { IfOk result (λ m. method_view m ≡ consume_call self) }
+    {
+        method_of(
+            alloc,
+            Kind::BasicConsume,
+            [
+                Arg::ShortStr(self.queue),
+                Arg::ShortStr(self.consumer_tag),
+                Arg::Bit(self.no_local),
+                Arg::Bit(self.no_ack),
+                Arg::Bit(self.exclusive),
+                Arg::Bit(self.no_wait),
+                Arg::Table(self.arguments),
+            ],
+        )
+    }
+
+    /// What the method says, or the method as it was if it is another.
+    pub fn from_method(method: Method) -> Result<Consume, Method>
+        ensures args { IfOk result (λ m. consume_call m ≡ method_view method) }
+        ensures when { IsOk result ↔ ((method_view method).kind ≡ BasicConsume) }
+        ensures same { IfErr result (λ m. method_view m ≡ method_view method) }
+    {
+        let args = own_args(method, Kind::BasicConsume)?;
+        let (queue, consumer_tag, no_local, no_ack, exclusive, no_wait, arguments) = seven(args);
+        Ok(Consume {
+            queue: short_str(queue),
+            consumer_tag: short_str(consumer_tag),
+            no_local: bit(no_local),
+            no_ack: bit(no_ack),
+            exclusive: bit(exclusive),
+            no_wait: bit(no_wait),
+            arguments: table(arguments),
+        })
+    }
+}
+
+/// [`Consume`], lent by a method.
+#[derive(Clone, Copy, Debug)]
+pub struct ConsumeRef<'a> {
+    pub queue: &'a ShortStr,
+    pub consumer_tag: &'a ShortStr,
+    pub no_local: bool,
+    pub no_ack: bool,
+    pub exclusive: bool,
+    pub no_wait: bool,
+    pub arguments: &'a Table,
+}
+
+impl<'a> ConsumeRef<'a> {
+    /// What the method says, if it is this one.
+    pub fn from_method(method: &'a Method) -> Option<ConsumeRef<'a>>
+        ensures args { IfSome result (λ m. consume_ref_call m ≡ method_view method.now) }
+        ensures when { IsSome result ↔ ((method_view method.now).kind ≡ BasicConsume) }
+    {
+        if !is_kind(method, Kind::BasicConsume) {
+            return None;
+        }
+        Some(ConsumeRef {
+            queue: short_str_at(method, 0),
+            consumer_tag: short_str_at(method, 1),
+            no_local: bit_at(method, 2),
+            no_ack: bit_at(method, 3),
+            exclusive: bit_at(method, 4),
+            no_wait: bit_at(method, 5),
+            arguments: table_at(method, 6),
+        })
+    }
+}
+
+/// Gives the tag of the consumer that was started. `basic.consume-ok`, class 60, method 21.
+#[derive(Debug, Drop, PartialEq, Eq)]
+pub struct ConsumeOk {
+    pub consumer_tag: ShortStr,
+}
+
+impl ConsumeOk {
+    /// With these arguments.
+    pub fn new(consumer_tag: ShortStr) -> ConsumeOk
+        ensures { consume_ok_call result ≡ call BasicConsumeOk (short_string consumer_tag ∷ []) }
+    {
+        ConsumeOk { consumer_tag }
+    }
+
+    /// The method with these arguments.
+    pub fn into_method(self, alloc: Global) -> Result<Method, OutOfMemory>
+        ensures { IfOk result (λ m. method_view m ≡ consume_ok_call self) }
+    {
+        method_of(
+            alloc,
+            Kind::BasicConsumeOk,
+            [Arg::ShortStr(self.consumer_tag)],
+        )
+    }
+
+    /// What the method says, or the method as it was if it is another.
+    pub fn from_method(method: Method) -> Result<ConsumeOk, Method>
+        ensures args { IfOk result (λ m. consume_ok_call m ≡ method_view method) }
+        ensures when { IsOk result ↔ ((method_view method).kind ≡ BasicConsumeOk) }
+        ensures same { IfErr result (λ m. method_view m ≡ method_view method) }
+    {
+        let args = own_args(method, Kind::BasicConsumeOk)?;
+        let consumer_tag = one(args);
+        Ok(ConsumeOk {
+            consumer_tag: short_str(consumer_tag),
+        })
+    }
+}
+
+/// [`ConsumeOk`], lent by a method.
+#[derive(Clone, Copy, Debug)]
+pub struct ConsumeOkRef<'a> {
+    pub consumer_tag: &'a ShortStr,
+}
+
+impl<'a> ConsumeOkRef<'a> {
+    /// What the method says, if it is this one.
+    pub fn from_method(method: &'a Method) -> Option<ConsumeOkRef<'a>>
+        ensures args { IfSome result (λ m. consume_ok_ref_call m ≡ method_view method.now) }
+        ensures when { IsSome result ↔ ((method_view method.now).kind ≡ BasicConsumeOk) }
+    {
+        if !is_kind(method, Kind::BasicConsumeOk) {
+            return None;
+        }
+        Some(ConsumeOkRef {
+            consumer_tag: short_str_at(method, 0),
+        })
+    }
+}
+
+/// Ends a consumer. `basic.cancel`, class 60, method 30.
+#[derive(Debug, Drop, PartialEq, Eq)]
+pub struct Cancel {
+    pub consumer_tag: ShortStr,
+    /// The server sends no reply.
+    pub no_wait: bool,
+}
+
+impl Cancel {
+    /// With no bit set.
+    pub fn new(consumer_tag: ShortStr) -> Cancel
+        ensures { cancel_call result ≡ call BasicCancel
+            (short_string consumer_tag ∷ bit false ∷ []) }
+    {
+        Cancel {
+            consumer_tag,
+            no_wait: false,
+        }
+    }
+
+    /// The method with these arguments.
+    pub fn into_method(self, alloc: Global) -> Result<Method, OutOfMemory>
+        ensures { IfOk result (λ m. method_view m ≡ cancel_call self) }
+    {
+        method_of(
+            alloc,
+            Kind::BasicCancel,
+            [Arg::ShortStr(self.consumer_tag), Arg::Bit(self.no_wait)],
+        )
+    }
+
+    /// What the method says, or the method as it was if it is another.
+    pub fn from_method(method: Method) -> Result<Cancel, Method>
+        ensures args { IfOk result (λ m. cancel_call m ≡ method_view method) }
+        ensures when { IsOk result ↔ ((method_view method).kind ≡ BasicCancel) }
+        ensures same { IfErr result (λ m. method_view m ≡ method_view method) }
+    {
+        let args = own_args(method, Kind::BasicCancel)?;
+        let (consumer_tag, no_wait) = two(args);
+        Ok(Cancel {
+            consumer_tag: short_str(consumer_tag),
+            no_wait: bit(no_wait),
+        })
+    }
+}
+
+/// [`Cancel`], lent by a method.
+#[derive(Clone, Copy, Debug)]
+pub struct CancelRef<'a> {
+    pub consumer_tag: &'a ShortStr,
+    pub no_wait: bool,
+}
+
+impl<'a> CancelRef<'a> {
+    /// What the method says, if it is this one.
+    pub fn from_method(method: &'a Method) -> Option<CancelRef<'a>>
+        ensures args { IfSome result (λ m. cancel_ref_call m ≡ method_view method.now) }
+        ensures when { IsSome result ↔ ((method_view method.now).kind ≡ BasicCancel) }
+    {
+        if !is_kind(method, Kind::BasicCancel) {
+            return None;
+        }
+        Some(CancelRef {
+            consumer_tag: short_str_at(method, 0),
+            no_wait: bit_at(method, 1),
+        })
+    }
+}
+
+/// Confirms that the consumer has ended. `basic.cancel-ok`, class 60, method 31.
+#[derive(Debug, Drop, PartialEq, Eq)]
+pub struct CancelOk {
+    pub consumer_tag: ShortStr,
+}
+
+impl CancelOk {
+    /// With these arguments.
+    pub fn new(consumer_tag: ShortStr) -> CancelOk
+        ensures { cancel_ok_call result ≡ call BasicCancelOk (short_string consumer_tag ∷ []) }
+    {
+        CancelOk { consumer_tag }
+    }
+
+    /// The method with these arguments.
+    pub fn into_method(self, alloc: Global) -> Result<Method, OutOfMemory>
+        ensures { IfOk result (λ m. method_view m ≡ cancel_ok_call self) }
+    {
+        method_of(
+            alloc,
+            Kind::BasicCancelOk,
+            [Arg::ShortStr(self.consumer_tag)],
+        )
+    }
+
+    /// What the method says, or the method as it was if it is another.
+    pub fn from_method(method: Method) -> Result<CancelOk, Method>
+        ensures args { IfOk result (λ m. cancel_ok_call m ≡ method_view method) }
+        ensures when { IsOk result ↔ ((method_view method).kind ≡ BasicCancelOk) }
+        ensures same { IfErr result (λ m. method_view m ≡ method_view method) }
+    {
+        let args = own_args(method, Kind::BasicCancelOk)?;
+        let consumer_tag = one(args);
+        Ok(CancelOk {
+            consumer_tag: short_str(consumer_tag),
+        })
+    }
+}
+
+/// [`CancelOk`], lent by a method.
+#[derive(Clone, Copy, Debug)]
+pub struct CancelOkRef<'a> {
+    pub consumer_tag: &'a ShortStr,
+}
+
+impl<'a> CancelOkRef<'a> {
+    /// What the method says, if it is this one.
+    pub fn from_method(method: &'a Method) -> Option<CancelOkRef<'a>>
+        ensures args { IfSome result (λ m. cancel_ok_ref_call m ≡ method_view method.now) }
+        ensures when { IsSome result ↔ ((method_view method.now).kind ≡ BasicCancelOk) }
+    {
+        if !is_kind(method, Kind::BasicCancelOk) {
+            return None;
+        }
+        Some(CancelOkRef {
+            consumer_tag: short_str_at(method, 0),
+        })
+    }
+}
+
+/// Publishes a message to an exchange. `basic.publish`, class 60, method 40.
+#[derive(Debug, Drop, PartialEq, Eq)]
+pub struct Publish {
+    /// The name of the exchange; empty for the default one, which routes to queues by their names.
+    pub exchange: ShortStr,
+    pub routing_key: ShortStr,
+    /// The message is returned if it can't be routed to a queue.
+    pub mandatory: bool,
+    /// The message is returned if no consumer can take it at once.
+    pub immediate: bool,
+}
+
+impl Publish {
+    /// With no bit set.
+    pub fn new(exchange: ShortStr, routing_key: ShortStr) -> Publish
+        ensures { publish_call result ≡ call BasicPublish
+            (short_string exchange ∷ short_string routing_key ∷ bit false ∷ bit false ∷ []) }
+    {
+        Publish {
+            exchange,
+            routing_key,
+            mandatory: false,
+            immediate: false,
+        }
+    }
+
+    /// The method with these arguments.
+    pub fn into_method(self, alloc: Global) -> Result<Method, OutOfMemory>
+        ensures { IfOk result (λ m. method_view m ≡ publish_call self) }
+    {
+        method_of(
+            alloc,
+            Kind::BasicPublish,
+            [
+                Arg::ShortStr(self.exchange),
+                Arg::ShortStr(self.routing_key),
+                Arg::Bit(self.mandatory),
+                Arg::Bit(self.immediate),
+            ],
+        )
+    }
+
+    /// The message: the method with these arguments, and the content that follows it.
+    pub fn message(
+        self,
+        alloc: Global,
+        properties: Properties,
+        body: Vec<u8>,
+    ) -> Result<Message, OutOfMemory>
+        ensures { IfOk result (λ m. message_view m ≡ letter_with (publish_call self) (properties_view properties) body.items) }
+    {
+        let method = self.into_method(alloc)?;
+        Ok(Message::content(method, properties, body))
+    }
+
+    /// What the method says, or the method as it was if it is another.
+    pub fn from_method(method: Method) -> Result<Publish, Method>
+        ensures args { IfOk result (λ m. publish_call m ≡ method_view method) }
+        ensures when { IsOk result ↔ ((method_view method).kind ≡ BasicPublish) }
+        ensures same { IfErr result (λ m. method_view m ≡ method_view method) }
+    {
+        let args = own_args(method, Kind::BasicPublish)?;
+        let (exchange, routing_key, mandatory, immediate) = four(args);
+        Ok(Publish {
+            exchange: short_str(exchange),
+            routing_key: short_str(routing_key),
+            mandatory: bit(mandatory),
+            immediate: bit(immediate),
+        })
+    }
+}
+
+/// [`Publish`], lent by a method.
+#[derive(Clone, Copy, Debug)]
+pub struct PublishRef<'a> {
+    pub exchange: &'a ShortStr,
+    pub routing_key: &'a ShortStr,
+    pub mandatory: bool,
+    pub immediate: bool,
+}
+
+impl<'a> PublishRef<'a> {
+    /// What the method says, if it is this one.
+    pub fn from_method(method: &'a Method) -> Option<PublishRef<'a>>
+        ensures args { IfSome result (λ m. publish_ref_call m ≡ method_view method.now) }
+        ensures when { IsSome result ↔ ((method_view method.now).kind ≡ BasicPublish) }
+    {
+        if !is_kind(method, Kind::BasicPublish) {
+            return None;
+        }
+        Some(PublishRef {
+            exchange: short_str_at(method, 0),
+            routing_key: short_str_at(method, 1),
+            mandatory: bit_at(method, 2),
+            immediate: bit_at(method, 3),
+        })
+    }
+}
+
+/// Returns a message that could not be routed or delivered. `basic.return`, class 60, method 50.
+#[derive(Debug, Drop, PartialEq, Eq)]
+pub struct Return {
+    pub reply_code: u16,
+    pub reply_text: ShortStr,
+    pub exchange: ShortStr,
+    pub routing_key: ShortStr,
+}
+
+impl Return {
+    /// With these arguments.
+    pub fn new(
+        reply_code: u16,
+        reply_text: ShortStr,
+        exchange: ShortStr,
+        routing_key: ShortStr,
+    ) -> Return
+        ensures { return_call result ≡ call BasicReturn
+            (short reply_code ∷ short_string reply_text ∷ short_string exchange
+            ∷ short_string routing_key ∷ []) }
+    {
+        Return {
+            reply_code,
+            reply_text,
+            exchange,
+            routing_key,
+        }
+    }
+
+    /// The method with these arguments.
+    pub fn into_method(self, alloc: Global) -> Result<Method, OutOfMemory>
+        ensures { IfOk result (λ m. method_view m ≡ return_call self) }
+    {
+        method_of(
+            alloc,
+            Kind::BasicReturn,
+            [
+                Arg::Short(self.reply_code),
+                Arg::ShortStr(self.reply_text),
+                Arg::ShortStr(self.exchange),
+                Arg::ShortStr(self.routing_key),
+            ],
+        )
+    }
+
+    /// The message: the method with these arguments, and the content that follows it.
+    pub fn message(
+        self,
+        alloc: Global,
+        properties: Properties,
+        body: Vec<u8>,
+    ) -> Result<Message, OutOfMemory>
+        ensures { IfOk result (λ m. message_view m ≡ letter_with (return_call self) (properties_view properties) body.items) }
+    {
+        let method = self.into_method(alloc)?;
+        Ok(Message::content(method, properties, body))
+    }
+
+    /// What the method says, or the method as it was if it is another.
+    pub fn from_method(method: Method) -> Result<Return, Method>
+        ensures args { IfOk result (λ m. return_call m ≡ method_view method) }
+        ensures when { IsOk result ↔ ((method_view method).kind ≡ BasicReturn) }
+        ensures same { IfErr result (λ m. method_view m ≡ method_view method) }
+    {
+        let args = own_args(method, Kind::BasicReturn)?;
+        let (reply_code, reply_text, exchange, routing_key) = four(args);
+        Ok(Return {
+            reply_code: short(reply_code),
+            reply_text: short_str(reply_text),
+            exchange: short_str(exchange),
+            routing_key: short_str(routing_key),
+        })
+    }
+}
+
+/// [`Return`], lent by a method.
+#[derive(Clone, Copy, Debug)]
+pub struct ReturnRef<'a> {
+    pub reply_code: u16,
+    pub reply_text: &'a ShortStr,
+    pub exchange: &'a ShortStr,
+    pub routing_key: &'a ShortStr,
+}
+
+impl<'a> ReturnRef<'a> {
+    /// What the method says, if it is this one.
+    pub fn from_method(method: &'a Method) -> Option<ReturnRef<'a>>
+        ensures args { IfSome result (λ m. return_ref_call m ≡ method_view method.now) }
+        ensures when { IsSome result ↔ ((method_view method.now).kind ≡ BasicReturn) }
+    {
+        if !is_kind(method, Kind::BasicReturn) {
+            return None;
+        }
+        Some(ReturnRef {
+            reply_code: short_at(method, 0),
+            reply_text: short_str_at(method, 1),
+            exchange: short_str_at(method, 2),
+            routing_key: short_str_at(method, 3),
+        })
+    }
+}
+
+/// Delivers a message to a consumer. `basic.deliver`, class 60, method 60.
+#[derive(Debug, Drop, PartialEq, Eq)]
+pub struct Deliver {
+    pub consumer_tag: ShortStr,
+    /// The number of the delivery on its channel.
+    pub delivery_tag: u64,
+    /// The message was sent before.
+    pub redelivered: bool,
+    pub exchange: ShortStr,
+    pub routing_key: ShortStr,
+}
+
+impl Deliver {
+    /// With no bit set.
+    pub fn new(
+        consumer_tag: ShortStr,
+        delivery_tag: u64,
+        exchange: ShortStr,
+        routing_key: ShortStr,
+    ) -> Deliver
+        ensures { deliver_call result ≡ call BasicDeliver
+            (short_string consumer_tag ∷ long_long delivery_tag ∷ bit false ∷ short_string exchange
+            ∷ short_string routing_key ∷ []) }
+    {
+        Deliver {
+            consumer_tag,
+            delivery_tag,
+            redelivered: false,
+            exchange,
+            routing_key,
+        }
+    }
+
+    /// The method with these arguments.
+    pub fn into_method(self, alloc: Global) -> Result<Method, OutOfMemory>
+        ensures { IfOk result (λ m. method_view m ≡ deliver_call self) }
+    {
+        method_of(
+            alloc,
+            Kind::BasicDeliver,
+            [
+                Arg::ShortStr(self.consumer_tag),
+                Arg::LongLong(self.delivery_tag),
+                Arg::Bit(self.redelivered),
+                Arg::ShortStr(self.exchange),
+                Arg::ShortStr(self.routing_key),
+            ],
+        )
+    }
+
+    /// The message: the method with these arguments, and the content that follows it.
+    pub fn message(
+        self,
+        alloc: Global,
+        properties: Properties,
+        body: Vec<u8>,
+    ) -> Result<Message, OutOfMemory>
+        ensures { IfOk result (λ m. message_view m ≡ letter_with (deliver_call self) (properties_view properties) body.items) }
+    {
+        let method = self.into_method(alloc)?;
+        Ok(Message::content(method, properties, body))
+    }
+
+    /// What the method says, or the method as it was if it is another.
+    pub fn from_method(method: Method) -> Result<Deliver, Method>
+        ensures args { IfOk result (λ m. deliver_call m ≡ method_view method) }
+        ensures when { IsOk result ↔ ((method_view method).kind ≡ BasicDeliver) }
+        ensures same { IfErr result (λ m. method_view m ≡ method_view method) }
+    {
+        let args = own_args(method, Kind::BasicDeliver)?;
+        let (consumer_tag, delivery_tag, redelivered, exchange, routing_key) = five(args);
+        Ok(Deliver {
+            consumer_tag: short_str(consumer_tag),
+            delivery_tag: long_long(delivery_tag),
+            redelivered: bit(redelivered),
+            exchange: short_str(exchange),
+            routing_key: short_str(routing_key),
+        })
+    }
+}
+
+/// [`Deliver`], lent by a method.
+#[derive(Clone, Copy, Debug)]
+pub struct DeliverRef<'a> {
+    pub consumer_tag: &'a ShortStr,
+    pub delivery_tag: u64,
+    pub redelivered: bool,
+    pub exchange: &'a ShortStr,
+    pub routing_key: &'a ShortStr,
+}
+
+impl<'a> DeliverRef<'a> {
+    /// What the method says, if it is this one.
+    pub fn from_method(method: &'a Method) -> Option<DeliverRef<'a>>
+        ensures args { IfSome result (λ m. deliver_ref_call m ≡ method_view method.now) }
+        ensures when { IsSome result ↔ ((method_view method.now).kind ≡ BasicDeliver) }
+    {
+        if !is_kind(method, Kind::BasicDeliver) {
+            return None;
+        }
+        Some(DeliverRef {
+            consumer_tag: short_str_at(method, 0),
+            delivery_tag: long_long_at(method, 1),
+            redelivered: bit_at(method, 2),
+            exchange: short_str_at(method, 3),
+            routing_key: short_str_at(method, 4),
+        })
+    }
+}
+
+/// Asks for one message of a queue. `basic.get`, class 60, method 70.
+#[derive(Debug, Drop, PartialEq, Eq)]
+pub struct Get {
+    pub queue: ShortStr,
+    /// Messages count as acknowledged as they are sent.
+    pub no_ack: bool,
+}
+
+impl Get {
+    /// With no bit set.
+    pub fn new(queue: ShortStr) -> Get
+        ensures { get_call result ≡ call BasicGet (short_string queue ∷ bit false ∷ []) }
+    {
+        Get {
+            queue,
+            no_ack: false,
+        }
+    }
+
+    /// The method with these arguments.
+    pub fn into_method(self, alloc: Global) -> Result<Method, OutOfMemory>
+        ensures { IfOk result (λ m. method_view m ≡ get_call self) }
+    {
+        method_of(
+            alloc,
+            Kind::BasicGet,
+            [Arg::ShortStr(self.queue), Arg::Bit(self.no_ack)],
+        )
+    }
+
+    /// What the method says, or the method as it was if it is another.
+    pub fn from_method(method: Method) -> Result<Get, Method>
+        ensures args { IfOk result (λ m. get_call m ≡ method_view method) }
+        ensures when { IsOk result ↔ ((method_view method).kind ≡ BasicGet) }
+        ensures same { IfErr result (λ m. method_view m ≡ method_view method) }
+    {
+        let args = own_args(method, Kind::BasicGet)?;
+        let (queue, no_ack) = two(args);
+        Ok(Get {
+            queue: short_str(queue),
+            no_ack: bit(no_ack),
+        })
+    }
+}
+
+/// [`Get`], lent by a method.
+#[derive(Clone, Copy, Debug)]
+pub struct GetRef<'a> {
+    pub queue: &'a ShortStr,
+    pub no_ack: bool,
+}
+
+impl<'a> GetRef<'a> {
+    /// What the method says, if it is this one.
+    pub fn from_method(method: &'a Method) -> Option<GetRef<'a>>
+        ensures args { IfSome result (λ m. get_ref_call m ≡ method_view method.now) }
+        ensures when { IsSome result ↔ ((method_view method.now).kind ≡ BasicGet) }
+    {
+        if !is_kind(method, Kind::BasicGet) {
+            return None;
+        }
+        Some(GetRef {
+            queue: short_str_at(method, 0),
+            no_ack: bit_at(method, 1),
+        })
+    }
+}
+
+/// Delivers the message that was asked for. `basic.get-ok`, class 60, method 71.
+#[derive(Debug, Drop, PartialEq, Eq)]
+pub struct GetOk {
+    /// The number of the delivery on its channel.
+    pub delivery_tag: u64,
+    /// The message was sent before.
+    pub redelivered: bool,
+    pub exchange: ShortStr,
+    pub routing_key: ShortStr,
+    /// How many messages are left in the queue.
+    pub message_count: u32,
+}
+
+impl GetOk {
+    /// With no bit set.
+    pub fn new(
+        delivery_tag: u64,
+        exchange: ShortStr,
+        routing_key: ShortStr,
+        message_count: u32,
+    ) -> GetOk
+        ensures { get_ok_call result ≡ call BasicGetOk
+            (long_long delivery_tag ∷ bit false ∷ short_string exchange ∷ short_string routing_key
+            ∷ long message_count ∷ []) }
+    {
+        GetOk {
+            delivery_tag,
+            redelivered: false,
+            exchange,
+            routing_key,
+            message_count,
+        }
+    }
+
+    /// The method with these arguments.
+    pub fn into_method(self, alloc: Global) -> Result<Method, OutOfMemory>
+        ensures { IfOk result (λ m. method_view m ≡ get_ok_call self) }
+    {
+        method_of(
+            alloc,
+            Kind::BasicGetOk,
+            [
+                Arg::LongLong(self.delivery_tag),
+                Arg::Bit(self.redelivered),
+                Arg::ShortStr(self.exchange),
+                Arg::ShortStr(self.routing_key),
+                Arg::Long(self.message_count),
+            ],
+        )
+    }
+
+    /// The message: the method with these arguments, and the content that follows it.
+    pub fn message(
+        self,
+        alloc: Global,
+        properties: Properties,
+        body: Vec<u8>,
+    ) -> Result<Message, OutOfMemory>
+        ensures { IfOk result (λ m. message_view m ≡ letter_with (get_ok_call self) (properties_view properties) body.items) }
+    {
+        let method = self.into_method(alloc)?;
+        Ok(Message::content(method, properties, body))
+    }
+
+    /// What the method says, or the method as it was if it is another.
+    pub fn from_method(method: Method) -> Result<GetOk, Method>
+        ensures args { IfOk result (λ m. get_ok_call m ≡ method_view method) }
+        ensures when { IsOk result ↔ ((method_view method).kind ≡ BasicGetOk) }
+        ensures same { IfErr result (λ m. method_view m ≡ method_view method) }
+    {
+        let args = own_args(method, Kind::BasicGetOk)?;
+        let (delivery_tag, redelivered, exchange, routing_key, message_count) = five(args);
+        Ok(GetOk {
+            delivery_tag: long_long(delivery_tag),
+            redelivered: bit(redelivered),
+            exchange: short_str(exchange),
+            routing_key: short_str(routing_key),
+            message_count: long(message_count),
+        })
+    }
+}
+
+/// [`GetOk`], lent by a method.
+#[derive(Clone, Copy, Debug)]
+pub struct GetOkRef<'a> {
+    pub delivery_tag: u64,
+    pub redelivered: bool,
+    pub exchange: &'a ShortStr,
+    pub routing_key: &'a ShortStr,
+    pub message_count: u32,
+}
+
+impl<'a> GetOkRef<'a> {
+    /// What the method says, if it is this one.
+    pub fn from_method(method: &'a Method) -> Option<GetOkRef<'a>>
+        ensures args { IfSome result (λ m. get_ok_ref_call m ≡ method_view method.now) }
+        ensures when { IsSome result ↔ ((method_view method.now).kind ≡ BasicGetOk) }
+    {
+        if !is_kind(method, Kind::BasicGetOk) {
+            return None;
+        }
+        Some(GetOkRef {
+            delivery_tag: long_long_at(method, 0),
+            redelivered: bit_at(method, 1),
+            exchange: short_str_at(method, 2),
+            routing_key: short_str_at(method, 3),
+            message_count: long_at(method, 4),
+        })
+    }
+}
+
+/// Says that the queue has no message. `basic.get-empty`, class 60, method 72.
+#[derive(Clone, Copy, PartialEq, Eq, Debug)]
+pub struct GetEmpty;
+
+impl GetEmpty {
+    /// The method, which takes no memory.
+    pub fn into_method(self, alloc: Global) -> Result<Method, OutOfMemory>
+        ensures { IsOkAnd result (λ m. method_view m ≡ get_empty_call self) }
+    {
+        Ok(bare_method(alloc, Kind::BasicGetEmpty))
+    }
+
+    /// What the method says, or the method as it was if it is another.
+    pub fn from_method(method: Method) -> Result<GetEmpty, Method>
+        ensures args { IfOk result (λ m. get_empty_call m ≡ method_view method) }
+        ensures when { IsOk result ↔ ((method_view method).kind ≡ BasicGetEmpty) }
+        ensures same { IfErr result (λ m. method_view m ≡ method_view method) }
+    {
+        match GetEmpty::from_ref(&method) {
+            Some(get_empty) => Ok(get_empty),
+            None => Err(method),
+        }
+    }
+
+    /// What the method says, if it is this one.
+    pub fn from_ref(method: &Method) -> Option<GetEmpty>
+        ensures args { IfSome result (λ m. get_empty_call m ≡ method_view method.now) }
+        ensures when { IsSome result ↔ ((method_view method.now).kind ≡ BasicGetEmpty) }
+    {
+        if is_kind(method, Kind::BasicGetEmpty) {
+            return Some(GetEmpty);
+        }
+        None
+    }
+}
+
+/// Acknowledges one message or several. `basic.ack`, class 60, method 80.
+#[derive(Clone, Copy, PartialEq, Eq, Debug)]
+pub struct Ack {
+    /// The number of the delivery on its channel.
+    pub delivery_tag: u64,
+    /// All messages up to this one, too.
+    pub multiple: bool,
+}
+
+impl Ack {
+    /// With no bit set.
+    pub fn new(delivery_tag: u64) -> Ack
+        ensures { ack_call result ≡ call BasicAck (long_long delivery_tag ∷ bit false ∷ []) }
+    {
+        Ack {
+            delivery_tag,
+            multiple: false,
+        }
+    }
+
+    /// The method with these arguments.
+    pub fn into_method(self, alloc: Global) -> Result<Method, OutOfMemory>
+        ensures { IfOk result (λ m. method_view m ≡ ack_call self) }
+    {
+        method_of(
+            alloc,
+            Kind::BasicAck,
+            [Arg::LongLong(self.delivery_tag), Arg::Bit(self.multiple)],
+        )
+    }
+
+    /// What the method says, or the method as it was if it is another.
+    pub fn from_method(method: Method) -> Result<Ack, Method>
+        ensures args { IfOk result (λ m. ack_call m ≡ method_view method) }
+        ensures when { IsOk result ↔ ((method_view method).kind ≡ BasicAck) }
+        ensures same { IfErr result (λ m. method_view m ≡ method_view method) }
+    {
+        match Ack::from_ref(&method) {
+            Some(ack) => Ok(ack),
+            None => Err(method),
+        }
+    }
+
+    /// What the method says, if it is this one.
+    pub fn from_ref(method: &Method) -> Option<Ack>
+        ensures args { IfSome result (λ m. ack_call m ≡ method_view method.now) }
+        ensures when { IsSome result ↔ ((method_view method.now).kind ≡ BasicAck) }
+    {
+        if !is_kind(method, Kind::BasicAck) {
+            return None;
+        }
+        Some(Ack {
+            delivery_tag: long_long_at(method, 0),
+            multiple: bit_at(method, 1),
+        })
+    }
+}
+
+/// Rejects a message. `basic.reject`, class 60, method 90.
+#[derive(Clone, Copy, PartialEq, Eq, Debug)]
+pub struct Reject {
+    /// The number of the delivery on its channel.
+    pub delivery_tag: u64,
+    /// The message goes back to its queue.
+    pub requeue: bool,
+}
+
+impl Reject {
+    /// With no bit set.
+    pub fn new(delivery_tag: u64) -> Reject
+        ensures { reject_call result ≡ call BasicReject (long_long delivery_tag ∷ bit false ∷ []) }
+    {
+        Reject {
+            delivery_tag,
+            requeue: false,
+        }
+    }
+
+    /// The method with these arguments.
+    pub fn into_method(self, alloc: Global) -> Result<Method, OutOfMemory>
+        ensures { IfOk result (λ m. method_view m ≡ reject_call self) }
+    {
+        method_of(
+            alloc,
+            Kind::BasicReject,
+            [Arg::LongLong(self.delivery_tag), Arg::Bit(self.requeue)],
+        )
+    }
+
+    /// What the method says, or the method as it was if it is another.
+    pub fn from_method(method: Method) -> Result<Reject, Method>
+        ensures args { IfOk result (λ m. reject_call m ≡ method_view method) }
+        ensures when { IsOk result ↔ ((method_view method).kind ≡ BasicReject) }
+        ensures same { IfErr result (λ m. method_view m ≡ method_view method) }
+    {
+        match Reject::from_ref(&method) {
+            Some(reject) => Ok(reject),
+            None => Err(method),
+        }
+    }
+
+    /// What the method says, if it is this one.
+    pub fn from_ref(method: &Method) -> Option<Reject>
+        ensures args { IfSome result (λ m. reject_call m ≡ method_view method.now) }
+        ensures when { IsSome result ↔ ((method_view method.now).kind ≡ BasicReject) }
+    {
+        if !is_kind(method, Kind::BasicReject) {
+            return None;
+        }
+        Some(Reject {
+            delivery_tag: long_long_at(method, 0),
+            requeue: bit_at(method, 1),
+        })
+    }
+}
+
+/// Asks for all unacknowledged messages again, without a reply. `basic.recover-async`, class 60, method 100.
+#[derive(Clone, Copy, PartialEq, Eq, Debug)]
+pub struct RecoverAsync {
+    /// To any consumer, and not to the one that had the message.
+    pub requeue: bool,
+}
+
+impl RecoverAsync {
+    /// With no bit set.
+    pub fn new() -> RecoverAsync
+        ensures { recover_async_call result ≡ call BasicRecoverAsync (bit false ∷ []) }
+    {
+        RecoverAsync { requeue: false }
+    }
+
+    /// The method with these arguments.
+    pub fn into_method(self, alloc: Global) -> Result<Method, OutOfMemory>
+        ensures { IfOk result (λ m. method_view m ≡ recover_async_call self) }
+    {
+        method_of(alloc, Kind::BasicRecoverAsync, [Arg::Bit(self.requeue)])
+    }
+
+    /// What the method says, or the method as it was if it is another.
+    pub fn from_method(method: Method) -> Result<RecoverAsync, Method>
+        ensures args { IfOk result (λ m. recover_async_call m ≡ method_view method) }
+        ensures when { IsOk result ↔ ((method_view method).kind ≡ BasicRecoverAsync) }
+        ensures same { IfErr result (λ m. method_view m ≡ method_view method) }
+    {
+        match RecoverAsync::from_ref(&method) {
+            Some(recover_async) => Ok(recover_async),
+            None => Err(method),
+        }
+    }
+
+    /// What the method says, if it is this one.
+    pub fn from_ref(method: &Method) -> Option<RecoverAsync>
+        ensures args { IfSome result (λ m. recover_async_call m ≡ method_view method.now) }
+        ensures when { IsSome result ↔ ((method_view method.now).kind ≡ BasicRecoverAsync) }
+    {
+        if !is_kind(method, Kind::BasicRecoverAsync) {
+            return None;
+        }
+        Some(RecoverAsync {
+            requeue: bit_at(method, 0),
+        })
+    }
+}
+
+/// Asks for all unacknowledged messages again. `basic.recover`, class 60, method 110.
+#[derive(Clone, Copy, PartialEq, Eq, Debug)]
+pub struct Recover {
+    /// To any consumer, and not to the one that had the message.
+    pub requeue: bool,
+}
+
+impl Recover {
+    /// With no bit set.
+    pub fn new() -> Recover
+        ensures { recover_call result ≡ call BasicRecover (bit false ∷ []) }
+    {
+        Recover { requeue: false }
+    }
+
+    /// The method with these arguments.
+    pub fn into_method(self, alloc: Global) -> Result<Method, OutOfMemory>
+        ensures { IfOk result (λ m. method_view m ≡ recover_call self) }
+    {
+        method_of(alloc, Kind::BasicRecover, [Arg::Bit(self.requeue)])
+    }
+
+    /// What the method says, or the method as it was if it is another.
+    pub fn from_method(method: Method) -> Result<Recover, Method>
+        ensures args { IfOk result (λ m. recover_call m ≡ method_view method) }
+        ensures when { IsOk result ↔ ((method_view method).kind ≡ BasicRecover) }
+        ensures same { IfErr result (λ m. method_view m ≡ method_view method) }
+    {
+        match Recover::from_ref(&method) {
+            Some(recover) => Ok(recover),
+            None => Err(method),
+        }
+    }
+
+    /// What the method says, if it is this one.
+    pub fn from_ref(method: &Method) -> Option<Recover>
+        ensures args { IfSome result (λ m. recover_call m ≡ method_view method.now) }
+        ensures when { IsSome result ↔ ((method_view method.now).kind ≡ BasicRecover) }
+    {
+        if !is_kind(method, Kind::BasicRecover) {
+            return None;
+        }
+        Some(Recover {
+            requeue: bit_at(method, 0),
+        })
+    }
+}
+
+/// Confirms that the messages come again. `basic.recover-ok`, class 60, method 111.
+#[derive(Clone, Copy, PartialEq, Eq, Debug)]
+pub struct RecoverOk;
+
+impl RecoverOk {
+    /// The method, which takes no memory.
+    pub fn into_method(self, alloc: Global) -> Result<Method, OutOfMemory>
+        ensures { IsOkAnd result (λ m. method_view m ≡ recover_ok_call self) }
+    {
+        Ok(bare_method(alloc, Kind::BasicRecoverOk))
+    }
+
+    /// What the method says, or the method as it was if it is another.
+    pub fn from_method(method: Method) -> Result<RecoverOk, Method>
+        ensures args { IfOk result (λ m. recover_ok_call m ≡ method_view method) }
+        ensures when { IsOk result ↔ ((method_view method).kind ≡ BasicRecoverOk) }
+        ensures same { IfErr result (λ m. method_view m ≡ method_view method) }
+    {
+        match RecoverOk::from_ref(&method) {
+            Some(recover_ok) => Ok(recover_ok),
+            None => Err(method),
+        }
+    }
+
+    /// What the method says, if it is this one.
+    pub fn from_ref(method: &Method) -> Option<RecoverOk>
+        ensures args { IfSome result (λ m. recover_ok_call m ≡ method_view method.now) }
+        ensures when { IsSome result ↔ ((method_view method.now).kind ≡ BasicRecoverOk) }
+    {
+        if is_kind(method, Kind::BasicRecoverOk) {
+            return Some(RecoverOk);
+        }
+        None
+    }
+}
+
+/// Rejects one message or several, or says that published ones were not taken. `basic.nack`, class 60, method 120.
+#[derive(Clone, Copy, PartialEq, Eq, Debug)]
+pub struct Nack {
+    /// The number of the delivery on its channel.
+    pub delivery_tag: u64,
+    /// All messages up to this one, too.
+    pub multiple: bool,
+    /// The message goes back to its queue.
+    pub requeue: bool,
+}
+
+impl Nack {
+    /// With no bit set.
+    pub fn new(delivery_tag: u64) -> Nack
+        ensures { nack_call result ≡ call BasicNack
+            (long_long delivery_tag ∷ bit false ∷ bit false ∷ []) }
+    {
+        Nack {
+            delivery_tag,
+            multiple: false,
+            requeue: false,
+        }
+    }
+
+    /// The method with these arguments.
+    pub fn into_method(self, alloc: Global) -> Result<Method, OutOfMemory>
+        ensures { IfOk result (λ m. method_view m ≡ nack_call self) }
+    {
+        method_of(
+            alloc,
+            Kind::BasicNack,
+            [
+                Arg::LongLong(self.delivery_tag),
+                Arg::Bit(self.multiple),
+                Arg::Bit(self.requeue),
+            ],
+        )
+    }
+
+    /// What the method says, or the method as it was if it is another.
+    pub fn from_method(method: Method) -> Result<Nack, Method>
+        ensures args { IfOk result (λ m. nack_call m ≡ method_view method) }
+        ensures when { IsOk result ↔ ((method_view method).kind ≡ BasicNack) }
+        ensures same { IfErr result (λ m. method_view m ≡ method_view method) }
+    {
+        match Nack::from_ref(&method) {
+            Some(nack) => Ok(nack),
+            None => Err(method),
+        }
+    }
+
+    /// What the method says, if it is this one.
+    pub fn from_ref(method: &Method) -> Option<Nack>
+        ensures args { IfSome result (λ m. nack_call m ≡ method_view method.now) }
+        ensures when { IsSome result ↔ ((method_view method.now).kind ≡ BasicNack) }
+    {
+        if !is_kind(method, Kind::BasicNack) {
+            return None;
+        }
+        Some(Nack {
+            delivery_tag: long_long_at(method, 0),
+            multiple: bit_at(method, 1),
+            requeue: bit_at(method, 2),
+        })
+    }
+}

@@ -1,0 +1,304 @@
+//! The methods of the class channel (`amqp0-9-1.xml`, class 20).
+// Written by `tools/typed_methods.py` from the table of methods in `docs/PROTOCOL.md`: change those and run it again.
+ghost use Rattle.std.specs.Prelude.{◌≡◌, ◌↔◌, IfOk, IfErr, IfSome, IsOk, IsOkAnd, IsSome, ◌∷◌, []};
+ghost use Rattle.amqp_method.specs.Arguments.{call, bit, short, short_string};
+ghost use Rattle.amqp_method.specs.MethodView.{method_view};
+ghost use Rattle.amqp_method.specs.declared.kinds.Kind.TheVariants.{ChannelOpen, ChannelOpenOk, ChannelFlow, ChannelFlowOk, ChannelClose, ChannelCloseOk};
+ghost use Rattle.amqp_typed.specs.Channel.{open_call, open_ok_call, flow_call, flow_ok_call, close_call, close_ok_call, close_ref_call};
+
+use crate::args::{
+    bare_method, bit_at, four, is_kind, method_of, own_args, short, short_at, short_str,
+    short_str_at,
+};
+use amqp_method::{Arg, Kind, Method, OutOfMemory};
+use amqp_value::ShortStr;
+use std::alloc::Global;
+
+/// Opens the channel. `channel.open`, class 20, method 10.
+#[derive(Clone, Copy, PartialEq, Eq, Debug)]
+pub struct Open;
+
+impl Open {
+    /// The method, which takes no memory.
+    pub fn into_method(self, alloc: Global) -> Result<Method, OutOfMemory>
+        ensures { IsOkAnd result (λ m. method_view m ≡ open_call self) }
+    {
+        Ok(bare_method(alloc, Kind::ChannelOpen))
+    }
+
+    /// What the method says, or the method as it was if it is another.
+    pub fn from_method(method: Method) -> Result<Open, Method>
+        ensures args { IfOk result (λ m. open_call m ≡ method_view method) }
+        ensures when { IsOk result ↔ ((method_view method).kind ≡ ChannelOpen) }
+        ensures same { IfErr result (λ m. method_view m ≡ method_view method) }
+    {
+        match Open::from_ref(&method) {
+            Some(open) => Ok(open),
+            None => Err(method),
+        }
+    }
+
+    /// What the method says, if it is this one.
+    pub fn from_ref(method: &Method) -> Option<Open>
+        ensures args { IfSome result (λ m. open_call m ≡ method_view method.now) }
+        ensures when { IsSome result ↔ ((method_view method.now).kind ≡ ChannelOpen) }
+    {
+        if is_kind(method, Kind::ChannelOpen) {
+            return Some(Open);
+        }
+        None
+    }
+}
+
+/// Says that the channel is open. `channel.open-ok`, class 20, method 11.
+#[derive(Clone, Copy, PartialEq, Eq, Debug)]
+pub struct OpenOk;
+
+impl OpenOk {
+    /// The method, which takes no memory.
+    pub fn into_method(self, alloc: Global) -> Result<Method, OutOfMemory>
+        ensures { IsOkAnd result (λ m. method_view m ≡ open_ok_call self) }
+    {
+        Ok(bare_method(alloc, Kind::ChannelOpenOk))
+    }
+
+    /// What the method says, or the method as it was if it is another.
+    pub fn from_method(method: Method) -> Result<OpenOk, Method>
+        ensures args { IfOk result (λ m. open_ok_call m ≡ method_view method) }
+        ensures when { IsOk result ↔ ((method_view method).kind ≡ ChannelOpenOk) }
+        ensures same { IfErr result (λ m. method_view m ≡ method_view method) }
+    {
+        match OpenOk::from_ref(&method) {
+            Some(open_ok) => Ok(open_ok),
+            None => Err(method),
+        }
+    }
+
+    /// What the method says, if it is this one.
+    pub fn from_ref(method: &Method) -> Option<OpenOk>
+        ensures args { IfSome result (λ m. open_ok_call m ≡ method_view method.now) }
+        ensures when { IsSome result ↔ ((method_view method.now).kind ≡ ChannelOpenOk) }
+    {
+        if is_kind(method, Kind::ChannelOpenOk) {
+            return Some(OpenOk);
+        }
+        None
+    }
+}
+
+/// Asks the peer to stop or to resume sending contents. `channel.flow`, class 20, method 20.
+#[derive(Clone, Copy, PartialEq, Eq, Debug)]
+pub struct Flow {
+    /// Whether contents may be sent.
+    pub active: bool,
+}
+
+impl Flow {
+    /// With these arguments.
+    pub fn new(active: bool) -> Flow
+        ensures { flow_call result ≡ call ChannelFlow (bit active ∷ []) }
+    {
+        Flow { active }
+    }
+
+    /// The method with these arguments.
+    pub fn into_method(self, alloc: Global) -> Result<Method, OutOfMemory>
+        ensures { IfOk result (λ m. method_view m ≡ flow_call self) }
+    {
+        method_of(alloc, Kind::ChannelFlow, [Arg::Bit(self.active)])
+    }
+
+    /// What the method says, or the method as it was if it is another.
+    pub fn from_method(method: Method) -> Result<Flow, Method>
+        ensures args { IfOk result (λ m. flow_call m ≡ method_view method) }
+        ensures when { IsOk result ↔ ((method_view method).kind ≡ ChannelFlow) }
+        ensures same { IfErr result (λ m. method_view m ≡ method_view method) }
+    {
+        match Flow::from_ref(&method) {
+            Some(flow) => Ok(flow),
+            None => Err(method),
+        }
+    }
+
+    /// What the method says, if it is this one.
+    pub fn from_ref(method: &Method) -> Option<Flow>
+        ensures args { IfSome result (λ m. flow_call m ≡ method_view method.now) }
+        ensures when { IsSome result ↔ ((method_view method.now).kind ≡ ChannelFlow) }
+    {
+        if !is_kind(method, Kind::ChannelFlow) {
+            return None;
+        }
+        Some(Flow {
+            active: bit_at(method, 0),
+        })
+    }
+}
+
+/// Confirms a flow. `channel.flow-ok`, class 20, method 21.
+#[derive(Clone, Copy, PartialEq, Eq, Debug)]
+pub struct FlowOk {
+    /// Whether contents will be sent.
+    pub active: bool,
+}
+
+impl FlowOk {
+    /// With these arguments.
+    pub fn new(active: bool) -> FlowOk
+        ensures { flow_ok_call result ≡ call ChannelFlowOk (bit active ∷ []) }
+    {
+        FlowOk { active }
+    }
+
+    /// The method with these arguments.
+    pub fn into_method(self, alloc: Global) -> Result<Method, OutOfMemory>
+        ensures { IfOk result (λ m. method_view m ≡ flow_ok_call self) }
+    {
+        method_of(alloc, Kind::ChannelFlowOk, [Arg::Bit(self.active)])
+    }
+
+    /// What the method says, or the method as it was if it is another.
+    pub fn from_method(method: Method) -> Result<FlowOk, Method>
+        ensures args { IfOk result (λ m. flow_ok_call m ≡ method_view method) }
+        ensures when { IsOk result ↔ ((method_view method).kind ≡ ChannelFlowOk) }
+        ensures same { IfErr result (λ m. method_view m ≡ method_view method) }
+    {
+        match FlowOk::from_ref(&method) {
+            Some(flow_ok) => Ok(flow_ok),
+            None => Err(method),
+        }
+    }
+
+    /// What the method says, if it is this one.
+    pub fn from_ref(method: &Method) -> Option<FlowOk>
+        ensures args { IfSome result (λ m. flow_ok_call m ≡ method_view method.now) }
+        ensures when { IsSome result ↔ ((method_view method.now).kind ≡ ChannelFlowOk) }
+    {
+        if !is_kind(method, Kind::ChannelFlowOk) {
+            return None;
+        }
+        Some(FlowOk {
+            active: bit_at(method, 0),
+        })
+    }
+}
+
+/// Closes the channel, and says why. `channel.close`, class 20, method 40.
+#[derive(Debug, Drop, PartialEq, Eq)]
+pub struct Close {
+    pub reply_code: u16,
+    pub reply_text: ShortStr,
+    /// The class of the method that is at fault, or 0.
+    pub class_id: u16,
+    /// The method that is at fault, or 0.
+    pub method_id: u16,
+}
+
+impl Close {
+    /// With `class_id` 0 and `method_id` 0.
+    pub fn new(reply_code: u16, reply_text: ShortStr) -> Close
+        ensures { close_call result ≡ call ChannelClose
+            (short reply_code ∷ short_string reply_text ∷ short 0 ∷ short 0 ∷ []) }
+    {
+        Close {
+            reply_code,
+            reply_text,
+            class_id: 0,
+            method_id: 0,
+        }
+    }
+
+    /// The method with these arguments.
+    pub fn into_method(self, alloc: Global) -> Result<Method, OutOfMemory>
+        ensures { IfOk result (λ m. method_view m ≡ close_call self) }
+    {
+        method_of(
+            alloc,
+            Kind::ChannelClose,
+            [
+                Arg::Short(self.reply_code),
+                Arg::ShortStr(self.reply_text),
+                Arg::Short(self.class_id),
+                Arg::Short(self.method_id),
+            ],
+        )
+    }
+
+    /// What the method says, or the method as it was if it is another.
+    pub fn from_method(method: Method) -> Result<Close, Method>
+        ensures args { IfOk result (λ m. close_call m ≡ method_view method) }
+        ensures when { IsOk result ↔ ((method_view method).kind ≡ ChannelClose) }
+        ensures same { IfErr result (λ m. method_view m ≡ method_view method) }
+    {
+        let args = own_args(method, Kind::ChannelClose)?;
+        let (reply_code, reply_text, class_id, method_id) = four(args);
+        Ok(Close {
+            reply_code: short(reply_code),
+            reply_text: short_str(reply_text),
+            class_id: short(class_id),
+            method_id: short(method_id),
+        })
+    }
+}
+
+/// [`Close`], lent by a method.
+#[derive(Clone, Copy, Debug)]
+pub struct CloseRef<'a> {
+    pub reply_code: u16,
+    pub reply_text: &'a ShortStr,
+    pub class_id: u16,
+    pub method_id: u16,
+}
+
+impl<'a> CloseRef<'a> {
+    /// What the method says, if it is this one.
+    pub fn from_method(method: &'a Method) -> Option<CloseRef<'a>>
+        ensures args { IfSome result (λ m. close_ref_call m ≡ method_view method.now) }
+        ensures when { IsSome result ↔ ((method_view method.now).kind ≡ ChannelClose) }
+    {
+        if !is_kind(method, Kind::ChannelClose) {
+            return None;
+        }
+        Some(CloseRef {
+            reply_code: short_at(method, 0),
+            reply_text: short_str_at(method, 1),
+            class_id: short_at(method, 2),
+            method_id: short_at(method, 3),
+        })
+    }
+}
+
+/// Confirms that the channel is closed. `channel.close-ok`, class 20, method 41.
+#[derive(Clone, Copy, PartialEq, Eq, Debug)]
+pub struct CloseOk;
+
+impl CloseOk {
+    /// The method, which takes no memory.
+    pub fn into_method(self, alloc: Global) -> Result<Method, OutOfMemory>
+        ensures { IsOkAnd result (λ m. method_view m ≡ close_ok_call self) }
+    {
+        Ok(bare_method(alloc, Kind::ChannelCloseOk))
+    }
+
+    /// What the method says, or the method as it was if it is another.
+    pub fn from_method(method: Method) -> Result<CloseOk, Method>
+        ensures args { IfOk result (λ m. close_ok_call m ≡ method_view method) }
+        ensures when { IsOk result ↔ ((method_view method).kind ≡ ChannelCloseOk) }
+        ensures same { IfErr result (λ m. method_view m ≡ method_view method) }
+    {
+        match CloseOk::from_ref(&method) {
+            Some(close_ok) => Ok(close_ok),
+            None => Err(method),
+        }
+    }
+
+    /// What the method says, if it is this one.
+    pub fn from_ref(method: &Method) -> Option<CloseOk>
+        ensures args { IfSome result (λ m. close_ok_call m ≡ method_view method.now) }
+        ensures when { IsSome result ↔ ((method_view method.now).kind ≡ ChannelCloseOk) }
+    {
+        if is_kind(method, Kind::ChannelCloseOk) {
+            return Some(CloseOk);
+        }
+        None
+    }
+}

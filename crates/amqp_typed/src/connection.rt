@@ -1,0 +1,759 @@
+//! The methods of the class connection (`amqp0-9-1.xml`, class 10).
+// Written by `tools/typed_methods.py` from the table of methods in `docs/PROTOCOL.md`: change those and run it again.
+ghost use Rattle.std.specs.Prelude.{◌≡◌, ◌↔◌, IfOk, IfErr, IfSome, IsOk, IsOkAnd, IsSome, ◌∷◌, []};
+ghost use Rattle.amqp_value.specs.Values.{no_pairs};
+ghost use Rattle.amqp_method.specs.Arguments.{call, octet, short, long, short_string, long_string, table};
+ghost use Rattle.amqp_method.specs.MethodView.{method_view};
+ghost use Rattle.amqp_method.specs.declared.kinds.Kind.TheVariants.{ConnectionStart, ConnectionStartOk, ConnectionSecure, ConnectionSecureOk, ConnectionTune, ConnectionTuneOk, ConnectionOpen, ConnectionOpenOk, ConnectionClose, ConnectionCloseOk, ConnectionBlocked, ConnectionUnblocked};
+ghost use Rattle.amqp_typed.specs.Connection.{start_call, start_ok_call, secure_call, secure_ok_call, tune_call, tune_ok_call, open_call, open_ok_call, close_call, close_ok_call, blocked_call, unblocked_call, start_ref_call, start_ok_ref_call, secure_ref_call, secure_ok_ref_call, open_ref_call, close_ref_call, blocked_ref_call};
+
+use crate::args::{
+    bare_method, five, four, is_kind, long_at, long_str, long_str_at, method_of, octet, octet_at,
+    one, own_args, short, short_at, short_str, short_str_at, table, table_at,
+};
+use amqp_method::{Arg, Kind, Method, OutOfMemory};
+use amqp_value::{ShortStr, Table};
+use std::alloc::Global;
+
+/// Begins the negotiation: names the server, and the mechanisms and locales that it has. `connection.start`, class 10, method 10.
+#[derive(Debug, Drop, PartialEq, Eq)]
+pub struct Start {
+    pub version_major: u8,
+    pub version_minor: u8,
+    pub server_properties: Table,
+    /// The names of the mechanisms, with spaces between.
+    pub mechanisms: Vec<u8>,
+    /// The names of the locales, with spaces between.
+    pub locales: Vec<u8>,
+}
+
+impl Start {
+    /// With an empty table, `version_major` 0 and `version_minor` 9.
+    pub fn new(alloc: Global, mechanisms: Vec<u8>, locales: Vec<u8>) -> Start
+        ensures { start_call result ≡ call ConnectionStart
+            (octet 0 ∷ octet 9 ∷ table no_pairs ∷ long_string mechanisms.items
+            ∷ long_string locales.items ∷ []) }
+    {
+        Start {
+            version_major: 0,
+            version_minor: 9,
+            server_properties: Table::new(alloc),
+            mechanisms,
+            locales,
+        }
+    }
+
+    /// The method with these arguments.
+    pub fn into_method(self, alloc: Global) -> Result<Method, OutOfMemory>
+        ensures { IfOk result (λ m. method_view m ≡ start_call self) }
+    {
+        method_of(
+            alloc,
+            Kind::ConnectionStart,
+            [
+                Arg::Octet(self.version_major),
+                Arg::Octet(self.version_minor),
+                Arg::Table(self.server_properties),
+                Arg::LongStr(self.mechanisms),
+                Arg::LongStr(self.locales),
+            ],
+        )
+    }
+
+    /// What the method says, or the method as it was if it is another.
+    pub fn from_method(method: Method) -> Result<Start, Method>
+        ensures args { IfOk result (λ m. start_call m ≡ method_view method) }
+        ensures when { IsOk result ↔ ((method_view method).kind ≡ ConnectionStart) }
+        ensures same { IfErr result (λ m. method_view m ≡ method_view method) }
+    {
+        let args = own_args(method, Kind::ConnectionStart)?;
+        let (version_major, version_minor, server_properties, mechanisms, locales) = five(args);
+        Ok(Start {
+            version_major: octet(version_major),
+            version_minor: octet(version_minor),
+            server_properties: table(server_properties),
+            mechanisms: long_str(mechanisms),
+            locales: long_str(locales),
+        })
+    }
+}
+
+/// [`Start`], lent by a method.
+#[derive(Clone, Copy, Debug)]
+pub struct StartRef<'a> {
+    pub version_major: u8,
+    pub version_minor: u8,
+    pub server_properties: &'a Table,
+    pub mechanisms: &'a [u8],
+    pub locales: &'a [u8],
+}
+
+impl<'a> StartRef<'a> {
+    /// What the method says, if it is this one.
+    pub fn from_method(method: &'a Method) -> Option<StartRef<'a>>
+        ensures args { IfSome result (λ m. start_ref_call m ≡ method_view method.now) }
+        ensures when { IsSome result ↔ ((method_view method.now).kind ≡ ConnectionStart) }
+    {
+        if !is_kind(method, Kind::ConnectionStart) {
+            return None;
+        }
+        Some(StartRef {
+            version_major: octet_at(method, 0),
+            version_minor: octet_at(method, 1),
+            server_properties: table_at(method, 2),
+            mechanisms: long_str_at(method, 3),
+            locales: long_str_at(method, 4),
+        })
+    }
+}
+
+/// Picks a mechanism and a locale, and carries the first response of that mechanism. `connection.start-ok`, class 10, method 11.
+#[derive(Debug, Drop, PartialEq, Eq)]
+pub struct StartOk {
+    pub client_properties: Table,
+    pub mechanism: ShortStr,
+    /// In the format of the mechanism.
+    pub response: Vec<u8>,
+    pub locale: ShortStr,
+}
+
+impl StartOk {
+    /// With an empty table.
+    pub fn new(alloc: Global, mechanism: ShortStr, response: Vec<u8>, locale: ShortStr) -> StartOk
+        ensures { start_ok_call result ≡ call ConnectionStartOk
+            (table no_pairs ∷ short_string mechanism ∷ long_string response.items
+            ∷ short_string locale ∷ []) }
+    {
+        StartOk {
+            client_properties: Table::new(alloc),
+            mechanism,
+            response,
+            locale,
+        }
+    }
+
+    /// The method with these arguments.
+    pub fn into_method(self, alloc: Global) -> Result<Method, OutOfMemory>
+        ensures { IfOk result (λ m. method_view m ≡ start_ok_call self) }
+    {
+        method_of(
+            alloc,
+            Kind::ConnectionStartOk,
+            [
+                Arg::Table(self.client_properties),
+                Arg::ShortStr(self.mechanism),
+                Arg::LongStr(self.response),
+                Arg::ShortStr(self.locale),
+            ],
+        )
+    }
+
+    /// What the method says, or the method as it was if it is another.
+    pub fn from_method(method: Method) -> Result<StartOk, Method>
+        ensures args { IfOk result (λ m. start_ok_call m ≡ method_view method) }
+        ensures when { IsOk result ↔ ((method_view method).kind ≡ ConnectionStartOk) }
+        ensures same { IfErr result (λ m. method_view m ≡ method_view method) }
+    {
+        let args = own_args(method, Kind::ConnectionStartOk)?;
+        let (client_properties, mechanism, response, locale) = four(args);
+        Ok(StartOk {
+            client_properties: table(client_properties),
+            mechanism: short_str(mechanism),
+            response: long_str(response),
+            locale: short_str(locale),
+        })
+    }
+}
+
+/// [`StartOk`], lent by a method.
+#[derive(Clone, Copy, Debug)]
+pub struct StartOkRef<'a> {
+    pub client_properties: &'a Table,
+    pub mechanism: &'a ShortStr,
+    pub response: &'a [u8],
+    pub locale: &'a ShortStr,
+}
+
+impl<'a> StartOkRef<'a> {
+    /// What the method says, if it is this one.
+    pub fn from_method(method: &'a Method) -> Option<StartOkRef<'a>>
+        ensures args { IfSome result (λ m. start_ok_ref_call m ≡ method_view method.now) }
+        ensures when { IsSome result ↔ ((method_view method.now).kind ≡ ConnectionStartOk) }
+    {
+        if !is_kind(method, Kind::ConnectionStartOk) {
+            return None;
+        }
+        Some(StartOkRef {
+            client_properties: table_at(method, 0),
+            mechanism: short_str_at(method, 1),
+            response: long_str_at(method, 2),
+            locale: short_str_at(method, 3),
+        })
+    }
+}
+
+/// Challenges the client, as a mechanism in several steps wants it. `connection.secure`, class 10, method 20.
+#[derive(Debug, Drop, PartialEq, Eq)]
+pub struct Secure {
+    /// In the format of the mechanism.
+    pub challenge: Vec<u8>,
+}
+
+impl Secure {
+    /// With these arguments.
+    pub fn new(challenge: Vec<u8>) -> Secure
+        ensures { secure_call result ≡ call ConnectionSecure (long_string challenge.items ∷ []) }
+    {
+        Secure { challenge }
+    }
+
+    /// The method with these arguments.
+    pub fn into_method(self, alloc: Global) -> Result<Method, OutOfMemory>
+        ensures { IfOk result (λ m. method_view m ≡ secure_call self) }
+    {
+        method_of(
+            alloc,
+            Kind::ConnectionSecure,
+            [Arg::LongStr(self.challenge)],
+        )
+    }
+
+    /// What the method says, or the method as it was if it is another.
+    pub fn from_method(method: Method) -> Result<Secure, Method>
+        ensures args { IfOk result (λ m. secure_call m ≡ method_view method) }
+        ensures when { IsOk result ↔ ((method_view method).kind ≡ ConnectionSecure) }
+        ensures same { IfErr result (λ m. method_view m ≡ method_view method) }
+    {
+        let args = own_args(method, Kind::ConnectionSecure)?;
+        let challenge = one(args);
+        Ok(Secure {
+            challenge: long_str(challenge),
+        })
+    }
+}
+
+/// [`Secure`], lent by a method.
+#[derive(Clone, Copy, Debug)]
+pub struct SecureRef<'a> {
+    pub challenge: &'a [u8],
+}
+
+impl<'a> SecureRef<'a> {
+    /// What the method says, if it is this one.
+    pub fn from_method(method: &'a Method) -> Option<SecureRef<'a>>
+        ensures args { IfSome result (λ m. secure_ref_call m ≡ method_view method.now) }
+        ensures when { IsSome result ↔ ((method_view method.now).kind ≡ ConnectionSecure) }
+    {
+        if !is_kind(method, Kind::ConnectionSecure) {
+            return None;
+        }
+        Some(SecureRef {
+            challenge: long_str_at(method, 0),
+        })
+    }
+}
+
+/// Answers a challenge. `connection.secure-ok`, class 10, method 21.
+#[derive(Debug, Drop, PartialEq, Eq)]
+pub struct SecureOk {
+    /// In the format of the mechanism.
+    pub response: Vec<u8>,
+}
+
+impl SecureOk {
+    /// With these arguments.
+    pub fn new(response: Vec<u8>) -> SecureOk
+        ensures { secure_ok_call result ≡ call ConnectionSecureOk
+            (long_string response.items ∷ []) }
+    {
+        SecureOk { response }
+    }
+
+    /// The method with these arguments.
+    pub fn into_method(self, alloc: Global) -> Result<Method, OutOfMemory>
+        ensures { IfOk result (λ m. method_view m ≡ secure_ok_call self) }
+    {
+        method_of(
+            alloc,
+            Kind::ConnectionSecureOk,
+            [Arg::LongStr(self.response)],
+        )
+    }
+
+    /// What the method says, or the method as it was if it is another.
+    pub fn from_method(method: Method) -> Result<SecureOk, Method>
+        ensures args { IfOk result (λ m. secure_ok_call m ≡ method_view method) }
+        ensures when { IsOk result ↔ ((method_view method).kind ≡ ConnectionSecureOk) }
+        ensures same { IfErr result (λ m. method_view m ≡ method_view method) }
+    {
+        let args = own_args(method, Kind::ConnectionSecureOk)?;
+        let response = one(args);
+        Ok(SecureOk {
+            response: long_str(response),
+        })
+    }
+}
+
+/// [`SecureOk`], lent by a method.
+#[derive(Clone, Copy, Debug)]
+pub struct SecureOkRef<'a> {
+    pub response: &'a [u8],
+}
+
+impl<'a> SecureOkRef<'a> {
+    /// What the method says, if it is this one.
+    pub fn from_method(method: &'a Method) -> Option<SecureOkRef<'a>>
+        ensures args { IfSome result (λ m. secure_ok_ref_call m ≡ method_view method.now) }
+        ensures when { IsSome result ↔ ((method_view method.now).kind ≡ ConnectionSecureOk) }
+    {
+        if !is_kind(method, Kind::ConnectionSecureOk) {
+            return None;
+        }
+        Some(SecureOkRef {
+            response: long_str_at(method, 0),
+        })
+    }
+}
+
+/// Proposes the limits of the connection. `connection.tune`, class 10, method 30.
+#[derive(Clone, Copy, PartialEq, Eq, Debug)]
+pub struct Tune {
+    /// The greatest channel number; 0 sets no limit.
+    pub channel_max: u16,
+    /// The greatest frame, in octets with its eight of overhead; 0 sets no limit.
+    pub frame_max: u32,
+    /// The seconds between heartbeats; 0 wants none.
+    pub heartbeat: u16,
+}
+
+impl Tune {
+    /// With these arguments.
+    pub fn new(channel_max: u16, frame_max: u32, heartbeat: u16) -> Tune
+        ensures { tune_call result ≡ call ConnectionTune
+            (short channel_max ∷ long frame_max ∷ short heartbeat ∷ []) }
+    {
+        Tune {
+            channel_max,
+            frame_max,
+            heartbeat,
+        }
+    }
+
+    /// The method with these arguments.
+    pub fn into_method(self, alloc: Global) -> Result<Method, OutOfMemory>
+        ensures { IfOk result (λ m. method_view m ≡ tune_call self) }
+    {
+        method_of(
+            alloc,
+            Kind::ConnectionTune,
+            [
+                Arg::Short(self.channel_max),
+                Arg::Long(self.frame_max),
+                Arg::Short(self.heartbeat),
+            ],
+        )
+    }
+
+    /// What the method says, or the method as it was if it is another.
+    pub fn from_method(method: Method) -> Result<Tune, Method>
+        ensures args { IfOk result (λ m. tune_call m ≡ method_view method) }
+        ensures when { IsOk result ↔ ((method_view method).kind ≡ ConnectionTune) }
+        ensures same { IfErr result (λ m. method_view m ≡ method_view method) }
+    {
+        match Tune::from_ref(&method) {
+            Some(tune) => Ok(tune),
+            None => Err(method),
+        }
+    }
+
+    /// What the method says, if it is this one.
+    pub fn from_ref(method: &Method) -> Option<Tune>
+        ensures args { IfSome result (λ m. tune_call m ≡ method_view method.now) }
+        ensures when { IsSome result ↔ ((method_view method.now).kind ≡ ConnectionTune) }
+    {
+        if !is_kind(method, Kind::ConnectionTune) {
+            return None;
+        }
+        Some(Tune {
+            channel_max: short_at(method, 0),
+            frame_max: long_at(method, 1),
+            heartbeat: short_at(method, 2),
+        })
+    }
+}
+
+/// Settles the limits of the connection. `connection.tune-ok`, class 10, method 31.
+#[derive(Clone, Copy, PartialEq, Eq, Debug)]
+pub struct TuneOk {
+    /// The greatest channel number; 0 sets no limit.
+    pub channel_max: u16,
+    /// The greatest frame, in octets with its eight of overhead; 0 sets no limit.
+    pub frame_max: u32,
+    /// The seconds between heartbeats; 0 wants none.
+    pub heartbeat: u16,
+}
+
+impl TuneOk {
+    /// With these arguments.
+    pub fn new(channel_max: u16, frame_max: u32, heartbeat: u16) -> TuneOk
+        ensures { tune_ok_call result ≡ call ConnectionTuneOk
+            (short channel_max ∷ long frame_max ∷ short heartbeat ∷ []) }
+    {
+        TuneOk {
+            channel_max,
+            frame_max,
+            heartbeat,
+        }
+    }
+
+    /// The method with these arguments.
+    pub fn into_method(self, alloc: Global) -> Result<Method, OutOfMemory>
+        ensures { IfOk result (λ m. method_view m ≡ tune_ok_call self) }
+    {
+        method_of(
+            alloc,
+            Kind::ConnectionTuneOk,
+            [
+                Arg::Short(self.channel_max),
+                Arg::Long(self.frame_max),
+                Arg::Short(self.heartbeat),
+            ],
+        )
+    }
+
+    /// What the method says, or the method as it was if it is another.
+    pub fn from_method(method: Method) -> Result<TuneOk, Method>
+        ensures args { IfOk result (λ m. tune_ok_call m ≡ method_view method) }
+        ensures when { IsOk result ↔ ((method_view method).kind ≡ ConnectionTuneOk) }
+        ensures same { IfErr result (λ m. method_view m ≡ method_view method) }
+    {
+        match TuneOk::from_ref(&method) {
+            Some(tune_ok) => Ok(tune_ok),
+            None => Err(method),
+        }
+    }
+
+    /// What the method says, if it is this one.
+    pub fn from_ref(method: &Method) -> Option<TuneOk>
+        ensures args { IfSome result (λ m. tune_ok_call m ≡ method_view method.now) }
+        ensures when { IsSome result ↔ ((method_view method.now).kind ≡ ConnectionTuneOk) }
+    {
+        if !is_kind(method, Kind::ConnectionTuneOk) {
+            return None;
+        }
+        Some(TuneOk {
+            channel_max: short_at(method, 0),
+            frame_max: long_at(method, 1),
+            heartbeat: short_at(method, 2),
+        })
+    }
+}
+
+/// Opens the connection to a virtual host. `connection.open`, class 10, method 40.
+#[derive(Debug, Drop, PartialEq, Eq)]
+pub struct Open {
+    pub virtual_host: ShortStr,
+}
+
+impl Open {
+    /// With these arguments.
+    pub fn new(virtual_host: ShortStr) -> Open
+        ensures { open_call result ≡ call ConnectionOpen (short_string virtual_host ∷ []) }
+    {
+        Open { virtual_host }
+    }
+
+    /// The method with these arguments.
+    pub fn into_method(self, alloc: Global) -> Result<Method, OutOfMemory>
+        ensures { IfOk result (λ m. method_view m ≡ open_call self) }
+    {
+        method_of(
+            alloc,
+            Kind::ConnectionOpen,
+            [Arg::ShortStr(self.virtual_host)],
+        )
+    }
+
+    /// What the method says, or the method as it was if it is another.
+    pub fn from_method(method: Method) -> Result<Open, Method>
+        ensures args { IfOk result (λ m. open_call m ≡ method_view method) }
+        ensures when { IsOk result ↔ ((method_view method).kind ≡ ConnectionOpen) }
+        ensures same { IfErr result (λ m. method_view m ≡ method_view method) }
+    {
+        let args = own_args(method, Kind::ConnectionOpen)?;
+        let virtual_host = one(args);
+        Ok(Open {
+            virtual_host: short_str(virtual_host),
+        })
+    }
+}
+
+/// [`Open`], lent by a method.
+#[derive(Clone, Copy, Debug)]
+pub struct OpenRef<'a> {
+    pub virtual_host: &'a ShortStr,
+}
+
+impl<'a> OpenRef<'a> {
+    /// What the method says, if it is this one.
+    pub fn from_method(method: &'a Method) -> Option<OpenRef<'a>>
+        ensures args { IfSome result (λ m. open_ref_call m ≡ method_view method.now) }
+        ensures when { IsSome result ↔ ((method_view method.now).kind ≡ ConnectionOpen) }
+    {
+        if !is_kind(method, Kind::ConnectionOpen) {
+            return None;
+        }
+        Some(OpenRef {
+            virtual_host: short_str_at(method, 0),
+        })
+    }
+}
+
+/// Says that the connection is open. `connection.open-ok`, class 10, method 41.
+#[derive(Clone, Copy, PartialEq, Eq, Debug)]
+pub struct OpenOk;
+
+impl OpenOk {
+    /// The method, which takes no memory.
+    pub fn into_method(self, alloc: Global) -> Result<Method, OutOfMemory>
+        ensures { IsOkAnd result (λ m. method_view m ≡ open_ok_call self) }
+    {
+        Ok(bare_method(alloc, Kind::ConnectionOpenOk))
+    }
+
+    /// What the method says, or the method as it was if it is another.
+    pub fn from_method(method: Method) -> Result<OpenOk, Method>
+        ensures args { IfOk result (λ m. open_ok_call m ≡ method_view method) }
+        ensures when { IsOk result ↔ ((method_view method).kind ≡ ConnectionOpenOk) }
+        ensures same { IfErr result (λ m. method_view m ≡ method_view method) }
+    {
+        match OpenOk::from_ref(&method) {
+            Some(open_ok) => Ok(open_ok),
+            None => Err(method),
+        }
+    }
+
+    /// What the method says, if it is this one.
+    pub fn from_ref(method: &Method) -> Option<OpenOk>
+        ensures args { IfSome result (λ m. open_ok_call m ≡ method_view method.now) }
+        ensures when { IsSome result ↔ ((method_view method.now).kind ≡ ConnectionOpenOk) }
+    {
+        if is_kind(method, Kind::ConnectionOpenOk) {
+            return Some(OpenOk);
+        }
+        None
+    }
+}
+
+/// Closes the connection, and says why. `connection.close`, class 10, method 50.
+#[derive(Debug, Drop, PartialEq, Eq)]
+pub struct Close {
+    pub reply_code: u16,
+    pub reply_text: ShortStr,
+    /// The class of the method that is at fault, or 0.
+    pub class_id: u16,
+    /// The method that is at fault, or 0.
+    pub method_id: u16,
+}
+
+impl Close {
+    /// With `class_id` 0 and `method_id` 0.
+    pub fn new(reply_code: u16, reply_text: ShortStr) -> Close
+        ensures { close_call result ≡ call ConnectionClose
+            (short reply_code ∷ short_string reply_text ∷ short 0 ∷ short 0 ∷ []) }
+    {
+        Close {
+            reply_code,
+            reply_text,
+            class_id: 0,
+            method_id: 0,
+        }
+    }
+
+    /// The method with these arguments.
+    pub fn into_method(self, alloc: Global) -> Result<Method, OutOfMemory>
+        ensures { IfOk result (λ m. method_view m ≡ close_call self) }
+    {
+        method_of(
+            alloc,
+            Kind::ConnectionClose,
+            [
+                Arg::Short(self.reply_code),
+                Arg::ShortStr(self.reply_text),
+                Arg::Short(self.class_id),
+                Arg::Short(self.method_id),
+            ],
+        )
+    }
+
+    /// What the method says, or the method as it was if it is another.
+    pub fn from_method(method: Method) -> Result<Close, Method>
+        ensures args { IfOk result (λ m. close_call m ≡ method_view method) }
+        ensures when { IsOk result ↔ ((method_view method).kind ≡ ConnectionClose) }
+        ensures same { IfErr result (λ m. method_view m ≡ method_view method) }
+    {
+        let args = own_args(method, Kind::ConnectionClose)?;
+        let (reply_code, reply_text, class_id, method_id) = four(args);
+        Ok(Close {
+            reply_code: short(reply_code),
+            reply_text: short_str(reply_text),
+            class_id: short(class_id),
+            method_id: short(method_id),
+        })
+    }
+}
+
+/// [`Close`], lent by a method.
+#[derive(Clone, Copy, Debug)]
+pub struct CloseRef<'a> {
+    pub reply_code: u16,
+    pub reply_text: &'a ShortStr,
+    pub class_id: u16,
+    pub method_id: u16,
+}
+
+impl<'a> CloseRef<'a> {
+    /// What the method says, if it is this one.
+    pub fn from_method(method: &'a Method) -> Option<CloseRef<'a>>
+        ensures args { IfSome result (λ m. close_ref_call m ≡ method_view method.now) }
+        ensures when { IsSome result ↔ ((method_view method.now).kind ≡ ConnectionClose) }
+    {
+        if !is_kind(method, Kind::ConnectionClose) {
+            return None;
+        }
+        Some(CloseRef {
+            reply_code: short_at(method, 0),
+            reply_text: short_str_at(method, 1),
+            class_id: short_at(method, 2),
+            method_id: short_at(method, 3),
+        })
+    }
+}
+
+/// Confirms that the connection is closed. `connection.close-ok`, class 10, method 51.
+#[derive(Clone, Copy, PartialEq, Eq, Debug)]
+pub struct CloseOk;
+
+impl CloseOk {
+    /// The method, which takes no memory.
+    pub fn into_method(self, alloc: Global) -> Result<Method, OutOfMemory>
+        ensures { IsOkAnd result (λ m. method_view m ≡ close_ok_call self) }
+    {
+        Ok(bare_method(alloc, Kind::ConnectionCloseOk))
+    }
+
+    /// What the method says, or the method as it was if it is another.
+    pub fn from_method(method: Method) -> Result<CloseOk, Method>
+        ensures args { IfOk result (λ m. close_ok_call m ≡ method_view method) }
+        ensures when { IsOk result ↔ ((method_view method).kind ≡ ConnectionCloseOk) }
+        ensures same { IfErr result (λ m. method_view m ≡ method_view method) }
+    {
+        match CloseOk::from_ref(&method) {
+            Some(close_ok) => Ok(close_ok),
+            None => Err(method),
+        }
+    }
+
+    /// What the method says, if it is this one.
+    pub fn from_ref(method: &Method) -> Option<CloseOk>
+        ensures args { IfSome result (λ m. close_ok_call m ≡ method_view method.now) }
+        ensures when { IsSome result ↔ ((method_view method.now).kind ≡ ConnectionCloseOk) }
+    {
+        if is_kind(method, Kind::ConnectionCloseOk) {
+            return Some(CloseOk);
+        }
+        None
+    }
+}
+
+/// Says that the server takes no more messages for now. `connection.blocked`, class 10, method 60.
+#[derive(Debug, Drop, PartialEq, Eq)]
+pub struct Blocked {
+    pub reason: ShortStr,
+}
+
+impl Blocked {
+    /// With these arguments.
+    pub fn new(reason: ShortStr) -> Blocked
+        ensures { blocked_call result ≡ call ConnectionBlocked (short_string reason ∷ []) }
+    {
+        Blocked { reason }
+    }
+
+    /// The method with these arguments.
+    pub fn into_method(self, alloc: Global) -> Result<Method, OutOfMemory>
+        ensures { IfOk result (λ m. method_view m ≡ blocked_call self) }
+    {
+        method_of(alloc, Kind::ConnectionBlocked, [Arg::ShortStr(self.reason)])
+    }
+
+    /// What the method says, or the method as it was if it is another.
+    pub fn from_method(method: Method) -> Result<Blocked, Method>
+        ensures args { IfOk result (λ m. blocked_call m ≡ method_view method) }
+        ensures when { IsOk result ↔ ((method_view method).kind ≡ ConnectionBlocked) }
+        ensures same { IfErr result (λ m. method_view m ≡ method_view method) }
+    {
+        let args = own_args(method, Kind::ConnectionBlocked)?;
+        let reason = one(args);
+        Ok(Blocked {
+            reason: short_str(reason),
+        })
+    }
+}
+
+/// [`Blocked`], lent by a method.
+#[derive(Clone, Copy, Debug)]
+pub struct BlockedRef<'a> {
+    pub reason: &'a ShortStr,
+}
+
+impl<'a> BlockedRef<'a> {
+    /// What the method says, if it is this one.
+    pub fn from_method(method: &'a Method) -> Option<BlockedRef<'a>>
+        ensures args { IfSome result (λ m. blocked_ref_call m ≡ method_view method.now) }
+        ensures when { IsSome result ↔ ((method_view method.now).kind ≡ ConnectionBlocked) }
+    {
+        if !is_kind(method, Kind::ConnectionBlocked) {
+            return None;
+        }
+        Some(BlockedRef {
+            reason: short_str_at(method, 0),
+        })
+    }
+}
+
+/// Says that the server takes messages again. `connection.unblocked`, class 10, method 61.
+#[derive(Clone, Copy, PartialEq, Eq, Debug)]
+pub struct Unblocked;
+
+impl Unblocked {
+    /// The method, which takes no memory.
+    pub fn into_method(self, alloc: Global) -> Result<Method, OutOfMemory>
+        ensures { IsOkAnd result (λ m. method_view m ≡ unblocked_call self) }
+    {
+        Ok(bare_method(alloc, Kind::ConnectionUnblocked))
+    }
+
+    /// What the method says, or the method as it was if it is another.
+    pub fn from_method(method: Method) -> Result<Unblocked, Method>
+        ensures args { IfOk result (λ m. unblocked_call m ≡ method_view method) }
+        ensures when { IsOk result ↔ ((method_view method).kind ≡ ConnectionUnblocked) }
+        ensures same { IfErr result (λ m. method_view m ≡ method_view method) }
+    {
+        match Unblocked::from_ref(&method) {
+            Some(unblocked) => Ok(unblocked),
+            None => Err(method),
+        }
+    }
+
+    /// What the method says, if it is this one.
+    pub fn from_ref(method: &Method) -> Option<Unblocked>
+        ensures args { IfSome result (λ m. unblocked_call m ≡ method_view method.now) }
+        ensures when { IsSome result ↔ ((method_view method.now).kind ≡ ConnectionUnblocked) }
+    {
+        if is_kind(method, Kind::ConnectionUnblocked) {
+            return Some(Unblocked);
+        }
+        None
+    }
+}

@@ -1,0 +1,551 @@
+//! The methods of the class exchange (`amqp0-9-1.xml`, class 40).
+// Written by `tools/typed_methods.py` from the table of methods in `docs/PROTOCOL.md`: change those and run it again.
+ghost use Rattle.std.specs.Prelude.{◌≡◌, ◌↔◌, IfOk, IfErr, IfSome, IsOk, IsOkAnd, IsSome, false, ◌∷◌, []};
+ghost use Rattle.amqp_value.specs.Values.{no_pairs};
+ghost use Rattle.amqp_method.specs.Arguments.{call, bit, short_string, table};
+ghost use Rattle.amqp_method.specs.MethodView.{method_view};
+ghost use Rattle.amqp_method.specs.declared.kinds.Kind.TheVariants.{ExchangeDeclare, ExchangeDeclareOk, ExchangeDelete, ExchangeDeleteOk, ExchangeBind, ExchangeBindOk, ExchangeUnbind, ExchangeUnbindOk};
+ghost use Rattle.amqp_typed.specs.Exchange.{declare_call, declare_ok_call, delete_call, delete_ok_call, bind_call, bind_ok_call, unbind_call, unbind_ok_call, declare_ref_call, delete_ref_call, bind_ref_call, unbind_ref_call};
+
+use crate::args::{
+    bare_method, bit, bit_at, eight, five, is_kind, method_of, own_args, short_str, short_str_at,
+    table, table_at, three,
+};
+use amqp_method::{Arg, Kind, Method, OutOfMemory};
+use amqp_value::{ShortStr, Table};
+use std::alloc::Global;
+
+/// Creates an exchange if it doesn't exist yet. `exchange.declare`, class 40, method 10.
+#[derive(Debug, Drop, PartialEq, Eq)]
+pub struct Declare {
+    /// The name of the exchange.
+    pub exchange: ShortStr,
+    /// The type of the exchange, such as `direct`, `fanout`, `topic` or `headers`: the field `type`.
+    pub type_name: ShortStr,
+    /// Only asks whether the exchange exists.
+    pub passive: bool,
+    /// The exchange outlives a restart of the server.
+    pub durable: bool,
+    /// The exchange is deleted with its last binding.
+    pub auto_delete: bool,
+    /// Nobody may publish to the exchange: it serves bindings only.
+    pub internal: bool,
+    /// The server sends no reply.
+    pub no_wait: bool,
+    pub arguments: Table,
+}
+
+impl Declare {
+    /// With no bit set and an empty table.
+    pub fn new(alloc: Global, exchange: ShortStr, type_name: ShortStr) -> Declare
+        ensures { declare_call result ≡ call ExchangeDeclare
+            (short_string exchange ∷ short_string type_name ∷ bit false ∷ bit false ∷ bit false
+            ∷ bit false ∷ bit false ∷ table no_pairs ∷ []) }
+    {
+        Declare {
+            exchange,
+            type_name,
+            passive: false,
+            durable: false,
+            auto_delete: false,
+            internal: false,
+            no_wait: false,
+            arguments: Table::new(alloc),
+        }
+    }
+
+    /// The method with these arguments.
+    pub fn into_method(self, alloc: Global) -> Result<Method, OutOfMemory>
+        ensures { IfOk result (λ m. method_view m ≡ declare_call self) }
+    {
+        method_of(
+            alloc,
+            Kind::ExchangeDeclare,
+            [
+                Arg::ShortStr(self.exchange),
+                Arg::ShortStr(self.type_name),
+                Arg::Bit(self.passive),
+                Arg::Bit(self.durable),
+                Arg::Bit(self.auto_delete),
+                Arg::Bit(self.internal),
+                Arg::Bit(self.no_wait),
+                Arg::Table(self.arguments),
+            ],
+        )
+    }
+
+    /// What the method says, or the method as it was if it is another.
+    pub fn from_method(method: Method) -> Result<Declare, Method>
+        ensures args { IfOk result (λ m. declare_call m ≡ method_view method) }
+        ensures when { IsOk result ↔ ((method_view method).kind ≡ ExchangeDeclare) }
+        ensures same { IfErr result (λ m. method_view m ≡ method_view method) }
+    {
+        let args = own_args(method, Kind::ExchangeDeclare)?;
+        let (exchange, type_name, passive, durable, auto_delete, internal, no_wait, arguments) =
+            eight(args);
+        Ok(Declare {
+            exchange: short_str(exchange),
+            type_name: short_str(type_name),
+            passive: bit(passive),
+            durable: bit(durable),
+            auto_delete: bit(auto_delete),
+            internal: bit(internal),
+            no_wait: bit(no_wait),
+            arguments: table(arguments),
+        })
+    }
+}
+
+/// [`Declare`], lent by a method.
+#[derive(Clone, Copy, Debug)]
+pub struct DeclareRef<'a> {
+    pub exchange: &'a ShortStr,
+    pub type_name: &'a ShortStr,
+    pub passive: bool,
+    pub durable: bool,
+    pub auto_delete: bool,
+    pub internal: bool,
+    pub no_wait: bool,
+    pub arguments: &'a Table,
+}
+
+impl<'a> DeclareRef<'a> {
+    /// What the method says, if it is this one.
+    pub fn from_method(method: &'a Method) -> Option<DeclareRef<'a>>
+        ensures args { IfSome result (λ m. declare_ref_call m ≡ method_view method.now) }
+        ensures when { IsSome result ↔ ((method_view method.now).kind ≡ ExchangeDeclare) }
+    {
+        if !is_kind(method, Kind::ExchangeDeclare) {
+            return None;
+        }
+        Some(DeclareRef {
+            exchange: short_str_at(method, 0),
+            type_name: short_str_at(method, 1),
+            passive: bit_at(method, 2),
+            durable: bit_at(method, 3),
+            auto_delete: bit_at(method, 4),
+            internal: bit_at(method, 5),
+            no_wait: bit_at(method, 6),
+            arguments: table_at(method, 7),
+        })
+    }
+}
+
+/// Confirms that the exchange exists. `exchange.declare-ok`, class 40, method 11.
+#[derive(Clone, Copy, PartialEq, Eq, Debug)]
+pub struct DeclareOk;
+
+impl DeclareOk {
+    /// The method, which takes no memory.
+    pub fn into_method(self, alloc: Global) -> Result<Method, OutOfMemory>
+        ensures { IsOkAnd result (λ m. method_view m ≡ declare_ok_call self) }
+    {
+        Ok(bare_method(alloc, Kind::ExchangeDeclareOk))
+    }
+
+    /// What the method says, or the method as it was if it is another.
+    pub fn from_method(method: Method) -> Result<DeclareOk, Method>
+        ensures args { IfOk result (λ m. declare_ok_call m ≡ method_view method) }
+        ensures when { IsOk result ↔ ((method_view method).kind ≡ ExchangeDeclareOk) }
+        ensures same { IfErr result (λ m. method_view m ≡ method_view method) }
+    {
+        match DeclareOk::from_ref(&method) {
+            Some(declare_ok) => Ok(declare_ok),
+            None => Err(method),
+        }
+    }
+
+    /// What the method says, if it is this one.
+    pub fn from_ref(method: &Method) -> Option<DeclareOk>
+        ensures args { IfSome result (λ m. declare_ok_call m ≡ method_view method.now) }
+        ensures when { IsSome result ↔ ((method_view method.now).kind ≡ ExchangeDeclareOk) }
+    {
+        if is_kind(method, Kind::ExchangeDeclareOk) {
+            return Some(DeclareOk);
+        }
+        None
+    }
+}
+
+/// Deletes an exchange. `exchange.delete`, class 40, method 20.
+#[derive(Debug, Drop, PartialEq, Eq)]
+pub struct Delete {
+    pub exchange: ShortStr,
+    /// Only if nothing is bound to the exchange.
+    pub if_unused: bool,
+    /// The server sends no reply.
+    pub no_wait: bool,
+}
+
+impl Delete {
+    /// With no bit set.
+    pub fn new(exchange: ShortStr) -> Delete
+        ensures { delete_call result ≡ call ExchangeDelete
+            (short_string exchange ∷ bit false ∷ bit false ∷ []) }
+    {
+        Delete {
+            exchange,
+            if_unused: false,
+            no_wait: false,
+        }
+    }
+
+    /// The method with these arguments.
+    pub fn into_method(self, alloc: Global) -> Result<Method, OutOfMemory>
+        ensures { IfOk result (λ m. method_view m ≡ delete_call self) }
+    {
+        method_of(
+            alloc,
+            Kind::ExchangeDelete,
+            [
+                Arg::ShortStr(self.exchange),
+                Arg::Bit(self.if_unused),
+                Arg::Bit(self.no_wait),
+            ],
+        )
+    }
+
+    /// What the method says, or the method as it was if it is another.
+    pub fn from_method(method: Method) -> Result<Delete, Method>
+        ensures args { IfOk result (λ m. delete_call m ≡ method_view method) }
+        ensures when { IsOk result ↔ ((method_view method).kind ≡ ExchangeDelete) }
+        ensures same { IfErr result (λ m. method_view m ≡ method_view method) }
+    {
+        let args = own_args(method, Kind::ExchangeDelete)?;
+        let (exchange, if_unused, no_wait) = three(args);
+        Ok(Delete {
+            exchange: short_str(exchange),
+            if_unused: bit(if_unused),
+            no_wait: bit(no_wait),
+        })
+    }
+}
+
+/// [`Delete`], lent by a method.
+#[derive(Clone, Copy, Debug)]
+pub struct DeleteRef<'a> {
+    pub exchange: &'a ShortStr,
+    pub if_unused: bool,
+    pub no_wait: bool,
+}
+
+impl<'a> DeleteRef<'a> {
+    /// What the method says, if it is this one.
+    pub fn from_method(method: &'a Method) -> Option<DeleteRef<'a>>
+        ensures args { IfSome result (λ m. delete_ref_call m ≡ method_view method.now) }
+        ensures when { IsSome result ↔ ((method_view method.now).kind ≡ ExchangeDelete) }
+    {
+        if !is_kind(method, Kind::ExchangeDelete) {
+            return None;
+        }
+        Some(DeleteRef {
+            exchange: short_str_at(method, 0),
+            if_unused: bit_at(method, 1),
+            no_wait: bit_at(method, 2),
+        })
+    }
+}
+
+/// Confirms that the exchange is deleted. `exchange.delete-ok`, class 40, method 21.
+#[derive(Clone, Copy, PartialEq, Eq, Debug)]
+pub struct DeleteOk;
+
+impl DeleteOk {
+    /// The method, which takes no memory.
+    pub fn into_method(self, alloc: Global) -> Result<Method, OutOfMemory>
+        ensures { IsOkAnd result (λ m. method_view m ≡ delete_ok_call self) }
+    {
+        Ok(bare_method(alloc, Kind::ExchangeDeleteOk))
+    }
+
+    /// What the method says, or the method as it was if it is another.
+    pub fn from_method(method: Method) -> Result<DeleteOk, Method>
+        ensures args { IfOk result (λ m. delete_ok_call m ≡ method_view method) }
+        ensures when { IsOk result ↔ ((method_view method).kind ≡ ExchangeDeleteOk) }
+        ensures same { IfErr result (λ m. method_view m ≡ method_view method) }
+    {
+        match DeleteOk::from_ref(&method) {
+            Some(delete_ok) => Ok(delete_ok),
+            None => Err(method),
+        }
+    }
+
+    /// What the method says, if it is this one.
+    pub fn from_ref(method: &Method) -> Option<DeleteOk>
+        ensures args { IfSome result (λ m. delete_ok_call m ≡ method_view method.now) }
+        ensures when { IsSome result ↔ ((method_view method.now).kind ≡ ExchangeDeleteOk) }
+    {
+        if is_kind(method, Kind::ExchangeDeleteOk) {
+            return Some(DeleteOk);
+        }
+        None
+    }
+}
+
+/// Binds an exchange to an exchange. `exchange.bind`, class 40, method 30.
+#[derive(Debug, Drop, PartialEq, Eq)]
+pub struct Bind {
+    /// The exchange that gets the messages.
+    pub destination: ShortStr,
+    /// The exchange that passes them on.
+    pub source: ShortStr,
+    pub routing_key: ShortStr,
+    /// The server sends no reply.
+    pub no_wait: bool,
+    pub arguments: Table,
+}
+
+impl Bind {
+    /// With no bit set and an empty table.
+    pub fn new(
+        alloc: Global,
+        destination: ShortStr,
+        source: ShortStr,
+        routing_key: ShortStr,
+    ) -> Bind
+        ensures { bind_call result ≡ call ExchangeBind
+            (short_string destination ∷ short_string source ∷ short_string routing_key ∷ bit false
+            ∷ table no_pairs ∷ []) }
+    {
+        Bind {
+            destination,
+            source,
+            routing_key,
+            no_wait: false,
+            arguments: Table::new(alloc),
+        }
+    }
+
+    /// The method with these arguments.
+    pub fn into_method(self, alloc: Global) -> Result<Method, OutOfMemory>
+        ensures { IfOk result (λ m. method_view m ≡ bind_call self) }
+    {
+        method_of(
+            alloc,
+            Kind::ExchangeBind,
+            [
+                Arg::ShortStr(self.destination),
+                Arg::ShortStr(self.source),
+                Arg::ShortStr(self.routing_key),
+                Arg::Bit(self.no_wait),
+                Arg::Table(self.arguments),
+            ],
+        )
+    }
+
+    /// What the method says, or the method as it was if it is another.
+    pub fn from_method(method: Method) -> Result<Bind, Method>
+        ensures args { IfOk result (λ m. bind_call m ≡ method_view method) }
+        ensures when { IsOk result ↔ ((method_view method).kind ≡ ExchangeBind) }
+        ensures same { IfErr result (λ m. method_view m ≡ method_view method) }
+    {
+        let args = own_args(method, Kind::ExchangeBind)?;
+        let (destination, source, routing_key, no_wait, arguments) = five(args);
+        Ok(Bind {
+            destination: short_str(destination),
+            source: short_str(source),
+            routing_key: short_str(routing_key),
+            no_wait: bit(no_wait),
+            arguments: table(arguments),
+        })
+    }
+}
+
+/// [`Bind`], lent by a method.
+#[derive(Clone, Copy, Debug)]
+pub struct BindRef<'a> {
+    pub destination: &'a ShortStr,
+    pub source: &'a ShortStr,
+    pub routing_key: &'a ShortStr,
+    pub no_wait: bool,
+    pub arguments: &'a Table,
+}
+
+impl<'a> BindRef<'a> {
+    /// What the method says, if it is this one.
+    pub fn from_method(method: &'a Method) -> Option<BindRef<'a>>
+        ensures args { IfSome result (λ m. bind_ref_call m ≡ method_view method.now) }
+        ensures when { IsSome result ↔ ((method_view method.now).kind ≡ ExchangeBind) }
+    {
+        if !is_kind(method, Kind::ExchangeBind) {
+            return None;
+        }
+        Some(BindRef {
+            destination: short_str_at(method, 0),
+            source: short_str_at(method, 1),
+            routing_key: short_str_at(method, 2),
+            no_wait: bit_at(method, 3),
+            arguments: table_at(method, 4),
+        })
+    }
+}
+
+/// Confirms the binding. `exchange.bind-ok`, class 40, method 31.
+#[derive(Clone, Copy, PartialEq, Eq, Debug)]
+pub struct BindOk;
+
+impl BindOk {
+    /// The method, which takes no memory.
+    pub fn into_method(self, alloc: Global) -> Result<Method, OutOfMemory>
+        ensures { IsOkAnd result (λ m. method_view m ≡ bind_ok_call self) }
+    {
+        Ok(bare_method(alloc, Kind::ExchangeBindOk))
+    }
+
+    /// What the method says, or the method as it was if it is another.
+    pub fn from_method(method: Method) -> Result<BindOk, Method>
+        ensures args { IfOk result (λ m. bind_ok_call m ≡ method_view method) }
+        ensures when { IsOk result ↔ ((method_view method).kind ≡ ExchangeBindOk) }
+        ensures same { IfErr result (λ m. method_view m ≡ method_view method) }
+    {
+        match BindOk::from_ref(&method) {
+            Some(bind_ok) => Ok(bind_ok),
+            None => Err(method),
+        }
+    }
+
+    /// What the method says, if it is this one.
+    pub fn from_ref(method: &Method) -> Option<BindOk>
+        ensures args { IfSome result (λ m. bind_ok_call m ≡ method_view method.now) }
+        ensures when { IsSome result ↔ ((method_view method.now).kind ≡ ExchangeBindOk) }
+    {
+        if is_kind(method, Kind::ExchangeBindOk) {
+            return Some(BindOk);
+        }
+        None
+    }
+}
+
+/// Unbinds an exchange from an exchange. `exchange.unbind`, class 40, method 40.
+#[derive(Debug, Drop, PartialEq, Eq)]
+pub struct Unbind {
+    /// The exchange that got the messages.
+    pub destination: ShortStr,
+    /// The exchange that passed them on.
+    pub source: ShortStr,
+    pub routing_key: ShortStr,
+    /// The server sends no reply.
+    pub no_wait: bool,
+    pub arguments: Table,
+}
+
+impl Unbind {
+    /// With no bit set and an empty table.
+    pub fn new(
+        alloc: Global,
+        destination: ShortStr,
+        source: ShortStr,
+        routing_key: ShortStr,
+    ) -> Unbind
+        ensures { unbind_call result ≡ call ExchangeUnbind
+            (short_string destination ∷ short_string source ∷ short_string routing_key ∷ bit false
+            ∷ table no_pairs ∷ []) }
+    {
+        Unbind {
+            destination,
+            source,
+            routing_key,
+            no_wait: false,
+            arguments: Table::new(alloc),
+        }
+    }
+
+    /// The method with these arguments.
+    pub fn into_method(self, alloc: Global) -> Result<Method, OutOfMemory>
+        ensures { IfOk result (λ m. method_view m ≡ unbind_call self) }
+    {
+        method_of(
+            alloc,
+            Kind::ExchangeUnbind,
+            [
+                Arg::ShortStr(self.destination),
+                Arg::ShortStr(self.source),
+                Arg::ShortStr(self.routing_key),
+                Arg::Bit(self.no_wait),
+                Arg::Table(self.arguments),
+            ],
+        )
+    }
+
+    /// What the method says, or the method as it was if it is another.
+    pub fn from_method(method: Method) -> Result<Unbind, Method>
+        ensures args { IfOk result (λ m. unbind_call m ≡ method_view method) }
+        ensures when { IsOk result ↔ ((method_view method).kind ≡ ExchangeUnbind) }
+        ensures same { IfErr result (λ m. method_view m ≡ method_view method) }
+    {
+        let args = own_args(method, Kind::ExchangeUnbind)?;
+        let (destination, source, routing_key, no_wait, arguments) = five(args);
+        Ok(Unbind {
+            destination: short_str(destination),
+            source: short_str(source),
+            routing_key: short_str(routing_key),
+            no_wait: bit(no_wait),
+            arguments: table(arguments),
+        })
+    }
+}
+
+/// [`Unbind`], lent by a method.
+#[derive(Clone, Copy, Debug)]
+pub struct UnbindRef<'a> {
+    pub destination: &'a ShortStr,
+    pub source: &'a ShortStr,
+    pub routing_key: &'a ShortStr,
+    pub no_wait: bool,
+    pub arguments: &'a Table,
+}
+
+impl<'a> UnbindRef<'a> {
+    /// What the method says, if it is this one.
+    pub fn from_method(method: &'a Method) -> Option<UnbindRef<'a>>
+        ensures args { IfSome result (λ m. unbind_ref_call m ≡ method_view method.now) }
+        ensures when { IsSome result ↔ ((method_view method.now).kind ≡ ExchangeUnbind) }
+    {
+        if !is_kind(method, Kind::ExchangeUnbind) {
+            return None;
+        }
+        Some(UnbindRef {
+            destination: short_str_at(method, 0),
+            source: short_str_at(method, 1),
+            routing_key: short_str_at(method, 2),
+            no_wait: bit_at(method, 3),
+            arguments: table_at(method, 4),
+        })
+    }
+}
+
+/// Confirms that the binding is gone. `exchange.unbind-ok`, class 40, method 51.
+#[derive(Clone, Copy, PartialEq, Eq, Debug)]
+pub struct UnbindOk;
+
+impl UnbindOk {
+    /// The method, which takes no memory.
+    pub fn into_method(self, alloc: Global) -> Result<Method, OutOfMemory>
+        ensures { IsOkAnd result (λ m. method_view m ≡ unbind_ok_call self) }
+    {
+        Ok(bare_method(alloc, Kind::ExchangeUnbindOk))
+    }
+
+    /// What the method says, or the method as it was if it is another.
+    pub fn from_method(method: Method) -> Result<UnbindOk, Method>
+        ensures args { IfOk result (λ m. unbind_ok_call m ≡ method_view method) }
+        ensures when { IsOk result ↔ ((method_view method).kind ≡ ExchangeUnbindOk) }
+        ensures same { IfErr result (λ m. method_view m ≡ method_view method) }
+    {
+        match UnbindOk::from_ref(&method) {
+            Some(unbind_ok) => Ok(unbind_ok),
+            None => Err(method),
+        }
+    }
+
+    /// What the method says, if it is this one.
+    pub fn from_ref(method: &Method) -> Option<UnbindOk>
+        ensures args { IfSome result (λ m. unbind_ok_call m ≡ method_view method.now) }
+        ensures when { IsSome result ↔ ((method_view method.now).kind ≡ ExchangeUnbindOk) }
+    {
+        if is_kind(method, Kind::ExchangeUnbindOk) {
+            return Some(UnbindOk);
+        }
+        None
+    }
+}

@@ -1,0 +1,28 @@
+//! The methods of AMQP 0-9-1 by name: a module for each class, and in it a struct for each method, with the fields of
+//! `amqp0-9-1.xml` under their names in snake case. The field `type` is `type_name`. A reserved field doesn't exist.
+//!
+//! - `new` takes the fields that have no default. The defaults: a bit is false, but that a flow's `active` is given; a table
+//!   is empty; a close's `class_id` and `method_id`, and `prefetch_size`, are 0; a start's version is 0-9. Other numbers
+//!   and all strings are given. A method without fields is made by its name alone, as [`tx::Select`].
+//! - `into_method` makes the [`Method`](amqp_method::Method) with these arguments, in the order of the table.
+//! - `from_method` takes a method apart, without a copy, or gives back one of another kind.
+//! - `basic::DeliverRef` and its like are lent by a method, and take no memory. A struct of numbers and bits alone, as
+//!   [`basic::Ack`], is read by its `from_ref`.
+//! - [`AnyMethod`] is a method of any kind, for a `match` over all of them.
+//! - The four methods that a content follows have `message`, which makes the message with its properties and its body.
+//!
+//! The definitions of `specs/` give the call that each struct stands for: what the functions are proved to make and to read.
+#![tactic(auto)]
+
+mod any_method;
+mod args;
+pub mod basic;
+pub mod channel;
+pub mod confirm;
+pub mod connection;
+pub mod delivery_mode;
+pub mod exchange;
+pub mod queue;
+pub mod tx;
+
+pub use crate::any_method::AnyMethod;

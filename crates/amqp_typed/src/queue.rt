@@ -1,0 +1,697 @@
+//! The methods of the class queue (`amqp0-9-1.xml`, class 50).
+// Written by `tools/typed_methods.py` from the table of methods in `docs/PROTOCOL.md`: change those and run it again.
+ghost use Rattle.std.specs.Prelude.{◌≡◌, ◌↔◌, IfOk, IfErr, IfSome, IsOk, IsOkAnd, IsSome, false, ◌∷◌, []};
+ghost use Rattle.amqp_value.specs.Values.{no_pairs};
+ghost use Rattle.amqp_method.specs.Arguments.{call, bit, long, short_string, table};
+ghost use Rattle.amqp_method.specs.MethodView.{method_view};
+ghost use Rattle.amqp_method.specs.declared.kinds.Kind.TheVariants.{QueueDeclare, QueueDeclareOk, QueueBind, QueueBindOk, QueueUnbind, QueueUnbindOk, QueuePurge, QueuePurgeOk, QueueDelete, QueueDeleteOk};
+ghost use Rattle.amqp_typed.specs.Queue.{declare_call, declare_ok_call, bind_call, bind_ok_call, unbind_call, unbind_ok_call, purge_call, purge_ok_call, delete_call, delete_ok_call, declare_ref_call, declare_ok_ref_call, bind_ref_call, unbind_ref_call, purge_ref_call, delete_ref_call};
+
+use crate::args::{
+    bare_method, bit, bit_at, five, four, is_kind, long, long_at, method_of, own_args, seven,
+    short_str, short_str_at, table, table_at, three, two,
+};
+use amqp_method::{Arg, Kind, Method, OutOfMemory};
+use amqp_value::{ShortStr, Table};
+use std::alloc::Global;
+
+/// Creates a queue if it doesn't exist yet. `queue.declare`, class 50, method 10.
+#[derive(Debug, Drop, PartialEq, Eq)]
+pub struct Declare {
+    /// The name of the queue; empty for a name that the server makes up.
+    pub queue: ShortStr,
+    /// Only asks whether the queue exists.
+    pub passive: bool,
+    /// The queue outlives a restart of the server.
+    pub durable: bool,
+    /// The queue serves this connection alone, and ends with it.
+    pub exclusive: bool,
+    /// The queue is deleted with its last consumer.
+    pub auto_delete: bool,
+    /// The server sends no reply.
+    pub no_wait: bool,
+    pub arguments: Table,
+}
+
+impl Declare {
+    /// With no bit set and an empty table.
+    pub fn new(alloc: Global, queue: ShortStr) -> Declare
+        ensures { declare_call result ≡ call QueueDeclare
+            (short_string queue ∷ bit false ∷ bit false ∷ bit false ∷ bit false ∷ bit false
+            ∷ table no_pairs ∷ []) }
+    {
+        Declare {
+            queue,
+            passive: false,
+            durable: false,
+            exclusive: false,
+            auto_delete: false,
+            no_wait: false,
+            arguments: Table::new(alloc),
+        }
+    }
+
+    /// The method with these arguments.
+    pub fn into_method(self, alloc: Global) -> Result<Method, OutOfMemory>
+        ensures { IfOk result (λ m. method_view m ≡ declare_call self) }
+    {
+        method_of(
+            alloc,
+            Kind::QueueDeclare,
+            [
+                Arg::ShortStr(self.queue),
+                Arg::Bit(self.passive),
+                Arg::Bit(self.durable),
+                Arg::Bit(self.exclusive),
+                Arg::Bit(self.auto_delete),
+                Arg::Bit(self.no_wait),
+                Arg::Table(self.arguments),
+            ],
+        )
+    }
+
+    /// What the method says, or the method as it was if it is another.
+    pub fn from_method(method: Method) -> Result<Declare, Method>
+        ensures args { IfOk result (λ m. declare_call m ≡ method_view method) }
+        ensures when { IsOk result ↔ ((method_view method).kind ≡ QueueDeclare) }
+        ensures same { IfErr result (λ m. method_view m ≡ method_view method) }
+    {
+        let args = own_args(method, Kind::QueueDeclare)?;
+        let (queue, passive, durable, exclusive, auto_delete, no_wait, arguments) = seven(args);
+        Ok(Declare {
+            queue: short_str(queue),
+            passive: bit(passive),
+            durable: bit(durable),
+            exclusive: bit(exclusive),
+            auto_delete: bit(auto_delete),
+            no_wait: bit(no_wait),
+            arguments: table(arguments),
+        })
+    }
+}
+
+/// [`Declare`], lent by a method.
+#[derive(Clone, Copy, Debug)]
+pub struct DeclareRef<'a> {
+    pub queue: &'a ShortStr,
+    pub passive: bool,
+    pub durable: bool,
+    pub exclusive: bool,
+    pub auto_delete: bool,
+    pub no_wait: bool,
+    pub arguments: &'a Table,
+}
+
+impl<'a> DeclareRef<'a> {
+    /// What the method says, if it is this one.
+    pub fn from_method(method: &'a Method) -> Option<DeclareRef<'a>>
+        ensures args { IfSome result (λ m. declare_ref_call m ≡ method_view method.now) }
+        ensures when { IsSome result ↔ ((method_view method.now).kind ≡ QueueDeclare) }
+    {
+        if !is_kind(method, Kind::QueueDeclare) {
+            return None;
+        }
+        Some(DeclareRef {
+            queue: short_str_at(method, 0),
+            passive: bit_at(method, 1),
+            durable: bit_at(method, 2),
+            exclusive: bit_at(method, 3),
+            auto_delete: bit_at(method, 4),
+            no_wait: bit_at(method, 5),
+            arguments: table_at(method, 6),
+        })
+    }
+}
+
+/// Confirms that the queue exists, and says how much it holds. `queue.declare-ok`, class 50, method 11.
+#[derive(Debug, Drop, PartialEq, Eq)]
+pub struct DeclareOk {
+    pub queue: ShortStr,
+    /// How many messages await delivery.
+    pub message_count: u32,
+    pub consumer_count: u32,
+}
+
+impl DeclareOk {
+    /// With these arguments.
+    pub fn new(queue: ShortStr, message_count: u32, consumer_count: u32) -> DeclareOk
+        ensures { declare_ok_call result ≡ call QueueDeclareOk
+            (short_string queue ∷ long message_count ∷ long consumer_count ∷ []) }
+    {
+        DeclareOk {
+            queue,
+            message_count,
+            consumer_count,
+        }
+    }
+
+    /// The method with these arguments.
+    pub fn into_method(self, alloc: Global) -> Result<Method, OutOfMemory>
+        ensures { IfOk result (λ m. method_view m ≡ declare_ok_call self) }
+    {
+        method_of(
+            alloc,
+            Kind::QueueDeclareOk,
+            [
+                Arg::ShortStr(self.queue),
+                Arg::Long(self.message_count),
+                Arg::Long(self.consumer_count),
+            ],
+        )
+    }
+
+    /// What the method says, or the method as it was if it is another.
+    pub fn from_method(method: Method) -> Result<DeclareOk, Method>
+        ensures args { IfOk result (λ m. declare_ok_call m ≡ method_view method) }
+        ensures when { IsOk result ↔ ((method_view method).kind ≡ QueueDeclareOk) }
+        ensures same { IfErr result (λ m. method_view m ≡ method_view method) }
+    {
+        let args = own_args(method, Kind::QueueDeclareOk)?;
+        let (queue, message_count, consumer_count) = three(args);
+        Ok(DeclareOk {
+            queue: short_str(queue),
+            message_count: long(message_count),
+            consumer_count: long(consumer_count),
+        })
+    }
+}
+
+/// [`DeclareOk`], lent by a method.
+#[derive(Clone, Copy, Debug)]
+pub struct DeclareOkRef<'a> {
+    pub queue: &'a ShortStr,
+    pub message_count: u32,
+    pub consumer_count: u32,
+}
+
+impl<'a> DeclareOkRef<'a> {
+    /// What the method says, if it is this one.
+    pub fn from_method(method: &'a Method) -> Option<DeclareOkRef<'a>>
+        ensures args { IfSome result (λ m. declare_ok_ref_call m ≡ method_view method.now) }
+        ensures when { IsSome result ↔ ((method_view method.now).kind ≡ QueueDeclareOk) }
+    {
+        if !is_kind(method, Kind::QueueDeclareOk) {
+            return None;
+        }
+        Some(DeclareOkRef {
+            queue: short_str_at(method, 0),
+            message_count: long_at(method, 1),
+            consumer_count: long_at(method, 2),
+        })
+    }
+}
+
+/// Binds a queue to an exchange. `queue.bind`, class 50, method 20.
+#[derive(Debug, Drop, PartialEq, Eq)]
+pub struct Bind {
+    pub queue: ShortStr,
+    pub exchange: ShortStr,
+    pub routing_key: ShortStr,
+    /// The server sends no reply.
+    pub no_wait: bool,
+    pub arguments: Table,
+}
+
+impl Bind {
+    /// With no bit set and an empty table.
+    pub fn new(alloc: Global, queue: ShortStr, exchange: ShortStr, routing_key: ShortStr) -> Bind
+        ensures { bind_call result ≡ call QueueBind
+            (short_string queue ∷ short_string exchange ∷ short_string routing_key ∷ bit false
+            ∷ table no_pairs ∷ []) }
+    {
+        Bind {
+            queue,
+            exchange,
+            routing_key,
+            no_wait: false,
+            arguments: Table::new(alloc),
+        }
+    }
+
+    /// The method with these arguments.
+    pub fn into_method(self, alloc: Global) -> Result<Method, OutOfMemory>
+        ensures { IfOk result (λ m. method_view m ≡ bind_call self) }
+    {
+        method_of(
+            alloc,
+            Kind::QueueBind,
+            [
+                Arg::ShortStr(self.queue),
+                Arg::ShortStr(self.exchange),
+                Arg::ShortStr(self.routing_key),
+                Arg::Bit(self.no_wait),
+                Arg::Table(self.arguments),
+            ],
+        )
+    }
+
+    /// What the method says, or the method as it was if it is another.
+    pub fn from_method(method: Method) -> Result<Bind, Method>
+        ensures args { IfOk result (λ m. bind_call m ≡ method_view method) }
+        ensures when { IsOk result ↔ ((method_view method).kind ≡ QueueBind) }
+        ensures same { IfErr result (λ m. method_view m ≡ method_view method) }
+    {
+        let args = own_args(method, Kind::QueueBind)?;
+        let (queue, exchange, routing_key, no_wait, arguments) = five(args);
+        Ok(Bind {
+            queue: short_str(queue),
+            exchange: short_str(exchange),
+            routing_key: short_str(routing_key),
+            no_wait: bit(no_wait),
+            arguments: table(arguments),
+        })
+    }
+}
+
+/// [`Bind`], lent by a method.
+#[derive(Clone, Copy, Debug)]
+pub struct BindRef<'a> {
+    pub queue: &'a ShortStr,
+    pub exchange: &'a ShortStr,
+    pub routing_key: &'a ShortStr,
+    pub no_wait: bool,
+    pub arguments: &'a Table,
+}
+
+impl<'a> BindRef<'a> {
+    /// What the method says, if it is this one.
+    pub fn from_method(method: &'a Method) -> Option<BindRef<'a>>
+        ensures args { IfSome result (λ m. bind_ref_call m ≡ method_view method.now) }
+        ensures when { IsSome result ↔ ((method_view method.now).kind ≡ QueueBind) }
+    {
+        if !is_kind(method, Kind::QueueBind) {
+            return None;
+        }
+        Some(BindRef {
+            queue: short_str_at(method, 0),
+            exchange: short_str_at(method, 1),
+            routing_key: short_str_at(method, 2),
+            no_wait: bit_at(method, 3),
+            arguments: table_at(method, 4),
+        })
+    }
+}
+
+/// Confirms the binding. `queue.bind-ok`, class 50, method 21.
+#[derive(Clone, Copy, PartialEq, Eq, Debug)]
+pub struct BindOk;
+
+impl BindOk {
+    /// The method, which takes no memory.
+    pub fn into_method(self, alloc: Global) -> Result<Method, OutOfMemory>
+        ensures { IsOkAnd result (λ m. method_view m ≡ bind_ok_call self) }
+    {
+        Ok(bare_method(alloc, Kind::QueueBindOk))
+    }
+
+    /// What the method says, or the method as it was if it is another.
+    pub fn from_method(method: Method) -> Result<BindOk, Method>
+        ensures args { IfOk result (λ m. bind_ok_call m ≡ method_view method) }
+        ensures when { IsOk result ↔ ((method_view method).kind ≡ QueueBindOk) }
+        ensures same { IfErr result (λ m. method_view m ≡ method_view method) }
+    {
+        match BindOk::from_ref(&method) {
+            Some(bind_ok) => Ok(bind_ok),
+            None => Err(method),
+        }
+    }
+
+    /// What the method says, if it is this one.
+    pub fn from_ref(method: &Method) -> Option<BindOk>
+        ensures args { IfSome result (λ m. bind_ok_call m ≡ method_view method.now) }
+        ensures when { IsSome result ↔ ((method_view method.now).kind ≡ QueueBindOk) }
+    {
+        if is_kind(method, Kind::QueueBindOk) {
+            return Some(BindOk);
+        }
+        None
+    }
+}
+
+/// Unbinds a queue from an exchange. `queue.unbind`, class 50, method 50.
+#[derive(Debug, Drop, PartialEq, Eq)]
+pub struct Unbind {
+    pub queue: ShortStr,
+    pub exchange: ShortStr,
+    pub routing_key: ShortStr,
+    pub arguments: Table,
+}
+
+impl Unbind {
+    /// With an empty table.
+    pub fn new(alloc: Global, queue: ShortStr, exchange: ShortStr, routing_key: ShortStr) -> Unbind
+        ensures { unbind_call result ≡ call QueueUnbind
+            (short_string queue ∷ short_string exchange ∷ short_string routing_key ∷ table no_pairs
+            ∷ []) }
+    {
+        Unbind {
+            queue,
+            exchange,
+            routing_key,
+            arguments: Table::new(alloc),
+        }
+    }
+
+    /// The method with these arguments.
+    pub fn into_method(self, alloc: Global) -> Result<Method, OutOfMemory>
+        ensures { IfOk result (λ m. method_view m ≡ unbind_call self) }
+    {
+        method_of(
+            alloc,
+            Kind::QueueUnbind,
+            [
+                Arg::ShortStr(self.queue),
+                Arg::ShortStr(self.exchange),
+                Arg::ShortStr(self.routing_key),
+                Arg::Table(self.arguments),
+            ],
+        )
+    }
+
+    /// What the method says, or the method as it was if it is another.
+    pub fn from_method(method: Method) -> Result<Unbind, Method>
+        ensures args { IfOk result (λ m. unbind_call m ≡ method_view method) }
+        ensures when { IsOk result ↔ ((method_view method).kind ≡ QueueUnbind) }
+        ensures same { IfErr result (λ m. method_view m ≡ method_view method) }
+    {
+        let args = own_args(method, Kind::QueueUnbind)?;
+        let (queue, exchange, routing_key, arguments) = four(args);
+        Ok(Unbind {
+            queue: short_str(queue),
+            exchange: short_str(exchange),
+            routing_key: short_str(routing_key),
+            arguments: table(arguments),
+        })
+    }
+}
+
+/// [`Unbind`], lent by a method.
+#[derive(Clone, Copy, Debug)]
+pub struct UnbindRef<'a> {
+    pub queue: &'a ShortStr,
+    pub exchange: &'a ShortStr,
+    pub routing_key: &'a ShortStr,
+    pub arguments: &'a Table,
+}
+
+impl<'a> UnbindRef<'a> {
+    /// What the method says, if it is this one.
+    pub fn from_method(method: &'a Method) -> Option<UnbindRef<'a>>
+        ensures args { IfSome result (λ m. unbind_ref_call m ≡ method_view method.now) }
+        ensures when { IsSome result ↔ ((method_view method.now).kind ≡ QueueUnbind) }
+    {
+        if !is_kind(method, Kind::QueueUnbind) {
+            return None;
+        }
+        Some(UnbindRef {
+            queue: short_str_at(method, 0),
+            exchange: short_str_at(method, 1),
+            routing_key: short_str_at(method, 2),
+            arguments: table_at(method, 3),
+        })
+    }
+}
+
+/// Confirms that the binding is gone. `queue.unbind-ok`, class 50, method 51.
+#[derive(Clone, Copy, PartialEq, Eq, Debug)]
+pub struct UnbindOk;
+
+impl UnbindOk {
+    /// The method, which takes no memory.
+    pub fn into_method(self, alloc: Global) -> Result<Method, OutOfMemory>
+        ensures { IsOkAnd result (λ m. method_view m ≡ unbind_ok_call self) }
+    {
+        Ok(bare_method(alloc, Kind::QueueUnbindOk))
+    }
+
+    /// What the method says, or the method as it was if it is another.
+    pub fn from_method(method: Method) -> Result<UnbindOk, Method>
+        ensures args { IfOk result (λ m. unbind_ok_call m ≡ method_view method) }
+        ensures when { IsOk result ↔ ((method_view method).kind ≡ QueueUnbindOk) }
+        ensures same { IfErr result (λ m. method_view m ≡ method_view method) }
+    {
+        match UnbindOk::from_ref(&method) {
+            Some(unbind_ok) => Ok(unbind_ok),
+            None => Err(method),
+        }
+    }
+
+    /// What the method says, if it is this one.
+    pub fn from_ref(method: &Method) -> Option<UnbindOk>
+        ensures args { IfSome result (λ m. unbind_ok_call m ≡ method_view method.now) }
+        ensures when { IsSome result ↔ ((method_view method.now).kind ≡ QueueUnbindOk) }
+    {
+        if is_kind(method, Kind::QueueUnbindOk) {
+            return Some(UnbindOk);
+        }
+        None
+    }
+}
+
+/// Removes the messages of a queue that await no acknowledgement. `queue.purge`, class 50, method 30.
+#[derive(Debug, Drop, PartialEq, Eq)]
+pub struct Purge {
+    pub queue: ShortStr,
+    /// The server sends no reply.
+    pub no_wait: bool,
+}
+
+impl Purge {
+    /// With no bit set.
+    pub fn new(queue: ShortStr) -> Purge
+        ensures { purge_call result ≡ call QueuePurge (short_string queue ∷ bit false ∷ []) }
+    {
+        Purge {
+            queue,
+            no_wait: false,
+        }
+    }
+
+    /// The method with these arguments.
+    pub fn into_method(self, alloc: Global) -> Result<Method, OutOfMemory>
+        ensures { IfOk result (λ m. method_view m ≡ purge_call self) }
+    {
+        method_of(
+            alloc,
+            Kind::QueuePurge,
+            [Arg::ShortStr(self.queue), Arg::Bit(self.no_wait)],
+        )
+    }
+
+    /// What the method says, or the method as it was if it is another.
+    pub fn from_method(method: Method) -> Result<Purge, Method>
+        ensures args { IfOk result (λ m. purge_call m ≡ method_view method) }
+        ensures when { IsOk result ↔ ((method_view method).kind ≡ QueuePurge) }
+        ensures same { IfErr result (λ m. method_view m ≡ method_view method) }
+    {
+        let args = own_args(method, Kind::QueuePurge)?;
+        let (queue, no_wait) = two(args);
+        Ok(Purge {
+            queue: short_str(queue),
+            no_wait: bit(no_wait),
+        })
+    }
+}
+
+/// [`Purge`], lent by a method.
+#[derive(Clone, Copy, Debug)]
+pub struct PurgeRef<'a> {
+    pub queue: &'a ShortStr,
+    pub no_wait: bool,
+}
+
+impl<'a> PurgeRef<'a> {
+    /// What the method says, if it is this one.
+    pub fn from_method(method: &'a Method) -> Option<PurgeRef<'a>>
+        ensures args { IfSome result (λ m. purge_ref_call m ≡ method_view method.now) }
+        ensures when { IsSome result ↔ ((method_view method.now).kind ≡ QueuePurge) }
+    {
+        if !is_kind(method, Kind::QueuePurge) {
+            return None;
+        }
+        Some(PurgeRef {
+            queue: short_str_at(method, 0),
+            no_wait: bit_at(method, 1),
+        })
+    }
+}
+
+/// Says how many messages were removed. `queue.purge-ok`, class 50, method 31.
+#[derive(Clone, Copy, PartialEq, Eq, Debug)]
+pub struct PurgeOk {
+    pub message_count: u32,
+}
+
+impl PurgeOk {
+    /// With these arguments.
+    pub fn new(message_count: u32) -> PurgeOk
+        ensures { purge_ok_call result ≡ call QueuePurgeOk (long message_count ∷ []) }
+    {
+        PurgeOk { message_count }
+    }
+
+    /// The method with these arguments.
+    pub fn into_method(self, alloc: Global) -> Result<Method, OutOfMemory>
+        ensures { IfOk result (λ m. method_view m ≡ purge_ok_call self) }
+    {
+        method_of(alloc, Kind::QueuePurgeOk, [Arg::Long(self.message_count)])
+    }
+
+    /// What the method says, or the method as it was if it is another.
+    pub fn from_method(method: Method) -> Result<PurgeOk, Method>
+        ensures args { IfOk result (λ m. purge_ok_call m ≡ method_view method) }
+        ensures when { IsOk result ↔ ((method_view method).kind ≡ QueuePurgeOk) }
+        ensures same { IfErr result (λ m. method_view m ≡ method_view method) }
+    {
+        match PurgeOk::from_ref(&method) {
+            Some(purge_ok) => Ok(purge_ok),
+            None => Err(method),
+        }
+    }
+
+    /// What the method says, if it is this one.
+    pub fn from_ref(method: &Method) -> Option<PurgeOk>
+        ensures args { IfSome result (λ m. purge_ok_call m ≡ method_view method.now) }
+        ensures when { IsSome result ↔ ((method_view method.now).kind ≡ QueuePurgeOk) }
+    {
+        if !is_kind(method, Kind::QueuePurgeOk) {
+            return None;
+        }
+        Some(PurgeOk {
+            message_count: long_at(method, 0),
+        })
+    }
+}
+
+/// Deletes a queue. `queue.delete`, class 50, method 40.
+#[derive(Debug, Drop, PartialEq, Eq)]
+pub struct Delete {
+    pub queue: ShortStr,
+    /// Only if the queue has no consumers.
+    pub if_unused: bool,
+    /// Only if the queue has no messages.
+    pub if_empty: bool,
+    /// The server sends no reply.
+    pub no_wait: bool,
+}
+
+impl Delete {
+    /// With no bit set.
+    pub fn new(queue: ShortStr) -> Delete
+        ensures { delete_call result ≡ call QueueDelete
+            (short_string queue ∷ bit false ∷ bit false ∷ bit false ∷ []) }
+    {
+        Delete {
+            queue,
+            if_unused: false,
+            if_empty: false,
+            no_wait: false,
+        }
+    }
+
+    /// The method with these arguments.
+    pub fn into_method(self, alloc: Global) -> Result<Method, OutOfMemory>
+        ensures { IfOk result (λ m. method_view m ≡ delete_call self) }
+    {
+        method_of(
+            alloc,
+            Kind::QueueDelete,
+            [
+                Arg::ShortStr(self.queue),
+                Arg::Bit(self.if_unused),
+                Arg::Bit(self.if_empty),
+                Arg::Bit(self.no_wait),
+            ],
+        )
+    }
+
+    /// What the method says, or the method as it was if it is another.
+    pub fn from_method(method: Method) -> Result<Delete, Method>
+        ensures args { IfOk result (λ m. delete_call m ≡ method_view method) }
+        ensures when { IsOk result ↔ ((method_view method).kind ≡ QueueDelete) }
+        ensures same { IfErr result (λ m. method_view m ≡ method_view method) }
+    {
+        let args = own_args(method, Kind::QueueDelete)?;
+        let (queue, if_unused, if_empty, no_wait) = four(args);
+        Ok(Delete {
+            queue: short_str(queue),
+            if_unused: bit(if_unused),
+            if_empty: bit(if_empty),
+            no_wait: bit(no_wait),
+        })
+    }
+}
+
+/// [`Delete`], lent by a method.
+#[derive(Clone, Copy, Debug)]
+pub struct DeleteRef<'a> {
+    pub queue: &'a ShortStr,
+    pub if_unused: bool,
+    pub if_empty: bool,
+    pub no_wait: bool,
+}
+
+impl<'a> DeleteRef<'a> {
+    /// What the method says, if it is this one.
+    pub fn from_method(method: &'a Method) -> Option<DeleteRef<'a>>
+        ensures args { IfSome result (λ m. delete_ref_call m ≡ method_view method.now) }
+        ensures when { IsSome result ↔ ((method_view method.now).kind ≡ QueueDelete) }
+    {
+        if !is_kind(method, Kind::QueueDelete) {
+            return None;
+        }
+        Some(DeleteRef {
+            queue: short_str_at(method, 0),
+            if_unused: bit_at(method, 1),
+            if_empty: bit_at(method, 2),
+            no_wait: bit_at(method, 3),
+        })
+    }
+}
+
+/// Says how many messages were deleted with the queue. `queue.delete-ok`, class 50, method 41.
+#[derive(Clone, Copy, PartialEq, Eq, Debug)]
+pub struct DeleteOk {
+    pub message_count: u32,
+}
+
+impl DeleteOk {
+    /// With these arguments.
+    pub fn new(message_count: u32) -> DeleteOk
+        ensures { delete_ok_call result ≡ call QueueDeleteOk (long message_count ∷ []) }
+    {
+        DeleteOk { message_count }
+    }
+
+    /// The method with these arguments.
+    pub fn into_method(self, alloc: Global) -> Result<Method, OutOfMemory>
+        ensures { IfOk result (λ m. method_view m ≡ delete_ok_call self) }
+    {
+        method_of(alloc, Kind::QueueDeleteOk, [Arg::Long(self.message_count)])
+    }
+
+    /// What the method says, or the method as it was if it is another.
+    pub fn from_method(method: Method) -> Result<DeleteOk, Method>
+        ensures args { IfOk result (λ m. delete_ok_call m ≡ method_view method) }
+        ensures when { IsOk result ↔ ((method_view method).kind ≡ QueueDeleteOk) }
+        ensures same { IfErr result (λ m. method_view m ≡ method_view method) }
+    {
+        match DeleteOk::from_ref(&method) {
+            Some(delete_ok) => Ok(delete_ok),
+            None => Err(method),
+        }
+    }
+
+    /// What the method says, if it is this one.
+    pub fn from_ref(method: &Method) -> Option<DeleteOk>
+        ensures args { IfSome result (λ m. delete_ok_call m ≡ method_view method.now) }
+        ensures when { IsSome result ↔ ((method_view method.now).kind ≡ QueueDeleteOk) }
+    {
+        if !is_kind(method, Kind::QueueDeleteOk) {
+            return None;
+        }
+        Some(DeleteOk {
+            message_count: long_at(method, 0),
+        })
+    }
+}

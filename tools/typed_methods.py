@@ -1,0 +1,723 @@
+#!/usr/bin/env python3
+"""Writes the files of the crate amqp_typed that restate the table of methods in docs/PROTOCOL.md: a struct for each method, its
+borrowed form, the enum of all, and the definitions of their calls.
+
+    tools/typed_methods.py            writes the files
+    tools/typed_methods.py --check    writes nothing, names each file that would change, and answers 1 if there is one
+
+What the table doesn't have stands below: a sentence on each method, what a field holds where its name doesn't say it, and which
+fields have a default.
+"""
+import pathlib
+import re
+import sys
+
+ROOT = pathlib.Path(__file__).resolve().parent.parent
+CRATE = ROOT / "crates" / "amqp_typed"
+CLASSES = ("connection", "channel", "exchange", "queue", "basic", "tx", "confirm")
+
+SUMMARIES = {
+    "connection.start": "Begins the negotiation: names the server, and the mechanisms and locales that it has.",
+    "connection.start-ok": "Picks a mechanism and a locale, and carries the first response of that mechanism.",
+    "connection.secure": "Challenges the client, as a mechanism in several steps wants it.",
+    "connection.secure-ok": "Answers a challenge.",
+    "connection.tune": "Proposes the limits of the connection.",
+    "connection.tune-ok": "Settles the limits of the connection.",
+    "connection.open": "Opens the connection to a virtual host.",
+    "connection.open-ok": "Says that the connection is open.",
+    "connection.close": "Closes the connection, and says why.",
+    "connection.close-ok": "Confirms that the connection is closed.",
+    "connection.blocked": "Says that the server takes no more messages for now.",
+    "connection.unblocked": "Says that the server takes messages again.",
+    "channel.open": "Opens the channel.",
+    "channel.open-ok": "Says that the channel is open.",
+    "channel.flow": "Asks the peer to stop or to resume sending contents.",
+    "channel.flow-ok": "Confirms a flow.",
+    "channel.close": "Closes the channel, and says why.",
+    "channel.close-ok": "Confirms that the channel is closed.",
+    "exchange.declare": "Creates an exchange if it doesn't exist yet.",
+    "exchange.declare-ok": "Confirms that the exchange exists.",
+    "exchange.delete": "Deletes an exchange.",
+    "exchange.delete-ok": "Confirms that the exchange is deleted.",
+    "exchange.bind": "Binds an exchange to an exchange.",
+    "exchange.bind-ok": "Confirms the binding.",
+    "exchange.unbind": "Unbinds an exchange from an exchange.",
+    "exchange.unbind-ok": "Confirms that the binding is gone.",
+    "queue.declare": "Creates a queue if it doesn't exist yet.",
+    "queue.declare-ok": "Confirms that the queue exists, and says how much it holds.",
+    "queue.bind": "Binds a queue to an exchange.",
+    "queue.bind-ok": "Confirms the binding.",
+    "queue.unbind": "Unbinds a queue from an exchange.",
+    "queue.unbind-ok": "Confirms that the binding is gone.",
+    "queue.purge": "Removes the messages of a queue that await no acknowledgement.",
+    "queue.purge-ok": "Says how many messages were removed.",
+    "queue.delete": "Deletes a queue.",
+    "queue.delete-ok": "Says how many messages were deleted with the queue.",
+    "basic.qos": "Limits what the server sends ahead of acknowledgements.",
+    "basic.qos-ok": "Confirms the limits.",
+    "basic.consume": "Starts a consumer of a queue.",
+    "basic.consume-ok": "Gives the tag of the consumer that was started.",
+    "basic.cancel": "Ends a consumer.",
+    "basic.cancel-ok": "Confirms that the consumer has ended.",
+    "basic.publish": "Publishes a message to an exchange.",
+    "basic.return": "Returns a message that could not be routed or delivered.",
+    "basic.deliver": "Delivers a message to a consumer.",
+    "basic.get": "Asks for one message of a queue.",
+    "basic.get-ok": "Delivers the message that was asked for.",
+    "basic.get-empty": "Says that the queue has no message.",
+    "basic.ack": "Acknowledges one message or several.",
+    "basic.reject": "Rejects a message.",
+    "basic.recover-async": "Asks for all unacknowledged messages again, without a reply.",
+    "basic.recover": "Asks for all unacknowledged messages again.",
+    "basic.recover-ok": "Confirms that the messages come again.",
+    "basic.nack": "Rejects one message or several, or says that published ones were not taken.",
+    "tx.select": "Puts the channel into transactions.",
+    "tx.select-ok": "Confirms that the channel uses transactions.",
+    "tx.commit": "Commits the transaction, and begins the next.",
+    "tx.commit-ok": "Confirms the commit.",
+    "tx.rollback": "Rolls the transaction back, and begins the next.",
+    "tx.rollback-ok": "Confirms the rollback.",
+    "confirm.select": "Asks the server to confirm what is published on the channel.",
+    "confirm.select-ok": "Confirms that the channel uses confirms.",
+}
+
+# what a field holds, by method and field, or by field alone
+FIELD_DOCS = {
+    "mechanisms": "The names of the mechanisms, with spaces between.",
+    "locales": "The names of the locales, with spaces between.",
+    "connection.start-ok.response": "In the format of the mechanism.",
+    "connection.secure.challenge": "In the format of the mechanism.",
+    "connection.secure-ok.response": "In the format of the mechanism.",
+    "channel-max": "The greatest channel number; 0 sets no limit.",
+    "frame-max": "The greatest frame, in octets with its eight of overhead; 0 sets no limit.",
+    "heartbeat": "The seconds between heartbeats; 0 wants none.",
+    "connection.close.class-id": "The class of the method that is at fault, or 0.",
+    "connection.close.method-id": "The method that is at fault, or 0.",
+    "channel.close.class-id": "The class of the method that is at fault, or 0.",
+    "channel.close.method-id": "The method that is at fault, or 0.",
+    "channel.flow.active": "Whether contents may be sent.",
+    "channel.flow-ok.active": "Whether contents will be sent.",
+    "no-wait": "The server sends no reply.",
+    "exchange.declare.exchange": "The name of the exchange.",
+    "exchange.declare.type": "The type of the exchange, such as `direct`, `fanout`, `topic` or `headers`: the field `type`.",
+    "exchange.declare.passive": "Only asks whether the exchange exists.",
+    "exchange.declare.durable": "The exchange outlives a restart of the server.",
+    "exchange.declare.auto-delete": "The exchange is deleted with its last binding.",
+    "exchange.declare.internal": "Nobody may publish to the exchange: it serves bindings only.",
+    "exchange.delete.if-unused": "Only if nothing is bound to the exchange.",
+    "exchange.bind.destination": "The exchange that gets the messages.",
+    "exchange.bind.source": "The exchange that passes them on.",
+    "exchange.unbind.destination": "The exchange that got the messages.",
+    "exchange.unbind.source": "The exchange that passed them on.",
+    "queue.declare.queue": "The name of the queue; empty for a name that the server makes up.",
+    "queue.declare.passive": "Only asks whether the queue exists.",
+    "queue.declare.durable": "The queue outlives a restart of the server.",
+    "queue.declare.exclusive": "The queue serves this connection alone, and ends with it.",
+    "queue.declare.auto-delete": "The queue is deleted with its last consumer.",
+    "queue.declare-ok.message-count": "How many messages await delivery.",
+    "queue.delete.if-unused": "Only if the queue has no consumers.",
+    "queue.delete.if-empty": "Only if the queue has no messages.",
+    "basic.qos.prefetch-size": "In octets; 0 sets no limit.",
+    "basic.qos.prefetch-count": "In messages; 0 sets no limit.",
+    "basic.qos.global": "The limits are those of the whole channel.",
+    "basic.consume.consumer-tag": "A name of the consumer on its channel; empty for one that the server makes up.",
+    "basic.consume.no-local": "No messages that this connection published.",
+    "no-ack": "Messages count as acknowledged as they are sent.",
+    "basic.consume.exclusive": "No other consumer may use the queue.",
+    "basic.publish.exchange": "The name of the exchange; empty for the default one, which routes to queues by their names.",
+    "basic.publish.mandatory": "The message is returned if it can't be routed to a queue.",
+    "basic.publish.immediate": "The message is returned if no consumer can take it at once.",
+    "basic.get-ok.message-count": "How many messages are left in the queue.",
+    "delivery-tag": "The number of the delivery on its channel.",
+    "redelivered": "The message was sent before.",
+    "basic.ack.multiple": "All messages up to this one, too.",
+    "basic.nack.multiple": "All messages up to this one, too.",
+    "basic.recover.requeue": "To any consumer, and not to the one that had the message.",
+    "basic.recover-async.requeue": "To any consumer, and not to the one that had the message.",
+    "requeue": "The message goes back to its queue.",
+}
+
+# the fields that `new` doesn't take, besides bits and tables: what they begin as
+DEFAULTS = {"version-major": 0, "version-minor": 9, "class-id": 0, "method-id": 0, "prefetch-size": 0}
+# the bits that it takes
+GIVEN = {"active"}
+
+# by kind of field: the variant, the type that is kept, the type that is lent, the helper, and the argument
+KINDS = {
+    "bit": ("Bit", "bool", "bool", "bit", "bit"),
+    "octet": ("Octet", "u8", "u8", "octet", "octet"),
+    "short": ("Short", "u16", "u16", "short", "short"),
+    "long": ("Long", "u32", "u32", "long", "long"),
+    "long-long": ("LongLong", "u64", "u64", "long_long", "long_long"),
+    "short-string": ("ShortStr", "ShortStr", "&'a ShortStr", "short_str", "short_string"),
+    "long-string": ("LongStr", "Vec<u8>", "&'a [u8]", "long_str", "long_string"),
+    "table": ("Table", "Table", "&'a Table", "table", "table"),
+}
+# the functions that take an array of so many arguments apart
+COUNTS = {1: "one", 2: "two", 3: "three", 4: "four", 5: "five", 7: "seven", 8: "eight"}
+PLAIN = {"bit", "octet", "short", "long", "long-long"}
+
+HEAD = """// Written by `tools/typed_methods.py` from the table of methods in `docs/PROTOCOL.md`: change those and run it again.
+"""
+
+
+def camel(words):
+    return "".join(word.capitalize() for word in re.split(r"[-.]", words))
+
+
+def snake(words):
+    return words.replace("-", "_")
+
+
+class Field:
+    def __init__(self, method, kind, name):
+        self.method = method
+        self.kind = kind
+        self.label = name
+        self.name = "type_name" if name == "type" else snake(name)
+        self.variant, self.owned, self.lent, self.helper, self.argument = KINDS[kind]
+
+    def is_plain(self):
+        return self.kind in PLAIN
+
+    def is_given(self):
+        return self.label in GIVEN or not (self.kind in ("bit", "table") or self.label in DEFAULTS)
+
+    def doc(self):
+        return FIELD_DOCS.get(f"{self.method}.{self.label}") or FIELD_DOCS.get(self.label)
+
+    def default(self):
+        """What the field begins as: in code, and as the argument."""
+        if self.kind == "bit":
+            return "false", "bit false"
+        if self.kind == "table":
+            return "Table::new(alloc)", "table no_pairs"
+        return str(DEFAULTS[self.label]), f"{self.argument} {DEFAULTS[self.label]}"
+
+    def term(self, value, lent=False):
+        """The argument that a value of the field stands for."""
+        if self.kind == "table":
+            return f"table (table_view {value}{'.now' if lent else ''})"
+        if self.kind == "long-string":
+            return f"long_string {value}{'.now' if lent else '.items'}"
+        if self.kind == "short-string" and lent:
+            return f"short_string {value}.now"
+        return f"{self.argument} {value}"
+
+
+class Method:
+    def __init__(self, cells):
+        self.class_id, self.id, self.label, self.sender, content, self.answers, self.reply, fields = cells
+        self.class_name, rest = self.label.split(".")
+        self.name = camel(rest)
+        self.snake = snake(rest)
+        self.kind = camel(self.label)
+        self.content = content == "yes"
+        self.fields = []
+        for field in filter(None, (field.strip() for field in fields.split(";"))):
+            words = field.split(" ")
+            if words[0] != "reserved":
+                self.fields.append(Field(self.label, *words))
+
+    def is_plain(self):
+        return all(field.is_plain() for field in self.fields)
+
+    def sentence(self):
+        return f"/// {SUMMARIES[self.label]} `{self.label}`, class {self.class_id}, method {self.id}."
+
+
+def methods():
+    text = (ROOT / "docs" / "PROTOCOL.md").read_text()
+    head = "| Class | Id | Method | Sent by | Content | Answers | Wants a reply | Fields |\n"
+    lines = text.split(head)[1].split("\n\n")[0].split("\n")[1:]
+    return [Method([cell.strip() for cell in line.strip()[1:-1].split("|")]) for line in lines]
+
+
+def wrapped(start, words, end, indent, width=100):
+    """Words on lines, the first after `start`, the later ones after `indent`."""
+    lines, line = [], start
+    for place, word in enumerate(words):
+        word = word + (end if place + 1 == len(words) else "")
+        if len(line) + len(word) > width and line.strip() and line != indent:
+            lines.append(line.rstrip())
+            line = indent
+        line += word + " "
+    lines.append(line.rstrip())
+    return lines
+
+
+def list_words(terms):
+    """The words of a list of arguments, `∷` at the start of all but the first."""
+    words = [("∷ " if place else "") + term for place, term in enumerate(terms)]
+    return words + ["∷ []"]
+
+
+# ---- code
+
+
+def signature(indent, head, params, result):
+    line = f"{indent}{head}({', '.join(params)}) -> {result}"
+    if len(line) <= 100:
+        return [line]
+    return [f"{indent}{head}("] + [f"{indent}    {param}," for param in params] + [f"{indent}) -> {result}"]
+
+
+def clause(label, text, indent="        "):
+    return f"{indent}ensures {label + ' ' if label else ''}{{ {text} }}"
+
+
+def call_clause(method, terms):
+    """That the call of the result has these arguments."""
+    start = f"        ensures {{ {method.snake}_call result ≡ call {method.kind} "
+    one = start + ("(" + " ".join(list_words(terms)) + ")" if terms else "[]") + " }"
+    if len(one) <= 100 or not terms:
+        return [one]
+    words = list_words(terms)
+    words[0] = "(" + words[0]
+    lines = wrapped("            ", words, ") }", "            ")
+    return [start.rstrip()] + lines
+
+
+def struct_of(method):
+    lines = [method.sentence()]
+    if method.is_plain():
+        lines.append("#[derive(Clone, Copy, PartialEq, Eq, Debug)]")
+    else:
+        lines.append("#[derive(Debug, Drop, PartialEq, Eq)]")
+    if not method.fields:
+        return lines + [f"pub struct {method.name};", ""]
+    lines.append(f"pub struct {method.name} {{")
+    for field in method.fields:
+        if field.doc():
+            lines.append(f"    /// {field.doc()}")
+        lines.append(f"    pub {field.name}: {field.owned},")
+    return lines + ["}", ""]
+
+
+def new_of(method):
+    if not method.fields:
+        return []
+    given = [field for field in method.fields if field.is_given()]
+    defaults = [field for field in method.fields if not field.is_given()]
+    params = ["alloc: Global"] if any(field.kind == "table" for field in method.fields) else []
+    params += [f"{field.name}: {field.owned}" for field in given]
+    lines = [f"    /// {new_doc(defaults)}"]
+    lines += signature("    ", "pub fn new", params, method.name)
+    lines += call_clause(method, [field.term(field.name) if field.is_given() else field.default()[1] for field in method.fields])
+    lines.append("    {")
+    body = [field.name if field.is_given() else f"{field.name}: {field.default()[0]}" for field in method.fields]
+    lines += literal("        ", method.name, body, "")
+    return lines + ["    }", ""]
+
+
+def new_doc(defaults):
+    parts = []
+    if any(field.kind == "bit" for field in defaults):
+        parts.append("no bit set")
+    if any(field.kind == "table" for field in defaults):
+        parts.append("an empty table")
+    for field in defaults:
+        if field.label in DEFAULTS:
+            parts.append(f"`{field.name}` {DEFAULTS[field.label]}")
+    if not parts:
+        return "With these arguments."
+    text = parts[0] if len(parts) == 1 else ", ".join(parts[:-1]) + " and " + parts[-1]
+    return f"With {text}."
+
+
+def literal(indent, name, fields, end, head=""):
+    """A struct literal."""
+    one = f"{name} {{ {', '.join(fields)} }}"
+    if len(", ".join(fields)) <= 18:
+        return [f"{indent}{head}{one}{end}"]
+    return [f"{indent}{head}{name} {{"] + [f"{indent}    {field}," for field in fields] + [f"{indent}}}{end}"]
+
+
+def into_method_of(method):
+    lines = ["    /// The method with these arguments." if method.fields else "    /// The method, which takes no memory."]
+    lines.append("    pub fn into_method(self, alloc: Global) -> Result<Method, OutOfMemory>")
+    fact = f"IfOk result (λ m. method_view m ≡ {method.snake}_call self)"
+    lines.append(clause("", fact if method.fields else fact.replace("IfOk", "IsOkAnd")))
+    lines.append("    {")
+    if not method.fields:
+        return lines + [f"        Ok(bare_method(alloc, Kind::{method.kind}))", "    }", ""]
+    args = [f"Arg::{field.variant}(self.{field.name})" for field in method.fields]
+    lines += call_lines("        ", method.kind, args)
+    return lines + ["    }", ""]
+
+
+def call_lines(indent, kind, args):
+    array = "[" + ", ".join(args) + "]"
+    if len(array) <= 62:
+        one = f"alloc, Kind::{kind}, {array}"
+        if len(one) <= 60:
+            return [f"{indent}method_of({one})"]
+        if len(args) == 1:
+            return [f"{indent}method_of(", f"{indent}    alloc,", f"{indent}    Kind::{kind},", f"{indent}    {array},", f"{indent})"]
+        return [f"{indent}method_of(", f"{indent}    alloc,", f"{indent}    Kind::{kind},", f"{indent}    {array},", f"{indent})"]
+    lines = [f"{indent}method_of(", f"{indent}    alloc,", f"{indent}    Kind::{kind},", f"{indent}    ["]
+    lines += [f"{indent}        {arg}," for arg in args]
+    return lines + [f"{indent}    ],", f"{indent})"]
+
+
+def read_clauses(method, name):
+    """What reading a method gives: of an owned one a `Result`, and of a lent one an `Option`."""
+    return [
+        clause("args", f"IfOk result (λ m. {name}_call m ≡ method_view method)"),
+        clause("when", f"IsOk result ↔ ((method_view method).kind ≡ {method.kind})"),
+        clause("same", "IfErr result (λ m. method_view m ≡ method_view method)"),
+    ]
+
+
+def lent_clauses(method, name):
+    return [
+        clause("args", f"IfSome result (λ m. {name}_call m ≡ method_view method.now)"),
+        clause("when", f"IsSome result ↔ ((method_view method.now).kind ≡ {method.kind})"),
+    ]
+
+
+def from_method_of(method):
+    lines = ["    /// What the method says, or the method as it was if it is another."]
+    lines.append(f"    pub fn from_method(method: Method) -> Result<{method.name}, Method>")
+    lines += read_clauses(method, method.snake)
+    lines.append("    {")
+    if method.is_plain():
+        lines += [
+            f"        match {method.name}::from_ref(&method) {{",
+            f"            Some({method.snake}) => Ok({method.snake}),",
+            "            None => Err(method),",
+            "        }",
+        ]
+        return lines + ["    }", ""]
+    names = [field.name for field in method.fields]
+    pattern = names[0] if len(names) == 1 else f"({', '.join(names)})"
+    lines.append(f"        let args = own_args(method, Kind::{method.kind})?;")
+    one = f"        let {pattern} = {COUNTS[len(names)]}(args);"
+    lines += [one] if len(one) <= 100 else [f"        let {pattern} =", f"            {COUNTS[len(names)]}(args);"]
+    body = [f"{field.name}: {field.helper}({field.name})" for field in method.fields]
+    lines += literal("        ", method.name, body, ")", "Ok(")
+    return lines + ["    }", ""]
+
+
+def from_ref_of(method):
+    """Of a struct without references: read from a lent method."""
+    lines = ["    /// What the method says, if it is this one."]
+    lines.append(f"    pub fn from_ref(method: &Method) -> Option<{method.name}>")
+    lines += lent_clauses(method, method.snake)
+    lines.append("    {")
+    if not method.fields:
+        lines += [
+            f"        if is_kind(method, Kind::{method.kind}) {{",
+            f"            return Some({method.name});",
+            "        }",
+            "        None",
+        ]
+        return lines + ["    }", ""]
+    return lines + lent_body(method, method.name) + ["    }", ""]
+
+
+def lent_body(method, name):
+    lines = [f"        if !is_kind(method, Kind::{method.kind}) {{", "            return None;", "        }"]
+    body = [f"{field.name}: {field.helper}_at(method, {place})" for place, field in enumerate(method.fields)]
+    return lines + literal("        ", name, body, ")", "Some(")
+
+
+def message_of(method):
+    if not method.content:
+        return []
+    fact = f"IfOk result (λ m. message_view m ≡ letter_with ({method.snake}_call self) (properties_view properties) body.items)"
+    return [
+        "    /// The message: the method with these arguments, and the content that follows it.",
+        "    pub fn message(",
+        "        self,",
+        "        alloc: Global,",
+        "        properties: Properties,",
+        "        body: Vec<u8>,",
+        "    ) -> Result<Message, OutOfMemory>",
+        clause("", fact),
+        "    {",
+        "        let method = self.into_method(alloc)?;",
+        "        Ok(Message::content(method, properties, body))",
+        "    }",
+        "",
+    ]
+
+
+def impl_of(method):
+    lines = [f"impl {method.name} {{"]
+    parts = new_of(method) + into_method_of(method) + message_of(method) + from_method_of(method)
+    if method.is_plain():
+        parts += from_ref_of(method)
+    return lines + parts[:-1] + ["}", ""]
+
+
+def ref_of(method):
+    if method.is_plain():
+        return []
+    lines = [f"/// [`{method.name}`], lent by a method."]
+    lines.append("#[derive(Clone, Copy, Debug)]")
+    lines.append(f"pub struct {method.name}Ref<'a> {{")
+    lines += [f"    pub {field.name}: {field.lent}," for field in method.fields]
+    lines += ["}", "", f"impl<'a> {method.name}Ref<'a> {{"]
+    lines.append("    /// What the method says, if it is this one.")
+    lines.append(f"    pub fn from_method(method: &'a Method) -> Option<{method.name}Ref<'a>>")
+    lines += lent_clauses(method, method.snake + "_ref")
+    lines.append("    {")
+    lines += lent_body(method, method.name + "Ref")
+    return lines + ["    }", "}", ""]
+
+
+def uses(text, names):
+    """Those of the names that the text has as words."""
+    return [name for name in names if re.search(rf"(?<![\w.:]){name}\b", text)]
+
+
+def class_file(name, all_methods):
+    of_class = [method for method in all_methods if method.class_name == name]
+    items = []
+    for method in of_class:
+        items += struct_of(method) + impl_of(method) + ref_of(method)
+    code = "\n".join(items[:-1])
+    clauses = "\n".join(line for line in items if "ensures" in line or line.startswith("            "))
+    prelude = ["◌≡◌", "◌↔◌"]
+    for word in ("IfOk", "IfErr", "IfSome", "IsOk", "IsOkAnd", "IsSome", "false"):
+        if word != "false" and re.search(rf"\b{word}\b", clauses):
+            prelude.append(word)
+    if "bit false" in clauses:
+        prelude.append("false")
+    if "∷" in clauses:
+        prelude += ["◌∷◌", "[]"]
+    lines = [f"//! The methods of the class {name} (`amqp0-9-1.xml`, class {of_class[0].class_id})."]
+    lines += HEAD.rstrip().split("\n")
+    lines.append(f"ghost use Rattle.std.specs.Prelude.{{{', '.join(prelude)}}};")
+    if "table_view" in clauses:
+        lines.append("ghost use Rattle.amqp_value.specs.Tables.{table_view};")
+    if "no_pairs" in clauses:
+        lines.append("ghost use Rattle.amqp_value.specs.Values.{no_pairs};")
+    arguments = [row[4] for row in KINDS.values() if re.search(rf"[(∷] ?{row[4]}\b", clauses)]
+    if arguments:
+        lines.append(f"ghost use Rattle.amqp_method.specs.Arguments.{{{', '.join(['call'] + arguments)}}};")
+    if "properties_view" in clauses:
+        lines.append("ghost use Rattle.amqp_method.specs.HeaderView.{properties_view};")
+        lines.append("ghost use Rattle.amqp_method.specs.MessageView.{message_view};")
+        lines.append("ghost use Rattle.amqp_method.specs.Messages.{letter_with};")
+    lines.append("ghost use Rattle.amqp_method.specs.MethodView.{method_view};")
+    kinds = ", ".join(method.kind for method in of_class)
+    lines.append(f"ghost use Rattle.amqp_method.specs.declared.kinds.Kind.TheVariants.{{{kinds}}};")
+    calls = [method.snake + "_call" for method in of_class]
+    calls += [method.snake + "_ref_call" for method in of_class if not method.is_plain()]
+    lines.append(f"ghost use Rattle.amqp_typed.specs.{camel(name)}.{{{', '.join(calls)}}};")
+    lines.append("")
+    helpers = sorted(word for word in [row[3] for row in KINDS.values()] + [row[3] + "_at" for row in KINDS.values()] + list(COUNTS.values()) + ["bare_method", "is_kind", "method_of", "own_args"] if re.search(rf"(?<![\w.:]){word}(\(|::<)", code))
+    lines += use_lines("crate::args", helpers)
+    types = [word for word in ("Arg", "Kind", "Message", "Method", "OutOfMemory", "Properties") if re.search(rf"\b{word}\b", code)]
+    lines += use_lines("amqp_method", types)
+    values = [word for word in ("ShortStr", "Table") if re.search(rf"(?<!Arg::)\b{word}\b", code)]
+    if values:
+        lines += use_lines("amqp_value", values)
+    lines.append("use std::alloc::Global;")
+    return "\n".join(lines) + "\n\n" + code + "\n"
+
+
+def use_lines(path, names):
+    if len(names) == 1:
+        return [f"use {path}::{names[0]};"]
+    one = f"use {path}::{{{', '.join(names)}}};"
+    if len(one) <= 100:
+        return [one]
+    return [f"use {path}::{{"] + wrapped("    ", [word + "," for word in names], "", "    ", 99) + ["};"]
+
+
+# ---- definitions
+
+
+def class_spec(name, all_methods):
+    of_class = [method for method in all_methods if method.class_name == name]
+    body = []
+    for method in of_class:
+        body += spec_of(method, method.name, method.snake + "_call", False)
+        if not method.is_plain():
+            body += spec_of(method, method.name + "Ref", method.snake + "_ref_call", True)
+    text = "\n".join(body)
+    lines = [f"-- What the structs of the class {name} stand for: each the call of its method, with the fields as arguments in the order of the table."]
+    lines += ["-- " + line[3:] for line in HEAD.rstrip().split("\n")]
+    if "∷" in text:
+        lines.append("use Rattle.std.specs.Prelude.{[], ◌∷◌}")
+    else:
+        lines.append("use Rattle.std.specs.Prelude.{[]}")
+    if "table_view" in text:
+        lines.append("use Rattle.amqp_value.specs.Tables.{table_view}")
+    arguments = [row[4] for row in KINDS.values() if re.search(rf"[(∷] ?{row[4]}\b", text)]
+    lines.append(f"use Rattle.amqp_method.specs.Arguments.{{{', '.join(['Call', 'call'] + arguments)}}}")
+    kinds = ", ".join(method.kind for method in of_class)
+    lines.append(f"use Rattle.amqp_method.specs.declared.kinds.Kind.TheVariants.{{{kinds}}}")
+    for method in of_class:
+        lines.append(f"use Rattle.amqp_typed.specs.declared.{name}.{method.name}.{{{method.name}}}")
+        if not method.is_plain():
+            lines.append(f"use Rattle.amqp_typed.specs.declared.{name}.{method.name}Ref.{{{method.name}Ref}}")
+    return "\n".join(lines) + "\n\n" + text.rstrip() + "\n"
+
+
+def spec_of(method, struct, call, lent):
+    lines = [f"abbrev pub {call} : {struct} → Call"]
+    if not method.fields:
+        return lines + [f"{call} m = call {method.kind} []", ""]
+    terms = [field.term(f"m.{field.name}", lent) for field in method.fields]
+    one = f"{call} m = call {method.kind} ({' '.join(list_words(terms))})"
+    if len(one) <= 100:
+        return lines + [one, ""]
+    words = list_words(terms)
+    words[0] = "(" + words[0]
+    return lines + [f"{call} m =", f"    call {method.kind}"] + wrapped("    ", words, ")", "    ") + [""]
+
+
+# ---- answers
+
+
+def steps(fields, suffix):
+    """The names of the calls of the helpers, in order, in a proof: those of one helper are counted from the second on."""
+    seen, names = {}, []
+    for field in fields:
+        helper = field.helper + suffix
+        seen[helper] = seen.get(helper, 0) + 1
+        names.append((helper, f"-{seen[helper]}" if seen[helper] > 1 else ""))
+    return names
+
+
+def lent_answer(method, struct, function):
+    """That what is read by place is all that the method says."""
+    place = f"Rattle.amqp_typed.proofs.{method.class_name}.{struct}.{function}.Goals"
+    facts = " ".join(f"c.{helper}{count}.ensures" for helper, count in steps(method.fields, "_at"))
+    return f"""use Rattle.std.proofs.Common.{{refl}}
+use Rattle.amqp_typed.proofs.Places.{{call_{len(method.fields)}}}
+use {place} as goal
+
+pub returns-clause-args : goal.returns-clause-args
+returns-clause-args c =
+    call_{len(method.fields)} _ _ (c.is_kind.ensures.0 c.if-not-is_kind.false) c.args.method.now.fit refl
+    {facts}
+"""
+
+
+def owned_answer(method):
+    """Of which kind each argument is, and that what is taken apart is all that the method says."""
+    count = len(method.fields)
+    taken = f"c.{COUNTS[count]}-{method.fields[0].name}.ensures"
+    names = steps(method.fields, "")
+    lines = []
+    if count == 1:
+        lines.append(f"use Rattle.amqp_typed.proofs.Places.{{kind_1, kinds_in, made_1}}")
+    else:
+        lines.append(f"use Rattle.amqp_typed.proofs.Places.{{kinds_{count}, kinds_in, made_{count}}}")
+    lines.append(f"use Rattle.amqp_method.specs.declared.kinds.Kind.TheVariants.{{{method.kind}}}")
+    lines.append(f"use Rattle.amqp_typed.proofs.{method.class_name}.{method.name}.from_method.Goals as goal")
+    kinds = f"kinds_in {method.kind} c.in_ok-args.args _ c.in_ok-args.ensures.fit {taken}"
+    for place, (helper, number) in enumerate(names):
+        goal = f"{helper}-requires{number}"
+        term = f"kind_1 ({kinds})" if count == 1 else f"(kinds_{count} ({kinds})).{place}"
+        lines += ["", f"pub {goal} : goal.{goal}", f"{goal} c = {term}"]
+    facts = " ".join(f"c.{helper}{number}.ensures" for helper, number in names)
+    lines += ["", "pub returns-clause-args : goal.returns-clause-args", "returns-clause-args c ="]
+    lines.append(f"    made_{count} _ {method.kind} c.in_ok-args.args c.in_ok-args.ensures.args {taken}")
+    lines.append(f"    {facts}")
+    return "\n".join(lines) + "\n"
+
+
+def answers(all_methods):
+    found = {}
+    for method in all_methods:
+        if not method.fields:
+            continue
+        folder = CRATE / "proofs" / method.class_name
+        if method.is_plain():
+            found[folder / method.name / "from_ref" / "Answers.antt"] = lent_answer(method, method.name, "from_ref")
+            continue
+        lent = method.name + "Ref"
+        found[folder / lent / "from_method" / "Answers.antt"] = lent_answer(method, lent, "from_method")
+        found[folder / method.name / "from_method" / "Answers.antt"] = owned_answer(method)
+    return found
+
+
+# ---- every method
+
+
+def any_file(all_methods):
+    lines = ["//! Every method, as one of the structs."]
+    lines += HEAD.rstrip().split("\n")
+    lines.append("ghost use Rattle.std.specs.Prelude.{◌≡◌, IfOk};")
+    lines.append("ghost use Rattle.amqp_method.specs.MethodView.{method_view};")
+    lines.append("ghost use Rattle.amqp_typed.specs.AnyMethod.{any_call};")
+    lines.append("")
+    lines.append(f"use crate::{{{', '.join(sorted(CLASSES))}}};")
+    lines += use_lines("amqp_method", ["Kind", "Method", "OutOfMemory"])
+    lines.append("use std::alloc::Global;")
+    lines.append("")
+    lines.append("/// A method of any kind. The variants have the names of [`Kind`]'s.")
+    lines.append("#[derive(Debug, Drop)]")
+    lines.append("pub enum AnyMethod {")
+    lines += [f"    {method.kind}({method.class_name}::{method.name})," for method in all_methods]
+    lines += ["}", "", "impl AnyMethod {"]
+    lines.append("    /// What a method says.")
+    lines.append("    pub fn from_method(method: Method) -> AnyMethod")
+    lines.append(clause("", "any_call result ≡ method_view method"))
+    lines += ["    {", "        match method.kind() {"]
+    for method in all_methods:
+        lines += arm(f"Kind::{method.kind}", f"AnyMethod::{method.kind}({method.class_name}::{method.name}::from_method(method).unwrap())")
+    lines += ["        }", "    }", ""]
+    lines.append("    /// The method with these arguments.")
+    lines.append("    pub fn into_method(self, alloc: Global) -> Result<Method, OutOfMemory>")
+    lines.append(clause("", "IfOk result (λ m. method_view m ≡ any_call self)"))
+    lines += ["    {", "        match self {"]
+    for method in all_methods:
+        lines += arm(f"AnyMethod::{method.kind}(method)", "method.into_method(alloc)")
+    lines += ["        }", "    }", "}"]
+    return "\n".join(lines) + "\n"
+
+
+def arm(pattern, value):
+    one = f"            {pattern} => {value},"
+    if len(one) <= 100:
+        return [one]
+    return [f"            {pattern} => {{", f"                {value}", "            }"]
+
+
+def any_spec(all_methods):
+    lines = ["-- What a method of any kind stands for."]
+    lines += ["-- " + line[3:] for line in HEAD.rstrip().split("\n")]
+    lines.append("use Rattle.amqp_method.specs.Arguments.{Call}")
+    lines.append("use Rattle.amqp_typed.specs.declared.any_method.AnyMethod.{AnyMethod}")
+    lines.append("use Rattle.amqp_typed.specs.declared.any_method.AnyMethod.TheVariants as any")
+    lines += [f"use Rattle.amqp_typed.specs.{camel(name)} as {name}" for name in CLASSES]
+    lines += ["", "abbrev pub any_call : AnyMethod → Call"]
+    lines += [f"any_call (any.{method.kind} m) = {method.class_name}.{method.snake}_call m" for method in all_methods]
+    return "\n".join(lines) + "\n"
+
+
+# ---- files
+
+
+def files():
+    all_methods = methods()
+    found = answers(all_methods)
+    for name in CLASSES:
+        found[CRATE / "src" / f"{name}.rt"] = class_file(name, all_methods)
+        found[CRATE / "specs" / f"{camel(name)}.antt"] = class_spec(name, all_methods)
+    found[CRATE / "src" / "any_method.rt"] = any_file(all_methods)
+    found[CRATE / "specs" / "AnyMethod.antt"] = any_spec(all_methods)
+    return found
+
+
+def main():
+    check = sys.argv[1:] == ["--check"]
+    differ = [path for path, text in files().items() if not path.exists() or path.read_text() != text]
+    for path in differ:
+        if check:
+            print(f"{path.relative_to(ROOT)} isn't what tools/typed_methods.py writes")
+        else:
+            path.parent.mkdir(parents=True, exist_ok=True)
+            path.write_text(files()[path])
+    return 1 if check and differ else 0
+
+
+if __name__ == "__main__":
+    sys.exit(main())
