@@ -1,5 +1,5 @@
 -- The arguments of a method by their place.
-use Rattle.std.proofs.Common.{◌≡◌, ℕ, zero, suc, List, [], ◌∷◌, map, Option, Some, None, refl, sym, ap, subst, ◌∙◌}
+use Rattle.std.proofs.Common.{◌≡◌, ℕ, zero, suc, List, [], ◌∷◌, map, Some, None, refl, sym, ap, ◌∙◌}
 use Rattle.amqp_method.specs.Arguments.{Argument, Call, call, Fits, kind_of, wanted}
 use Rattle.amqp_method.specs.Kinds.{fields_of}
 use Rattle.amqp_method.specs.Places.{argument_at}

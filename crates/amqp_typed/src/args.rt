@@ -1,5 +1,5 @@
 //! The arguments of a method, made and taken apart.
-ghost use Rattle.std.specs.Prelude.{◌≡◌, ◌↔◌, IfOk, IfErr, IfSome, IsOk, IsSome, IsTrue, length, ◌∷◌, [], Some};
+ghost use Rattle.std.specs.Prelude.{◌≡◌, ◌↔◌, IfOk, IfErr, IsOk, IsSome, IsTrue, length, ◌∷◌, [], Some};
 ghost use Rattle.amqp_method.specs.Arguments.{call, Fits, kind_of, wanted, bit as bit_argument, octet as octet_argument, short as short_argument, long as long_argument, long_long as long_long_argument, short_string, long_string};
 ghost use Rattle.amqp_method.specs.HeaderView.{table_argument};
 ghost use Rattle.amqp_method.specs.Kinds.{fields_of};

@@ -1,4 +1,4 @@
-use Rattle.std.proofs.Common.{rules, refl, sym, ◌∙◌, ap}
+use Rattle.std.proofs.Common.{rules, sym, ◌∙◌}
 use denote.Enum.Bare.{same_true, true_same}
 use Rattle.amqp_method.specs.contracts.kinds.Kind.{the_type}
 use Rattle.amqp_typed.proofs.args.is_kind.Goals as goal
