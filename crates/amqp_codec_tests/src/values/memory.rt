@@ -90,8 +90,7 @@ fn read_one_pair(alloc: Global) -> Result<&'static str, ValueFault> {
     Ok(if is_read { "one pair" } else { "another table" })
 }
 
-/// A table is read, or memory is refused: where each request is refused in turn, `beside/memory/refused_calls.py` looks at what is
-/// printed.
+/// A table is read, or memory is refused, and what came of it is printed.
 #[test]
 fn a_table_is_read_or_memory_is_refused(rt: HostRuntime) -> Result<(), Fail> {
     match read_one_pair(rt.alloc()) {
