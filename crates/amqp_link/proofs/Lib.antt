@@ -1,10 +1,12 @@
 pub mod Handing
 pub mod Joining
 pub mod LinkLemmas
+pub mod NeverBegun
 pub mod Promising
 pub mod RunLemmas
 pub mod SeatLemmas
 pub mod TallyAll
 pub mod TallyCounts
 pub mod TallyLemmas
+pub mod TallyLengths
 pub mod Ways

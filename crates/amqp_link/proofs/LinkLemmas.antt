@@ -4,13 +4,9 @@ use Rattle.std.proofs.lemmas.List.{map-append, map-set}
 use Rattle.std.proofs.lemmas.Option.{slice_get-map}
 use Rattle.amqp_model.specs.Negotiation.{Config}
 use Rattle.amqp_model.specs.Notes.{Role}
-use Rattle.amqp_core.specs.Faults.{config_fault_view}
-use Rattle.amqp_core.specs.declared.faults.ConfigFault.{ConfigFault}
-use Rattle.amqp_core.specs.declared.faults.ConfigFault.TheVariants as configs
-use Rattle.amqp_model.specs.Fitting.{config_fault}
 use Rattle.amqp_link.specs.ConnectionSteps.{IsNewConnection}
 use Rattle.amqp_link.specs.ConnectionView.{connection_view}
-use Rattle.amqp_link.specs.LinkSteps.{BeginsOne, DoneAt, IsFaultOf, done}
+use Rattle.amqp_link.specs.LinkSteps.{BeginsOne, DoneAt, done}
 use Rattle.amqp_link.specs.SeatSteps.{Answer}
 use Rattle.amqp_link.specs.Seats.{Joint}
 use Rattle.amqp_link.specs.declared.connection.Connection.{Connection}
@@ -33,9 +29,3 @@ begins-one client server old new connection items is = record {
   is_new = is;
   last = λ i. record { client = client; server = server; connections = (ap (map connection_view) items ∙ map-append connection_view old (connection ∷ [])) i };
 }
-
-pub fault-of : (set_up : (role : Role) × Config role) (fault : ConfigFault) → config_fault_view fault ≡ config_fault set_up.0 set_up.1 → IsFaultOf set_up fault
-fault-of set_up configs.FrameMax is = is
-fault-of set_up configs.ChannelMax is = is
-fault-of set_up configs.HelloTooLong is = is
-fault-of set_up configs.OutOfMemory is = tt {0}

@@ -1,31 +1,43 @@
 -- Joined ends keep what they promise.
-use Rattle.std.proofs.Common.{◌≡◌, false, ℕ, zero, suc, List, [], ◌++◌, map, Option, Some, None, option_map, slice_get, refl, sym, ap, ◌∙◌, subst}
-use Rattle.std.proofs.Math.Logic.{∥∥₁_map}
+use Rattle.std.proofs.Common.{◌≡◌, ◌⊎◌, inl, inr, false, ℕ, zero, suc, ◌<◌, ◌≤◌, List, [], ◌++◌, length, map, reverse, Option, Some, None, option_map, slice_get, refl, sym, ap, ◌∙◌, subst, arith}
+use Rattle.std.proofs.Math.Logic.{∥∥₁_elim, ∥∥₁_map}
+use Rattle.std.proofs.Props.{props}
+use Rattle.std.proofs.lemmas.Bool.{cases_lt}
+use Rattle.std.proofs.lemmas.List.{nil_from_length}
 use Rattle.std.proofs.lemmas.Option.{none-some, slice_get-map}
 use Rattle.amqp_model.specs.Agreement.{PairWrites}
+use Rattle.amqp_model.specs.Carried.{acted, sent}
 use Rattle.amqp_model.specs.CarryingLaws.{Carries}
 use Rattle.amqp_model.specs.Departures.{PutAs}
+use Rattle.amqp_model.specs.EndLaws.{notes_on}
+use Rattle.amqp_model.specs.Frame.{Frame}
 use Rattle.amqp_model.specs.Histories.{History}
 use Rattle.amqp_model.specs.Items.{Item}
 use Rattle.amqp_model.specs.Negotiation.{Config, frame_limit}
-use Rattle.amqp_model.specs.Notes.{Role, Client, Server, other_end}
+use Rattle.amqp_model.specs.Lives.{lives}
+use Rattle.amqp_model.specs.Notes.{Role, Client, Server, Note, other_end}
 use Rattle.amqp_model.specs.Octets.{frames_put, opening_written}
 use Rattle.amqp_model.specs.Pairs.{PairAt, config_of}
 use Rattle.amqp_model.specs.Prefixes.{IsPrefixOf}
-use Rattle.amqp_model.specs.Sent.{items_acted, items_of}
+use Rattle.amqp_model.specs.Sent.{items_acted, items_in, items_of, items_sent, life_on, payload_in, Telling}
+use Rattle.amqp_model.specs.SentLaws.{NoItemsBeforeFirstLife}
 use Rattle.amqp_link.specs.ConnectionView.{connection_view}
+use Rattle.amqp_link.specs.Encoded.{AreItemsOf}
 use Rattle.amqp_link.specs.Headline.{Headline, KeepsPromises}
-use Rattle.amqp_link.specs.Items.{said_at, told_at}
+use Rattle.amqp_link.specs.Items.{begun_at, said_at, told_at}
 use Rattle.amqp_link.specs.Joined.{AreJoined, IsJoinedTo, StandsAt}
 use Rattle.amqp_link.specs.LinkView.{link_view}
 use Rattle.amqp_link.specs.PromiseLaws.{EndPromiseLaws, Laws, PromiseLaws}
-use Rattle.amqp_link.specs.Promises.{KeepsOn, Promises, StaysWhole}
+use Rattle.amqp_link.specs.Promises.{KeepsOn, Promises, StaysWhole, acted_and_waiting}
 use Rattle.amqp_link.specs.SeatSteps.{to_write}
 use Rattle.amqp_link.specs.Seats.{Joint, Seated}
+use Rattle.amqp_link.specs.Tallies.{begun_on}
 use Rattle.amqp_link.specs.declared.connection.Connection.{Connection}
 use Rattle.amqp_link.specs.declared.link.Link.{Link}
 use Rattle.amqp_link.specs.declared.steps.Direction.{Direction}
 use Rattle.amqp_link.specs.declared.steps.Direction.TheVariants as directions
+use Rattle.amqp_link.proofs.NeverBegun.{nothing-sent, prefix-none, server-within}
+use Rattle.amqp_link.proofs.TallyLemmas.{begun-is-lives}
 
 -- a reader and a writer, with all that is known of them
 record Reading (role : Role) (client_config : Config Client) (server_config : Config Server) (reader writer : Seated) (mine theirs : History) : Type 0 where
@@ -38,6 +50,15 @@ record Reading (role : Role) (client_config : Config Client) (server_config : Co
   theirs_stands : StandsAt (other_end role) (config_of (other_end role) client_config server_config) writer theirs
   theirs_put : PutAs (opening_written (other_end role)) (writer.kept.written ++ to_write writer) (frames_put theirs)
   to_mine : reader.kept.fed ≡ writer.kept.written
+  mine_first : (n : ℕ) → NoItemsBeforeFirstLife role (suc n) mine
+  theirs_first : (n : ℕ) → NoItemsBeforeFirstLife (other_end role) (suc n) theirs
+
+-- the items that the machine takes from frames are those that they encode
+are-items : Laws → (frames : List Frame) (items : List Item) → items ≡ items_in frames → AreItemsOf frames items
+are-items laws frames items is = record {
+  encoded = (laws.encoded (reverse (map payload_in frames)) items).0 (sym is);
+  only = λ others encoded. sym ((laws.encoded (reverse (map payload_in frames)) others).1 encoded) ∙ sym is;
+}
 
 carries : (role : Role) (client_config : Config Client) (server_config : Config Server) (reader writer : Seated) (mine theirs : History) → (r : Reading role client_config server_config reader writer mine theirs) → reader.dropped ≡ false
     → Carries role (frame_limit reader.kept.endpoint.end.agreed) mine theirs (reader.kept.fed ++ to_write writer) reader.kept.fed reader.kept.endpoint.unfinished (to_write writer)
@@ -48,10 +69,13 @@ carries role client_config server_config reader writer mine theirs r there = rec
   put_is = refl;
 }
 
-keeps-on : (role : Role) (client_config : Config Client) (server_config : Config Server) (reader writer : Seated) (mine theirs : History) → Reading role client_config server_config reader writer mine theirs → (n : ℕ) → KeepsOn role reader writer mine theirs n
-keeps-on role client_config server_config reader writer mine theirs r n = record {
-  acted_is = λ life. ap (λ l. items_of (suc n) life l) r.mine_stands.trace.told ∙ r.mine_laws.told n mine r.mine_stands.lawful life;
-  sent_is = λ life. ap (λ l. items_of (suc n) life l) r.theirs_stands.trace.said ∙ r.theirs_laws.said n theirs life;
+keeps-on : (role : Role) (client_config : Config Client) (server_config : Config Server) (reader writer : Seated) (mine theirs : History) → Laws → Reading role client_config server_config reader writer mine theirs → (n : ℕ) → KeepsOn role reader writer mine theirs n
+keeps-on role client_config server_config reader writer mine theirs laws r n = record {
+  acted_is = acted_is;
+  sent_is = sent_is;
+  acted_encoded = λ life. are-items laws (acted role life (notes_on (suc n) mine)) (items_of (suc n) life reader.kept.told) (acted_is life);
+  sent_encoded = λ life. are-items laws (sent (other_end role) life (notes_on (suc n) theirs)) (items_of (suc n) life writer.kept.said) (sent_is life);
+  before_first = (acted_is 0 ∙ (r.mine_first n).1, sent_is 0 ∙ (r.theirs_first n).0);
   prefix = r.laws.prefix mine theirs n r.pair_at;
   lives = r.laws.lives mine theirs n r.pair;
   closed = r.laws.closed mine theirs n r.pair_at;
@@ -59,9 +83,21 @@ keeps-on role client_config server_config reader writer mine theirs r n = record
   on_its_way = λ there opened live.
       let flight = r.laws.frames (frame_limit reader.kept.endpoint.end.agreed) mine theirs (reader.kept.fed ++ to_write writer) reader.kept.fed reader.kept.endpoint.unfinished (to_write writer)
       (carries role client_config server_config reader writer mine theirs r there) opened in
-      record { flight = flight; sent = r.laws.items mine theirs reader.kept.endpoint.unfinished (to_write writer) n r.pair flight live };
+      let sent_now = r.laws.items mine theirs reader.kept.endpoint.unfinished (to_write writer) n r.pair flight live in
+      record {
+        flight = flight;
+        sent = sent_now;
+        sent_encoded = are-items laws (acted_and_waiting role mine n flight.waiting)
+            (items_of (suc n) (life_on role (suc n) mine) writer.kept.said) (sent_is (life_on role (suc n) mine) ∙ sent_now);
+      };
   paused = r.laws.pause mine theirs n r.pair;
 }
+  where
+    acted_is : (life : ℕ) → items_of (suc n) life reader.kept.told ≡ items_acted role (suc n) life mine
+    acted_is life = ap (λ l. items_of (suc n) life l) r.mine_stands.trace.told ∙ r.mine_laws.told n mine r.mine_stands.lawful life
+
+    sent_is : (life : ℕ) → items_of (suc n) life writer.kept.said ≡ items_sent (other_end role) (suc n) life theirs
+    sent_is life = ap (λ l. items_of (suc n) life l) r.theirs_stands.trace.said ∙ r.theirs_laws.said n theirs life
 
 stays-whole : (role : Role) (client_config : Config Client) (server_config : Config Server) (reader writer : Seated) (mine theirs : History) → Reading role client_config server_config reader writer mine theirs → StaysWhole reader writer
 stays-whole role client_config server_config reader writer mine theirs r = record {
@@ -76,8 +112,8 @@ keeps client_config server_config client server laws j = record {
   server_history = j.their_history;
   client_stands = j.mine_stands;
   server_stands = j.theirs_stands;
-  to_client = keeps-on Client client_config server_config client server j.my_history j.their_history to_client;
-  to_server = keeps-on Server client_config server_config server client j.their_history j.my_history to_server;
+  to_client = keeps-on Client client_config server_config client server j.my_history j.their_history laws to_client;
+  to_server = keeps-on Server client_config server_config server client j.their_history j.my_history laws to_server;
   client_whole = stays-whole Client client_config server_config client server j.my_history j.their_history to_client;
   server_whole = stays-whole Server client_config server_config server client j.their_history j.my_history to_server;
   in_turn = λ n life. laws.in_turn client_config server_config j.my_history j.their_history n life (to_client.pair_at);
@@ -90,17 +126,31 @@ keeps client_config server_config client server laws j = record {
     server_laws : EndPromiseLaws Server server_config
     server_laws = laws.ends Server server_config
 
+    of_client : PairAt Client client_config server_config j.my_history j.their_history
+    of_client = record { client_writes = client_laws.reads_back j.pair.client_writes; server_writes = server_laws.reads_back j.pair.server_writes; pair = j.pair.pair }
+
+    of_server : PairAt Server client_config server_config j.their_history j.my_history
+    of_server = record { client_writes = client_laws.reads_back j.pair.client_writes; server_writes = server_laws.reads_back j.pair.server_writes; pair = j.pair.pair }
+
+    client_first : (n : ℕ) → NoItemsBeforeFirstLife Client (suc n) j.my_history
+    client_first n = (laws.pairs Client client_config server_config).before_first j.my_history j.their_history n of_client
+
+    server_first : (n : ℕ) → NoItemsBeforeFirstLife Server (suc n) j.their_history
+    server_first n = (laws.pairs Server client_config server_config).before_first j.their_history j.my_history n of_server
+
     to_client : Reading Client client_config server_config client server j.my_history j.their_history
     to_client = record {
       laws = laws.pairs Client client_config server_config;
       mine_laws = client_laws;
       theirs_laws = server_laws;
       pair = j.pair;
-      pair_at = record { client_writes = client_laws.reads_back j.pair.client_writes; server_writes = server_laws.reads_back j.pair.server_writes; pair = j.pair.pair };
+      pair_at = of_client;
       mine_stands = j.mine_stands;
       theirs_stands = j.theirs_stands;
       theirs_put = server_laws.put_as j.their_history (opening_written Server) server.kept.written server.kept.endpoint.output (server_laws.reads_back j.pair.server_writes) j.theirs_stands.lawful j.theirs_stands.output;
       to_mine = j.to_mine;
+      mine_first = client_first;
+      theirs_first = server_first;
     }
 
     to_server : Reading Server client_config server_config server client j.their_history j.my_history
@@ -109,11 +159,13 @@ keeps client_config server_config client server laws j = record {
       mine_laws = server_laws;
       theirs_laws = client_laws;
       pair = record { client_writes = j.pair.client_writes; server_writes = j.pair.server_writes; pair = j.pair.pair };
-      pair_at = record { client_writes = client_laws.reads_back j.pair.client_writes; server_writes = server_laws.reads_back j.pair.server_writes; pair = j.pair.pair };
+      pair_at = of_server;
       mine_stands = j.theirs_stands;
       theirs_stands = j.mine_stands;
       theirs_put = client_laws.put_as j.my_history (opening_written Client) client.kept.written client.kept.endpoint.output (client_laws.reads_back j.pair.client_writes) j.mine_stands.lawful j.mine_stands.output;
       to_mine = j.to_theirs;
+      mine_first = server_first;
+      theirs_first = client_first;
     }
 
 kept : (joint : Joint) → Laws → IsJoinedTo Client joint.client joint.server → KeepsPromises joint
@@ -139,6 +191,9 @@ written role reader writer mine theirs n life k =
 on-zero : (role : Role) (config : Config role) (seated : Seated) (history : History) (life : ℕ) → EndPromiseLaws role config → StandsAt role config seated history → items_of 0 life seated.kept.told ≡ []
 on-zero role config seated history life laws stands = ap (λ l. items_of 0 life l) stands.trace.told ∙ (laws.channel_0 history life).0
 
+says-nothing : (role : Role) (config : Config role) (seated : Seated) (history : History) (life : ℕ) → EndPromiseLaws role config → StandsAt role config seated history → items_of 0 life seated.kept.said ≡ []
+says-nothing role config seated history life laws stands = ap (λ l. items_of 0 life l) stands.trace.said ∙ (laws.channel_0 history life).1
+
 in-life : (direction : Direction) (joint : Joint) (channel life : ℕ) → Laws → KeepsPromises joint
     → IsPrefixOf (items_of channel life (told_at direction (Some joint))) (items_of channel life (said_at direction (Some joint)))
 in-life directions.ToServer joint zero life laws k = nothing-first (items_of 0 life joint.server.kept.told) (items_of 0 life joint.client.kept.said) (on-zero Server k.server_config joint.server k.promises.server_history life (laws.ends Server k.server_config) k.promises.server_stands)
@@ -150,6 +205,78 @@ prefix-at : (direction : Direction) (there : Option Joint) (channel life : ℕ) 
     → ∥ IsPrefixOf (items_of channel life (told_at direction there)) (items_of channel life (said_at direction there)) ∥₁
 prefix-at direction None channel life laws each = ∣ nothing-first [] [] refl ∣₁
 prefix-at direction (Some joint) channel life laws each = ∥∥₁_map (each joint refl) (λ k. in-life direction joint channel life laws k)
+
+-- Nothing, where there is no life.
+
+abbrev NothingOf : (channel life : ℕ) → (direction : Direction) → Option Joint → Type 0
+NothingOf channel life direction there =
+    (items_of channel life (said_at direction there) ≡ []) × (items_of channel life (told_at direction there) ≡ [])
+
+on-channel-zero : (direction : Direction) (joint : Joint) (life : ℕ) → Laws → KeepsPromises joint → NothingOf 0 life direction (Some joint)
+on-channel-zero directions.ToServer joint life laws k = (
+  says-nothing Client k.client_config joint.client k.promises.client_history life (laws.ends Client k.client_config) k.promises.client_stands,
+  on-zero Server k.server_config joint.server k.promises.server_history life (laws.ends Server k.server_config) k.promises.server_stands,
+)
+on-channel-zero directions.ToClient joint life laws k = (
+  says-nothing Server k.server_config joint.server k.promises.server_history life (laws.ends Server k.server_config) k.promises.server_stands,
+  on-zero Client k.client_config joint.client k.promises.client_history life (laws.ends Client k.client_config) k.promises.client_stands,
+)
+
+in-life-zero : (direction : Direction) (joint : Joint) (channel : ℕ) → Laws → KeepsPromises joint → NothingOf channel 0 direction (Some joint)
+in-life-zero direction joint zero laws k = on-channel-zero direction joint 0 laws k
+in-life-zero directions.ToServer joint (suc n) laws k = let first = (k.promises.to_server n).before_first in (first.1, first.0)
+in-life-zero directions.ToClient joint (suc n) laws k = let first = (k.promises.to_client n).before_first in (first.1, first.0)
+
+-- above the lives that began
+past-begun : (direction : Direction) (joint : Joint) (n life : ℕ) → KeepsPromises joint → begun_on (suc n) joint.client.kept.notes < life → NothingOf (suc n) life direction (Some joint)
+past-begun direction joint n life k above = go direction
+  where
+    client_notes : List Note
+    client_notes = notes_on (suc n) k.promises.client_history
+
+    past-client : lives Client client_notes < life
+    past-client = subst (λ m. m < life) (ap (λ notes. begun_on (suc n) notes) k.promises.client_stands.trace.noted ∙ begun-is-lives k.promises.client_history n) above
+
+    past-server : lives Server (notes_on (suc n) k.promises.server_history) < life
+    past-server =
+        let fewer : lives Server (notes_on (suc n) k.promises.server_history) ≤ lives Client client_notes = server-within (notes_on (suc n) k.promises.server_history) client_notes (k.promises.to_server n).lives in
+        omega (arith, past-client, fewer)
+
+    both : (said told : List Telling) → IsPrefixOf (items_of (suc n) life told) (items_of (suc n) life said) → items_of (suc n) life said ≡ [] → (items_of (suc n) life said ≡ []) × (items_of (suc n) life told ≡ [])
+    both said told prefix none = (none, prefix-none (items_of (suc n) life told) (items_of (suc n) life said) prefix none)
+
+    go : (direction : Direction) → NothingOf (suc n) life direction (Some joint)
+    go directions.ToServer =
+        both joint.client.kept.said joint.server.kept.told (written Server joint.server joint.client k.promises.server_history k.promises.client_history n life (k.promises.to_server n))
+        ((k.promises.to_server n).sent_is life ∙ nothing-sent Client n life k.promises.client_history past-client)
+    go directions.ToClient =
+        both joint.server.kept.said joint.client.kept.told (written Client joint.client joint.server k.promises.client_history k.promises.server_history n life (k.promises.to_client n))
+        ((k.promises.to_client n).sent_is life ∙ nothing-sent Server n life k.promises.server_history past-server)
+
+-- the life has begun on this connection, if there is one
+abbrev BegunAt : (channel life : ℕ) → Option Joint → Type 0
+BegunAt channel life there = (0 < channel) × (0 < life) × (life ≤ begun_at channel there)
+
+in-no-life : (direction : Direction) (joint : Joint) (channel life : ℕ) → Laws → (BegunAt channel life (Some joint) → ⊥) → KeepsPromises joint → NothingOf channel life direction (Some joint)
+in-no-life direction joint zero life laws unbegun k = on-channel-zero direction joint life laws k
+in-no-life direction joint (suc n) zero laws unbegun k = in-life-zero direction joint (suc n) laws k
+in-no-life direction joint (suc n) (suc m) laws unbegun k = go (cases_lt (begun_on (suc n) joint.client.kept.notes) (suc m))
+  where
+    go : (begun_on (suc n) joint.client.kept.notes < suc m) ⊎ (suc m ≤ begun_on (suc n) joint.client.kept.notes) → NothingOf (suc n) (suc m) direction (Some joint)
+    go (inl above) = past-begun direction joint n (suc m) k above
+    go (inr within) = absurd (unbegun (omega arith, omega arith, within))
+
+-- that a list is empty is told from a truncation
+empty-of : (A : Type 0) (one other : List Item) → ∥ A ∥₁ → (A → (one ≡ []) × (other ≡ [])) → (one ≡ []) × (other ≡ [])
+empty-of A one other t both =
+    let lengths : (length one ≡ 0) × (length other ≡ 0) = ∥∥₁_elim t (hlevel props) (λ a. (ap length (both a).0, ap length (both a).1)) in
+    (nil_from_length one lengths.0, nil_from_length other lengths.1)
+
+nothing-at : (direction : Direction) (there : Option Joint) (channel life : ℕ) → Laws → (BegunAt channel life there → ⊥) → ((joint : Joint) → there ≡ Some joint → ∥ KeepsPromises joint ∥₁)
+    → NothingOf channel life direction there
+nothing-at direction None channel life laws unbegun each = (refl, refl)
+nothing-at direction (Some joint) channel life laws unbegun each =
+    empty-of (KeepsPromises joint) (items_of channel life (said_at direction (Some joint))) (items_of channel life (told_at direction (Some joint))) (each joint refl) (λ k. in-no-life direction joint channel life laws unbegun k)
 
 -- Each connection of a link.
 
@@ -172,6 +299,8 @@ each connections laws index joint found = at (slice_get connections index) joint
 pub headline : (link : Link) → Laws → Headline (link_view link)
 headline link laws = record {
   prefix = λ life direction. prefix-at direction (slice_get (map connection_view link.connections.items) life.connection) life.channel life.number laws
+      (λ joint found. each link.connections.items laws life.connection joint found);
+  not_begun = λ life direction unbegun. nothing-at direction (slice_get (map connection_view link.connections.items) life.connection) life.channel life.number laws (λ begun. unbegun (record { on_channel = begun.0; least = begun.1; most = begun.2 }))
       (λ joint found. each link.connections.items laws life.connection joint found);
   connections = each link.connections.items laws;
 }

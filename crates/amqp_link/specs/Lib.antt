@@ -1,5 +1,6 @@
 pub mod ConnectionSteps
 pub mod ConnectionView
+pub mod Encoded
 pub mod FaultView
 pub mod Headline
 pub mod Items

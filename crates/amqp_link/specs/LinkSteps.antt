@@ -1,13 +1,14 @@
 -- What is done with a link: its steps, one by one and one after another.
-use Rattle.std.specs.Prelude.{◌≡◌, ◌≢◌, ◌≤◌, ◌⊎◌, ℕ, suc, List, [], ◌∷◌, ◌++◌, length, take, Some, None, Result, Ok, Err, slice_get, slice_set}
+use Rattle.std.specs.Prelude.{◌≡◌, ◌≢◌, ◌≤◌, ℕ, suc, List, [], ◌∷◌, ◌++◌, length, take, Option, Some, None, Result, Ok, Err, slice_get, slice_set}
+use Rattle.std.specs.Option.{option_or}
 use Rattle.amqp_model.specs.Fitting.{config_fault}
+use Rattle.amqp_model.specs.Fitting as model
 use Rattle.amqp_model.specs.Negotiation.{Config}
 use Rattle.amqp_model.specs.Notes.{Role}
 use Rattle.amqp_core.specs.AskView.{ask_view}
 use Rattle.amqp_core.specs.Faults.{config_fault_view}
 use Rattle.amqp_core.specs.Roles.{role_of}
 use Rattle.amqp_core.specs.declared.faults.ConfigFault.{ConfigFault}
-use Rattle.amqp_core.specs.declared.faults.ConfigFault.TheVariants as configs
 use Rattle.amqp_link.specs.ConnectionSteps.{ConnectionAsked, ConnectionCarries, ConnectionDrops, IsNewConnection}
 use Rattle.amqp_link.specs.SeatSteps.{Answer}
 use Rattle.amqp_link.specs.Seats.{Joint}
@@ -81,9 +82,13 @@ RunsTo old all (Err index) new = StopsAt index old all new
 
 -- Setting up.
 
+-- why an end can't be set up so, if it can't
+abbrev pub fault_in : (set_up : (role : Role) × Config role) → Option model.ConfigFault
+fault_in set_up = config_fault set_up.0 set_up.1
+
 -- an end can be set up so
 abbrev pub Fits : (set_up : (role : Role) × Config role) → Type 0
-Fits set_up = config_fault set_up.0 set_up.1 ≡ None
+Fits set_up = fault_in set_up ≡ None
 
 -- A link of no connection, of two ends that can be set up so.
 pub record IsNewLink (client server : (role : Role) × Config role) (link : Linked) : Type 0 where
@@ -91,11 +96,10 @@ pub record IsNewLink (client server : (role : Role) × Config role) (link : Link
   pub server_fits : Fits server
   pub empty : link ≡ record { client = client; server = server; connections = [] }
 
--- why an end can't be set up so; out of memory nothing is said of it
+-- Why an end isn't set up so: the fault that applies. Out of memory, none does.
 abbrev pub IsFaultOf : (set_up : (role : Role) × Config role) → ConfigFault → Type 0
-IsFaultOf set_up configs.OutOfMemory = Unit {0}
-IsFaultOf set_up fault = config_fault_view fault ≡ config_fault set_up.0 set_up.1
+IsFaultOf set_up fault = config_fault_view fault ≡ fault_in set_up
 
--- the client's fault, or else the server's
+-- Why no link is made: the client's fault, or else the server's. Out of memory, neither has one.
 abbrev pub FitsNot : (client server : (role : Role) × Config role) → ConfigFault → Type 0
-FitsNot client server fault = IsFaultOf client fault ⊎ (Fits client × IsFaultOf server fault)
+FitsNot client server fault = config_fault_view fault ≡ option_or (fault_in client) (fault_in server)

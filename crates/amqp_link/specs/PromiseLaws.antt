@@ -3,9 +3,12 @@ use Rattle.std.specs.Prelude.{false, ℕ, suc, List}
 use Rattle.amqp_model.specs.Channels.{End}
 use Rattle.amqp_model.specs.CarryingLaws.{OpeningsMeet}
 use Rattle.amqp_model.specs.EndLaws.{StandingHasNotFailed}
+use Rattle.amqp_model.specs.ContentLaws.{ItemsAreEncoded}
+use Rattle.amqp_model.specs.Contents.{Payload}
 use Rattle.amqp_model.specs.EndsAgree.{LivesAgree, NoContentFromPaused}
 use Rattle.amqp_model.specs.FittingLaws.{AllReadsBack}
 use Rattle.amqp_model.specs.Histories.{History}
+use Rattle.amqp_model.specs.Items.{Item}
 use Rattle.amqp_model.specs.InTurn.{AsksOneAtATime, PairAnswersInTurn}
 use Rattle.amqp_model.specs.LeavingLaws.{OctetsArePutAs}
 use Rattle.amqp_model.specs.Negotiation.{Config}
@@ -13,7 +16,7 @@ use Rattle.amqp_model.specs.Notes.{Role, Client, Server}
 use Rattle.amqp_model.specs.OctetsInFlight.{ItemsSentAreActedOnOrWaiting, NothingWaitsForClosed, OctetsInFlightAreFrames}
 use Rattle.amqp_model.specs.Outputs.{Output}
 use Rattle.amqp_model.specs.Pairs.{PairAt}
-use Rattle.amqp_model.specs.SentLaws.{ActsOnPrefixOfItems, AllItemsActedOnAtClose, AllItemsActedOnOfEnded, NothingOfChannel0, SaysWhatIsSent, TellsWhatIsActedOn}
+use Rattle.amqp_model.specs.SentLaws.{ActsOnPrefixOfItems, AllItemsActedOnAtClose, AllItemsActedOnOfEnded, NoItemsBeforeFirstLife, NothingOfChannel0, SaysWhatIsSent, TellsWhatIsActedOn}
 
 -- of every two ends
 pub record PromiseLaws (role : Role) (client_config : Config Client) (server_config : Config Server) : Type 0 where
@@ -26,6 +29,7 @@ pub record PromiseLaws (role : Role) (client_config : Config Client) (server_con
   pub pause : (mine theirs : History) (n : ℕ) → NoContentFromPaused role client_config server_config mine theirs n
   pub waits : (mine theirs : History) (limit : ℕ) (put fed unfinished rest : List ℕ) → NothingWaitsForClosed role client_config server_config mine theirs limit put fed unfinished rest
   pub openings : OpeningsMeet role
+  pub before_first : (mine theirs : History) (n : ℕ) → PairAt role client_config server_config mine theirs → NoItemsBeforeFirstLife role (suc n) mine
 
 -- of every end
 pub record EndPromiseLaws (role : Role) (config : Config role) : Type 0 where
@@ -38,6 +42,7 @@ pub record EndPromiseLaws (role : Role) (config : Config role) : Type 0 where
 
 -- all of them
 pub record Laws : Type 0 where
+  pub encoded : (taken : List Payload) (items : List Item) → ItemsAreEncoded taken items
   pub pairs : (role : Role) (client_config : Config Client) (server_config : Config Server) → PromiseLaws role client_config server_config
   pub ends : (role : Role) (config : Config role) → EndPromiseLaws role config
   pub in_turn : (client_config : Config Client) (server_config : Config Server) (client server : History) (n life : ℕ) → PairAnswersInTurn client_config server_config client server n life

@@ -1,8 +1,8 @@
 -- What the two ends of a connection keep to each other, by the histories that they are the traces of: what was put and taken at
 -- either, in which no fault was found.
-use Rattle.std.specs.Prelude.{◌≡◌, ◌≢◌, ◌≤◌, true, false, ℕ, suc, [], ◌∷◌, ◌++◌, length, map}
+use Rattle.std.specs.Prelude.{◌≡◌, ◌≢◌, ◌≤◌, true, false, ℕ, suc, List, [], ◌∷◌, ◌++◌, length, map}
 use Rattle.amqp_model.specs.Arrangement.{on}
-use Rattle.amqp_model.specs.Carried.{acted, message_frames}
+use Rattle.amqp_model.specs.Carried.{acted, message_frames, sent}
 use Rattle.amqp_model.specs.CarryingLaws.{as_carried}
 use Rattle.amqp_model.specs.Channels.{Closed, Failed}
 use Rattle.amqp_model.specs.EndLaws.{notes_on}
@@ -18,16 +18,24 @@ use Rattle.amqp_model.specs.Readings.{kind_of, reading}
 use Rattle.amqp_model.specs.Sent.{items_acted, items_in, items_of, items_sent, life_on}
 use Rattle.amqp_model.specs.SentLaws.{ActsOnPrefixOfItems, AllItemsActedOnAtClose, AllItemsActedOnOfEnded}
 use Rattle.amqp_model.specs.Sentences.{PausesOther}
+use Rattle.amqp_link.specs.Encoded.{AreItemsOf}
 use Rattle.amqp_link.specs.Joined.{StandsAt}
 use Rattle.amqp_link.specs.SeatSteps.{to_write}
 use Rattle.amqp_link.specs.Seats.{Seated}
+
+-- the frames acted on in the life that goes on, and then the messages among those that are in flight
+abbrev pub acted_and_waiting : Role → (mine : History) → (n : ℕ) → (waiting : List Frame) → List Frame
+acted_and_waiting role mine n waiting =
+    acted role (life_on role (suc n) mine) (notes_on (suc n) mine) ++ message_frames (map as_carried (on (suc n) waiting))
 
 -- The octets that the reader has taken of an unfinished frame, and those that wait for it, are those of whole frames; and what the
 -- writer sent in the life is what the frames acted on, followed by these, encode.
 pub record OnItsWay (role : Role) (reader writer : Seated) (mine theirs : History) (n : ℕ) : Type 0 where
   pub flight : InFlight mine theirs reader.kept.endpoint.unfinished (to_write writer)
   pub sent : items_sent (other_end role) (suc n) (life_on role (suc n) mine) theirs
-      ≡ items_in (acted role (life_on role (suc n) mine) (notes_on (suc n) mine) ++ message_frames (map as_carried (on (suc n) flight.waiting)))
+      ≡ items_in (acted_and_waiting role mine n flight.waiting)
+  pub sent_encoded : AreItemsOf (acted_and_waiting role mine n flight.waiting)
+      (items_of (suc n) (life_on role (suc n) mine) writer.kept.said)
 
 -- no content but get-ok is taken while the end has paused the other
 abbrev pub TakesNoneWhilePaused : Role → (mine : History) → (n : ℕ) → Type 0
@@ -41,6 +49,13 @@ pub record KeepsOn (role : Role) (reader writer : Seated) (mine theirs : History
   -- what either has written down of a life is what it acted on or sent in it
   pub acted_is : (life : ℕ) → items_of (suc n) life reader.kept.told ≡ items_acted role (suc n) life mine
   pub sent_is : (life : ℕ) → items_of (suc n) life writer.kept.said ≡ items_sent (other_end role) (suc n) life theirs
+  -- and these are exactly the items that the frames acted on, and those sent, encode
+  pub acted_encoded : (life : ℕ)
+      → AreItemsOf (acted role life (notes_on (suc n) mine)) (items_of (suc n) life reader.kept.told)
+  pub sent_encoded : (life : ℕ)
+      → AreItemsOf (sent (other_end role) life (notes_on (suc n) theirs)) (items_of (suc n) life writer.kept.said)
+  -- before the first life nothing is acted on, and nothing sent
+  pub before_first : (items_of (suc n) 0 reader.kept.told ≡ []) × (items_of (suc n) 0 writer.kept.said ≡ [])
   -- in each life the former is a prefix of the latter
   pub prefix : ActsOnPrefixOfItems role (suc n) mine theirs
   -- each frame is taken in the life in which it was put

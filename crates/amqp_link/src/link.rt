@@ -1,12 +1,12 @@
 //! Pairs of ends in memory, and what is done with them.
-ghost use Rattle.std.specs.Prelude.{◌≡◌, map, slice_get, IfErr, IfOk, OnOk};
+ghost use Rattle.std.specs.Prelude.{◌≡◌, map, slice_get, All, IfErr, IfOk, OnOk};
 ghost use Rattle.amqp_core.specs.AskView.{ask_view};
 ghost use Rattle.amqp_core.specs.Configs.{set_up_as, settings_of};
 ghost use Rattle.amqp_core.specs.NoteView.{item_view, telling_view};
 ghost use Rattle.amqp_core.specs.Roles.{role_of};
 ghost use Rattle.amqp_link.specs.ConnectionSteps.{ConnectionAsked, ConnectionCarries, ConnectionDrops};
 ghost use Rattle.amqp_link.specs.LinkSteps.{Begins, DoneAt, Fits, FitsNot, IsFaultOf, IsNewLink, RunsTo, Steps};
-ghost use Rattle.amqp_link.specs.Items.{acted_in, said_at, sent_in, tally_in, told_at, waiting_in};
+ghost use Rattle.amqp_link.specs.Items.{CountsItems, acted_in, said_at, sent_in, tally_in, told_at, waiting_in};
 ghost use Rattle.amqp_link.specs.TallyView.{tally_view};
 ghost use Rattle.amqp_link.specs.SetUps.{client_set_up, server_set_up};
 
@@ -38,14 +38,11 @@ impl Drop for Link {
     }
 }
 
-/// Whether an end can be set up so.
-fn try_config<R: Role>(alloc: Global, config: &Config<R>) -> Result<(), ConfigFault>
-    ensures fits { OnOk result (Fits (set_up_as (settings_of R.hello_of config.now))) }
-    ensures fault { IfErr result (λ fault. IsFaultOf (set_up_as (settings_of R.hello_of config.now)) fault) }
+/// Whether an end can be set up so. The configuration is looked at before memory is taken.
+fn try_end<R: Role>(alloc: Global, config: Config<R>) -> Result<(), ConfigFault>
+    ensures fits { OnOk result (Fits (set_up_as (settings_of R.hello_of config))) }
+    ensures fault { IfErr result (λ fault. IsFaultOf (set_up_as (settings_of R.hello_of config)) fault) }
 {
-    let Ok(config) = config.copy() else {
-        return Err(ConfigFault::OutOfMemory);
-    };
     match End::new(alloc, config) {
         Ok(end) => {
             drop(end);
@@ -55,12 +52,33 @@ fn try_config<R: Role>(alloc: Global, config: &Config<R>) -> Result<(), ConfigFa
     }
 }
 
+/// The configuration, if an end can be set up so. Where memory for a copy is refused, its fault is still found.
+fn try_config<R: Role>(alloc: Global, config: Config<R>) -> Result<Config<R>, ConfigFault>
+    ensures same { IfOk result (λ kept. kept ≡ config) }
+    ensures fits { OnOk result (Fits (set_up_as (settings_of R.hello_of config))) }
+    ensures fault { IfErr result (λ fault. IsFaultOf (set_up_as (settings_of R.hello_of config)) fault) }
+{
+    let Ok(copy) = config.copy() else {
+        return match try_end(alloc, config) {
+            Ok(()) => Err(ConfigFault::OutOfMemory),
+            Err(fault) => Err(fault),
+        };
+    };
+    match try_end(alloc, copy) {
+        Ok(()) => Ok(config),
+        Err(fault) => {
+            drop(config);
+            Err(fault)
+        }
+    }
+}
+
 impl Link {
     ghost use Rattle.amqp_link.specs.Headline.{Headline};
     ghost use Rattle.amqp_link.specs.LinkView.{link_view};
 
     /// A link of no connection yet. Each connection that begins is of two ends that are set up with copies of these. The fault
-    /// is the client's, or else the server's.
+    /// is the client's, or else the server's; it is out of memory only where neither has one.
     pub fn new(
         alloc: Global,
         client: Config<Client>,
@@ -69,16 +87,26 @@ impl Link {
         ensures new { IfOk result (λ link. IsNewLink (client_set_up client) (server_set_up server) (link_view link)) }
         ensures fault { IfErr result (λ fault. FitsNot (client_set_up client) (server_set_up server) fault) }
     {
-        if let Err(fault) = try_config(alloc, &client) {
-            drop(client);
-            drop(server);
-            return Err(fault);
-        }
-        if let Err(fault) = try_config(alloc, &server) {
-            drop(client);
-            drop(server);
-            return Err(fault);
-        }
+        let client = match try_config(alloc, client) {
+            Ok(client) => client,
+            Err(ConfigFault::OutOfMemory) => {
+                return match try_end(alloc, server) {
+                    Ok(()) => Err(ConfigFault::OutOfMemory),
+                    Err(fault) => Err(fault),
+                };
+            }
+            Err(fault) => {
+                drop(server);
+                return Err(fault);
+            }
+        };
+        let server = match try_config(alloc, server) {
+            Ok(server) => server,
+            Err(fault) => {
+                drop(client);
+                return Err(fault);
+            }
+        };
         Ok(Link {
             alloc,
             client,
@@ -199,26 +227,37 @@ impl Link {
     }
 
     /// The items that were sent in a life in a direction, in order. There are none of a life that hasn't begun.
+    #[tactic(auto, using(crate::proofs::Promising::headline))]
     pub fn sent(&self, life: Life, direction: Direction) -> Result<Vec<Item>, OutOfMemory>
-        ensures { IfOk result (λ items. map item_view items.items ≡ sent_in (link_view self.now) life direction) }
+        ensures items { IfOk result (λ items. map item_view items.items ≡ sent_in (link_view self.now) life direction) }
+        ensures headline { Headline (link_view self.now) }
     {
+        promises_are_kept();
         let said = self.said(life.connection, direction);
         items_of(self.alloc, said, life.channel, life.number)
     }
 
-    /// The items that were acted on in a life in a direction, in order.
+    /// The items that were acted on in a life in a direction, in order. There are none of a life that hasn't begun.
+    #[tactic(auto, using(crate::proofs::Promising::headline))]
     pub fn acted(&self, life: Life, direction: Direction) -> Result<Vec<Item>, OutOfMemory>
-        ensures { IfOk result (λ items. map item_view items.items ≡ acted_in (link_view self.now) life direction) }
+        ensures items { IfOk result (λ items. map item_view items.items ≡ acted_in (link_view self.now) life direction) }
+        ensures headline { Headline (link_view self.now) }
     {
+        promises_are_kept();
         let told = self.told(life.connection, direction);
         items_of(self.alloc, told, life.channel, life.number)
     }
 
     /// How many items were sent and acted on in each life that began: by connection, channel and number, each to the server
     /// first.
+    #[tactic(auto, using(crate::proofs::Promising::headline))]
     pub fn tally(&self) -> Result<Vec<(Life, Direction, usize, usize)>, OutOfMemory>
-        ensures { IfOk result (λ tallies. map tally_view tallies.items ≡ tally_in (link_view self.now)) }
+        ensures tallies { IfOk result (λ tallies. map tally_view tallies.items ≡ tally_in (link_view self.now)) }
+        // The counts are the lengths of what `sent` and `acted` answer.
+        ensures lengths { IfOk result (λ tallies. All (CountsItems (link_view self.now)) tallies.items) }
+        ensures headline { Headline (link_view self.now) }
     {
+        promises_are_kept();
         let mut tallies = Vec::new(self.alloc);
         for (index, connection) in self.connections.iter().enumerate() {
             add_tallies(self.alloc, &mut tallies, index, connection.written())?;

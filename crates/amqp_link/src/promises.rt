@@ -1,7 +1,7 @@
 //! The laws that carry what a link promises, gathered.
 ghost use Rattle.amqp_link.specs.PromiseLaws.{Laws};
 
-use amqp_core::laws::{agreement, fitting, one_end, replies, two_ends};
+use amqp_core::laws::{agreement, contents, fitting, one_end, replies, two_ends};
 
 /// Whatever two joined ends have done, they keep what they promise: each of these laws is one of the definitions.
 pub(crate) fn promises_are_kept()
@@ -10,6 +10,7 @@ pub(crate) fn promises_are_kept()
     agreement::ends_agree_on_lives();
     agreement::nothing_waits_for_closed();
     agreement::octets_in_flight_are_frames();
+    contents::items_are_encoded();
     fitting::owed_read_back();
     one_end::closes_are_put_last();
     one_end::failed_follows();
@@ -18,5 +19,6 @@ pub(crate) fn promises_are_kept()
     two_ends::all_items_acted_on_at_close();
     two_ends::items_acted_on_are_prefix();
     two_ends::items_are_told_and_said();
+    two_ends::no_items_before_first_life();
     two_ends::octets_carry_channels();
 }

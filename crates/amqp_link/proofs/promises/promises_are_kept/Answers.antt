@@ -3,6 +3,7 @@ use Rattle.amqp_link.proofs.promises.promises_are_kept.Goals as goal
 
 pub returns : goal.returns
 returns c = record {
+  encoded = c.items_are_encoded.ensures.items;
   pairs = λ role client_config server_config. record {
     prefix = c.items_acted_on_are_prefix.ensures role client_config server_config;
     lives = c.ends_agree_on_lives.ensures.lives role client_config server_config;
@@ -13,6 +14,7 @@ returns c = record {
     pause = c.ends_agree_on_lives.ensures.pause role client_config server_config;
     waits = c.nothing_waits_for_closed.ensures role client_config server_config;
     openings = c.octets_carry_channels.ensures.opening role;
+    before_first = c.no_items_before_first_life.ensures role client_config server_config;
   };
   ends = λ role config. record {
     told = c.items_are_told_and_said.ensures.told role config;

@@ -5,7 +5,9 @@ use Rattle.amqp_link.specs.ConnectionView.{connection_view}
 use Rattle.amqp_link.specs.Items.{tallies_at}
 use Rattle.amqp_link.specs.Tallies.{tallies_of}
 use Rattle.amqp_link.specs.TallyView.{tally_view}
+use Rattle.amqp_link.specs.LinkView.{link_view}
 use Rattle.amqp_link.proofs.TallyAll.{all-of, one-more}
+use Rattle.amqp_link.proofs.TallyLengths.{all-count}
 use Rattle.amqp_link.proofs.link.Link.tally.Goals as goal
 
 pub loop-index-preserved : goal.loop-index-preserved
@@ -18,7 +20,11 @@ loop-index-preserved c =
       all = so_far.all;
     }
 
-pub returns : goal.returns
-returns c =
+pub returns-clause-tallies : goal.returns-clause-tallies
+returns-clause-tallies c =
     all-of c.deref-connection-items.result.now c.loop-index.index (map tally_view c.loop-index.tallies.items) c.loop-index-test.false c.loop-index.auto.index-end c.loop-index.invariant.tallies
     ∙ ap (λ l. flat_map (λ entry. tallies_at entry.0 entry.1) (enumerate_from 0 (map connection_view l))) c.deref-connection-items.ensures.value
+
+pub returns-clause-lengths : goal.returns-clause-lengths
+returns-clause-lengths c =
+    all-count (link_view c.args.self.now) c.loop-index.tallies.items (returns-clause-tallies c)
