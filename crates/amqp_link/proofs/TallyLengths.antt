@@ -47,7 +47,7 @@ in-life link index joint channel life found =
     = λ direction. ap (λ there. count_in channel life (said_at direction there)) (sym found) in
     let told : (direction : Direction) → count_in channel life (told_at direction (Some joint)) ≡ count_in channel life (told_at direction (slice_get link.connections index))
     = λ direction. ap (λ there. count_in channel life (told_at direction there)) (sym found) in
-    (record { sent_is = said ToServer; acted_is = told ToServer }, record { sent_is = said ToClient; acted_is = told ToClient }, tt {0})
+    (record { sent_is = said ToServer; acted_is = told ToServer }, (record { sent_is = said ToClient; acted_is = told ToClient }, tt {0}))
 
 on-connection : (link : Linked) (index : ℕ) (joint : Joint) → slice_get link.connections index ≡ Some joint → Each (Counted link) (tallies_at index joint)
 on-connection link index joint found =
