@@ -1,7 +1,7 @@
 #!/usr/bin/env bash
 # Whole runs of the built program: input, arguments, standard output, standard error and status, against texts that are
 # known, also with each request for memory refused in turn (runs.py, and refused.py of `show`); and so a session for whose events
-# there is no room (events.py).
+# there is no room (events.py), and tests of single calls (refused_calls.py).
 set -u
 cd "$(dirname "${BASH_SOURCE[0]}")/.." || exit 1
 
@@ -13,4 +13,8 @@ program=crates/amqp/out/amqp
 python3 beside/runs.py "$program" "$place/refuse.so" || exit 1
 python3 beside/memory/refused.py "$program" "$place/refuse.so" || exit 1
 beside/built_tests amqp_io_tests || exit 1
-python3 beside/memory/events.py crates/amqp_io_tests/out/amqp_io_tests_tests "$place/refuse.so"
+python3 beside/memory/events.py crates/amqp_io_tests/out/amqp_io_tests_tests "$place/refuse.so" || exit 1
+beside/built_tests amqp_codec_tests || exit 1
+beside/built_tests amqp_core_tests || exit 1
+python3 beside/memory/refused_calls.py "$place/refuse.so" crates/amqp_codec_tests/out/amqp_codec_tests_tests \
+    crates/amqp_core_tests/out/amqp_core_tests_tests

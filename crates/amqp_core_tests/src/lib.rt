@@ -24,6 +24,8 @@ mod large;
 #[cfg(test)]
 mod lives;
 #[cfg(test)]
+mod memory;
+#[cfg(test)]
 mod messages;
 #[cfg(test)]
 mod octets;
