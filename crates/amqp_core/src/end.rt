@@ -1,6 +1,7 @@
 //! One end of a connection, a client or a server.
 ghost use Rattle.std.specs.Prelude.{ℕ, List, ◌≡◌, ◌≢◌, ◌<◌, ◌≤◌, true, false, [], length, IsOk, IfOk, IfErr, OnOk, MatchOption, Some, None};
 ghost use Rattle.amqp_method.specs.MessageView.{message_view};
+ghost use Rattle.amqp_model.specs.ArrangementRules.{FollowsRules};
 ghost use Rattle.amqp_model.specs.Answers.{channel_state, gathered, reply_due};
 ghost use Rattle.amqp_model.specs.Asks as asks;
 ghost use Rattle.amqp_model.specs.Asks.{lowest_free, refusal};
@@ -202,7 +203,9 @@ impl<R: Role> End<R> {
     /// The octets to send next. They stay until [`End::wrote`] says that they were sent.
     pub fn output(&self) -> &[u8]
         ensures octets { result.now ≡ output_octets (endpoint_of self.now).output }
-        // The frames stand in it by the rules, and with what was written those of each channel are in the order put.
+        // The frames that are not begun stand in it by the rules.
+        ensures rules { FollowsRules (endpoint_of self.now).output.last (endpoint_of self.now).output.row }
+        // With what was written, those of each channel are in the order put.
         ensures order { OutputIsInOrder self.now }
     {
         arrangement::output_follows();

@@ -1,5 +1,6 @@
 //! An end of a connection that is kept with its history.
 ghost use Rattle.std.specs.Prelude.{◌≡◌, ◌≢◌, ◌+◌, ◌<◌, ◌≤◌, ℕ, List, [], true, false, ◌++◌, length, map, take as first, vec_len, vec_capacity, IfOk, IfErr, OnOk, OnErr};
+ghost use Rattle.amqp_model.specs.ArrangementRules.{FollowsRules};
 ghost use Rattle.amqp_model.specs.Answers.{channel_state, gathered, reply_due};
 ghost use Rattle.amqp_model.specs.Asks.{frames_asked};
 ghost use Rattle.amqp_model.specs.Endpoint.{after_feed, after_wrote, new_endpoint};
@@ -142,7 +143,9 @@ impl<R: Role> Traced<R> {
     /// The octets to send next.
     pub fn output(&self) -> &[u8]
         ensures octets { result.now ≡ output_octets (traced_of self.now).endpoint.output }
-        // The frames stand in it by the rules, and with what was written those of each channel are in the order put.
+        // The frames that are not begun stand in it by the rules.
+        ensures rules { FollowsRules (traced_of self.now).endpoint.output.last (traced_of self.now).endpoint.output.row }
+        // With what was written, those of each channel are in the order put.
         ensures order { OutputOfHistory self.now }
     {
         self.end.output()

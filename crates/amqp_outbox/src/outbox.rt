@@ -18,6 +18,7 @@ ghost use Rattle.std.specs.Prelude.{◌≡◌, ℕ, ◌+◌, ◌^◌, ◌<◌, �
 ghost use Rattle.amqp_method.specs.HeaderView.{header_view};
 ghost use Rattle.amqp_method.specs.MethodView.{method_view};
 ghost use Rattle.amqp_method.specs.Plain.{plain_method, plain_header, CountsAllFit, CountsPresentFit};
+ghost use Rattle.amqp_model.specs.ArrangementRules.{FollowsRules};
 ghost use Rattle.amqp_model.specs.Closes.{method_frame};
 ghost use Rattle.amqp_model.specs.Methods.{ReadsBack};
 ghost use Rattle.amqp_model.specs.Outputs.{output_octets, after_writing};
@@ -92,8 +93,13 @@ impl Outbox {
 
     /// The octets to write next.
     pub fn output(&self) -> &[u8]
-        ensures { result.now ≡ output_octets self.now.output }
+        ensures octets { result.now ≡ output_octets self.now.output }
+        // The frames that are not begun stand in it by the rules.
+        ensures rules { FollowsRules self.now.output.last self.now.output.row }
     {
+        arrangement::rows_follow_rules();
+        // The rules speak of a channel's number: that it is one is known of a field that is read.
+        let _last = self.last;
         &self.octets[self.written..self.arranged]
     }
 
