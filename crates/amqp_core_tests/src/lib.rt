@@ -34,6 +34,8 @@ mod pairs;
 #[cfg(test)]
 mod pieces;
 #[cfg(test)]
+mod printing;
+#[cfg(test)]
 mod puts;
 #[cfg(test)]
 mod refusals;
