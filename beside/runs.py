@@ -469,11 +469,19 @@ class Served:
         host, port = self.address.rsplit(":", 1)
         return socket.create_connection((host, int(port)), timeout=60)
 
+    def peak(self):
+        """The most memory that it has had so far, in megabytes. What wait4 tells counts this script's own, from before the exec."""
+        with open(f"/proc/{self.run.pid}/status", encoding="ascii") as status:
+            kilobytes = [int(line.split()[1]) for line in status if line.startswith("VmHWM")]
+        return max(kilobytes, default=0) / 1024
+
     def ended(self):
         """What it printed after the address, its status, what it said, and the most memory that it had, in megabytes."""
-        _, status, usage = os.wait4(self.run.pid, 0)
-        self.run.returncode = os.waitstatus_to_exitcode(status)
-        return self.text(self.printed).splitlines()[1:], self.run.returncode, self.text(self.said), usage.ru_maxrss / 1024
+        memory = 0
+        while self.run.poll() is None:
+            memory = max(memory, self.peak())
+            time.sleep(0.01)
+        return self.text(self.printed).splitlines()[1:], self.run.returncode, self.text(self.said), memory
 
 
 STARTED = ["quiet", "quiet", "quiet", "negotiated 2047 131072", "opened 1"]
