@@ -98,7 +98,7 @@ for name, pairs in SHAPES:
     came, kept = held(pairs)
     if "--tell" in sys.argv:
         print(f"{name}: {came} octets came, {kept} are held, {kept / came:.2f} times as many")
-    if kept > 1.5 * came + 6_000_000:
+    if kept > 1.5 * came + 12_000_000:
         differences.append(f"{name}: {kept} octets held for {came} that came")
 for difference in differences:
     print(difference)
