@@ -1,6 +1,6 @@
 //! Each method: its octets, written from the table of methods, and its struct as `Debug` prints it, field by field.
 //!
-//! The numbers, strings and tables are those of the tests of `amqp_method`. A short string prints as its octets.
+//! The numbers, strings and tables are those of the tests of `amqp_method`. A short string prints in quotes, a long one as its octets.
 
 /// The octets in hexadecimal, and the text.
 pub type Sample = (&'static str, &'static str);
@@ -8,11 +8,11 @@ pub type Sample = (&'static str, &'static str);
 pub static CONNECTION: [Sample; 12] = [
     (
         "000a000af0f100000004016b740100000003444444000000024545",
-        "ConnectionStart(Start { version_major: 240, version_minor: 241, server_properties: Table { pairs: [([107], Boolean(true))] }, mechanisms: [68, 68, 68], locales: [69, 69] })",
+        "ConnectionStart(Start { version_major: 240, version_minor: 241, server_properties: Table { pairs: [(\"k\", Boolean(true))] }, mechanisms: [68, 68, 68], locales: [69, 69] })",
     ),
     (
         "000a000b00000004016b7401026262000000024343026464",
-        "ConnectionStartOk(StartOk { client_properties: Table { pairs: [([107], Boolean(true))] }, mechanism: [98, 98], response: [67, 67], locale: [100, 100] })",
+        "ConnectionStartOk(StartOk { client_properties: Table { pairs: [(\"k\", Boolean(true))] }, mechanism: \"bb\", response: [67, 67], locale: \"dd\" })",
     ),
     (
         "000a0014000000024141",
@@ -32,17 +32,17 @@ pub static CONNECTION: [Sample; 12] = [
     ),
     (
         "000a002801610000",
-        "ConnectionOpen(Open { virtual_host: [97] })",
+        "ConnectionOpen(Open { virtual_host: \"a\" })",
     ),
     ("000a002900", "ConnectionOpenOk(OpenOk)"),
     (
         "000a0032f1f0026262f1f2f1f3",
-        "ConnectionClose(Close { reply_code: 61936, reply_text: [98, 98], class_id: 61938, method_id: 61939 })",
+        "ConnectionClose(Close { reply_code: 61936, reply_text: \"bb\", class_id: 61938, method_id: 61939 })",
     ),
     ("000a0033", "ConnectionCloseOk(CloseOk)"),
     (
         "000a003c0161",
-        "ConnectionBlocked(Blocked { reason: [97] })",
+        "ConnectionBlocked(Blocked { reason: \"a\" })",
     ),
     ("000a003d", "ConnectionUnblocked(Unblocked)"),
 ];
@@ -54,7 +54,7 @@ pub static CHANNEL: [Sample; 6] = [
     ("0014001501", "ChannelFlowOk(FlowOk { active: true })"),
     (
         "00140028f1f0026262f1f2f1f3",
-        "ChannelClose(Close { reply_code: 61936, reply_text: [98, 98], class_id: 61938, method_id: 61939 })",
+        "ChannelClose(Close { reply_code: 61936, reply_text: \"bb\", class_id: 61938, method_id: 61939 })",
     ),
     ("00140029", "ChannelCloseOk(CloseOk)"),
 ];
@@ -62,22 +62,22 @@ pub static CHANNEL: [Sample; 6] = [
 pub static EXCHANGE: [Sample; 8] = [
     (
         "0028000a000001610262620d00000004016b7401",
-        "ExchangeDeclare(Declare { exchange: [97], type_name: [98, 98], passive: true, durable: false, auto_delete: true, internal: true, no_wait: false, arguments: Table { pairs: [([107], Boolean(true))] } })",
+        "ExchangeDeclare(Declare { exchange: \"a\", type_name: \"bb\", passive: true, durable: false, auto_delete: true, internal: true, no_wait: false, arguments: Table { pairs: [(\"k\", Boolean(true))] } })",
     ),
     ("0028000b", "ExchangeDeclareOk(DeclareOk)"),
     (
         "002800140000016101",
-        "ExchangeDelete(Delete { exchange: [97], if_unused: true, no_wait: false })",
+        "ExchangeDelete(Delete { exchange: \"a\", if_unused: true, no_wait: false })",
     ),
     ("00280015", "ExchangeDeleteOk(DeleteOk)"),
     (
         "0028001e0000016102626201630100000004016b7401",
-        "ExchangeBind(Bind { destination: [97], source: [98, 98], routing_key: [99], no_wait: true, arguments: Table { pairs: [([107], Boolean(true))] } })",
+        "ExchangeBind(Bind { destination: \"a\", source: \"bb\", routing_key: \"c\", no_wait: true, arguments: Table { pairs: [(\"k\", Boolean(true))] } })",
     ),
     ("0028001f", "ExchangeBindOk(BindOk)"),
     (
         "002800280000016102626201630100000004016b7401",
-        "ExchangeUnbind(Unbind { destination: [97], source: [98, 98], routing_key: [99], no_wait: true, arguments: Table { pairs: [([107], Boolean(true))] } })",
+        "ExchangeUnbind(Unbind { destination: \"a\", source: \"bb\", routing_key: \"c\", no_wait: true, arguments: Table { pairs: [(\"k\", Boolean(true))] } })",
     ),
     ("00280033", "ExchangeUnbindOk(UnbindOk)"),
 ];
@@ -85,25 +85,25 @@ pub static EXCHANGE: [Sample; 8] = [
 pub static QUEUE: [Sample; 10] = [
     (
         "0032000a000001610d00000004016b7401",
-        "QueueDeclare(Declare { queue: [97], passive: true, durable: false, exclusive: true, auto_delete: true, no_wait: false, arguments: Table { pairs: [([107], Boolean(true))] } })",
+        "QueueDeclare(Declare { queue: \"a\", passive: true, durable: false, exclusive: true, auto_delete: true, no_wait: false, arguments: Table { pairs: [(\"k\", Boolean(true))] } })",
     ),
     (
         "0032000b0161f1f2f3f1f1f2f3f2",
-        "QueueDeclareOk(DeclareOk { queue: [97], message_count: 4059231217, consumer_count: 4059231218 })",
+        "QueueDeclareOk(DeclareOk { queue: \"a\", message_count: 4059231217, consumer_count: 4059231218 })",
     ),
     (
         "003200140000016102626201630100000004016b7401",
-        "QueueBind(Bind { queue: [97], exchange: [98, 98], routing_key: [99], no_wait: true, arguments: Table { pairs: [([107], Boolean(true))] } })",
+        "QueueBind(Bind { queue: \"a\", exchange: \"bb\", routing_key: \"c\", no_wait: true, arguments: Table { pairs: [(\"k\", Boolean(true))] } })",
     ),
     ("00320015", "QueueBindOk(BindOk)"),
     (
         "0032003200000161026262016300000004016b7401",
-        "QueueUnbind(Unbind { queue: [97], exchange: [98, 98], routing_key: [99], arguments: Table { pairs: [([107], Boolean(true))] } })",
+        "QueueUnbind(Unbind { queue: \"a\", exchange: \"bb\", routing_key: \"c\", arguments: Table { pairs: [(\"k\", Boolean(true))] } })",
     ),
     ("00320033", "QueueUnbindOk(UnbindOk)"),
     (
         "0032001e0000016101",
-        "QueuePurge(Purge { queue: [97], no_wait: true })",
+        "QueuePurge(Purge { queue: \"a\", no_wait: true })",
     ),
     (
         "0032001ff1f2f3f0",
@@ -111,7 +111,7 @@ pub static QUEUE: [Sample; 10] = [
     ),
     (
         "003200280000016105",
-        "QueueDelete(Delete { queue: [97], if_unused: true, if_empty: false, no_wait: true })",
+        "QueueDelete(Delete { queue: \"a\", if_unused: true, if_empty: false, no_wait: true })",
     ),
     (
         "00320029f1f2f3f0",
@@ -127,39 +127,39 @@ pub static BASIC: [Sample; 18] = [
     ("003c000b", "BasicQosOk(QosOk)"),
     (
         "003c0014000001610262620d00000004016b7401",
-        "BasicConsume(Consume { queue: [97], consumer_tag: [98, 98], no_local: true, no_ack: false, exclusive: true, no_wait: true, arguments: Table { pairs: [([107], Boolean(true))] } })",
+        "BasicConsume(Consume { queue: \"a\", consumer_tag: \"bb\", no_local: true, no_ack: false, exclusive: true, no_wait: true, arguments: Table { pairs: [(\"k\", Boolean(true))] } })",
     ),
     (
         "003c00150161",
-        "BasicConsumeOk(ConsumeOk { consumer_tag: [97] })",
+        "BasicConsumeOk(ConsumeOk { consumer_tag: \"a\" })",
     ),
     (
         "003c001e016101",
-        "BasicCancel(Cancel { consumer_tag: [97], no_wait: true })",
+        "BasicCancel(Cancel { consumer_tag: \"a\", no_wait: true })",
     ),
     (
         "003c001f0161",
-        "BasicCancelOk(CancelOk { consumer_tag: [97] })",
+        "BasicCancelOk(CancelOk { consumer_tag: \"a\" })",
     ),
     (
         "003c00280000016102626201",
-        "BasicPublish(Publish { exchange: [97], routing_key: [98, 98], mandatory: true, immediate: false })",
+        "BasicPublish(Publish { exchange: \"a\", routing_key: \"bb\", mandatory: true, immediate: false })",
     ),
     (
         "003c0032f1f00262620163026464",
-        "BasicReturn(Return { reply_code: 61936, reply_text: [98, 98], exchange: [99], routing_key: [100, 100] })",
+        "BasicReturn(Return { reply_code: 61936, reply_text: \"bb\", exchange: \"c\", routing_key: \"dd\" })",
     ),
     (
         "003c003c0161f1f2f3f4f5f6f7f1010264640165",
-        "BasicDeliver(Deliver { consumer_tag: [97], delivery_tag: 17434265340928784369, redelivered: true, exchange: [100, 100], routing_key: [101] })",
+        "BasicDeliver(Deliver { consumer_tag: \"a\", delivery_tag: 17434265340928784369, redelivered: true, exchange: \"dd\", routing_key: \"e\" })",
     ),
     (
         "003c00460000016101",
-        "BasicGet(Get { queue: [97], no_ack: true })",
+        "BasicGet(Get { queue: \"a\", no_ack: true })",
     ),
     (
         "003c0047f1f2f3f4f5f6f7f0010163026464f1f2f3f4",
-        "BasicGetOk(GetOk { delivery_tag: 17434265340928784368, redelivered: true, exchange: [99], routing_key: [100, 100], message_count: 4059231220 })",
+        "BasicGetOk(GetOk { delivery_tag: 17434265340928784368, redelivered: true, exchange: \"c\", routing_key: \"dd\", message_count: 4059231220 })",
     ),
     ("003c004800", "BasicGetEmpty(GetEmpty)"),
     (
