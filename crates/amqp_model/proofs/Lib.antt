@@ -99,3 +99,4 @@ mod OctetsInFlight
 mod EndsAgree
 mod PairExample
 mod EndsTogether
+mod Streamed

@@ -52,11 +52,14 @@ pub mod WholeMessages
 pub mod LeavingLaws
 pub mod Fitting
 pub mod FittingLaws
+pub mod Streaming
 pub mod Endpoint
+pub mod Alike
 pub mod OctetLaws
 pub mod Grown
 pub mod CarryingLaws
 pub mod Pieces
+pub mod StreamingLaws
 pub mod InTurn
 pub mod Bounds
 pub mod Traces

@@ -17,6 +17,7 @@ pub mod octets;
 pub mod one_end;
 pub mod pieces;
 pub mod replies;
+pub mod streaming;
 pub mod traces;
 pub mod two_ends;
 pub mod verdicts;
