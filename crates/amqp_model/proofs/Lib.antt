@@ -100,3 +100,7 @@ mod EndsAgree
 mod PairExample
 mod EndsTogether
 mod Streamed
+mod AlikeVerdicts
+mod AlikeEntries
+mod AlikeAsks
+mod AlikeEndpoints
