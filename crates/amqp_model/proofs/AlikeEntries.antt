@@ -144,8 +144,8 @@ entry-alike role config one others (suc n) entry a =
       phase = refl;
       agreed = refl;
       channels = λ m.
-        set-alike (m == suc n) _ _ _ _
-        (unless-alike one.phase (one.channels (suc n)) (others (suc n)) _ _ (a (suc n)) (channel-stays-alike role entry (one.channels (suc n)) (others (suc n)) (a (suc n)))) (a m);
+          set-alike (m == suc n) _ _ _ _
+          (unless-alike one.phase (one.channels (suc n)) (others (suc n)) _ _ (a (suc n)) (channel-stays-alike role entry (one.channels (suc n)) (others (suc n)) (a (suc n)))) (a m);
     }
 
 pub entries-leave-alike : EntriesLeaveAlike

@@ -104,3 +104,4 @@ mod AlikeVerdicts
 mod AlikeEntries
 mod AlikeAsks
 mod AlikeEndpoints
+mod Lending

@@ -93,7 +93,7 @@ pub data LentEvent : Type 0 where
   Other : Event → LentEvent
 
 -- a frame that is part of a message: what is lent of it, and whether a content is whole with it
-abbrev part_lent : (number : ℕ) → Reading → (whole : Bool) → Option LentEvent
+abbrev pub part_lent : (number : ℕ) → Reading → (whole : Bool) → Option LentEvent
 part_lent number (Calls method) whole = Some (Begins number method)
 part_lent number (HeaderOf size properties) whole = Some (Heads number size properties whole)
 part_lent number (BodyOf octets) whole = Some (Part number octets whole)

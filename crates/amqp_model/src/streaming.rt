@@ -7,6 +7,8 @@
 
 ghost use Rattle.amqp_model.specs.StreamingLaws.{AlikeIsEquality, AnswersAlike, AskingLeavesAlike, AsksAlike, CameIsKept, EachFrameLends, EachIsGathered, EntriesLeaveAlike, FeedsAlike, GathersAlike, KeptIsCame, LastIsWhole, PutsAlike, PuttingLeavesAlike, RemainsAlike, StepsAlike, StreamFeedFollows, TakingLeavesAlike, VerdictsAlike, WholeIsCame, WritingLeavesAlike};
 
+use crate::octets::octets_follow;
+
 /// What is kept of a content that is lent is what is known of the gathered one, after any payloads: as many octets have
 /// come as are gathered.
 pub fn contents_are_streamed()
@@ -49,7 +51,9 @@ pub fn alike_endpoints_stay_alike()
 /// An endpoint that lends goes on to stand for the history of one that gathers.
 pub fn lending_follows()
     ensures { StreamFeedFollows }
-{}
+{
+    octets_follow();
+}
 
 /// Each frame that is taken without a fault lends one event, and the last frame of a content the last octets of its body.
 pub fn each_frame_lends()
