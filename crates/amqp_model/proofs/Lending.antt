@@ -1,5 +1,5 @@
 -- What is lent of a frame.
-use Rattle.std.proofs.Common.{◌≡◌, Bool, true, false, cond, not, ◌&&◌, ◌||◌, nat_lt, nat_le, ℕ, ◌==◌, List, [], ◌∷◌, length, Option, Some, None, refl, sym, ap, ◌∙◌, subst}
+use Rattle.std.proofs.Common.{◌≡◌, Bool, true, false, cond, not, ◌&&◌, nat_lt, nat_le, ℕ, ◌==◌, List, [], ◌∷◌, length, Option, Some, None, refl, ap, subst}
 use Rattle.amqp_method.specs.declared.kinds.Kind.TheVariants as kinds
 use Rattle.amqp_model.specs.Notes.{Role, Client, Server, is_client, Kind, Open, OpenOk, Close, CloseOk, Flow, FlowOk, Other}
 use Rattle.amqp_model.specs.States.{State}
@@ -7,14 +7,14 @@ use Rattle.amqp_model.specs.Verdict as lives
 use Rattle.amqp_model.specs.Verdict.{verdict_at}
 use Rattle.amqp_model.specs.Methods.{Method, MethodKind, class_of, same_kind, sends, carries_content, is_request, is_reply}
 use Rattle.amqp_model.specs.Contents.{Content}
-use Rattle.amqp_model.specs.Gathering.{Gathering, Nothing, HeaderDue, BodyDue, Misfit, PastSize, Step, Keeps, Completes, Breaks, step}
+use Rattle.amqp_model.specs.Gathering.{Gathering, Nothing, HeaderDue, BodyDue, PastSize, Step, Keeps, Completes, Breaks, step}
 use Rattle.amqp_model.specs.Readings.{Reading, Calls, UnknownMethod, MalformedMethod, HeaderOf, MalformedHeader, BodyOf, Beat, is_call, kind_of, payload_of}
 use Rattle.amqp_model.specs.Channels as channels
 use Rattle.amqp_model.specs.Channels.{Life, Channel, Free, Opening, Closing, Phase, Handshake, Running, Closed, Failed, HandshakeStep, AwaitsProtocolHeader, AwaitsStart, AwaitsStartOk, AwaitsTune, AwaitsTuneOk, AwaitsOpen, AwaitsOpenOk, Agreed}
 use Rattle.amqp_model.specs.Negotiation.{Config, tunes_too_small, agreed_in, in_range}
 use Rattle.amqp_model.specs.Closes.{ChannelError, Owed}
-use Rattle.amqp_model.specs.Events.{Event, Negotiated, Opened, Told, FlowOk as FlowOkEvent, Flow as FlowEvent, ChannelClosed, ConnectionClosed, Discarded, Blocked, Unblocked, Quiet, Message, Plain, Whole, FrameVerdict, Proceeds, RefusesContent, Faults}
-use Rattle.amqp_model.specs.FrameVerdict.{Facts, fault, MOST_REQUESTS, first_of, leaving_on, when_over, when_leaving, when_heartbeat, as_lives, lives_verdict, awaits_in, when_closing, when_unread, closed_by, negotiated, is_awaited, on_awaited, in_step, in_handshake, when_handshake, is_no_channel, after_part, on_part, part_on, on_content, when_content, on_connection, when_connection, when_misdirected, when_no_channel, on_message, answers_first, on_matched, on_idle, is_gathering, on_open, by_state, on_method, on_rest, verdict_on}
+use Rattle.amqp_model.specs.Events.{Event, Told, Plain, Whole, FrameVerdict, Proceeds}
+use Rattle.amqp_model.specs.FrameVerdict.{Facts, fault, MOST_REQUESTS, first_of, when_over, when_leaving, when_heartbeat, as_lives, when_closing, when_unread, negotiated, is_awaited, on_awaited, when_handshake, is_no_channel, after_part, on_part, part_on, when_content, when_connection, when_misdirected, when_no_channel, on_message, answers_first, on_matched, on_idle, is_gathering, on_open, by_state, on_method, on_rest, verdict_on}
 use Rattle.amqp_model.specs.Alike.{maybe_telling, lent, LentEvent, Begins, Heads, Part, WithoutContent}
 use Rattle.amqp_model.specs.Alike as alike
 use Rattle.amqp_model.specs.StreamingLaws.{EachFrameLends, LastIsWhole, LendsOne, LendsLast}

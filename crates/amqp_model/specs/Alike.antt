@@ -1,7 +1,7 @@
 -- Ends that are alike: they keep the same but for the contents under way, which are compared by `streamed`. An end that
 -- lends the octets of a content as they come keeps no more of it, so it is alike to one that gathers whole contents.
-use Rattle.std.specs.Prelude.{◌≡◌, ⊤, Bool, true, false, ℕ, List, Option, Some, None}
-use Rattle.amqp_model.specs.Methods.{MethodKind, Method, Properties}
+use Rattle.std.specs.Prelude.{◌≡◌, Bool, true, false, ℕ, List, Option, Some, None}
+use Rattle.amqp_model.specs.Methods.{Method, Properties}
 use Rattle.amqp_model.specs.Readings.{Reading, Calls, HeaderOf, BodyOf}
 use Rattle.amqp_model.specs.Streaming.{streamed}
 use Rattle.amqp_model.specs.Channels.{Life, Channel, Free, Opening, Closing, Open, End}
@@ -83,8 +83,8 @@ pub record AlikeFeedings (one other : Feeding) : Type 0 where
 
 -- What an end tells that lends: each frame of a message as it comes.
 
--- A method without content; the method that begins a content; its header, and whether the content is whole with it; a part of
--- its body, and whether it is the last; and every other event as it is.
+-- A method without content; the method that begins a content; its header, and whether the content is whole with it; a
+-- part of its body, and whether it is the last; and every other event as it is.
 pub data LentEvent : Type 0 where
   WithoutContent : (channel : ℕ) → Method → LentEvent
   Begins : (channel : ℕ) → Method → LentEvent
@@ -99,8 +99,8 @@ part_lent number (HeaderOf size properties) whole = Some (Heads number size prop
 part_lent number (BodyOf octets) whole = Some (Part number octets whole)
 part_lent number reading whole = None
 
--- What is lent of a frame that says this, where so much is told of it: a content's frames tell nothing but the last, which
--- tells the whole.
+-- What is lent of a frame that says this, where so much is told of it: a content's frames tell nothing but the last,
+-- which tells the whole.
 abbrev pub lent : (number : ℕ) → Reading → Option Telling → Option LentEvent
 lent number reading None = part_lent number reading false
 lent number reading (Some (TellsWhole channel)) = part_lent number reading true

@@ -7,8 +7,8 @@ use Rattle.amqp_model.specs.Methods.{MethodKind, Method, carries_content}
 use Rattle.amqp_model.specs.Contents.{Payload, Calls, Header, Body, Unread}
 use Rattle.amqp_model.specs.Gathering.{Gathering, Nothing, HeaderDue, BodyDue, Misfit, NothingBegun, HeaderAwaited, BodyAwaited, PastSize, MethodInside, NotRead, Step, Keeps, Completes, Breaks}
 
--- Nothing is under way; or a method of this kind was taken, and the header is due; or the header was taken too, and of a
--- body of so many octets so many have come.
+-- Nothing is under way; or a method of this kind was taken, and the header is due; or the header was taken too, and of
+-- a body of so many octets so many have come.
 pub data Streaming : Type 0 where
   NoContent : Streaming
   AwaitsHeader : (kind : MethodKind) → Streaming
@@ -26,7 +26,9 @@ stream_begun method = cond (carries_content method) (AwaitsHeader method.kind) N
 
 -- so many octets of a body of this size have come: it is whole, or more is due, or they are too many
 abbrev pub stream_came : (kind : MethodKind) → (size came : ℕ) → Streams
-stream_came kind size came = cond (came == size) (Ends kind) (cond (nat_lt came size) (GoesOn (AwaitsBody kind size came)) (Stops PastSize))
+stream_came kind size came =
+    cond (came == size) (Ends kind)
+    (cond (nat_lt came size) (GoesOn (AwaitsBody kind size came)) (Stops PastSize))
 
 -- what a payload does where such is kept
 abbrev pub stream_step : Streaming → Payload → Streams

@@ -1,5 +1,5 @@
--- What holds of contents that are lent, of ends that are alike, and of what an end tells that lends: the statements that the
--- public laws carry.
+-- What holds of contents that are lent, of ends that are alike, and of what an end tells that lends: the statements of
+-- the public laws.
 use Rattle.std.specs.Prelude.{◌≡◌, ℕ, List, ◌++◌, length, Option, Some, All}
 use Rattle.amqp_model.specs.Frame.{Frame}
 use Rattle.amqp_model.specs.Notes.{Role}
@@ -11,7 +11,7 @@ use Rattle.amqp_model.specs.Histories.{ChannelEntry, History}
 use Rattle.amqp_model.specs.Channels.{Life, Channel, Open, End}
 use Rattle.amqp_model.specs.Negotiation.{Config}
 use Rattle.amqp_model.specs.Closes.{Owed}
-use Rattle.amqp_model.specs.Events.{Event, Told, Whole, FrameVerdict, Proceeds}
+use Rattle.amqp_model.specs.Events.{Event, Told, Whole, Proceeds}
 use Rattle.amqp_model.specs.FrameVerdict.{Facts, verdict_on, methods_put}
 use Rattle.amqp_model.specs.Asks.{Ask, ask_verdict}
 use Rattle.amqp_model.specs.Answers.{channel_state, reply_due}
@@ -26,13 +26,16 @@ use Rattle.amqp_model.specs.Alike.{AlikeEnds, AlikeEndpoints, AlikeFeedings, may
 
 -- a payload does the same to what is kept of a content, whether its octets are gathered or lent
 abbrev pub StepsAlike : Type 0
-StepsAlike = (gathering : Gathering) (payload : Payload) → stream_step (streamed gathering) payload ≡ streamed_step (step gathering payload)
+StepsAlike =
+    (gathering : Gathering) (payload : Payload)
+    → stream_step (streamed gathering) payload ≡ streamed_step (step gathering payload)
 
 -- and leaves the same
 abbrev pub RemainsAlike : Type 0
 RemainsAlike =
     (gathering : Gathering) (payload : Payload)
-    → stream_remains (stream_step (streamed gathering) payload) payload ≡ streamed (remains (step gathering payload) payload)
+    → stream_remains (stream_step (streamed gathering) payload) payload
+    ≡ streamed (remains (step gathering payload) payload)
 
 -- so after any payloads as much is known
 abbrev pub GathersAlike : Type 0
@@ -51,7 +54,8 @@ WholeIsCame =
 -- one that goes on has them so far, where any were there before
 abbrev pub KeptIsCame : Type 0
 KeptIsCame =
-    (gathering next : Gathering) (payload : Payload) → step gathering payload ≡ Keeps next → kept next ≡ kept gathering ++ octets_of payload
+    (gathering next : Gathering) (payload : Payload)
+    → step gathering payload ≡ Keeps next → kept next ≡ kept gathering ++ octets_of payload
 
 -- whatever is known of a content under way, there is one of which as much is known
 abbrev pub EachIsGathered : Type 0
@@ -63,13 +67,15 @@ EachIsGathered = (streaming : Streaming) → streamed (gathered_as streaming) �
 pub record AlikeIsEquality : Type 0 where
   pub itself : (endpoint : Endpoint) → AlikeEndpoints endpoint endpoint
   pub both_ways : (one other : Endpoint) → AlikeEndpoints one other → AlikeEndpoints other one
-  pub onwards : (one other third : Endpoint) → AlikeEndpoints one other → AlikeEndpoints other third → AlikeEndpoints one third
+  pub onwards :
+      (one other third : Endpoint) → AlikeEndpoints one other → AlikeEndpoints other third → AlikeEndpoints one third
 
 -- alike ends have the same verdict on a frame, but for the content that it tells
 abbrev pub VerdictsAlike : Type 0
 VerdictsAlike =
     (role : Role) (config : Config role) (one other : End) (number : ℕ) (reading : Reading) → AlikeEnds one other
-    → verdict_telling (taken_verdict config one number reading) ≡ verdict_telling (taken_verdict config other number reading)
+    → verdict_telling (taken_verdict config one number reading)
+    ≡ verdict_telling (taken_verdict config other number reading)
 
 -- and put the same
 abbrev pub PutsAlike : Type 0
@@ -104,7 +110,9 @@ FeedsAlike =
 
 -- an ask has the same answer
 abbrev pub AsksAlike : Type 0
-AsksAlike = (role : Role) (one other : End) (ask : Ask) → AlikeEnds one other → ask_verdict role one ask ≡ ask_verdict role other ask
+AsksAlike =
+    (role : Role) (one other : End) (ask : Ask)
+    → AlikeEnds one other → ask_verdict role one ask ≡ ask_verdict role other ask
 
 -- and leaves them alike
 abbrev pub AskingLeavesAlike : Type 0
@@ -128,14 +136,16 @@ AnswersAlike = (one other : End) (number : ℕ) → AlikeEnds one other → Same
 -- What an end stands for that lends.
 
 -- it is alike to one that gathers whole contents and stands for the history
-pub record StreamStandsFor (role : Role) (config : Config role) (endpoint : Endpoint) (history : History) (fed written : List ℕ) : Type 0 where
+pub record StreamStandsFor (role : Role) (config : Config role) (endpoint : Endpoint)
+    (history : History) (fed written : List ℕ) : Type 0 where
   pub gathers : Endpoint
   pub stands : EndpointStandsFor role config gathers history fed written
   pub alike : AlikeEndpoints gathers endpoint
 
 -- A piece is fed to it. What an end that gathers tells of the piece it tells too, but for a content, and the history
 -- that follows is that one's.
-pub record StreamFollows (role : Role) (config : Config role) (endpoint : Endpoint) (history : History) (fed written piece : List ℕ) (new : Feeding) : Type 0 where
+pub record StreamFollows (role : Role) (config : Config role) (endpoint : Endpoint)
+    (history : History) (fed written piece : List ℕ) (new : Feeding) : Type 0 where
   pub gathers : Endpoint
   pub stands : EndpointStandsFor role config gathers history fed written
   pub follows : Follows role config gathers history fed written piece (after_feed role config gathers piece)
@@ -159,8 +169,8 @@ EachFrameLends =
     (role : Role) (facts : Facts role) (reading : Reading) (event : Option Event) (owed : List Owed)
     → verdict_on facts reading ≡ Proceeds event owed → LendsOne facts.number reading event
 
--- The frame is the last of this content, which was under way on the channel: its body is what had come, with the octets that
--- are lent of the frame.
+-- The frame is the last of this content, which was under way on the channel: its body is what had come, with the octets
+-- that are lent of the frame.
 pub record LendsLast (reading : Reading) (channel : Channel) (content : Content) : Type 0 where
   pub life : Life
   pub was_open : channel ≡ Open life
@@ -170,4 +180,5 @@ pub record LendsLast (reading : Reading) (channel : Channel) (content : Content)
 abbrev pub LastIsWhole : Type 0
 LastIsWhole =
     (role : Role) (facts : Facts role) (reading : Reading) (number : ℕ) (content : Content) (owed : List Owed)
-    → verdict_on facts reading ≡ Proceeds (Some (Told number (Whole content))) owed → LendsLast reading facts.channel content
+    → verdict_on facts reading ≡ Proceeds (Some (Told number (Whole content))) owed
+    → LendsLast reading facts.channel content

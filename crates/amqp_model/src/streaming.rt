@@ -1,9 +1,10 @@
 //! Contents whose octets are lent as they come.
 //!
-//! An end that gathers contents keeps a method, properties and octets, and tells the whole. An end that lends tells each
-//! frame of a content as it comes, and keeps only how far the content has come: `Streaming`. These laws say that it needs no
-//! more. Ends that differ only in what is kept of contents are `AlikeEnds`: they do the same with every frame, ask and write,
-//! but for the content told, and stay alike. So what holds of an end that gathers holds of one that lends.
+//! An end that gathers contents keeps a method, properties and octets, and tells the whole. An end that lends tells
+//! each frame of a content as it comes, and keeps only how far the content has come: `Streaming`. These laws say that
+//! it needs no more. Ends that differ only in what they keep of contents are `AlikeEnds`: they do the same with every
+//! frame, ask and write, but for the content told, and stay alike. So an end that lends stands for the histories of
+//! one that gathers.
 
 ghost use Rattle.amqp_model.specs.StreamingLaws.{AlikeIsEquality, AnswersAlike, AskingLeavesAlike, AsksAlike, CameIsKept, EachFrameLends, EachIsGathered, EntriesLeaveAlike, FeedsAlike, GathersAlike, KeptIsCame, LastIsWhole, PutsAlike, PuttingLeavesAlike, RemainsAlike, StepsAlike, StreamFeedFollows, TakingLeavesAlike, VerdictsAlike, WholeIsCame, WritingLeavesAlike};
 
@@ -40,7 +41,8 @@ pub fn alike_ends_ask_alike()
     ensures queries { AnswersAlike }
 {}
 
-/// Alike endpoints stay alike after a piece, an ask and a write, and a piece comes to the same, but for the content told.
+/// Alike endpoints stay alike after a piece, an ask and a write, and a piece comes to the same, but for the content
+/// told.
 pub fn alike_endpoints_stay_alike()
     ensures equality { AlikeIsEquality }
     ensures fed { FeedsAlike }
@@ -55,7 +57,8 @@ pub fn lending_follows()
     octets_follow();
 }
 
-/// Each frame that is taken without a fault lends one event, and the last frame of a content the last octets of its body.
+/// Each frame that is taken without a fault lends one event. The last frame of a content lends the last octets of its
+/// body.
 pub fn each_frame_lends()
     ensures one { EachFrameLends }
     ensures last { LastIsWhole }
