@@ -5,7 +5,6 @@ use Rattle.std.proofs.lemmas.List.{append_cancel_left}
 use Rattle.amqp_model.specs.Frame.{Frame}
 use Rattle.amqp_model.specs.Notes.{Role, Client, Server}
 use Rattle.amqp_model.specs.Arrangement.{on}
-use Rattle.amqp_model.specs.Methods.{Method}
 use Rattle.amqp_model.specs.Histories.{History}
 use Rattle.amqp_model.specs.Channels.{HandshakeStep, Phase, Handshake, Running, Closed, Failed, Agreed}
 use Rattle.amqp_model.specs.Negotiation.{Config}
@@ -23,7 +22,7 @@ use Rattle.amqp_model.proofs.Together.{Word, said, spoken, AllRead, both_settle,
 use Rattle.amqp_model.proofs.Hearing.{is_shut, shakes_hands}
 use Rattle.amqp_model.proofs.BothEnds.{TogetherAs, hears-as, mine_of, theirs_of, Joined, turned, pair-joined}
 
-module _ (reads : (method : Method) → MethodReadsBack method) where
+module _ (reads : MethodReadsBack) where
   pub joined : (role : Role) (client_config : Config Client) (server_config : Config Server) (mine theirs : History) → PairWrites role client_config server_config mine theirs → Joined role client_config server_config mine theirs
   joined Client client_config server_config mine theirs p = pair-joined client_config server_config p.client_writes p.server_writes (all-reads-back reads Client client_config p.client_writes) (all-reads-back reads Server server_config p.server_writes) mine theirs p.pair
   joined Server client_config server_config mine theirs p = turned client_config server_config theirs mine (pair-joined client_config server_config p.client_writes p.server_writes (all-reads-back reads Client client_config p.client_writes) (all-reads-back reads Server server_config p.server_writes) theirs mine p.pair)
@@ -59,19 +58,19 @@ settling : (role : Role) (client_config : Config Client) (server_config : Config
 settling Client client_config server_config mine theirs due sent together = client-settling client_config server_config together
 settling Server client_config server_config mine theirs due sent together = server-settling client_config server_config together
 
-settling-of : (reads : (method : Method) → MethodReadsBack method) (role : Role) (client_config : Config Client) (server_config : Config Server) (mine theirs : History) → PairWrites role client_config server_config mine theirs → Settling (smaller_limits client_config server_config) (footing_of (end_in role client_config server_config mine))
+settling-of : (reads : MethodReadsBack) (role : Role) (client_config : Config Client) (server_config : Config Server) (mine theirs : History) → PairWrites role client_config server_config mine theirs → Settling (smaller_limits client_config server_config) (footing_of (end_in role client_config server_config mine))
 settling-of reads role client_config server_config mine theirs p =
     let j = joined reads role client_config server_config mine theirs p in
     subst (λ a. Settling a (footing_of (end_in role client_config server_config mine))) (settled-smaller client_config server_config p.server_writes) (settling role client_config server_config (footing_of (mine_of role client_config server_config mine)) (footing_of (theirs_of role client_config server_config theirs)) j.due j.sent j.together)
 
-pub agrees-on-smaller : (reads : (method : Method) → MethodReadsBack method) (role : Role) (client_config : Config Client) (server_config : Config Server) (mine theirs : History) (agreed : Agreed) → AgreesOnSmaller role client_config server_config mine theirs agreed
+pub agrees-on-smaller : (reads : MethodReadsBack) → AgreesOnSmaller
 agrees-on-smaller reads role client_config server_config mine theirs agreed p e = cases (settling-of reads role client_config server_config mine theirs p)
   where
     cases : Settling (smaller_limits client_config server_config) (footing_of (end_in role client_config server_config mine)) → agreed ≡ smaller_limits client_config server_config
     cases (inl s) = absurd (let h : None ≡ Some agreed = sym s.0 ∙ e in cc)
     cases (inr s) = let h : Some agreed ≡ Some (smaller_limits client_config server_config) = sym e ∙ s in cc
 
-pub agrees-past-handshake : (reads : (method : Method) → MethodReadsBack method) (role : Role) (client_config : Config Client) (server_config : Config Server) (mine theirs : History) → AgreesPastHandshake role client_config server_config mine theirs
+pub agrees-past-handshake : (reads : MethodReadsBack) → AgreesPastHandshake
 agrees-past-handshake reads role client_config server_config mine theirs p past = cases (settling-of reads role client_config server_config mine theirs p)
   where
     step-of : (phase : Phase) → shakes_hands phase ≡ true → (step : HandshakeStep) × (phase ≡ Handshake step)
@@ -96,7 +95,7 @@ zero-next role client_config server_config client_writes server_writes mine thei
     subst (λ f. GoesOnWith role client_config server_config mine f) same
     (record { in_phase = h.hears.takes; goes = ap (λ r. goes_on (verdict_on (facts_at (config_of role client_config server_config) (end_in role client_config server_config mine) 0) r)) (reads-back 0 (said word) read.0) ∙ h.hears.goes })
 
-pub goes-on-at-zero : (reads : (method : Method) → MethodReadsBack method) (role : Role) (client_config : Config Client) (server_config : Config Server) (mine theirs : History) (frame : Frame) → GoesOnAtZero role client_config server_config mine theirs frame
+pub goes-on-at-zero : (reads : MethodReadsBack) → GoesOnAtZero
 goes-on-at-zero reads role client_config server_config mine theirs frame p next here =
     let j = joined reads role client_config server_config mine theirs p in
     let there = subst (λ c. on c (frames_put theirs) ≡ on c (frames_taken mine) ++ frame ∷ next.later) here next.next in
@@ -128,7 +127,7 @@ none-before : (xs : List Frame) (frame : Frame) (later : List Frame) → [] ≡ 
 none-before [] frame later e = cc
 none-before (x ∷ xs) frame later e = cc
 
-pub runs-where-next-is-above : (reads : (method : Method) → MethodReadsBack method) (role : Role) (client_config : Config Client) (server_config : Config Server) (mine theirs : History) (frame : Frame) → RunsWhereNextIsAbove role client_config server_config mine theirs frame
+pub runs-where-next-is-above : (reads : MethodReadsBack) → RunsWhereNextIsAbove
 runs-where-next-is-above reads role client_config server_config mine theirs frame p next above = by-channel frame.channel refl
   where
     j : Joined role client_config server_config mine theirs
@@ -160,7 +159,7 @@ none-due : (role : Role) (client_config : Config Client) (server_config : Config
 none-due Client client_config server_config mine theirs due sent together e = client-over client_config server_config together e
 none-due Server client_config server_config mine theirs due sent together e = server-over client_config server_config together e
 
-pub closed-has-taken-all : (reads : (method : Method) → MethodReadsBack method) (role : Role) (client_config : Config Client) (server_config : Config Server) (mine theirs : History) (channel : ℕ) → ClosedHasTakenAll role client_config server_config mine theirs channel
+pub closed-has-taken-all : (reads : MethodReadsBack) → ClosedHasTakenAll
 closed-has-taken-all reads role client_config server_config mine theirs zero p e =
     let j = joined reads role client_config server_config mine theirs p in
     let none = none-due role client_config server_config (footing_of (mine_of role client_config server_config mine)) (footing_of (theirs_of role client_config server_config theirs)) j.due j.sent j.together (ap is_shut e) in

@@ -34,7 +34,7 @@ state-is-of-notes role config end history n stands takes within =
     by-phase Closed e = absurd (true≢false (sym e))
     by-phase Failed e = absurd (true≢false (sym e))
 
-pub closed-is-free : (end : End) (n : ℕ) → ClosedIsFree end n
+pub closed-is-free : ClosedIsFree
 closed-is-free end n e = ap (λ phase. cond ((n == 0) || nat_lt (channel_max end.agreed) n) State.Free (state_in phase (end.channels n))) e ∙ always ((n == 0) || nat_lt (channel_max end.agreed) n)
   where
     always : (b : Bool) → cond b State.Free State.Free ≡ State.Free
@@ -58,7 +58,7 @@ pub none-is-gathered : (role : Role) (config : Config role) (end : End) (history
 none-is-gathered role config end history n life stands runs opened none =
     content-is role config end history n life stands runs opened ∙ ap (λ content. length (kept content)) ((keeps-under_way (taken_on (suc n) history) Nothing).1 none)
 
-pub only-open-gathers : (end : End) (n : ℕ) → OnlyOpenGathers end n
+pub only-open-gathers : OnlyOpenGathers
 only-open-gathers end n some = cases end.phase refl (end.channels n) refl some
   where
     cases : (phase : Phase) → end.phase ≡ phase → (channel : Channel) → end.channels n ≡ channel → length (kept_in phase channel) ≢ 0 → (life : Life) × (end.phase ≡ Running) × (end.channels n ≡ channels.Open life)
@@ -71,7 +71,7 @@ only-open-gathers end n some = cases end.phase refl (end.channels n) refl some
     cases Closed p channel c some = absurd (some refl)
     cases Failed p channel c some = absurd (some refl)
 
-pub only-open-is-due : (end : End) (n : ℕ) → OnlyOpenIsDue end n
+pub only-open-is-due : OnlyOpenIsDue
 only-open-is-due end n some = cases end.phase refl (end.channels n) refl some
   where
     by-channel : takes_octets end.phase ≡ true → (channel : Channel) → end.channels n ≡ channel → due_by channel ≢ None → (life : Life) × (takes_octets end.phase ≡ true) × (end.channels n ≡ channels.Open life)

@@ -169,5 +169,5 @@ module _ (P : (role : Role) → Config role → End → History → Type 0) (k :
       let parts = accepted-none (refusal role end ask) (frames_asked end ask) frames e in
       subst (λ frames. P role config (end_after_put role config frames end) (then_put frames history)) parts.1 (ask-follows role config end history ask stands back (accepted role end ask parts.0))
 
-pub asks-follow : (role : Role) (config : Config role) (end : End) (history : History) (ask : Ask) (frames : List Frame) → AskFollows role config end history ask frames
+pub asks-follow : AskFollows
 asks-follow = ask-kept Stands stands-kept.puts

@@ -364,7 +364,7 @@ ask-acts role config history (Ask.Close code text) n theirs writes made a = leav
 ask-acts role config history (Ask.Blocked reason) n theirs writes made a = zero-acts role theirs history n (record { kind = kinds.ConnectionBlocked; args = short_string reason ∷ [] }) writes refl
 ask-acts role config history Ask.Unblocked n theirs writes made a = zero-acts role theirs history n (without_arguments kinds.ConnectionUnblocked) writes refl
 
-pub asks-act : (role : Role) (config : Config role) (history : History) (ask : Ask) (frames : List Frame) (n : ℕ) (theirs : List Note) → AsksActs role config history ask frames n theirs
+pub asks-act : AsksActs
 asks-act role config history ask frames n theirs writes made e =
     let parts = accepted-none (refusal role (end_from role config false history) ask) (frames_asked (end_from role config false history) ask) frames e in
     subst (λ frames. ActsOn role theirs (notes (entries_on (suc n) history)) (notes (entries_on (suc n) (then_put frames history)))) parts.1 (ask-acts role config history ask n theirs writes made (accepted role (end_from role config false history) ask parts.0))

@@ -37,7 +37,7 @@ use Rattle.amqp_model.proofs.Going.{running, method-goes, not-inside}
 use Rattle.amqp_model.proofs.TurnLemmas.{no-message-asks}
 use Rattle.amqp_model.proofs.Walking.{is_none, may_ask_here, quiet-asks, MayPut, stands-kept}
 
-pub new-within : (role : Role) (config : Config role) → NewIsWithin role config
+pub new-within : NewIsWithin
 new-within role config n = tt
 
 -- A frame put.
@@ -337,7 +337,7 @@ lawful-within role config failed history e back at_start = subst (EndIsWithin ro
 lawful-within role config failed history e back (goes {before = before} {taken = taken} lawful step) =
     goes-within role config before taken failed history e back (lawful-walks role config false before refl back lawful).stands (lawful-within role config false before refl back lawful) step
 
-pub stands-within : (role : Role) (config : Config role) (end : End) (history : History) → StandsWithin role config end history
+pub stands-within : StandsWithin
 stands-within role config end history back lawful stands = subst (EndIsWithin role config) (end-stands role config end history stands) (lawful-within role config false history refl back lawful)
 
 pub gathered-within : (role : Role) (config : Config role) (end : End) (n : ℕ) → GatheredIsWithin role config end n

@@ -57,7 +57,7 @@ takes-carried channel (Put frame ∷ before) = cases (frame.channel == channel) 
     cases false true = refl
     cases false false = refl
 
-pub notes-of-frames : (channel : ℕ) (history : History) → NotesAreOfFrames channel history
+pub notes-of-frames : NotesAreOfFrames
 notes-of-frames channel history = (puts-carried channel history, takes-carried channel history)
 
 -- the frames of what is carried are the frames
@@ -65,7 +65,7 @@ frames-again : (frames : List Frame) → frames ≡ map frame_carried (map as_ca
 frames-again [] = refl
 frames-again (f ∷ frames) = ap (λ l. f ∷ l) (frames-again frames)
 
-pub frames-of-channel : (channel : ℕ) (history : History) → FramesAreOfChannel channel history
+pub frames-of-channel : FramesAreOfChannel
 frames-of-channel channel history = (
   frames-again (on channel (frames_put history)) ∙ ap (map frame_carried) (sym (puts-carried channel history)),
   frames-again (on channel (frames_taken history)) ∙ ap (map frame_carried) (sym (takes-carried channel history)),
@@ -104,7 +104,7 @@ taken-first role departing put fed unfinished rest history put_is fit whole fed_
 on-prefix : (channel : ℕ) (prefix whole : List Frame) → IsPrefixOf prefix whole → IsPrefixOf (on channel prefix) (on channel whole)
 on-prefix channel prefix whole f = (on channel f.0, ap (on channel) f.1 ∙ filter-append (λ g. g.channel == channel) prefix f.0)
 
-pub takes-prefix : (role : Role) (limit : ℕ) (mine theirs : History) (put fed unfinished rest : List ℕ) → TakesPrefixOnEach role limit mine theirs put fed unfinished rest
+pub takes-prefix : TakesPrefixOnEach
 takes-prefix role limit mine theirs put fed unfinished rest carries channel = go carries.fed_as
   where
     go : FedAs role limit mine fed unfinished → IsPrefixOf (on channel (frames_taken mine)) (on channel (frames_put theirs))
@@ -164,7 +164,7 @@ leaving-elsewhere n f after leaving =
     let zero_is = eqb-true f.channel 0 (and_parts (f.channel == 0) _ leaving).0 in
     cond-false (f.channel == suc n) _ _ (ne_eqb f.channel (suc n) (λ e. let h : 0 ≡ suc n = sym zero_is ∙ e in absurd (omega arith)))
 
-pub completed-comes-next : (role : Role) (limit : ℕ) (mine theirs : History) (put fed unfinished rest : List ℕ) → CompletedComesNext role limit mine theirs put fed unfinished rest
+pub completed-comes-next : CompletedComesNext
 completed-comes-next role limit mine theirs put fed unfinished rest f prefix later carries rest_is whole fits = record { later = on f.channel there.0; next = sym (p.each_channel f.channel) ∙ order; at_leaving = all }
   where
     p : PutAs (opening_read role) put (frames_put theirs)

@@ -80,5 +80,5 @@ nothing_since role life (Put kind frame ∷ later) before = nothing_since role l
 nothing_since role life (Took kind frame ∷ later) before = acted_dropped role (later ++ Leaving ∷ before) kind frame life (acts_left role (later ++ Leaving ∷ before) (left_since later before)) ∙ nothing_since role life later before
 nothing_since role life (Leaving ∷ later) before = nothing_since role life later before
 
-pub nothing_after_leaving : (role : Role) (mine : List Note) → ActsOnNothingAfterLeaving role mine
+pub nothing_after_leaving : ActsOnNothingAfterLeaving
 nothing_after_leaving role mine life later before e = ap (acted role life) e ∙ nothing_since role life later before

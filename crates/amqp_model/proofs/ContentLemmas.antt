@@ -74,7 +74,7 @@ content-of method properties body = record { method = method; properties = prope
 pub same-content : {method method' : Method} {properties properties' : Properties} {body body' : List ℕ} → method ≡ method' → properties ≡ properties' → body ≡ body' → content-of method properties body ≡ content-of method' properties' body'
 same-content m p b = cc
 
-pub one-content : (payloads : List Payload) → IsAtMostOneContent payloads
+pub one-content : IsAtMostOneContent
 one-content payloads one other is_one is_other =
     let e : Calls one.method ∷ Header (length one.body) one.properties ∷ map Body is_one.parts ≡ Calls other.method ∷ Header (length other.body) other.properties ∷ map Body is_other.parts = sym is_one.payloads_are ∙ is_other.payloads_are in
     let method : one.method ≡ other.method = cc in
@@ -83,7 +83,7 @@ one-content payloads one other is_one is_other =
     let body : one.body ≡ other.body = sym is_one.joined ∙ (ap concat parts ∙ is_other.joined) in
     same-content method properties body
 
-pub no-prefix : (payloads : List Payload) → NoContentAtStart payloads
+pub no-prefix : NoContentAtStart
 no-prefix payloads one other next later is_one is_other = go (bodies-prefix (map Body is_one.parts) is_other.parts next later cc)
   where
     e : Calls one.method ∷ Header (length one.body) one.properties ∷ map Body is_one.parts ++ next ∷ later ≡ Calls other.method ∷ Header (length other.body) other.properties ∷ map Body is_other.parts

@@ -6,7 +6,7 @@ use Rattle.amqp_model.specs.Frame.{Frame}
 use Rattle.amqp_model.specs.Notes.{Role, Client, Server}
 use Rattle.amqp_model.specs.Lives.{has_left}
 use Rattle.amqp_model.specs.Readings.{Reading, Calls, reading, is_call}
-use Rattle.amqp_model.specs.Histories.{Entry, Put, Took, History, ChannelEntry, PutHere, TookHere, LeftHere, closes_connection, entries_on, notes}
+use Rattle.amqp_model.specs.Histories.{Put, Took, History, ChannelEntry, PutHere, TookHere, LeftHere, closes_connection, entries_on, notes}
 use Rattle.amqp_model.specs.Channels.{Channel, Free, HandshakeStep, Phase, Handshake, Running, Closed, Failed, End}
 use Rattle.amqp_model.specs.Negotiation.{Config}
 use Rattle.amqp_model.specs.StateFromHistory.{has_put, is_closed, is_negotiated, step_from, phase_from, agreed_from}
@@ -200,7 +200,7 @@ put-above role config end history frame m e stands p may =
     here : ChannelStandsFor role (unless_leaving end.phase (end.channels (suc m)) (channel_after role (PutHere (reading frame) frame) (end.channels (suc m)))) (entries_on (suc m) (Put frame ∷ history))
     here = subst (λ q. ChannelStandsFor role (unless_leaving q (end.channels (suc m)) (channel_after role (PutHere (reading frame) frame) (end.channels (suc m)))) (entries_on (suc m) (Put frame ∷ history))) (sym p) (subst (ChannelStandsFor role (channel_after role (PutHere (reading frame) frame) (end.channels (suc m)))) (sym (seen-put frame history m e)) (follows-put role (end.channels (suc m)) (reading frame) frame (entries_on (suc m) history) (stays-here role config end history m stands p) (stands.channels refl m) may))
 
-pub end-follows : (role : Role) (config : Config role) (end : End) (history : History) (entry : Entry) → EndFollows role config end history entry
+pub end-follows : EndFollows
 end-follows role config end history (Took frame) stands g = by-channel frame.channel refl g
   where
     by-channel : (c : ℕ) → frame.channel ≡ c → goes_on (verdict_on (facts_at config end c) (reading frame)) ≡ true → StandsFor role config false (end_after role config c (TookHere (reading frame) frame) end) (Took frame ∷ history)
@@ -213,6 +213,6 @@ end-follows role config end history (Put frame) stands fits = by-channel frame.c
     by-channel (suc m) e (inl z) = absurd (let h : suc m ≡ 0 = z in omega arith)
     by-channel (suc m) e (inr fits) = put-above role config end history frame m e stands fits.0 fits.1
 
-pub new-end-stands : (role : Role) (config : Config role) → NewEndStands role config
+pub new-end-stands : NewEndStands
 new-end-stands Client config = record { phase = refl; agreed = refl; no_channel = refl; free_before = λ step p n. refl; channels = λ goes n. (refl, refl) }
 new-end-stands Server config = record { phase = refl; agreed = refl; no_channel = refl; free_before = λ step p n. refl; channels = λ goes n. (refl, refl) }

@@ -3,7 +3,6 @@ use Rattle.std.proofs.Common.{◌≡◌, ℕ, suc, [], ◌∷◌, ◌++◌, refl
 use Rattle.std.proofs.lemmas.List.{map-append}
 use Rattle.amqp_model.specs.Frame.{Frame}
 use Rattle.amqp_model.specs.Notes.{Role, Client, Server, Note}
-use Rattle.amqp_model.specs.Methods.{Method}
 use Rattle.amqp_model.specs.Readings.{reading, kind_of}
 use Rattle.amqp_model.specs.Histories.{Took, History, TookHere, note_of, seen_on, entries_on, notes}
 use Rattle.amqp_model.specs.Negotiation.{Config}
@@ -25,9 +24,9 @@ took-noted n later before frame here =
     ap notes (entries-join (suc n) later (Took frame ∷ before) ∙ ap (λ l. entries_on (suc n) later ++ l) (seen-took frame before n here))
     ∙ map-append note_of (entries_on (suc n) later) (TookHere (reading frame) frame ∷ entries_on (suc n) before)
 
-pub lives-agree : (reads : (method : Method) → MethodReadsBack method) (role : Role) (client_config : Config Client) (server_config : Config Server) (mine theirs : History) (n : ℕ) → LivesAgree role client_config server_config mine theirs n
+pub lives-agree : (reads : MethodReadsBack) (role : Role) (client_config : Config Client) (server_config : Config Server) (mine theirs : History) (n : ℕ) → LivesAgree role client_config server_config mine theirs n
 lives-agree reads role client_config server_config mine theirs n p = sides_agree role (notes_on (suc n) mine) (notes_on (suc n) theirs) (pair-runs_at role client_config server_config mine theirs n (pair-at reads role client_config server_config mine theirs p))
 
-pub no-content-from-paused : (reads : (method : Method) → MethodReadsBack method) (role : Role) (client_config : Config Client) (server_config : Config Server) (mine theirs : History) (n : ℕ) → NoContentFromPaused role client_config server_config mine theirs n
+pub no-content-from-paused : (reads : MethodReadsBack) (role : Role) (client_config : Config Client) (server_config : Config Server) (mine theirs : History) (n : ℕ) → NoContentFromPaused role client_config server_config mine theirs n
 no-content-from-paused reads role client_config server_config mine theirs n p later before frame is here content =
     no_pause role (notes_on (suc n) mine) (notes_on (suc n) theirs) (pair-runs_at role client_config server_config mine theirs n (pair-at reads role client_config server_config mine theirs p)) (notes_on (suc n) later) (kind_of (reading frame)) frame (notes_on (suc n) before) (ap (notes_on (suc n)) is ∙ took-noted n later before frame here) content

@@ -1,11 +1,10 @@
 -- Two endpoints of one connection stand together, whatever their applications ask and however their octets are cut.
-use Rattle.std.proofs.Common.{◌≡◌, ◌≤◌, ◌+◌, false, ℕ, arith, List, [], ◌++◌, take, length, Option, Some, None, refl, sym, ap, ◌∙◌, subst, length-append}
+use Rattle.std.proofs.Common.{◌≡◌, ◌≤◌, ◌+◌, false, arith, List, [], ◌++◌, take, length, Option, Some, None, refl, sym, ap, ◌∙◌, subst, length-append}
 use Rattle.std.proofs.lemmas.List.{take-append-le}
 use Rattle.amqp_model.specs.Frame.{Frame}
 use Rattle.amqp_model.specs.Notes.{Role, Client, Server, other_end}
 use Rattle.amqp_model.specs.Departures.{PutAs}
 use Rattle.amqp_model.specs.Outputs.{output_octets}
-use Rattle.amqp_model.specs.Methods.{Method}
 use Rattle.amqp_model.specs.Channels.{Agreed, End}
 use Rattle.amqp_model.specs.Negotiation.{Config}
 use Rattle.amqp_model.specs.Asks.{Ask}
@@ -13,7 +12,7 @@ use Rattle.amqp_model.specs.Fitting.{AgreedFits, IfAgreedFits}
 use Rattle.amqp_model.specs.FittingLaws.{MethodReadsBack}
 use Rattle.amqp_model.specs.Octets.{frames_put, opening_read, opening_written}
 use Rattle.amqp_model.specs.Pairs.{config_of}
-use Rattle.amqp_model.specs.Endpoint.{Endpoint, after_feed}
+use Rattle.amqp_model.specs.Endpoint.{after_feed}
 use Rattle.amqp_model.specs.OctetsInFlight.{IsFedNext}
 use Rattle.amqp_model.specs.EndsTogether.{NewStandTogether, StandTogetherTurned, CarryStandsTogether, AskStandsTogether, AskedStaysPair}
 use Rattle.amqp_model.specs.Histories.{History}
@@ -30,7 +29,7 @@ use Rattle.amqp_model.proofs.Settling.{agreed-within}
 use Rattle.amqp_model.proofs.WellPutPairs.{writes-of}
 use Rattle.amqp_model.proofs.OctetsInFlight.{finds-no-fault-with-octets, feed-stays-pair}
 
-pub new-stand-together : (role : Role) (client_config : Config Client) (server_config : Config Server) → NewStandTogether role client_config server_config
+pub new-stand-together : NewStandTogether
 new-stand-together role client_config server_config client server = record {
   my_history = [];
   their_history = [];
@@ -45,7 +44,7 @@ new-stand-together role client_config server_config client server = record {
   to_theirs = refl;
 }
 
-pub stand-together-turned : (role : Role) (client_config : Config Client) (server_config : Config Server) (mine theirs : Endpoint) → StandTogetherTurned role client_config server_config mine theirs
+pub stand-together-turned : StandTogetherTurned
 stand-together-turned Client client_config server_config mine theirs s = record {
   my_history = s.their_history;
   their_history = s.my_history;
@@ -78,7 +77,7 @@ agreed-fits : (agreed : Option Agreed) → IfAgreedFits agreed → AgreedFits ag
 agreed-fits None fits = record { channel_most = omega arith; frame_most = omega arith }
 agreed-fits (Some agreed) fits = record { channel_most = fits.channel_most; frame_most = fits.frame_most }
 
-pub ask-stands-together : (reads : (method : Method) → MethodReadsBack method) (role : Role) (client_config : Config Client) (server_config : Config Server) (mine theirs : Endpoint) (ask : Ask) (frames : List Frame) → AskStandsTogether role client_config server_config mine theirs ask frames
+pub ask-stands-together : (reads : MethodReadsBack) → AskStandsTogether
 ask-stands-together reads role client_config server_config mine theirs ask frames s back made e =
     let config = config_of role client_config server_config in
     let writes = writes-of role client_config server_config s.pair.client_writes s.pair.server_writes in
@@ -100,7 +99,7 @@ ask-stands-together reads role client_config server_config mine theirs ask frame
       to_theirs = s.to_theirs;
     }
 
-pub carry-stands-together : (reads : (method : Method) → MethodReadsBack method) (role : Role) (client_config : Config Client) (server_config : Config Server) (mine theirs : Endpoint) (piece rest : List ℕ) → CarryStandsTogether role client_config server_config mine theirs piece rest
+pub carry-stands-together : (reads : MethodReadsBack) → CarryStandsTogether
 carry-stands-together reads role client_config server_config mine theirs piece rest s output some are_octets =
     let config = config_of role client_config server_config in
     let others = config_of (other_end role) client_config server_config in

@@ -92,16 +92,16 @@ by-fault (Faults fault) end g = refl
 by-fault (Proceeds event owed) end g = absurd (true≢false g)
 by-fault RefusesContent end g = absurd (true≢false g)
 
-pub frame-fails : (role : Role) (config : Config role) (end : End) (history : History) (frame : Frame) → FrameFails role config end history frame
+pub frame-fails : FrameFails
 frame-fails role config end history frame back stands g =
     let v = verdict_on (facts_at config end frame.channel) (reading frame) in
     let s = owed-on-zero role config (methods_put (facts_at config end frame.channel) v) _ (Took frame ∷ history) (back.owed end frame.channel (reading frame)) (took-on-zero role config end history frame (on-zero role config end history stands)) in
     subst (λ after. StandsFor role config true after (then_put (map frame_of (methods_put (facts_at config end frame.channel) v)) (Took frame ∷ history))) (sym (by-fault v _ g)) (stands-failed role config _ _ s)
 
-pub too-large-fails : (role : Role) (config : Config role) (end : End) (history : History) → TooLargeFails role config end history
+pub too-large-fails : TooLargeFails
 too-large-fails role config end history back stands = stands-failed role config _ _ (owed-on-zero role config (methods_put (facts_at config end 0) (Faults (Peer FrameError))) end history (back.too_large end) (on-zero role config end history stands))
 
-pub any-fails : (role : Role) (config : Config role) (end : End) (history : History) → AnyFails role config end history
+pub any-fails : AnyFails
 any-fails role config end history stands = stands-failed role config end history (on-zero role config end history stands)
 
 pub failed-is-read : (role : Role) (config : Config role) (end next : End) (history : History) → FailedIsRead role config end next history

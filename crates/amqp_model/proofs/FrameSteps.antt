@@ -141,5 +141,5 @@ module _ (P : (role : Role) → Config role → End → History → Type 0) (k :
       by-channel (suc m) e back g taken =
           subst (λ after. P role config after (then_put (map frame_of (methods_put (facts_at config end (suc m)) (verdict_on (facts_at config end (suc m)) (reading frame)))) (Took frame ∷ history))) (sym (not-failed (verdict_on (facts_at config end (suc m)) (reading frame)) _ g)) (above-follows role config end history frame m stands taken back g end.phase refl)
 
-pub frame-follows : (role : Role) (config : Config role) (end : End) (history : History) (frame : Frame) → FrameFollows role config end history frame
+pub frame-follows : FrameFollows
 frame-follows = frame-kept Stands stands-kept

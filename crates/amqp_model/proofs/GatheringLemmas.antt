@@ -156,7 +156,7 @@ gathers-kept taken (BodyDue method size properties body) (parts, under, joined) 
     from : KeptOf taken since → gathering taken ≡ BodyDue method size properties body
     from (kept_of grows kept) = kept ∙ prefix (grown-prefix grows)
 
-pub keeps-under_way : (taken : List Payload) (state : Gathering) → KeepsUnderWay taken state
+pub keeps-under_way : KeepsUnderWay
 keeps-under_way taken state = (kept-gathers taken state, gathers-kept taken state)
 
 same-since : {since others : List Payload} {state other : Gathering} (before earlier : List Payload) → Grows since state → Grows others other → since ++ before ≡ others ++ earlier → since ≡ others
@@ -170,7 +170,7 @@ same-since before earlier (has_more _ _) (has_method _) e = absurd cc
 same-since before earlier (has_more _ _) (has_header _ _) e = absurd cc
 same-since before earlier (has_more {since = since} grows _) (has_more {since = others} grows' _) e = let rest = same-since before earlier grows grows' cc in cc
 
-pub one-under_way : (taken : List Payload) → OneUnderWay taken
+pub one-under_way : OneUnderWay
 one-under_way taken since others one other = from (under_way-grows one) (under_way-grows other)
   where
     from : Growing since → Growing others → since ≡ others
@@ -181,13 +181,13 @@ grown-octets (has_method carries) = refl
 grown-octets (has_header carries more) = refl
 grown-octets (has_more {octets = octets} grows more) = ap (λ l. l ++ octets) (grown-octets grows)
 
-pub keeps-octets : (taken since : List Payload) → KeepsItsOctets taken since
+pub keeps-octets : KeepsItsOctets
 keeps-octets taken since under = from (kept-of under)
   where
     from : KeptOf taken since → kept (gathering taken) ≡ body_octets since
     from (kept_of grows e) = ap kept e ∙ grown-octets grows
 
-pub goes-on-as-due : (taken since : List Payload) → GoesOnAsDue taken since
+pub goes-on-as-due : GoesOnAsDue
 goes-on-as-due taken since content next later under is = from (under_way-grows under)
   where
     cases : {l : List Payload} {state : Gathering} → Grows l state → ContentPrefix content l next later → IsDue (due l) next
@@ -201,9 +201,9 @@ goes-on-as-due taken since content next later under is = from (under_way-grows u
     from : Growing since → IsDue (due since) next
     from (growing grows) = cases grows (content-prefix content since next later under.begun is)
 
-pub gathers-afresh : (later before : List Payload) → GathersAfresh later before
+pub gathers-afresh : GathersAfresh
 gathers-afresh [] before none = gathers-kept before Nothing none
 gathers-afresh (payload ∷ later) before none = ap (λ state. remains (step state payload) payload) (gathers-afresh later before none)
 
-pub nothing-after_method : (before : List Payload) (method : Method) → NothingAfterMethod before method
+pub nothing-after_method : NothingAfterMethod
 nothing-after_method before method none = kept-gathers (Calls method ∷ before) Nothing (calls-remain (gathering before) method ∙ simp none)

@@ -6,7 +6,7 @@ use Rattle.amqp_frame.specs.Splitting.{stream}
 use Rattle.amqp_model.specs.Frame.{Frame}
 use Rattle.amqp_model.specs.Notes.{Role, Client, Server}
 use Rattle.amqp_model.specs.Readings.{reading}
-use Rattle.amqp_model.specs.Histories.{History, PutHere}
+use Rattle.amqp_model.specs.Histories.{PutHere}
 use Rattle.amqp_model.specs.Channels.{Phase, Handshake, Running, Closing, Closed, Failed, End}
 use Rattle.amqp_model.specs.Negotiation.{Config, frame_limit}
 use Rattle.amqp_model.specs.Events.{Fault}
@@ -34,7 +34,7 @@ none-holds role endpoint e = record {
     begins Client phase a = absurd (true≢false (sym a))
     begins Server phase a = (opening_read Server, (λ n. cc), ap (λ l. l ++ opening_read Server) (sym e))
 
-pub new-holds : (role : Role) → NewHolds role
+pub new-holds : NewHolds
 new-holds Client = none-holds Client _ refl
 new-holds Server = none-holds Server _ refl
 
@@ -132,12 +132,12 @@ ask-holds role config endpoint ask holds back = cases (refusal role endpoint.end
           of_frame = λ reads. subst (λ agreed. AreBegun (frame_limit agreed) endpoint.unfinished) (sym agreed) (holds.of_frame (running-reads role endpoint.end.phase runs));
         }
 
-pub wrote-holds : (role : Role) (endpoint : Endpoint) (n : ℕ) → WroteHolds role endpoint n
+pub wrote-holds : WroteHolds
 wrote-holds role endpoint n holds = record { of_opening = holds.of_opening; of_frame = holds.of_frame }
 
 -- An end that stands for a history.
 
-pub stands-holds : (role : Role) (config : Config role) (endpoint : Endpoint) (history : History) (fed written : List ℕ) → StandsHolds role config endpoint history fed written
+pub stands-holds : StandsHolds
 stands-holds role config endpoint history fed written s = record { of_opening = λ a. by-opening s.read a; of_frame = λ r. by-frames r }
   where
     by-opening : FedAs role (frame_limit endpoint.end.agreed) history fed endpoint.unfinished → awaits_opening role endpoint.end.phase ≡ true → IsProperPrefixOf endpoint.unfinished (opening_read role)

@@ -51,7 +51,7 @@ item-tells before payload (WholeContent content) ends = content-tells payload co
 item-tells before payload (FlowItem active) ends = method-tells before payload (FlowItem active) ends.0 (AsksFlow active) ends.1 refl
 item-tells before payload (FlowOkItem active) ends = method-tells before payload (FlowOkItem active) ends.0 (AnswersFlow active) ends.1 refl
 
-pub tells-items : (before : List Payload) (payload : Payload) (item : Item) → TellsItems before payload item
+pub tells-items : TellsItems
 tells-items before payload item = (item-ends before payload item, item-tells before payload item)
 
 encoded : (taken : List Payload) → Encodes taken (items_taken taken)
@@ -84,11 +84,11 @@ prefix-later (payload ∷ later) before = more (prefix-later later before)
     more : IsPrefixOf (items_taken before) (items_taken (later ++ before)) → IsPrefixOf (items_taken before) (items_taken (later ++ before) ++ last)
     more f = (f.0 ++ last, ap (λ l. l ++ last) f.1 ∙ append_assoc (items_taken before) f.0 last)
 
-pub items-prefix : (prefix whole : List Payload) → ItemsOfPrefix prefix whole
+pub items-prefix : ItemsOfPrefix
 items-prefix prefix whole f = subst (λ l. IsPrefixOf (items prefix) (items_taken l)) (sym (ap reverse f.1 ∙ reverse-append prefix f.0)) (prefix-later (reverse f.0) (reverse prefix))
 
 -- one more payload, by what was kept before it
-pub items-more : (prefix : List Payload) (payload : Payload) → OneMoreEncoded prefix payload
+pub items-more : OneMoreEncoded
 items-more prefix payload = ap items_taken (reverse-append prefix (payload ∷ []))
 
 -- what is under way encodes nothing yet
@@ -112,7 +112,7 @@ grown-quiet (has_more {method} {size} {properties} {body} {since} {octets} grows
     let none = ap (λ state. item_ended state (Body octets)) (grown-kept grows before) ∙ ap completed (gathered-more method size properties (body ++ octets) short) in
     quiet-more (Body octets) (since ++ before) none ∙ grown-quiet grows before
 
-pub items-unfinished : (taken since : List Payload) → UnfinishedEncodesNothing taken since
+pub items-unfinished : UnfinishedEncodesNothing
 items-unfinished taken since under = from (under_way-grows under)
   where
     from : Growing since → items_taken taken ≡ items_taken under.before
@@ -141,7 +141,7 @@ content-after before payloads content is = go (reverse payloads) refl
         from : Growing since → items_taken (newest ∷ (since ++ before)) ≡ items_taken before ++ WholeContent content ∷ []
         from (growing grows) = ap (λ o. items_taken (since ++ before) ++ option_to_list o) (item-tells (since ++ before) newest (WholeContent content) ends) ∙ ap (λ l. l ++ WholeContent content ∷ []) (grown-quiet grows before)
 
-pub items-content : (prefix payloads : List Payload) (content : Content) → ContentEncodedAfter prefix payloads content
+pub items-content : ContentEncodedAfter
 items-content prefix payloads content is = ap items_taken (reverse-append prefix payloads) ∙ content-after (reverse prefix) payloads content is
 
 items-afresh : (later before : List Payload) → Gathers before Nothing → items_taken (later ++ before) ≡ items_taken before ++ items_taken later
@@ -151,10 +151,10 @@ items-afresh (payload ∷ later) before none =
     ap (λ l. l ++ option_to_list (item_ended (gathering (later ++ before)) payload)) (items-afresh later before none)
     ∙ (append_assoc (items_taken before) (items_taken later) (option_to_list (item_ended (gathering (later ++ before)) payload)) ∙ ap (λ l. items_taken before ++ (items_taken later ++ l)) kept)
 
-pub items-apart : (prefix later : List Payload) → EncodedAfresh prefix later
+pub items-apart : EncodedAfresh
 items-apart prefix later none = ap items_taken (reverse-append prefix later) ∙ items-afresh (reverse later) (reverse prefix) none
 
-pub items-method : (prefix : List Payload) (method : Method) (later : List Payload) → MethodStandsAlone prefix method later
+pub items-method : MethodStandsAlone
 items-method prefix method later none =
     ap items_taken (reverse-append prefix (Calls method ∷ later) ∙ (ap (λ l. l ++ reverse prefix) (reverse-append (Calls method ∷ []) later) ∙ append_assoc (reverse later) (Calls method ∷ []) (reverse prefix)))
     ∙ items-afresh (reverse later) (Calls method ∷ reverse prefix) (nothing-after_method (reverse prefix) method none)

@@ -21,7 +21,6 @@ use Rattle.amqp_model.specs.Carried.{sent, message_frames}
 use Rattle.amqp_model.specs.Runs.{RunAt, IsNext}
 use Rattle.amqp_model.specs.Channels.{Life}
 use Rattle.amqp_model.specs.Channels as channels
-use Rattle.amqp_model.specs.Negotiation.{Config}
 use Rattle.amqp_model.specs.StateFromHistory.{life_from, channel_in, channel_from}
 use Rattle.amqp_model.specs.Histories.{entries_before_leaving}
 use Rattle.amqp_model.specs.Asks.{when, is_running, NotRunning}
@@ -174,7 +173,7 @@ content-reads role entries life stays e = ap under_way (sym (all-before entries 
     by-word Opening old e = absurd cc
     by-word Closing old e = absurd cc
 
-pub fits-what-is-kept : (role : Role) (client_config : Config Client) (server_config : Config Server) (mine theirs : History) (n : ℕ) (frame : Frame) → FitsWhatIsKept role client_config server_config mine theirs n frame
+pub fits-what-is-kept : FitsWhatIsKept
 fits-what-is-kept role client_config server_config mine theirs n frame at runs comes here message life open_is = go (run_at_linked role _ _ run)
   where
     run : RunAt role (notes_on (suc n) mine) (notes_on (suc n) theirs)

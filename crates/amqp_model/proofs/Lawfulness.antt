@@ -56,17 +56,17 @@ goes-stand {role} {config} {before} back end e stands (fails p) = (as_failed end
 goes-stand {role} {config} {before} back end e stands (asks ask frames made read v) =
     (end_after_put role config frames end, asks-follow role config end before ask frames stands read.method made (subst (λ x. ask_verdict role x ask ≡ Puts frames) e v))
 
-pub lawful-stands : (role : Role) (config : Config role) (failed : Bool) (history : History) → LawfulStands role config failed history
+pub lawful-stands : LawfulStands
 lawful-stands role config failed history back begun = stands-itself role config false (new_end role) [] (new-end-stands role config)
 lawful-stands role config failed history back (goes {before = before} lawful step) =
     let after = goes-stand back (end_from role config false before) refl (lawful-stands role config false before back lawful) step in
     stands-itself role config failed after.0 history after.1
 
-pub step-follows : (role : Role) (config : Config role) (end : End) (before : History) (taken : Option Frame) (failed : Bool) (after : History) → StepFollows role config end before taken failed after
+pub step-follows : StepFollows
 step-follows role config end before taken failed after back stands step = goes-stand back end (end-stands role config end before stands) stands step
 
 -- the steps of an end, by what it keeps
-pub end-steps : (role : Role) (config : Config role) (end : End) (history : History) → EndSteps role config end history
+pub end-steps : EndSteps
 end-steps role config end history stands =
     subst (λ e. StepsOfEnd role config e history) (end-stands role config end history stands)
     (record {

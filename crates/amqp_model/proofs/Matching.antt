@@ -74,7 +74,7 @@ reply-message kinds.ChannelClose active e = absurd (false≢true e)
 reply-message kinds.ChannelCloseOk active e = absurd (false≢true e)
 reply-message kind active e = refl
 
-module _ (reads : (method : Method) → MethodReadsBack method) (client_config : Config Client) (server_config : Config Server) (n : ℕ) (frame : Frame) (life : Life) (method : Method) (here : frame.channel ≡ suc n) (says : reading frame ≡ Calls method) where
+module _ (reads : MethodReadsBack) (client_config : Config Client) (server_config : Config Server) (n : ℕ) (frame : Frame) (life : Life) (method : Method) (here : frame.channel ≡ suc n) (says : reading frame ≡ Calls method) where
   client-matched : (client server : History) → PairWrites Client client_config server_config client server → ComesNext server client frame → (end_from Client client_config false client).phase ≡ Running → (end_from Client client_config false client).channels (suc n) ≡ Open life → is_reply method.kind ≡ true → answers_first method.kind life.requests ≡ true
   client-matched client server p next runs opened reply =
       let at = pair-at reads Client client_config server_config client server p in
@@ -124,9 +124,9 @@ module _ (reads : (method : Method) → MethodReadsBack method) (client_config :
       let left = length-drop (length (replies_at Server (suc n) number server)) (requests_at Server (suc n) number server) in
       subst (λ l. length l < MOST_REQUESTS) (sym keeps) (rw left (omega arith))
 
-pub next-is-matched : (reads : (method : Method) → MethodReadsBack method) (role : Role) (client_config : Config Client) (server_config : Config Server) (mine theirs : History) (frame : Frame) → NextIsMatched role client_config server_config mine theirs frame
+pub next-is-matched : (reads : MethodReadsBack) (role : Role) (client_config : Config Client) (server_config : Config Server) (mine theirs : History) (frame : Frame) → NextIsMatched role client_config server_config mine theirs frame
 next-is-matched reads Client client_config server_config mine theirs frame p next runs n life method here says opened = λ reply. client-matched reads client_config server_config n frame life method here says mine theirs p next runs opened reply
 next-is-matched reads Server client_config server_config mine theirs frame p next runs n life method here says opened = λ request. server-matched reads client_config server_config n frame life method here says mine theirs p opened
 
-pub takes-what-comes-next : (reads : (method : Method) → MethodReadsBack method) (role : Role) (client_config : Config Client) (server_config : Config Server) (mine theirs : History) (frame : Frame) → TakesWhatComesNext role client_config server_config mine theirs frame
+pub takes-what-comes-next : (reads : MethodReadsBack) (role : Role) (client_config : Config Client) (server_config : Config Server) (mine theirs : History) (frame : Frame) → TakesWhatComesNext role client_config server_config mine theirs frame
 takes-what-comes-next reads role client_config server_config mine theirs frame = finds-no-fault reads role client_config server_config mine theirs frame (next-is-matched reads role client_config server_config mine theirs frame)

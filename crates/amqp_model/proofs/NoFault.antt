@@ -3,7 +3,6 @@ use Rattle.std.proofs.Common.{◌≡◌, ◌≢◌, ◌≤◌, ◌⊎◌, inl, i
 use Rattle.amqp_frame.specs.Frame.{Fits, frame_length}
 use Rattle.amqp_model.specs.Frame.{Frame}
 use Rattle.amqp_model.specs.Notes.{Role, Client, Server, other_end}
-use Rattle.amqp_model.specs.Methods.{Method}
 use Rattle.amqp_model.specs.Readings.{reading, kind_of}
 use Rattle.amqp_model.specs.Histories.{History, entries_on}
 use Rattle.amqp_model.specs.Channels.{HandshakeStep, Phase, Handshake, Running, Agreed}
@@ -31,7 +30,7 @@ use Rattle.amqp_model.proofs.Agreements.{agrees-on-smaller, agrees-past-handshak
 use Rattle.amqp_model.proofs.FrameGoesOn.{LivesGo, closing-goes, above-goes}
 use Rattle.amqp_model.proofs.WellPutPairs.{next-is-well-put}
 
-pub pair-at : (reads : (method : Method) → MethodReadsBack method) (role : Role) (client_config : Config Client) (server_config : Config Server) (mine theirs : History) → PairWrites role client_config server_config mine theirs → PairAt role client_config server_config mine theirs
+pub pair-at : (reads : MethodReadsBack) (role : Role) (client_config : Config Client) (server_config : Config Server) (mine theirs : History) → PairWrites role client_config server_config mine theirs → PairAt role client_config server_config mine theirs
 pair-at reads role client_config server_config mine theirs p = record { client_writes = all-reads-back reads Client client_config p.client_writes; server_writes = all-reads-back reads Server server_config p.server_writes; pair = p.pair }
 
 -- a frame that is well put fits its fields
@@ -43,7 +42,7 @@ well-fits role client_config server_config frame client server well =
     let d = well.within in
     record { channel = omega arith; size = omega arith }
 
-module _ (reads : (method : Method) → MethodReadsBack method) (role : Role) (client_config : Config Client) (server_config : Config Server) (mine theirs : History) (frame : Frame) (p : PairWrites role client_config server_config mine theirs) (next : ComesNext theirs mine frame) where
+module _ (reads : MethodReadsBack) (role : Role) (client_config : Config Client) (server_config : Config Server) (mine theirs : History) (frame : Frame) (p : PairWrites role client_config server_config mine theirs) (next : ComesNext theirs mine frame) where
   well : IsWellPut (other_end role) (smaller_limits client_config server_config) frame
   well = next-is-well-put reads role client_config server_config mine theirs frame p next
 
@@ -107,7 +106,7 @@ module _ (reads : (method : Method) → MethodReadsBack method) (role : Role) (c
       by-phase (inr closing) = record { can = can (inr closing); goes = subst (λ q. goes_on (verdict_on (facts_in (config_of role client_config server_config) q (end_in role client_config server_config mine).agreed frame.channel ((end_in role client_config server_config mine).channels frame.channel)) (reading frame)) ≡ true) (sym closing) (closing-goes (config_of role client_config server_config) (end_in role client_config server_config mine).agreed frame.channel ((end_in role client_config server_config mine).channels frame.channel) (reading frame)) }
 
 -- where what comes next is matched with the requests kept, no fault is found with it
-pub finds-no-fault : (reads : (method : Method) → MethodReadsBack method) (role : Role) (client_config : Config Client) (server_config : Config Server) (mine theirs : History) (frame : Frame) → NextIsMatched role client_config server_config mine theirs frame → TakesWhatComesNext role client_config server_config mine theirs frame
+pub finds-no-fault : (reads : MethodReadsBack) (role : Role) (client_config : Config Client) (server_config : Config Server) (mine theirs : History) (frame : Frame) → NextIsMatched role client_config server_config mine theirs frame → TakesWhatComesNext role client_config server_config mine theirs frame
 finds-no-fault reads role client_config server_config mine theirs frame matched p next = by-channel frame.channel refl
   where
     by-channel : (c : ℕ) → frame.channel ≡ c → TakesWithoutFault role client_config server_config mine frame

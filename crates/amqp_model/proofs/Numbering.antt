@@ -305,5 +305,5 @@ lawful-numbered role config failed history e back begun = subst NoneAbove (sym (
 lawful-numbered role config failed history e back (goes {before = before} {taken = taken} lawful step) =
     goes-numbered role config before taken failed history e back (lawful-walks role config false before refl back lawful).stands (lawful-numbered role config false before refl back lawful) step
 
-pub stands-numbered : (role : Role) (config : Config role) (end : End) (history : History) → StandsNumbered role config end history
+pub stands-numbered : StandsNumbered
 stands-numbered role config end history back lawful stands = subst NoneAbove (end-stands role config end history stands) (lawful-numbered role config false history refl back lawful)

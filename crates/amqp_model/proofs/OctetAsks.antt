@@ -121,7 +121,7 @@ accepted-follows role config endpoint history fed written ask frames s fits made
           out = subst (λ put. IsOutputOf (opening_written role) put written (after_puts frames endpoint.output)) (sym (frames-put frames history)) (output-puts (opening_written role) frames (frames_put history) written endpoint.output s.out fits.fit);
         }
 
-pub refused-stays : (role : Role) (config : Config role) (endpoint : Endpoint) (ask : Ask) (refusal : Refusal) → RefusedStays role config endpoint ask refusal
+pub refused-stays : RefusedStays
 refused-stays role config endpoint ask refusal e = ap (after_answer role config endpoint) e
 
 pub wrote-follows : (role : Role) (config : Config role) (endpoint : Endpoint) (history : History) (fed written : List ℕ) (n : ℕ) → WroteFollows role config endpoint history fed written n

@@ -99,7 +99,7 @@ octet-within role config endpoint octet = cases (refusal_in endpoint.end.phase)
     cases None = let one = octets-taken role config endpoint (endpoint.unfinished ++ octet ∷ []) (awaits_opening role endpoint.end.phase) in omega arith
     cases (Some fault) = omega arith
 
-pub feed-progresses : (role : Role) (config : Config role) (endpoint : Endpoint) (piece : List ℕ) → FeedProgresses role config endpoint piece
+pub feed-progresses : FeedProgresses
 feed-progresses role config endpoint [] c f some = absurd (some refl)
 feed-progresses role config endpoint (octet ∷ later) c f some = cases (after_octet role config endpoint octet).outcome
   where

@@ -10,7 +10,7 @@ use Rattle.amqp_frame.specs.Splitting.{stream, AllFit, IsRest}
 use Rattle.amqp_frame.proofs.SplittingLemmas.{begun_is_rest}
 use Rattle.amqp_model.specs.Frame.{Frame}
 use Rattle.amqp_model.specs.Notes.{Role, Client, Server}
-use Rattle.amqp_model.specs.Methods.{Method, same_kind, plain_method}
+use Rattle.amqp_model.specs.Methods.{same_kind, plain_method}
 use Rattle.amqp_model.specs.Readings.{reading}
 use Rattle.amqp_model.specs.Histories.{Put, Took, History, PutHere, entries_on}
 use Rattle.amqp_model.specs.Channels.{Phase, Handshake, Running, Closing, Closed, Failed, AwaitsProtocolHeader, AwaitsStartOk, End}
@@ -64,11 +64,11 @@ record PutsFit (role : Role) (config : Config role) (end : End) : Type 0 where
   greets : AreWritable (greeting role config)
   owes : (frame : Frame) → CanCome (frame_limit end.agreed) frame → AreWritable (methods_put (facts_at config end frame.channel) (end_verdict config end frame))
 
-greeting-writable : ((method : Method) → MethodReadsBack method) → (role : Role) (config : Config role) → ConfigWrites config → AreWritable (greeting role config)
+greeting-writable : MethodReadsBack → (role : Role) (config : Config role) → ConfigWrites config → AreWritable (greeting role config)
 greeting-writable reads Client config writes = record { read_back = tt; fit = tt }
 greeting-writable reads Server config writes = record { read_back = (writes.greeting_back, tt); fit = (start-fits_frame config writes, tt) }
 
-puts-fit : ((method : Method) → MethodReadsBack method) → (role : Role) (config : Config role) (end : End) → ConfigWrites config → PutsFit role config end
+puts-fit : MethodReadsBack → (role : Role) (config : Config role) (end : End) → ConfigWrites config → PutsFit role config end
 puts-fit reads role config end writes = record {
   back = all-reads-back reads role config writes;
   greets = greeting-writable reads role config writes;
@@ -363,7 +363,7 @@ octet-steps role config old history fed written octet s small fits = by-refusal 
         let closed = refused-closed role config old history fed written s fault r in
         come _ refl (λ later. refuses closed.0 (ap (λ fault. record { endpoint = old; taken = 0; outcome = Found fault }) closed.1))
 
-pub octet-follows : ((method : Method) → MethodReadsBack method) → (role : Role) (config : Config role) (endpoint : Endpoint) (history : History) (fed written : List ℕ) (octet : ℕ) → OctetFollows role config endpoint history fed written octet
+pub octet-follows : MethodReadsBack → OctetFollows
 octet-follows law role config endpoint history fed written octet s small writes = by-steps (after_octet role config endpoint octet) (octet-steps role config endpoint history fed written octet s small (puts-fit law role config endpoint.end writes))
   where
     by-steps : (new : Feeding) → Steps role config endpoint history fed written octet new → Follows role config endpoint history fed written (octet ∷ []) new
@@ -404,7 +404,7 @@ first-steps role config old history fed written octet later first r (kept s) mor
 first-steps role config old history fed written octet later first r (come new over follows) more =
     subst (Follows role config old history fed written (octet ∷ later)) (sym (unless-over new (after_feed role config new.endpoint later) new.outcome over)) (follows later)
 
-pub feed-follows : ((method : Method) → MethodReadsBack method) → (role : Role) (config : Config role) (endpoint : Endpoint) (history : History) (fed written piece : List ℕ) → FeedFollows role config endpoint history fed written piece
+pub feed-follows : MethodReadsBack → (role : Role) (config : Config role) (endpoint : Endpoint) (history : History) (fed written piece : List ℕ) → FeedFollows role config endpoint history fed written piece
 feed-follows law role config endpoint history fed written [] s all writes = by-refusal (refusal_in endpoint.end.phase) refl
   where
     by-refusal : (refusal : Option Fault) → refusal_in endpoint.end.phase ≡ refusal → Follows role config endpoint history fed written [] (unless_over endpoint refusal (record { endpoint = endpoint; taken = 0; outcome = Unfinished }))

@@ -10,7 +10,6 @@ use Rattle.amqp_frame.proofs.SplittingLemmas.{begun_prefix_tells_none}
 use Rattle.amqp_model.specs.Frame.{Frame}
 use Rattle.amqp_model.specs.Notes.{Role, Client, Server}
 use Rattle.amqp_model.specs.Arrangement.{on}
-use Rattle.amqp_model.specs.Methods.{Method}
 use Rattle.amqp_model.specs.Histories.{History}
 use Rattle.amqp_model.specs.Channels.{Phase, Handshake, Running, Closed, Failed, AwaitsProtocolHeader, AwaitsStart, AwaitsStartOk, AwaitsTune, AwaitsTuneOk, AwaitsOpen, AwaitsOpenOk, End}
 use Rattle.amqp_model.specs.Negotiation.{Config, frame_limit}
@@ -62,7 +61,7 @@ in-flight role limit mine theirs put fed unfinished rest carries opened = go car
           each_channel = λ channel. sym (p.each_channel channel) ∙ (ap (on channel) there.departing_is ∙ filter-append (λ g. g.channel == channel) (frames_taken mine) there.later);
         }
 
-pub items-waiting : (reads : (method : Method) → MethodReadsBack method) (role : Role) (client_config : Config Client) (server_config : Config Server) (mine theirs : History) (unfinished rest : List ℕ) (n : ℕ) → ItemsSentAreActedOnOrWaiting role client_config server_config mine theirs unfinished rest n
+pub items-waiting : (reads : MethodReadsBack) (role : Role) (client_config : Config Client) (server_config : Config Server) (mine theirs : History) (unfinished rest : List ℕ) (n : ℕ) → ItemsSentAreActedOnOrWaiting role client_config server_config mine theirs unfinished rest n
 items-waiting reads role client_config server_config mine theirs unfinished rest n p flight live =
     sent-is-acted-or-coming role client_config server_config mine theirs n (pair-at reads role client_config server_config mine theirs p) (map as_carried (on (suc n) flight.waiting)) live
     ((notes-of-frames (suc n) theirs).0
@@ -94,7 +93,7 @@ closed-opened Client config history e = refl
 closed-opened Server config [] e = absurd (false≢true (ap is_shut e))
 closed-opened Server config (entry ∷ before) e = refl
 
-pub nothing-waits-for-closed : (reads : (method : Method) → MethodReadsBack method) (role : Role) (client_config : Config Client) (server_config : Config Server) (mine theirs : History) (limit : ℕ) (put fed unfinished rest : List ℕ) → NothingWaitsForClosed role client_config server_config mine theirs limit put fed unfinished rest
+pub nothing-waits-for-closed : (reads : MethodReadsBack) (role : Role) (client_config : Config Client) (server_config : Config Server) (mine theirs : History) (limit : ℕ) (put fed unfinished rest : List ℕ) → NothingWaitsForClosed role client_config server_config mine theirs limit put fed unfinished rest
 nothing-waits-for-closed reads role client_config server_config mine theirs limit put fed unfinished rest p carries closed =
     let flight = in-flight role limit mine theirs put fed unfinished rest carries (closed-opened role (config_of role client_config server_config) mine closed) in
     let none = none-on flight.waiting (λ channel. none-more (on channel (frames_taken mine)) (on channel flight.waiting) (on channel (frames_put theirs)) (closed-has-taken-all reads role client_config server_config mine theirs channel p closed) (flight.each_channel channel)) in
@@ -146,7 +145,7 @@ greets-pair : (role : Role) (client_config : Config Client) (server_config : Con
 greets-pair Client client_config server_config mine theirs phase awaits none pair = absurd (false≢true awaits)
 greets-pair Server client_config server_config mine theirs phase awaits none pair = subst (λ h. PairOf Server client_config server_config (then_put (map frame_of (greeting Server server_config)) h) theirs) (sym none) (server_goes {taken = None} (subst (λ h. PairOf Server client_config server_config h theirs) none pair) tt greets)
 
-module _ (reads : (method : Method) → MethodReadsBack method) (role : Role) (client_config : Config Client) (server_config : Config Server) (mine theirs : History) (endpoint : Endpoint) (fed written piece later : List ℕ) (next : IsFedNext role client_config server_config mine theirs endpoint fed written piece later) where
+module _ (reads : MethodReadsBack) (role : Role) (client_config : Config Client) (server_config : Config Server) (mine theirs : History) (endpoint : Endpoint) (fed written piece later : List ℕ) (next : IsFedNext role client_config server_config mine theirs endpoint fed written piece later) where
   -- a frame that is whole comes next, and is taken
   whole-taken : (n : ℕ) (frame : Frame) → IsWhole (frame_limit endpoint.end.agreed) (endpoint.unfinished ++ take n piece) frame → ComesNext theirs mine frame × TakesWithoutFault role client_config server_config mine frame
   whole-taken n frame whole =
@@ -225,16 +224,16 @@ module _ (reads : (method : Method) → MethodReadsBack method) (role : Role) (c
   fed-well : IsWell role client_config server_config theirs fed written piece (after_feed role (config_of role client_config server_config) endpoint piece)
   fed-well = by-follows (after_feed role (config_of role client_config server_config) endpoint piece) (feed-follows reads role (config_of role client_config server_config) endpoint mine fed written piece next.stands next.are_octets (writes-of role client_config server_config next.pair.client_writes next.pair.server_writes))
 
-pub finds-no-fault-with-octets : (reads : (method : Method) → MethodReadsBack method) (role : Role) (client_config : Config Client) (server_config : Config Server) (mine theirs : History) (endpoint : Endpoint) (fed written piece later : List ℕ) → FindsNoFaultWithOctets role client_config server_config mine theirs endpoint fed written piece later
+pub finds-no-fault-with-octets : (reads : MethodReadsBack) (role : Role) (client_config : Config Client) (server_config : Config Server) (mine theirs : History) (endpoint : Endpoint) (fed written piece later : List ℕ) → FindsNoFaultWithOctets role client_config server_config mine theirs endpoint fed written piece later
 finds-no-fault-with-octets reads role client_config server_config mine theirs endpoint fed written piece later next = (fed-well reads role client_config server_config mine theirs endpoint fed written piece later next).none
 
-pub feed-stays-pair : (reads : (method : Method) → MethodReadsBack method) (role : Role) (client_config : Config Client) (server_config : Config Server) (mine theirs : History) (endpoint : Endpoint) (fed written piece later : List ℕ) → FeedStaysPair role client_config server_config mine theirs endpoint fed written piece later
+pub feed-stays-pair : (reads : MethodReadsBack) (role : Role) (client_config : Config Client) (server_config : Config Server) (mine theirs : History) (endpoint : Endpoint) (fed written piece later : List ℕ) → FeedStaysPair role client_config server_config mine theirs endpoint fed written piece later
 feed-stays-pair reads role client_config server_config mine theirs endpoint fed written piece later next =
     let well = fed-well reads role client_config server_config mine theirs endpoint fed written piece later next in
     record { after = well.after; pair = well.pair; stands = well.stands }
 
 -- Whatever history follows.
-pub grown-stays-pair : (reads : (method : Method) → MethodReadsBack method) (role : Role) (client_config : Config Client) (server_config : Config Server) (mine theirs : History) (endpoint : Endpoint) (fed written piece later : List ℕ) (after : History) → GrownStaysPair role client_config server_config mine theirs endpoint fed written piece later after
+pub grown-stays-pair : (reads : MethodReadsBack) (role : Role) (client_config : Config Client) (server_config : Config Server) (mine theirs : History) (endpoint : Endpoint) (fed written piece later : List ℕ) (after : History) → GrownStaysPair role client_config server_config mine theirs endpoint fed written piece later after
 grown-stays-pair reads role client_config server_config mine theirs endpoint fed written piece later after next grows =
     record { client_writes = next.pair.client_writes; server_writes = next.pair.server_writes; pair = go after grows }
   where

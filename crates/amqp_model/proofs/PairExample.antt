@@ -10,7 +10,7 @@ use Rattle.amqp_method.specs.HeaderReading as header_reading
 use Rattle.amqp_model.specs.Frame.{Frame}
 use Rattle.amqp_model.specs.Notes.{Client, Server}
 use Rattle.amqp_model.specs.Arrangement.{is_leaving, on}
-use Rattle.amqp_model.specs.Methods.{Method, plain_method, plain_header, method_at, header_at}
+use Rattle.amqp_model.specs.Methods.{plain_method, plain_header, method_at, header_at}
 use Rattle.amqp_model.specs.Histories.{Put, Took, History}
 use Rattle.amqp_model.specs.Negotiation.{start, start_ok, tune, tune_ok, connection_open, connection_open_ok}
 use Rattle.amqp_model.specs.Closes.{flow_as, close_as}
@@ -156,7 +156,7 @@ s19 = Took (zero close_ok) ∷ s18
 abbrev c18 : History
 c18 = Took (zero close_ok) ∷ c17
 
-module _ (reads : (method : Method) → MethodReadsBack method) (client_writes : ConfigWrites example_client) (server_writes : ConfigWrites example_server) where
+module _ (reads : MethodReadsBack) (client_writes : ConfigWrites example_client) (server_writes : ConfigWrites example_server) where
   client-takes : {client server after : History} → Pair example_client example_server client server → (frame : Frame) (later : List Frame) → on frame.channel (frames_put server) ≡ on frame.channel (frames_taken client) ++ frame ∷ later → (is_leaving frame ≡ true → (n : ℕ) → on (suc n) (frames_put server) ≡ on (suc n) (frames_taken client)) → then_taken example_client (end_of example_client client) frame client ≡ after → Pair example_client example_server after server
   client-takes {client} {server} pair frame later next leaving is =
       let comes : ComesNext server client frame = record { later = later; next = next; at_leaving = leaving } in
@@ -358,7 +358,7 @@ server-fits = record {
   greeting_short = omega arith;
 }
 
-pub example-is-pair : ((method : Method) → MethodReadsBack method) → ExampleIsPair
+pub example-is-pair : MethodReadsBack → ExampleIsPair
 unfolding method_at header_at plain_method plain_header reading.method_at reading.args_at reading.field_at with_id header_reading.header_at header_reading.properties_at header_reading.optional_at table_at elements many named after_tag tagged value_at
 example-is-pair reads = record {
   client_fits = client-fits;

@@ -6,11 +6,9 @@ use Rattle.amqp_model.specs.Notes.{Role, Client, Server, Note}
 use Rattle.amqp_model.specs.Frame.{Frame}
 use Rattle.amqp_model.specs.Runs.{Acts, RunAt, start, client_acts, server_acts}
 use Rattle.amqp_model.specs.Methods.{same_kind}
-use Rattle.amqp_model.specs.Readings.{Reading}
 use Rattle.amqp_model.specs.Histories.{History}
 use Rattle.amqp_model.specs.Negotiation.{Config, OfServer, Hello}
 use Rattle.amqp_model.specs.Negotiation as negotiation
-use Rattle.amqp_model.specs.FrameVerdict.{Facts}
 use Rattle.amqp_model.specs.ReadingBack.{WritesReadBack}
 use Rattle.amqp_model.specs.LawfulHistories.{Goes, greets, takes, asks, begun, goes}
 use Rattle.amqp_model.specs.EndLaws.{notes_on, ActsOn, rests, acts, VerdictAgrees}
@@ -39,7 +37,7 @@ goes-run {config} theirs n back next greets run = acts-at Server run (zero-acts 
 goes-run {role} {config} {before} theirs n back next (takes frame p g) run = acts-at role run (takes-acts role config before frame n (notes_on (suc n) theirs) back g (next-noted theirs before frame n next))
 goes-run {role} {config} {before} theirs n back next (asks ask frames made read e) run = acts-at role run (asks-act role config before ask frames n (notes_on (suc n) theirs) read.method made e)
 
-pub pair-runs : (client_config : Config Client) (server_config : Config Server) (client server : History) → RunsOnEach client_config server_config client server
+pub pair-runs : RunsOnEach
 pair-runs client_config server_config client server mine theirs both_begin n = start
 pair-runs client_config server_config after server mine theirs (client_goes {client = client} pair next step) n = goes-run server n mine next step (pair-runs client_config server_config client server mine theirs pair n)
 pair-runs client_config server_config client after mine theirs (server_goes {server = server} pair next step) n = goes-run client n theirs next step (pair-runs client_config server_config client server mine theirs pair n)
@@ -48,16 +46,16 @@ pub new-ends-pair : (role : Role) (client_config : Config Client) (server_config
 new-ends-pair Client client_config server_config = both_begin
 new-ends-pair Server client_config server_config = both_begin
 
-pub step-stays-pair : (role : Role) (client_config : Config Client) (server_config : Config Server) (mine theirs : History) (taken : Option Frame) (after : History) → StepStaysPair role client_config server_config mine theirs taken after
+pub step-stays-pair : StepStaysPair
 step-stays-pair Client client_config server_config mine theirs taken after pair next step = client_goes pair next step
 step-stays-pair Server client_config server_config mine theirs taken after pair next step = server_goes pair next step
 
 -- each of the two histories is lawful
-pub pair-lawful : (client_config : Config Client) (server_config : Config Server) (client server : History) → BothLawful client_config server_config client server
+pub pair-lawful : BothLawful
 pair-lawful client_config server_config client server both_begin = (begun, begun)
 pair-lawful client_config server_config after server (client_goes {client = client} pair next step) = let both = pair-lawful client_config server_config client server pair in (goes both.0 step, both.1)
 pair-lawful client_config server_config client after (server_goes {server = server} pair next step) = let both = pair-lawful client_config server_config client server pair in (both.0, goes both.1 step)
 
 -- the verdict on a frame of a channel above 0 agrees with the lives
-pub agrees-with-lives : (role : Role) (facts : Facts role) (reading : Reading) → VerdictAgrees role facts reading
+pub agrees-with-lives : VerdictAgrees
 agrees-with-lives role facts reading stays above g = frame-agrees facts.config facts.phase facts.agreed facts.number facts.channel stays (ne_eqb facts.number 0 above) reading g

@@ -7,7 +7,7 @@ use Rattle.amqp_method.specs.Laws.{MethodIsRead, HeaderIsRead, MethodIsEncoded, 
 use Rattle.amqp_method.specs.Plain as plain
 use Rattle.amqp_method.specs.declared.kinds.Kind.TheVariants as kinds
 use Rattle.amqp_model.specs.Notes.{Role, Client, Server}
-use Rattle.amqp_model.specs.Methods.{Method, Header, ReadsBack, method_read, header_read, method_at, header_at, plain_method, plain_header}
+use Rattle.amqp_model.specs.Methods.{Header, ReadsBack, method_read, header_read, method_at, header_at, plain_method, plain_header}
 use Rattle.amqp_model.specs.Negotiation.{FRAME_MIN, Hello, OfClient, OfServer, Config, start, start_ok, connection_open}
 use Rattle.amqp_model.specs.Closes.{close_as, method_frame}
 use Rattle.amqp_model.specs.Events.{Message, Plain, Whole}
@@ -16,7 +16,7 @@ use Rattle.amqp_model.specs.ReadingBack.{header_of, HeaderAskedReadsBack, TextAs
 use Rattle.amqp_model.specs.Fitting.{MethodFits, HelloFits, greeting, HostFits, PartsFit, FRAME_MOST, FrameMax, ChannelMax, HelloTooLong}
 use Rattle.amqp_model.specs.FittingLaws.{MethodReadsBack, HeaderReadsBack, FittingConfigWrites, AskedReadsBack, FaultlessConfigFits, FittingConfigIsFaultless}
 
-pub method-reads : MethodIsEncoded → MethodIsRead → (method : Method) → MethodReadsBack method
+pub method-reads : MethodIsEncoded → MethodIsRead → MethodReadsBack
 unfolding method_at plain_method
 method-reads encoded read method fits = ap method_read (read method (plain.plain_method method) (encoded method fits.of_kind fits.arguments))
 
@@ -52,11 +52,11 @@ host-fits : (role : Role) (hello : Hello role) → HelloFits hello → HostFits 
 host-fits Client (OfClient properties mechanism response locale virtual_host) fits = fits.4
 host-fits Server (OfServer properties mechanisms locales) fits = tt
 
-greeting-reads : ((method : Method) → MethodReadsBack method) → (role : Role) (config : Config role) → HelloFits config.hello → ReadsBack (greeting role config)
+greeting-reads : MethodReadsBack → (role : Role) (config : Config role) → HelloFits config.hello → ReadsBack (greeting role config)
 greeting-reads reads Client config fits = reads (start_ok config) (start_ok-fits config fits)
 greeting-reads reads Server config fits = reads (start config) (start-fits config fits)
 
-pub config-writes : ((method : Method) → MethodReadsBack method) → (role : Role) (config : Config role) → FittingConfigWrites role config
+pub config-writes : MethodReadsBack → FittingConfigWrites
 config-writes reads role config fits =
     record {
       channel_least = fits.channel_least;
@@ -108,7 +108,7 @@ text-asked (Close code text) fits = fits.1
 text-asked (Blocked reason) fits = fits
 text-asked Unblocked fits = tt
 
-pub asked-reads : ((method : Method) → MethodReadsBack method) → ((header : Header) → HeaderReadsBack header) → (ask : Ask) → AskedReadsBack ask
+pub asked-reads : MethodReadsBack → ((header : Header) → HeaderReadsBack header) → AskedReadsBack
 asked-reads methods headers ask fits = record { method = methods (method_asked ask) (asked-fits ask fits.parts); header = header-asked headers ask fits.parts; text = text-asked ask fits.parts }
 
 -- A configuration without a fault.
@@ -119,7 +119,7 @@ faultless false false true d e = absurd cc
 faultless false false false true e = absurd cc
 faultless false false false false e = (refl, refl, refl, refl)
 
-pub faultless-fits : (role : Role) (config : Config role) → FaultlessConfigFits role config
+pub faultless-fits : FaultlessConfigFits
 faultless-fits role config e channels body hello =
     let none = faultless (nat_lt config.frame_max FRAME_MIN) (nat_lt FRAME_MOST config.frame_max) (config.channel_max == 0) (nat_lt FRAME_MIN (frame_length (method_frame 0 (greeting role config)))) e in
     let some : config.channel_max ≢ 0 = eqb-false config.channel_max 0 none.2 in
@@ -133,7 +133,7 @@ faultless-fits role config e channels body hello =
       greeting_short = ltb-false FRAME_MIN (frame_length (method_frame 0 (greeting role config))) none.3;
     }
 
-pub fitting-faultless : (role : Role) (config : Config role) → FittingConfigIsFaultless role config
+pub fitting-faultless : FittingConfigIsFaultless
 fitting-faultless role config fits =
     let a = le-ltb config.frame_max FRAME_MIN fits.frame_least in
     let b = le-ltb FRAME_MOST config.frame_max fits.frame_most in

@@ -21,7 +21,7 @@ bodies-say : (channel : ℕ) (parts : List (List ℕ)) → all_said channel (map
 bodies-say channel [] = refl
 bodies-say channel (part ∷ parts) = ap (λ later. contents.Body part ∷ later) (bodies-say channel parts)
 
-pub frames-say : (max channel : ℕ) (message : Message) → FramesSayPayloads max channel message
+pub frames-say : FramesSayPayloads
 frames-say max channel message back = by message back.method back.header
   where
     by : (message : Message) → ReadsBack (method_asked (Send channel message)) → HeaderAskedReadsBack (Send channel message) → all_said channel (message_payloads max message) ≡ message_payloads max message

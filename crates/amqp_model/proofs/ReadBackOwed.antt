@@ -25,7 +25,7 @@ use Rattle.amqp_model.proofs.ReadBack.{configured, open-fits, connection_close-f
 
 -- what holds of each method that a verdict puts, where the frame stands on the channel of this number
 pub record Sound (number : ℕ) (owed : Owed) : Type 0 where
-  pub back : ((method : Method) → MethodReadsBack method) → ReadsBack owed.method
+  pub back : MethodReadsBack → ReadsBack owed.method
   pub channel : number < 2 ^ 16 → owed.channel < 2 ^ 16
   pub short : frame_length (frame_of owed) ≤ FRAME_MIN
   pub settles : same_kind owed.method.kind kinds.ConnectionTuneOk ≡ true → SettledFits (agreed_in owed.method)
@@ -382,21 +382,21 @@ owed-sound role facts reading fits = put-sound role facts (verdict_on facts read
 
 -- ---- the laws
 
-all-read : ((method : Method) → MethodReadsBack method) → (number : ℕ) (owed : List Owed) → AllSound number owed → AllReadBack owed
+all-read : MethodReadsBack → (number : ℕ) (owed : List Owed) → AllSound number owed → AllReadBack owed
 all-read reads number [] sound = tt
 all-read reads number (first ∷ later) sound = (sound.0.back reads, all-read reads number later sound.1)
 
-pub owed-read : ((method : Method) → MethodReadsBack method) → (role : Role) (facts : Facts role) (reading : Reading) → OwedReadBack role facts reading
+pub owed-read : MethodReadsBack → OwedReadBack
 owed-read reads role facts reading fits = all-read reads facts.number (methods_put facts (verdict_on facts reading)) (owed-sound role facts reading fits)
 
-pub close-reads : ((method : Method) → MethodReadsBack method) → (role : Role) (facts : Facts role) → CloseReadsBack role facts
+pub close-reads : MethodReadsBack → CloseReadsBack
 close-reads reads role facts = all-read reads 0 (methods_put facts (Faults (Peer FrameError))) (fault-sound role facts FrameError 0)
 
 greeting-back : (role : Role) (config : Config role) → ConfigWrites config → GreetingReadsBack role config
 greeting-back Client config writes = tt
 greeting-back Server config writes = writes.greeting_back
 
-pub all-reads-back : ((method : Method) → MethodReadsBack method) → (role : Role) (config : Config role) → AllReadsBack role config
+pub all-reads-back : MethodReadsBack → (role : Role) (config : Config role) → AllReadsBack role config
 all-reads-back reads role config writes =
     record {
       owed = λ end number reading. owed-read reads role (facts_at config end number) reading writes;

@@ -7,13 +7,13 @@ use Rattle.amqp_frame.specs.Frame.{frame_length}
 use Rattle.amqp_frame.specs.Splitting.{AllFit}
 use Rattle.amqp_method.specs.declared.kinds.Kind.TheVariants as kinds
 use Rattle.amqp_model.specs.Frame.{Frame}
-use Rattle.amqp_model.specs.Notes.{Role, Server}
+use Rattle.amqp_model.specs.Notes.{Role}
 use Rattle.amqp_model.specs.Methods.{plain_method, plain_header}
 use Rattle.amqp_model.specs.Contents as contents
 use Rattle.amqp_model.specs.Contents.{Payload, Content, first_pieces, pieces, room_in}
 use Rattle.amqp_model.specs.Readings.{Reading}
 use Rattle.amqp_model.specs.Channels.{End}
-use Rattle.amqp_model.specs.Negotiation.{Config, FRAME_MIN}
+use Rattle.amqp_model.specs.Negotiation.{FRAME_MIN}
 use Rattle.amqp_model.specs.Closes.{FrameError, Owed, without_arguments, flow_as, method_frame, frame_of}
 use Rattle.amqp_model.specs.Events.{Message, Plain, Whole, Peer, Faults}
 use Rattle.amqp_model.specs.FrameVerdict.{Facts, verdict_on, methods_put}
@@ -36,13 +36,13 @@ all-short : (number : ℕ) (owed : List Owed) → AllSound number owed → AllWi
 all-short number [] sound = tt
 all-short number (first ∷ later) sound = (sound.0.short, all-short number later sound.1)
 
-pub start-fits_frame : (config : Config Server) → StartFits config
+pub start-fits_frame : StartFits
 start-fits_frame config fits = let short = fits.greeting_short in record { channel = omega arith; size = omega arith }
 
-pub owed-fit : (role : Role) (facts : Facts role) (reading : Reading) → OwedFit role facts reading
+pub owed-fit : OwedFit
 owed-fit role facts reading fits small = all-fit facts.number small (methods_put facts (verdict_on facts reading)) (owed-sound role facts reading fits)
 
-pub close-fits : (role : Role) (facts : Facts role) → CloseFits role facts
+pub close-fits : CloseFits
 close-fits role facts = all-fit 0 (omega arith) (methods_put facts (Faults (Peer FrameError))) (fault-sound role facts FrameError 0)
 
 pub owed-short : (role : Role) (facts : Facts role) (reading : Reading) → OwedAreShort role facts reading

@@ -32,5 +32,5 @@ ran-out-writes role config endpoint history fed written n r within = record {
   out = output-write (opening_written role) (frames_put history) written n endpoint.output (after_writing n endpoint.output) r.out (writes n endpoint.output within);
 }
 
-pub ran-out-stays : (role : Role) (config : Config role) (endpoint : Endpoint) (history : History) (fed written piece : List ℕ) → RanOutStays role config endpoint history fed written piece
+pub ran-out-stays : RanOutStays
 ran-out-stays role config endpoint history fed written piece r = stays-failed role config endpoint piece r.failed

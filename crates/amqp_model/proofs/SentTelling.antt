@@ -211,7 +211,7 @@ lawful-tells role config failed history e (goes {before = before} {taken = taken
 pub tells-what-is-acted-on : (role : Role) (config : Config role) (n : ℕ) (history : History) → TellsWhatIsActedOn role config (suc n) history
 tells-what-is-acted-on role config n history lawful life = ap (items_of (suc n) life) (lawful-tells role config false history refl lawful) ∙ tells-all role n history life
 
-pub fault-tells-nothing : (role : Role) (config : Config role) (history : History) (frame : Frame) → FaultTellsNothing role config history frame
+pub fault-tells-nothing : FaultTellsNothing
 fault-tells-nothing role config history frame g =
     told-put role config (end_puts config (end_from role config false history) frame) (Took frame ∷ history) ∙ (ap (λ b. told role config history ++ cond b (told_at role frame.channel frame history) []) g ∙ append-nil (told role config history))
 

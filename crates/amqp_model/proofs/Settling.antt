@@ -4,7 +4,7 @@ use Rattle.std.proofs.lemmas.Bool.{and_parts, ltb-true, leb-true}
 use Rattle.amqp_method.specs.declared.kinds.Kind.TheVariants as kinds
 use Rattle.amqp_model.specs.Frame.{Frame}
 use Rattle.amqp_model.specs.Notes.{Role, Client, Server}
-use Rattle.amqp_model.specs.Methods.{Method, same_kind}
+use Rattle.amqp_model.specs.Methods.{same_kind}
 use Rattle.amqp_model.specs.Readings.{Reading, Calls, UnknownMethod, MalformedMethod, HeaderOf, MalformedHeader, BodyOf, Beat, reading}
 use Rattle.amqp_model.specs.Histories.{History, PutHere, TookHere, entries_on}
 use Rattle.amqp_model.specs.Channels.{Phase, Agreed, End}
@@ -79,7 +79,7 @@ by-verdict (Proceeds event owed) end fits = fits
 by-verdict RefusesContent end fits = fits
 by-verdict (Faults fault) end fits = fits
 
-goes-within : ((method : Method) → MethodReadsBack method) → (role : Role) (config : Config role) (before : History) (taken : Option Frame) (failed : Bool) (after : History) → ConfigWrites config → StandsFor role config false (end_from role config false before) before → IfAgreedFits (agreed_from role config (entries_on 0 before)) → Goes role config before taken failed after → IfAgreedFits (agreed_from role config (entries_on 0 after))
+goes-within : MethodReadsBack → (role : Role) (config : Config role) (before : History) (taken : Option Frame) (failed : Bool) (after : History) → ConfigWrites config → StandsFor role config false (end_from role config false before) before → IfAgreedFits (agreed_from role config (entries_on 0 before)) → Goes role config before taken failed after → IfAgreedFits (agreed_from role config (entries_on 0 after))
 goes-within reads role config before taken failed after writes stands fits greets = tt
 goes-within reads role config before taken failed after writes stands fits (takes frame p g) =
     let end = end_from role config false before in
@@ -101,7 +101,7 @@ goes-within reads role config before taken failed after writes stands fits (asks
     let keeps = all-keep role config frames end (subst (AllKeep role config) parts.1 (ask-keeps role config end ask read.method (accepted-ask role end ask parts.0))) in
     subst IfAgreedFits (sym follows.agreed) (subst IfAgreedFits (sym keeps) fits)
 
-pub agreed-within : ((method : Method) → MethodReadsBack method) → (role : Role) (config : Config role) (failed : Bool) (history : History) → AgreedIsWithin role config failed history
+pub agreed-within : MethodReadsBack → AgreedIsWithin
 agreed-within reads role config failed history writes begun = tt
 agreed-within reads role config failed history writes (goes {before = before} {taken = taken} lawful step) =
     goes-within reads role config before taken failed history writes (lawful-stands role config false before (all-reads-back reads role config writes) lawful) (agreed-within reads role config false before writes lawful) step

@@ -107,10 +107,10 @@ is-told before payload content ends = go ends.since refl
             let joined' : concat parts ++ part ≡ content.body = ap (λ l. concat parts ++ l) (sym (append-nil part) ∙ ap (λ l. part ++ concat l) (sym none)) ∙ joined in
             ap (λ state. step state payload) kept ∙ (ap (step (BodyDue content.method (length content.body) content.properties (concat parts))) body ∙ (gathered-whole content.method (length content.body) content.properties (concat parts ++ part) (ap length joined') ∙ ap Completes (same-content refl refl joined')))
 
-pub tells-whole_lem : (before : List Payload) (payload : Payload) (content : Content) → TellsWhole before payload content
+pub tells-whole_lem : TellsWhole
 tells-whole_lem before payload content = (tells-whole before payload content (gathering before) (kept-grown before), is-told before payload content)
 
-pub nothing-after_content : (taken : List Payload) (content : Content) → NothingAfterContent taken content
+pub nothing-after_content : NothingAfterContent
 nothing-after_content [] content ends = absurd (empty ends.since refl)
   where
     empty : (since : List Payload) → ends.since ≡ since → ⊥
@@ -180,10 +180,10 @@ misfit-told before payload misfit not_read = unread (gathering before)
     unread (HeaderDue _) = refl
     unread (BodyDue _ _ _ _) = refl
 
-pub tells-misfits : (before : List Payload) (payload : Payload) (misfit : Misfit) → TellsMisfits before payload misfit
+pub tells-misfits : TellsMisfits
 tells-misfits before payload misfit = (tells-misfit before payload misfit (gathering before) refl, misfit-told before payload misfit)
 
-pub goes-on-with : (before : List Payload) (payload : Payload) (state : Gathering) → GoesOnWith before payload state
+pub goes-on-with : GoesOnWith
 goes-on-with before payload state e = (keeps-under_way (payload ∷ before) state).0 (ap (λ s. remains s payload) e)
 
 method-due : (method : Method) (before : List Payload) → carries_content method ≡ true → gathering (Calls method ∷ before) ≡ HeaderDue method

@@ -2,8 +2,7 @@
 use Rattle.std.proofs.Common.{◌≡◌, Bool, true, false, cond, ◌&&◌, ℕ, suc, ◌==◌, arith, List, [], ◌∷◌, map, Option, Some, None, refl, sym, ap, ◌∙◌, subst}
 use Rattle.std.proofs.lemmas.Bool.{false≢true, true≢false, eqb-true, ne_eqb}
 use Rattle.amqp_method.specs.declared.kinds.Kind.TheVariants as kinds
-use Rattle.amqp_model.specs.Frame.{Frame}
-use Rattle.amqp_model.specs.Notes.{Role, Note}
+use Rattle.amqp_model.specs.Notes.{Role}
 use Rattle.amqp_model.specs.Lives.{has_left}
 use Rattle.amqp_model.specs.Verdict as lives
 use Rattle.amqp_model.specs.Verdict.{verdict}
@@ -42,7 +41,7 @@ pub puts-none : {role : Role} (config : Config role) (agreed : Option Agreed) (n
 puts-none config agreed n channel r =
     ap (methods_put (facts_in config Phase.Closing agreed (suc n) channel)) (drops (suc n == 0) (is_call kinds.ConnectionClose r) (is_call kinds.ConnectionCloseOk r) _ _ (Discarded (suc n)) (not-zero n))
 
-pub takes-acts : (role : Role) (config : Config role) (history : History) (frame : Frame) (n : ℕ) (theirs : List Note) → TakesActs role config history frame n theirs
+pub takes-acts : TakesActs
 takes-acts role config history frame n theirs writes g next = cases (frame.channel == suc n) refl
   where
     back : AllReadBack (methods_put (facts_at config (end_from role config false history) frame.channel) (verdict_on (facts_at config (end_from role config false history) frame.channel) (reading frame)))

@@ -37,7 +37,7 @@ use Rattle.amqp_model.proofs.Turning.{message-lives}
 use Rattle.amqp_model.proofs.TurnLaws.{ended_after, items-are}
 use Rattle.amqp_model.proofs.WholeMessages.{kept_after, gathering-after, some-octets, AllSay, content-says, puts-whole-messages}
 
-pub taken-says-nothing : (role : Role) (frame : Frame) (history : History) → TakenSaysNothing role frame history
+pub taken-says-nothing : TakenSaysNothing
 taken-says-nothing role frame history = refl
 
 -- what a frame put on a channel above 0 adds, as it stands in the definition
@@ -146,7 +146,7 @@ message-says : (m max : ℕ) (message : Message) → AskReadsBack (Send (suc m) 
 message-says m max (Plain method) read class = let said_is = reads-back (suc m) method read.method in ((ap payload_of said_is, (_, ap kind_of said_is ∙ sent-kind method.kind (bit_at 0 method) class)), tt)
 message-says m max (Whole content) read class = content-says m max content read.method read.header class
 
-pub says-message : (role : Role) (config : Config role) (history : History) (channel : ℕ) (message : Message) (frames : List Frame) → SaysMessage role config history channel message frames
+pub says-message : SaysMessage
 says-message role config history zero message frames back lawful made read v =
     let parts = accepted-none (refusal role (end_of config history) (Send zero message)) (frames_asked (end_of config history) (Send zero message)) frames v in
     let a = accepted role (end_of config history) (Send zero message) parts.0 in

@@ -22,7 +22,7 @@ use Rattle.amqp_model.specs.Events.{Event, FrameVerdict, Proceeds, RefusesConten
 use Rattle.amqp_model.specs.FrameVerdict.{Facts, first_of, as_lives, after_part, on_part, by_state, on_open, on_idle, on_matched, on_message, is_gathering, is_no_channel, MOST_REQUESTS, answers_first, verdict_on, event_told}
 use Rattle.amqp_model.specs.EndVerdict.{goes_on, end_puts}
 use Rattle.amqp_model.specs.LawfulHistories.{end_of}
-use Rattle.amqp_model.specs.Traces.{Word, Direction, word_of, is_word_of, NotesFrame, noted, IsPut, IsTaken, trace, TracePuts, TraceTakes, item_in_event}
+use Rattle.amqp_model.specs.Traces.{Word, word_of, is_word_of, NotesFrame, noted, IsPut, IsTaken, trace, TracePuts, TraceTakes, item_in_event}
 use Rattle.amqp_model.proofs.Agreeing.{is_closing}
 use Rattle.amqp_model.proofs.Going.{running}
 use Rattle.amqp_model.proofs.SentTelling.{no-item}
@@ -41,7 +41,7 @@ word-called (Calls method) = by-kind method.kind (bit_at 0 method) method.args
     by-kind kind active args = refl
 word-called r = refl
 
-pub notes-frame : (direction : Direction) (frame : Frame) → NotesFrame direction frame
+pub notes-frame : NotesFrame
 notes-frame direction frame = record {
   same_channel = refl;
   same_direction = refl;
@@ -53,7 +53,7 @@ pub trace-puts : (frames : List Frame) (history : History) → TracePuts frames 
 trace-puts [] history = sym (append-nil (trace history))
 trace-puts (frame ∷ later) history = trace-puts later (Put frame ∷ history) ∙ append_assoc (trace history) (noted IsPut frame ∷ []) (map (noted IsPut) later)
 
-pub trace-takes : (role : Role) (config : Config role) (history : History) (frame : Frame) → TraceTakes role config history frame
+pub trace-takes : TraceTakes
 trace-takes role config history frame =
     trace-puts (end_puts config (end_of config history) frame) (Took frame ∷ history) ∙ append_assoc (trace history) (noted IsTaken frame ∷ []) _
 

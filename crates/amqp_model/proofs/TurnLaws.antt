@@ -122,7 +122,7 @@ module _ (role : Role) (config : Config role) (history : History) (n : ℕ) (bac
       by-role Client = refl
       by-role Server = refl
 
-pub answers-in-turn : (role : Role) (config : Config role) (history : History) (n life : ℕ) → AnswersInTurn role config history n life
+pub answers-in-turn : AnswersInTurn
 answers-in-turn role config history n life back lawful =
     subst (λ l. InTurn l (requests_at role (suc n) life history)) (replies-are role config history n back lawful life)
     (subst (InTurn (replies role life (notes_on (suc n) history))) (requests-are role config history n back lawful life) ((all-matched role config history n back lawful).in_turn life))
@@ -130,7 +130,7 @@ answers-in-turn role config history n life back lawful =
 pub asks-one-at-a-time : (config : Config Client) (history : History) (n life : ℕ) → AsksOneAtATime config history n life
 asks-one-at-a-time config history n life back lawful = (all-matched Client config history n back lawful).one_more life
 
-pub keeps-unanswered : (role : Role) (config : Config role) (end : End) (history : History) (n : ℕ) (life : Life) → KeepsUnanswered role config end history n life
+pub keeps-unanswered : KeepsUnanswered
 keeps-unanswered role config end history n life back lawful stands opened =
     let channel_stands = subst (λ channel. ChannelStandsFor role channel (entries_on (suc n) history)) opened (stands.channels refl n) in
     let keeps = (all-matched role config history n back lawful).keeps (Open life) channel_stands in

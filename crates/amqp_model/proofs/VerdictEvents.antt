@@ -222,7 +222,7 @@ Claim facts reading life phase channel =
     → Tells facts.number (item_ended life.content (payload_of reading))
     (event_told (facts_in facts.config phase facts.agreed facts.number channel) (verdict_on (facts_in facts.config phase facts.agreed facts.number channel) reading))
 
-pub tells-item-ended : (role : Role) (facts : Facts role) (reading : Reading) (life : Life) → TellsItemEnded role facts reading life
+pub tells-item-ended : TellsItemEnded
 tells-item-ended role facts reading life runs above opened = by-parts facts.phase runs facts.channel opened
   where
     event : Option Event

@@ -5,7 +5,7 @@ use Rattle.amqp_frame.specs.Frame.{frame_length}
 use Rattle.amqp_model.specs.Frame.{Frame}
 use Rattle.amqp_model.specs.Notes.{Role, Client, Server}
 use Rattle.amqp_model.specs.Arrangement.{on}
-use Rattle.amqp_model.specs.Methods.{Method, ReadsBack}
+use Rattle.amqp_model.specs.Methods.{ReadsBack}
 use Rattle.amqp_model.specs.Histories.{Took, History}
 use Rattle.amqp_model.specs.Channels.{HandshakeStep, Handshake, Running, Agreed}
 use Rattle.amqp_model.specs.Negotiation.{Config, FRAME_MIN}
@@ -40,7 +40,7 @@ pub writes-of : (role : Role) (client_config : Config Client) (server_config : C
 writes-of Client client_config server_config client server = client
 writes-of Server client_config server_config client server = server
 
-lawful-of : (reads : (method : Method) → MethodReadsBack method) (role : Role) (client_config : Config Client) (server_config : Config Server) (mine theirs : History) → PairWrites role client_config server_config mine theirs → StandsFor role (config_of role client_config server_config) false (end_from role (config_of role client_config server_config) false mine) mine
+lawful-of : (reads : MethodReadsBack) (role : Role) (client_config : Config Client) (server_config : Config Server) (mine theirs : History) → PairWrites role client_config server_config mine theirs → StandsFor role (config_of role client_config server_config) false (end_from role (config_of role client_config server_config) false mine) mine
 lawful-of reads Client client_config server_config mine theirs p = lawful-stands Client client_config false mine (all-reads-back reads Client client_config p.client_writes) (pair-lawful client_config server_config mine theirs p.pair).0
 lawful-of reads Server client_config server_config mine theirs p = lawful-stands Server server_config false mine (all-reads-back reads Server server_config p.server_writes) (pair-lawful client_config server_config theirs mine p.pair).1
 
@@ -48,7 +48,7 @@ lawful-of reads Server client_config server_config mine theirs p = lawful-stands
 next-well : (role : Role) (limits : Agreed) (theirs mine : History) (frame : Frame) → ComesNext theirs mine frame → AllWell role limits (frames_put theirs) → IsWellPut role limits frame
 next-well role limits theirs mine frame next all = well-at role limits (on frame.channel (frames_taken mine)) frame next.later (subst (AllWell role limits) next.next (all-well-on role limits frame.channel (frames_put theirs) all))
 
-module _ (reads : (method : Method) → MethodReadsBack method) (role : Role) (client_config : Config Client) (server_config : Config Server) (mine theirs : History) (p : PairWrites role client_config server_config mine theirs) (mine_well : AllWell role (smaller_limits client_config server_config) (frames_put mine)) where
+module _ (reads : MethodReadsBack) (role : Role) (client_config : Config Client) (server_config : Config Server) (mine theirs : History) (p : PairWrites role client_config server_config mine theirs) (mine_well : AllWell role (smaller_limits client_config server_config) (frames_put mine)) where
   more-well : (frames : List Frame) (history : History) → frames_put history ≡ frames_put mine → AllWell role (smaller_limits client_config server_config) frames → AllWell role (smaller_limits client_config server_config) (frames_put (then_put frames history))
   more-well frames history same well = subst (AllWell role (smaller_limits client_config server_config)) (sym (put-then frames history ∙ ap (λ l. l ++ frames) same)) (all-well-join role (smaller_limits client_config server_config) (frames_put mine) frames mine_well well)
 
@@ -78,14 +78,14 @@ not-handshake : (step : HandshakeStep) → Running ≡ Handshake step → ⊥
 not-handshake step e = cc
 
 -- a step of the client, and of the server
-client-step : (reads : (method : Method) → MethodReadsBack method) (client_config : Config Client) (server_config : Config Server) (client server : History) (taken : Option Frame) (after : History) → PairWrites Client client_config server_config client server → AllWell Client (smaller_limits client_config server_config) (frames_put client) → AllWell Server (smaller_limits client_config server_config) (frames_put server) → AllComeNext server client taken → Goes Client client_config client taken false after → AllWell Client (smaller_limits client_config server_config) (frames_put after)
+client-step : (reads : MethodReadsBack) (client_config : Config Client) (server_config : Config Server) (client server : History) (taken : Option Frame) (after : History) → PairWrites Client client_config server_config client server → AllWell Client (smaller_limits client_config server_config) (frames_put client) → AllWell Server (smaller_limits client_config server_config) (frames_put server) → AllComeNext server client taken → Goes Client client_config client taken false after → AllWell Client (smaller_limits client_config server_config) (frames_put after)
 client-step reads client_config server_config client server taken after p mine theirs next (takes frame can g) = takes-well reads Client client_config server_config client server p mine frame next (next-well Server (smaller_limits client_config server_config) server client frame next theirs).numbered g
 client-step reads client_config server_config client server taken after p mine theirs next (asks ask frames made read e) =
     let runs = (asked Client client_config client (lawful-of reads Client client_config server_config client server p) ask frames made read.method e).0 in
     let agreed = agrees-past-handshake reads Client client_config server_config client server p (λ step q. not-handshake step (sym runs ∙ q)) in
     more-well reads Client client_config server_config client server p mine frames client refl (asked-well Client (smaller_limits client_config server_config) (end_from Client client_config false client) agreed (least-frame client_config server_config p.client_writes p.server_writes) ask frames read e)
 
-server-step : (reads : (method : Method) → MethodReadsBack method) (client_config : Config Client) (server_config : Config Server) (server client : History) (taken : Option Frame) (after : History) → PairWrites Server client_config server_config server client → AllWell Server (smaller_limits client_config server_config) (frames_put server) → AllWell Client (smaller_limits client_config server_config) (frames_put client) → AllComeNext client server taken → Goes Server server_config server taken false after → AllWell Server (smaller_limits client_config server_config) (frames_put after)
+server-step : (reads : MethodReadsBack) (client_config : Config Client) (server_config : Config Server) (server client : History) (taken : Option Frame) (after : History) → PairWrites Server client_config server_config server client → AllWell Server (smaller_limits client_config server_config) (frames_put server) → AllWell Client (smaller_limits client_config server_config) (frames_put client) → AllComeNext client server taken → Goes Server server_config server taken false after → AllWell Server (smaller_limits client_config server_config) (frames_put after)
 server-step reads client_config server_config server client taken after p mine theirs next greets =
     let back = all-reads-back reads Server server_config p.server_writes in
     let start_said = start-is server_config in
@@ -100,7 +100,7 @@ record BothWell (client_config : Config Client) (server_config : Config Server) 
   client_well : AllWell Client (smaller_limits client_config server_config) (frames_put client)
   server_well : AllWell Server (smaller_limits client_config server_config) (frames_put server)
 
-both-well : (reads : (method : Method) → MethodReadsBack method) (client_config : Config Client) (server_config : Config Server) → ConfigWrites client_config → ConfigWrites server_config → (client server : History) → Pair client_config server_config client server → BothWell client_config server_config client server
+both-well : (reads : MethodReadsBack) (client_config : Config Client) (server_config : Config Server) → ConfigWrites client_config → ConfigWrites server_config → (client server : History) → Pair client_config server_config client server → BothWell client_config server_config client server
 both-well reads client_config server_config client_writes server_writes client server both_begin = record { client_well = tt; server_well = tt }
 both-well reads client_config server_config client_writes server_writes after server (client_goes {client = client} {taken = taken} pair next step) =
     let old = both-well reads client_config server_config client_writes server_writes client server pair in
@@ -109,10 +109,10 @@ both-well reads client_config server_config client_writes server_writes client a
     let old = both-well reads client_config server_config client_writes server_writes client server pair in
     record { client_well = old.client_well; server_well = server-step reads client_config server_config server client taken after (record { client_writes = client_writes; server_writes = server_writes; pair = pair }) old.server_well old.client_well next step }
 
-pub puts-well : (reads : (method : Method) → MethodReadsBack method) (role : Role) (client_config : Config Client) (server_config : Config Server) (mine theirs : History) → PutsWell role client_config server_config mine theirs
+pub puts-well : (reads : MethodReadsBack) → PutsWell
 puts-well reads Client client_config server_config mine theirs p = (both-well reads client_config server_config p.client_writes p.server_writes mine theirs p.pair).client_well
 puts-well reads Server client_config server_config mine theirs p = (both-well reads client_config server_config p.client_writes p.server_writes theirs mine p.pair).server_well
 
-pub next-is-well-put : (reads : (method : Method) → MethodReadsBack method) (role : Role) (client_config : Config Client) (server_config : Config Server) (mine theirs : History) (frame : Frame) → NextIsWellPut role client_config server_config mine theirs frame
+pub next-is-well-put : (reads : MethodReadsBack) → NextIsWellPut
 next-is-well-put reads Client client_config server_config mine theirs frame p next = next-well Server (smaller_limits client_config server_config) theirs mine frame next (both-well reads client_config server_config p.client_writes p.server_writes mine theirs p.pair).server_well
 next-is-well-put reads Server client_config server_config mine theirs frame p next = next-well Client (smaller_limits client_config server_config) theirs mine frame next (both-well reads client_config server_config p.client_writes p.server_writes theirs mine p.pair).client_well

@@ -109,7 +109,7 @@ fits-at : (kept : Gathering) (prefix : List Payload) (payload : Payload) (later 
 fits-at kept [] payload later fit = fit.0
 fits-at kept (p ∷ prefix) payload later fit = fits-at (remains (step kept p) p) prefix payload later fit.1
 
-pub each-fits-next : (prefix : List Payload) (payload : Payload) (later : List Payload) → EachFitsNext prefix payload later
+pub each-fits-next : EachFitsNext
 each-fits-next prefix payload later whole = subst (λ k. FitsNext (step k payload)) (gathering-after prefix [] ∙ ap gathering (append-nil (reverse prefix))) (fits-at Nothing prefix payload later whole)
 
 -- a method has octets
@@ -323,5 +323,5 @@ lawful-whole : (role : Role) (config : Config role) (failed : Bool) (history : H
 lawful-whole role config failed history n back begun = none-sent role n
 lawful-whole role config failed history n back (goes {before = before} {taken = taken} lawful step) = goes-whole role config n before taken failed history back (lawful-whole role config false before n back lawful) step
 
-pub puts-whole-messages : (role : Role) (config : Config role) (failed : Bool) (history : History) (n life : ℕ) → PutsWholeMessages role config failed history n life
+pub puts-whole-messages : PutsWholeMessages
 puts-whole-messages role config failed history n life back lawful = lawful-whole role config failed history n back lawful life

@@ -32,15 +32,18 @@ smaller_limits client_config server_config =
     }
 
 -- whatever an end has agreed to is the smaller of the two ends' limits, so both agree to the same
-abbrev pub AgreesOnSmaller : Role → Config Client → Config Server → (mine theirs : History) → Agreed → Type 0
-AgreesOnSmaller role client_config server_config mine theirs agreed =
-    PairWrites role client_config server_config mine theirs → (end_in role client_config server_config mine).agreed ≡ Some agreed
+abbrev pub AgreesOnSmaller : Type 0
+AgreesOnSmaller =
+    (role : Role) (client_config : Config Client) (server_config : Config Server) (mine theirs : History)
+    (agreed : Agreed)
+    → PairWrites role client_config server_config mine theirs → (end_in role client_config server_config mine).agreed ≡ Some agreed
     → agreed ≡ smaller_limits client_config server_config
 
 -- and an end that is past its handshake has agreed to it
-abbrev pub AgreesPastHandshake : Role → Config Client → Config Server → (mine theirs : History) → Type 0
-AgreesPastHandshake role client_config server_config mine theirs =
-    PairWrites role client_config server_config mine theirs
+abbrev pub AgreesPastHandshake : Type 0
+AgreesPastHandshake =
+    (role : Role) (client_config : Config Client) (server_config : Config Server) (mine theirs : History)
+    → PairWrites role client_config server_config mine theirs
     → ((step : HandshakeStep) → (end_in role client_config server_config mine).phase ≢ Handshake step)
     → (end_in role client_config server_config mine).agreed ≡ Some (smaller_limits client_config server_config)
 
@@ -50,19 +53,25 @@ pub record GoesOnWith (role : Role) (client_config : Config Client) (server_conf
   pub goes : goes_on (end_verdict (config_of role client_config server_config) (end_in role client_config server_config mine) frame) ≡ true
 
 -- an end goes on with whatever comes next on channel 0
-abbrev pub GoesOnAtZero : Role → Config Client → Config Server → (mine theirs : History) → Frame → Type 0
-GoesOnAtZero role client_config server_config mine theirs frame =
-    PairWrites role client_config server_config mine theirs → ComesNext theirs mine frame → frame.channel ≡ 0
+abbrev pub GoesOnAtZero : Type 0
+GoesOnAtZero =
+    (role : Role) (client_config : Config Client) (server_config : Config Server) (mine theirs : History)
+    (frame : Frame)
+    → PairWrites role client_config server_config mine theirs → ComesNext theirs mine frame → frame.channel ≡ 0
     → GoesOnWith role client_config server_config mine frame
 
 -- where a frame of another channel comes next, the end is Running, or has put connection.close
-abbrev pub RunsWhereNextIsAbove : Role → Config Client → Config Server → (mine theirs : History) → Frame → Type 0
-RunsWhereNextIsAbove role client_config server_config mine theirs frame =
-    PairWrites role client_config server_config mine theirs → ComesNext theirs mine frame → frame.channel ≢ 0
+abbrev pub RunsWhereNextIsAbove : Type 0
+RunsWhereNextIsAbove =
+    (role : Role) (client_config : Config Client) (server_config : Config Server) (mine theirs : History)
+    (frame : Frame)
+    → PairWrites role client_config server_config mine theirs → ComesNext theirs mine frame → frame.channel ≢ 0
     → ((end_in role client_config server_config mine).phase ≡ Running) ⊎ ((end_in role client_config server_config mine).phase ≡ Phase.Closing)
 
 -- an end that is closed has taken all that the other put, on every channel
-abbrev pub ClosedHasTakenAll : Role → Config Client → Config Server → (mine theirs : History) → (channel : ℕ) → Type 0
-ClosedHasTakenAll role client_config server_config mine theirs channel =
-    PairWrites role client_config server_config mine theirs → (end_in role client_config server_config mine).phase ≡ Closed
+abbrev pub ClosedHasTakenAll : Type 0
+ClosedHasTakenAll =
+    (role : Role) (client_config : Config Client) (server_config : Config Server) (mine theirs : History)
+    (channel : ℕ)
+    → PairWrites role client_config server_config mine theirs → (end_in role client_config server_config mine).phase ≡ Closed
     → on channel (frames_put theirs) ≡ on channel (frames_taken mine)

@@ -22,8 +22,10 @@ StateIsOfNotes role config end history n =
     → channel_state end (suc n) ≡ state role (notes_on (suc n) history)
 
 -- once it is closed every channel is Free
-abbrev pub ClosedIsFree : End → (n : ℕ) → Type 0
-ClosedIsFree end n = end.phase ≡ Closed → channel_state end n ≡ State.Free
+abbrev pub ClosedIsFree : Type 0
+ClosedIsFree =
+    (end : End) (n : ℕ)
+    → end.phase ≡ Closed → channel_state end n ≡ State.Free
 
 -- the payloads that the end took on a channel, the newest first
 abbrev pub taken_on : (channel : ℕ) → History → List Payload
@@ -43,9 +45,13 @@ NoneIsGathered role config end history n life =
     → Gathers (taken_on (suc n) history) Nothing → gathered end (suc n) ≡ 0
 
 -- and none on a channel that is not Open, or where the connection is not Running
-abbrev pub OnlyOpenGathers : End → (n : ℕ) → Type 0
-OnlyOpenGathers end n = gathered end n ≢ 0 → (life : Life) × (end.phase ≡ Running) × (end.channels n ≡ Open life)
+abbrev pub OnlyOpenGathers : Type 0
+OnlyOpenGathers =
+    (end : End) (n : ℕ)
+    → gathered end n ≢ 0 → (life : Life) × (end.phase ≡ Running) × (end.channels n ≡ Open life)
 
 -- a reply is due on an Open channel alone, while the connection is not closed
-abbrev pub OnlyOpenIsDue : End → (n : ℕ) → Type 0
-OnlyOpenIsDue end n = reply_due end n ≢ None → (life : Life) × (takes_octets end.phase ≡ true) × (end.channels n ≡ Open life)
+abbrev pub OnlyOpenIsDue : Type 0
+OnlyOpenIsDue =
+    (end : End) (n : ℕ)
+    → reply_due end n ≢ None → (life : Life) × (takes_octets end.phase ≡ true) × (end.channels n ≡ Open life)

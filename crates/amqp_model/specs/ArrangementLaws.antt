@@ -123,7 +123,8 @@ AllIsInOrder =
 -- of each queue, what was put is begun, or it waits
 abbrev pub WaitsWhatIsNotBegun : Type 0
 WaitsWhatIsNotBegun =
-    (opening : List ℕ) (put : List Frame) (written : List ℕ) (o : Output) (out : IsOutputOf opening put written o) (queue : Queue)
+    (opening : List ℕ) (put : List Frame) (written : List ℕ) (o : Output) (out : IsOutputOf opening put written o)
+    (queue : Queue)
     → queued queue put ≡ queued queue out.begun ++ queued queue o.row
 
 -- what leaves after a connection.close or close-ok was put after it

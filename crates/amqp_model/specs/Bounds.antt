@@ -41,8 +41,10 @@ abbrev pub EndIsWithin : (role : Role) → Config role → End → Type 0
 EndIsWithin role config end = (n : ℕ) → ChannelIsWithin role config.max_body (end.channels n)
 
 -- those of a new end are
-abbrev pub NewIsWithin : (role : Role) → Config role → Type 0
-NewIsWithin role config = EndIsWithin role config (new_end role)
+abbrev pub NewIsWithin : Type 0
+NewIsWithin =
+    (role : Role) (config : Config role)
+    → EndIsWithin role config (new_end role)
 
 -- and they stay so by each frame that it takes and goes on after, and by each ask that it accepts
 abbrev pub FrameStaysWithin : (role : Role) → Config role → End → Frame → Type 0
@@ -56,9 +58,10 @@ AskStaysWithin role config end ask frames =
     → EndIsWithin role config (end_after_put role config frames end)
 
 -- so are those of every end that stands for a lawful history
-abbrev pub StandsWithin : (role : Role) → Config role → End → History → Type 0
-StandsWithin role config end history =
-    WritesReadBack role config → Lawful role config false history → StandsFor role config false end history → EndIsWithin role config end
+abbrev pub StandsWithin : Type 0
+StandsWithin =
+    (role : Role) (config : Config role) (end : End) (history : History)
+    → WritesReadBack role config → Lawful role config false history → StandsFor role config false end history → EndIsWithin role config end
 
 -- what is kept of a body, as it is answered, is less than the greatest body, or nothing
 abbrev pub GatheredIsWithin : (role : Role) → Config role → End → (n : ℕ) → Type 0

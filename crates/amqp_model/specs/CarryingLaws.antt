@@ -21,15 +21,17 @@ abbrev pub frame_carried : Carried → Frame
 frame_carried (Carry kind frame) = frame
 
 -- the frames that the notes of a channel put and take are those that the history does, in order
-abbrev pub FramesAreOfChannel : (channel : ℕ) → History → Type 0
-FramesAreOfChannel channel history =
-    (on channel (frames_put history) ≡ map frame_carried (put_by (notes_on channel history)))
+abbrev pub FramesAreOfChannel : Type 0
+FramesAreOfChannel =
+    (channel : ℕ) (history : History)
+    → (on channel (frames_put history) ≡ map frame_carried (put_by (notes_on channel history)))
     × (on channel (frames_taken history) ≡ map frame_carried (taken_by (notes_on channel history)))
 
 -- and each of these notes says what its frame is to the channel
-abbrev pub NotesAreOfFrames : (channel : ℕ) → History → Type 0
-NotesAreOfFrames channel history =
-    (put_by (notes_on channel history) ≡ map as_carried (on channel (frames_put history)))
+abbrev pub NotesAreOfFrames : Type 0
+NotesAreOfFrames =
+    (channel : ℕ) (history : History)
+    → (put_by (notes_on channel history) ≡ map as_carried (on channel (frames_put history)))
     × (taken_by (notes_on channel history) ≡ map as_carried (on channel (frames_taken history)))
 
 -- an end begins to write with what the other begins to read
@@ -43,14 +45,16 @@ pub record Carries (role : Role) (limit : ℕ) (mine theirs : History) (put fed 
   pub put_is : put ≡ fed ++ rest
 
 -- on each channel, the frames that the end took are a prefix of those that the other put
-abbrev pub TakesPrefixOnEach : Role → (limit : ℕ) → (mine theirs : History) → (put fed unfinished rest : List ℕ) → Type 0
-TakesPrefixOnEach role limit mine theirs put fed unfinished rest =
-    Carries role limit mine theirs put fed unfinished rest → (channel : ℕ)
+abbrev pub TakesPrefixOnEach : Type 0
+TakesPrefixOnEach =
+    (role : Role) (limit : ℕ) (mine theirs : History) (put fed unfinished rest : List ℕ)
+    → Carries role limit mine theirs put fed unfinished rest → (channel : ℕ)
     → IsPrefixOf (on channel (frames_taken mine)) (on channel (frames_put theirs))
 
 -- a frame that the rest completes comes next
-abbrev pub CompletedComesNext : Role → (limit : ℕ) → (mine theirs : History) → (put fed unfinished rest : List ℕ) → Type 0
-CompletedComesNext role limit mine theirs put fed unfinished rest =
-    (f : Frame) (prefix later : List ℕ)
+abbrev pub CompletedComesNext : Type 0
+CompletedComesNext =
+    (role : Role) (limit : ℕ) (mine theirs : History) (put fed unfinished rest : List ℕ)
+    → (f : Frame) (prefix later : List ℕ)
     → Carries role limit mine theirs put fed unfinished rest → rest ≡ prefix ++ later → unfinished ++ prefix ≡ octets f → Fits f
     → ComesNext theirs mine f

@@ -5,7 +5,7 @@ use Rattle.amqp_model.specs.Frame.{Frame}
 use Rattle.amqp_model.specs.Notes.{Role, Client, Server, Kind, Open, OpenOk, Note, Put, Took, Leaving}
 use Rattle.amqp_model.specs.Verdict.{Event, GoesOn, verdict}
 use Rattle.amqp_model.specs.Carried.{Carry}
-use Rattle.amqp_model.specs.Runs.{may_put, IsNext}
+use Rattle.amqp_model.specs.Runs.{may_put, IsNext, Run}
 
 -- an end put or took a frame on a channel above 0, or it put connection.close
 pub data ConnectionNote : Type 0 where
@@ -47,6 +47,12 @@ pub data ConnectionRun : (client server : List ConnectionNote) → Type 0 where
   server_does :
       {client server after : List ConnectionNote} → ConnectionRun client server → ConnectionActs Server client server after
       → ConnectionRun client after
+
+-- on each channel the notes of a connection are a run
+abbrev pub EachChannelRuns : Type 0
+EachChannelRuns =
+    (client server : List ConnectionNote) → ConnectionRun client server
+    → (channel : ℕ) → Run (notes_of channel client) (notes_of channel server)
 
 -- The client opens two channels, and the server takes the second open first.
 abbrev pub overtaken_client : (ℕ → Frame) → List ConnectionNote

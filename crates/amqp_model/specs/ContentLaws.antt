@@ -10,13 +10,16 @@ use Rattle.amqp_model.specs.Gathering.{Gathering, Nothing, BodyDue, Misfit, Past
 use Rattle.amqp_model.specs.Items.{Item, WholeContent, EndsItem, Encodes, item_of, item_ended, items_taken, items}
 
 -- payloads are the content of at most one message
-abbrev pub IsAtMostOneContent : List Payload → Type 0
-IsAtMostOneContent payloads = (one other : Content) → IsContent one payloads → IsContent other payloads → one ≡ other
+abbrev pub IsAtMostOneContent : Type 0
+IsAtMostOneContent =
+    (payloads : List Payload)
+    → (one other : Content) → IsContent one payloads → IsContent other payloads → one ≡ other
 
 -- payloads that are a content are no prefix of another
-abbrev pub NoContentAtStart : List Payload → Type 0
-NoContentAtStart payloads =
-    (one other : Content) (next : Payload) (later : List Payload) → IsContent one payloads → IsContent other (payloads ++ next ∷ later) → ⊥
+abbrev pub NoContentAtStart : Type 0
+NoContentAtStart =
+    (payloads : List Payload)
+    → (one other : Content) (next : Payload) (later : List Payload) → IsContent one payloads → IsContent other (payloads ++ next ∷ later) → ⊥
 
 -- the frame of a body part
 abbrev body_frame : (channel : ℕ) → (octets : List ℕ) → Frame
@@ -58,83 +61,113 @@ abbrev pub CutsTo : (max body_length : ℕ) → List ℕ → Type 0
 CutsTo max body_length lengths = (content : Content) → length content.body ≡ body_length → body_lengths (cut max content) ≡ lengths
 
 -- payloads taken leave at most one content under way
-abbrev pub OneUnderWay : (taken : List Payload) → Type 0
-OneUnderWay taken = (since others : List Payload) → UnderWay taken since → UnderWay taken others → since ≡ others
+abbrev pub OneUnderWay : Type 0
+OneUnderWay =
+    (taken : List Payload)
+    → (since others : List Payload) → UnderWay taken since → UnderWay taken others → since ≡ others
 
 -- whatever goes on with what is under way goes on with what is due
-abbrev pub GoesOnAsDue : (taken since : List Payload) → Type 0
-GoesOnAsDue taken since =
-    (content : Content) (next : Payload) (later : List Payload) → UnderWay taken since → IsContent content (reverse since ++ next ∷ later)
+abbrev pub GoesOnAsDue : Type 0
+GoesOnAsDue =
+    (taken since : List Payload)
+    → (content : Content) (next : Payload) (later : List Payload) → UnderWay taken since → IsContent content (reverse since ++ next ∷ later)
     → IsDue (due since) next
 
 -- the machine keeps what is under way: a state says it all, and it is the state for it
-abbrev pub KeepsUnderWay : (taken : List Payload) → Gathering → Type 0
-KeepsUnderWay taken state = (gathering taken ≡ state) ↔ Gathers taken state
+abbrev pub KeepsUnderWay : Type 0
+KeepsUnderWay =
+    (taken : List Payload) (state : Gathering)
+    → (gathering taken ≡ state) ↔ Gathers taken state
 
 -- the octets kept are those of the body parts since the content's method
-abbrev pub KeepsItsOctets : (taken since : List Payload) → Type 0
-KeepsItsOctets taken since = UnderWay taken since → kept (gathering taken) ≡ body_octets since
+abbrev pub KeepsItsOctets : Type 0
+KeepsItsOctets =
+    (taken since : List Payload)
+    → UnderWay taken since → kept (gathering taken) ≡ body_octets since
 
 -- where nothing is under way, what comes after is gathered as if nothing had come before
-abbrev pub GathersAfresh : (later before : List Payload) → Type 0
-GathersAfresh later before = Gathers before Nothing → gathering (later ++ before) ≡ gathering later
+abbrev pub GathersAfresh : Type 0
+GathersAfresh =
+    (later before : List Payload)
+    → Gathers before Nothing → gathering (later ++ before) ≡ gathering later
 
 -- nothing is under way after a method that carries no content
-abbrev pub NothingAfterMethod : (before : List Payload) → Method → Type 0
-NothingAfterMethod before method = carries_content method ≡ false → Gathers (Calls method ∷ before) Nothing
+abbrev pub NothingAfterMethod : Type 0
+NothingAfterMethod =
+    (before : List Payload) (method : Method)
+    → carries_content method ≡ false → Gathers (Calls method ∷ before) Nothing
 
 -- nor after a content that is whole
-abbrev pub NothingAfterContent : (taken : List Payload) → Content → Type 0
-NothingAfterContent taken content = EndsContent taken content → Gathers taken Nothing
+abbrev pub NothingAfterContent : Type 0
+NothingAfterContent =
+    (taken : List Payload) (content : Content)
+    → EndsContent taken content → Gathers taken Nothing
 
 -- the machine tells a content where it is whole
-abbrev pub TellsWhole : (before : List Payload) → Payload → Content → Type 0
-TellsWhole before payload content = (step (gathering before) payload ≡ Completes content) ↔ EndsContent (payload ∷ before) content
+abbrev pub TellsWhole : Type 0
+TellsWhole =
+    (before : List Payload) (payload : Payload) (content : Content)
+    → (step (gathering before) payload ≡ Completes content) ↔ EndsContent (payload ∷ before) content
 
 -- the machine refuses what doesn't fit, for the reason that holds
-abbrev pub TellsMisfits : (before : List Payload) → Payload → Misfit → Type 0
-TellsMisfits before payload misfit = (step (gathering before) payload ≡ Breaks misfit) ↔ DoesNotFit before payload misfit
+abbrev pub TellsMisfits : Type 0
+TellsMisfits =
+    (before : List Payload) (payload : Payload) (misfit : Misfit)
+    → (step (gathering before) payload ≡ Breaks misfit) ↔ DoesNotFit before payload misfit
 
 -- where it goes on, it does so with what is then under way
-abbrev pub GoesOnWith : (before : List Payload) → Payload → Gathering → Type 0
-GoesOnWith before payload state = step (gathering before) payload ≡ Keeps state → Gathers (payload ∷ before) state
+abbrev pub GoesOnWith : Type 0
+GoesOnWith =
+    (before : List Payload) (payload : Payload) (state : Gathering)
+    → step (gathering before) payload ≡ Keeps state → Gathers (payload ∷ before) state
 
 -- the machine tells the items that payloads end
-abbrev pub TellsItems : (before : List Payload) → Payload → Item → Type 0
-TellsItems before payload item = (item_ended (gathering before) payload ≡ Some item) ↔ EndsItem (payload ∷ before) item
+abbrev pub TellsItems : Type 0
+TellsItems =
+    (before : List Payload) (payload : Payload) (item : Item)
+    → (item_ended (gathering before) payload ≡ Some item) ↔ EndsItem (payload ∷ before) item
 
 -- the machine's items are those that the payloads encode
 abbrev pub ItemsAreEncoded : (taken : List Payload) → List Item → Type 0
 ItemsAreEncoded taken list = (items_taken taken ≡ list) ↔ Encodes taken list
 
 -- the items of a prefix are a prefix of the items
-abbrev pub ItemsOfPrefix : (prefix whole : List Payload) → Type 0
-ItemsOfPrefix prefix whole = IsPrefixOf prefix whole → IsPrefixOf (items prefix) (items whole)
+abbrev pub ItemsOfPrefix : Type 0
+ItemsOfPrefix =
+    (prefix whole : List Payload)
+    → IsPrefixOf prefix whole → IsPrefixOf (items prefix) (items whole)
 
 -- one more payload adds the item that it ends, if it ends one
-abbrev pub OneMoreEncoded : (prefix : List Payload) → Payload → Type 0
-OneMoreEncoded prefix payload =
-    items (prefix ++ payload ∷ []) ≡ items prefix ++ option_to_list (item_ended (gathering (reverse prefix)) payload)
+abbrev pub OneMoreEncoded : Type 0
+OneMoreEncoded =
+    (prefix : List Payload) (payload : Payload)
+    → items (prefix ++ payload ∷ []) ≡ items prefix ++ option_to_list (item_ended (gathering (reverse prefix)) payload)
 
 -- where nothing is under way, what comes after is encoded as if nothing had come before
-abbrev pub EncodedAfresh : (prefix later : List Payload) → Type 0
-EncodedAfresh prefix later = Gathers (reverse prefix) Nothing → items (prefix ++ later) ≡ items prefix ++ items later
+abbrev pub EncodedAfresh : Type 0
+EncodedAfresh =
+    (prefix later : List Payload)
+    → Gathers (reverse prefix) Nothing → items (prefix ++ later) ≡ items prefix ++ items later
 
 -- A method that carries no content stands by itself: what is encoded before it, the item that it is, what is encoded
 -- after it. So the items of a life are those of its own payloads.
-abbrev pub MethodStandsAlone : (prefix : List Payload) → Method → (later : List Payload) → Type 0
-MethodStandsAlone prefix method later =
-    carries_content method ≡ false
+abbrev pub MethodStandsAlone : Type 0
+MethodStandsAlone =
+    (prefix : List Payload) (method : Method) (later : List Payload)
+    → carries_content method ≡ false
     → items (prefix ++ Calls method ∷ later) ≡ (items prefix ++ option_to_list (item_of method (sort_of method))) ++ items later
 
 -- a content's payloads add just that content, whatever stands before them
-abbrev pub ContentEncodedAfter : (prefix payloads : List Payload) → Content → Type 0
-ContentEncodedAfter prefix payloads content =
-    IsContent content payloads → items (prefix ++ payloads) ≡ items prefix ++ WholeContent content ∷ []
+abbrev pub ContentEncodedAfter : Type 0
+ContentEncodedAfter =
+    (prefix payloads : List Payload) (content : Content)
+    → IsContent content payloads → items (prefix ++ payloads) ≡ items prefix ++ WholeContent content ∷ []
 
 -- what is under way has added nothing yet
-abbrev pub UnfinishedEncodesNothing : (taken since : List Payload) → Type 0
-UnfinishedEncodesNothing taken since = (under : UnderWay taken since) → items_taken taken ≡ items_taken under.before
+abbrev pub UnfinishedEncodesNothing : Type 0
+UnfinishedEncodesNothing =
+    (taken since : List Payload)
+    → (under : UnderWay taken since) → items_taken taken ≡ items_taken under.before
 
 -- a content of these, with a method that carries one
 abbrev content_of : Method → Properties → List ℕ → Content

@@ -27,30 +27,36 @@ use Rattle.amqp_model.specs.Machine.{channel_after, may_put_here, ChannelStandsF
 
 -- A Running end takes a frame on a channel above 0, and goes on: what it keeps of the channel follows from what it
 -- kept and from the frame, and stands for the channel's entries with that frame.
-abbrev pub FollowsTaken : (role : Role) → Facts role → Reading → Frame → List ChannelEntry → Type 0
-FollowsTaken role facts reading frame entries =
-    facts.phase ≡ Running → facts.number ≢ 0 → has_left (notes entries) ≡ false
+abbrev pub FollowsTaken : Type 0
+FollowsTaken =
+    (role : Role) (facts : Facts role) (reading : Reading) (frame : Frame) (entries : List ChannelEntry)
+    → facts.phase ≡ Running → facts.number ≢ 0 → has_left (notes entries) ≡ false
     → ChannelStandsFor role facts.channel entries → goes_on (verdict_on facts reading) ≡ true
     → ChannelStandsFor role (channel_after role (TookHere reading frame) facts.channel) (TookHere reading frame ∷ entries)
 
 -- the same of a frame that it puts there, as its application asks or as its verdict owes
-abbrev pub FollowsPut : Role → Channel → Reading → Frame → List ChannelEntry → Type 0
-FollowsPut role channel reading frame entries =
-    has_left (notes entries) ≡ false → ChannelStandsFor role channel entries → may_put_here role channel reading ≡ true
+abbrev pub FollowsPut : Type 0
+FollowsPut =
+    (role : Role) (channel : Channel) (reading : Reading) (frame : Frame) (entries : List ChannelEntry)
+    → has_left (notes entries) ≡ false → ChannelStandsFor role channel entries → may_put_here role channel reading ≡ true
     → ChannelStandsFor role (channel_after role (PutHere reading frame) channel) (PutHere reading frame ∷ entries)
 
 -- connection.close, and what follows it, leave what the end keeps of the channel
-abbrev pub StaysLeaving : Role → Channel → ChannelEntry → List ChannelEntry → Type 0
-StaysLeaving role channel entry entries =
-    has_left (notes entries) ≡ true → ChannelStandsFor role channel entries → ChannelStandsFor role channel (entry ∷ entries)
+abbrev pub StaysLeaving : Type 0
+StaysLeaving =
+    (role : Role) (channel : Channel) (entry : ChannelEntry) (entries : List ChannelEntry)
+    → has_left (notes entries) ≡ true → ChannelStandsFor role channel entries → ChannelStandsFor role channel (entry ∷ entries)
 
-abbrev pub StaysAtLeaving : Role → Channel → List ChannelEntry → Type 0
-StaysAtLeaving role channel entries = ChannelStandsFor role channel entries → ChannelStandsFor role channel (LeftHere ∷ entries)
+abbrev pub StaysAtLeaving : Type 0
+StaysAtLeaving =
+    (role : Role) (channel : Channel) (entries : List ChannelEntry)
+    → ChannelStandsFor role channel entries → ChannelStandsFor role channel (LeftHere ∷ entries)
 
 -- an entry of another channel above 0 leaves the channel's entries, and so what stands for them
-abbrev pub LeavesOthers : Entry → History → ℕ → Type 0
-LeavesOthers entry history channel =
-    channel_of entry ≢ 0 → channel_of entry ≢ channel → entries_on channel (entry ∷ history) ≡ entries_on channel history
+abbrev pub LeavesOthers : Type 0
+LeavesOthers =
+    (entry : Entry) (history : History) (channel : ℕ)
+    → channel_of entry ≢ 0 → channel_of entry ≢ channel → entries_on channel (entry ∷ history) ≡ entries_on channel history
 
 -- what the record of a channel says is what its entries count to
 abbrev pub ReadsChannel : Role → Channel → List ChannelEntry → Type 0
@@ -90,9 +96,10 @@ is_over (Handshake step) = false
 is_over Running = false
 is_over phase = true
 
-abbrev pub VerdictAgrees : (role : Role) → Facts role → Reading → Type 0
-VerdictAgrees role facts reading =
-    is_over facts.phase ≡ false → facts.number ≢ 0 → goes_on (verdict_on facts reading) ≡ true
+abbrev pub VerdictAgrees : Type 0
+VerdictAgrees =
+    (role : Role) (facts : Facts role) (reading : Reading)
+    → is_over facts.phase ≡ false → facts.number ≢ 0 → goes_on (verdict_on facts reading) ≡ true
     → AgreesWithLives role facts.number facts.channel reading (verdict_on facts reading)
 
 -- an end acts on a channel as the lives of a channel allow, any number of times
@@ -118,16 +125,19 @@ IsNextNote theirs mine frame = IsNext theirs mine (Carry (kind_of (reading_of fr
 
 -- An end takes a frame, and goes on. If the frame is the next that the other put on its channel, the end acts on each
 -- channel above 0 as the lives of a channel allow.
-abbrev pub TakesActs : (role : Role) → Config role → History → Frame → (n : ℕ) → (theirs : List Note) → Type 0
-TakesActs role config history frame n theirs =
-    WritesReadBack role config → GoesOnAfter config (end_from role config false history) frame
+abbrev pub TakesActs : Type 0
+TakesActs =
+    (role : Role) (config : Config role) (history : History) (frame : Frame) (n : ℕ) (theirs : List Note)
+    → WritesReadBack role config → GoesOnAfter config (end_from role config false history) frame
     → (frame.channel ≡ suc n → IsNextNote theirs (notes_on (suc n) history) frame)
     → ActsOn role theirs (notes_on (suc n) history) (notes_on (suc n) (then_taken config (end_from role config false history) frame history))
 
 -- An end accepts an ask: it acts on each channel above 0 as the lives of a channel allow.
-abbrev pub AsksActs : (role : Role) → Config role → History → Ask → List Frame → (n : ℕ) → (theirs : List Note) → Type 0
-AsksActs role config history ask frames n theirs =
-    ReadsBack (method_asked ask) → is_made ask ≡ true → ask_verdict role (end_from role config false history) ask ≡ Puts frames
+abbrev pub AsksActs : Type 0
+AsksActs =
+    (role : Role) (config : Config role) (history : History) (ask : Ask) (frames : List Frame) (n : ℕ)
+    (theirs : List Note)
+    → ReadsBack (method_asked ask) → is_made ask ≡ true → ask_verdict role (end_from role config false history) ask ≡ Puts frames
     → ActsOn role theirs (notes_on (suc n) history) (notes_on (suc n) (then_put frames history))
 
 -- an entry as its channel sees it
@@ -142,14 +152,17 @@ EntryFits role config end (Put frame) =
     (frame.channel ≡ 0) ⊎ ((end.phase ≡ Running) × (may_put_here role (end.channels frame.channel) (reading_of frame) ≡ true))
 
 -- what the end keeps after such an entry stands for its history with that entry
-abbrev pub EndFollows : (role : Role) → Config role → End → History → Entry → Type 0
-EndFollows role config end history entry =
-    StandsFor role config false end history → EntryFits role config end entry
+abbrev pub EndFollows : Type 0
+EndFollows =
+    (role : Role) (config : Config role) (end : End) (history : History) (entry : Entry)
+    → StandsFor role config false end history → EntryFits role config end entry
     → StandsFor role config false (end_after role config (channel_of entry) (seen_by_channel entry) end) (entry ∷ history)
 
 -- a new end stands for a history of nothing
-abbrev pub NewEndStands : (role : Role) → Config role → Type 0
-NewEndStands role config = StandsFor role config false (new_end role) []
+abbrev pub NewEndStands : Type 0
+NewEndStands =
+    (role : Role) (config : Config role)
+    → StandsFor role config false (new_end role) []
 
 -- the lowest of so many numbers, counted up from one, at which the channel is Free
 pub record IsLowestFree (channels : ℕ → Channel) (many from k : ℕ) : Type 0 where
@@ -167,33 +180,39 @@ FindsLowest channels many from None = NoneFree channels many from
 
 -- An end takes a frame, and goes on: what it keeps then stands for its history with the frame, and with the frames that
 -- it owes.
-abbrev pub FrameFollows : (role : Role) → Config role → End → History → Frame → Type 0
-FrameFollows role config end history frame =
-    WritesReadBack role config → StandsFor role config false end history → GoesOnAfter config end frame
+abbrev pub FrameFollows : Type 0
+FrameFollows =
+    (role : Role) (config : Config role) (end : End) (history : History) (frame : Frame)
+    → WritesReadBack role config → StandsFor role config false end history → GoesOnAfter config end frame
     → StandsFor role config false (end_after_taken role config end (reading_of frame) frame) (then_taken config end frame history)
 
 -- An end accepts an ask: what it keeps then stands for its history with the frames put.
-abbrev pub AskFollows : (role : Role) → Config role → End → History → Ask → List Frame → Type 0
-AskFollows role config end history ask frames =
-    StandsFor role config false end history → ReadsBack (method_asked ask) → is_made ask ≡ true → ask_verdict role end ask ≡ Puts frames
+abbrev pub AskFollows : Type 0
+AskFollows =
+    (role : Role) (config : Config role) (end : End) (history : History) (ask : Ask) (frames : List Frame)
+    → StandsFor role config false end history → ReadsBack (method_asked ask) → is_made ask ≡ true → ask_verdict role end ask ≡ Puts frames
     → StandsFor role config false (end_after_put role config frames end) (then_put frames history)
 
 -- An end takes a frame, and finds fault with it: what it keeps then stands for its history with the frame, and with the
 -- connection.close that it puts, if it puts one.
-abbrev pub FrameFails : (role : Role) → Config role → End → History → Frame → Type 0
-FrameFails role config end history frame =
-    WritesReadBack role config → StandsFor role config false end history → FindsFault config end frame
+abbrev pub FrameFails : Type 0
+FrameFails =
+    (role : Role) (config : Config role) (end : End) (history : History) (frame : Frame)
+    → WritesReadBack role config → StandsFor role config false end history → FindsFault config end frame
     → StandsFor role config true (end_after_taken role config end (reading_of frame) frame) (then_taken config end frame history)
 
 -- the same where octets show a frame above the limit, which is not taken
-abbrev pub TooLargeFails : (role : Role) → Config role → End → History → Type 0
-TooLargeFails role config end history =
-    WritesReadBack role config → StandsFor role config false end history
+abbrev pub TooLargeFails : Type 0
+TooLargeFails =
+    (role : Role) (config : Config role) (end : End) (history : History)
+    → WritesReadBack role config → StandsFor role config false end history
     → StandsFor role config true (end_after_too_large role config end) (then_put (too_large_puts config end) history)
 
 -- and where nothing is put
-abbrev pub AnyFails : (role : Role) → Config role → End → History → Type 0
-AnyFails role config end history = StandsFor role config false end history → StandsFor role config true (as_failed end) history
+abbrev pub AnyFails : Type 0
+AnyFails =
+    (role : Role) (config : Config role) (end : End) (history : History)
+    → StandsFor role config false end history → StandsFor role config true (as_failed end) history
 
 -- Of an end that has failed only its phase, what was agreed and channel 0 are looked at: it may keep the rest as it likes.
 abbrev pub FailedIsRead : (role : Role) → Config role → (end next : End) → History → Type 0
@@ -206,16 +225,18 @@ abbrev pub StandingHasNotFailed : (role : Role) → Config role → End → Hist
 StandingHasNotFailed role config end history = StandsFor role config false end history → end.phase ≢ Failed
 
 -- What is read off a lawful history stands for it.
-abbrev pub LawfulStands : (role : Role) → Config role → (failed : Bool) → History → Type 0
-LawfulStands role config failed history =
-    WritesReadBack role config → Lawful role config failed history
+abbrev pub LawfulStands : Type 0
+LawfulStands =
+    (role : Role) (config : Config role) (failed : Bool) (history : History)
+    → WritesReadBack role config → Lawful role config failed history
     → StandsFor role config failed (end_from role config failed history) history
 
 -- an end that stands for a lawful history goes on to stand for it with each step
-abbrev pub StepFollows :
-    (role : Role) → Config role → End → (before : History) → (taken : Option Frame) → (failed : Bool) → (after : History) → Type 0
-StepFollows role config end before taken failed after =
-    WritesReadBack role config → StandsFor role config false end before → Goes role config before taken failed after
+abbrev pub StepFollows : Type 0
+StepFollows =
+    (role : Role) (config : Config role) (end : End) (before : History) (taken : Option Frame) (failed : Bool)
+    (after : History)
+    → WritesReadBack role config → StandsFor role config false end before → Goes role config before taken failed after
     → (next : End) × StandsFor role config failed next after
 
 -- what an end answers of a channel is what its history gives
@@ -239,5 +260,7 @@ pub record StepsOfEnd (role : Role) (config : Config role) (end : End) (history 
   pub asks : (ask : Ask) (frames : List Frame) → is_made ask ≡ true → AskReadsBack ask → ask_verdict role end ask ≡ Puts frames
       → Goes role config history None false (then_put frames history)
 
-abbrev pub EndSteps : (role : Role) → Config role → End → History → Type 0
-EndSteps role config end history = StandsFor role config false end history → StepsOfEnd role config end history
+abbrev pub EndSteps : Type 0
+EndSteps =
+    (role : Role) (config : Config role) (end : End) (history : History)
+    → StandsFor role config false end history → StepsOfEnd role config end history

@@ -33,15 +33,17 @@ pub record StandTogether (role : Role) (client_config : Config Client) (server_c
   pub to_theirs : their_fed ≡ my_written
 
 -- two new ends do
-abbrev pub NewStandTogether : Role → Config Client → Config Server → Type 0
-NewStandTogether role client_config server_config =
-    ConfigWrites client_config → ConfigWrites server_config
+abbrev pub NewStandTogether : Type 0
+NewStandTogether =
+    (role : Role) (client_config : Config Client) (server_config : Config Server)
+    → ConfigWrites client_config → ConfigWrites server_config
     → StandTogether role client_config server_config (new_endpoint role) (new_endpoint (other_end role))
 
 -- and so they do seen from the other end
-abbrev pub StandTogetherTurned : Role → Config Client → Config Server → (mine theirs : Endpoint) → Type 0
-StandTogetherTurned role client_config server_config mine theirs =
-    StandTogether role client_config server_config mine theirs → StandTogether (other_end role) client_config server_config theirs mine
+abbrev pub StandTogetherTurned : Type 0
+StandTogetherTurned =
+    (role : Role) (client_config : Config Client) (server_config : Config Server) (mine theirs : Endpoint)
+    → StandTogether role client_config server_config mine theirs → StandTogether (other_end role) client_config server_config theirs mine
 
 -- The first octets of the other's output are fed to the end, and the other has written those that it took: no fault is found,
 -- and the two stand together still.
@@ -49,16 +51,20 @@ pub record CarriesOn (role : Role) (client_config : Config Client) (server_confi
   pub none : (fault : Fault) → new.outcome ≢ Found fault
   pub together : StandTogether role client_config server_config new.endpoint (after_wrote new.taken theirs)
 
-abbrev pub CarryStandsTogether : Role → Config Client → Config Server → (mine theirs : Endpoint) → (piece rest : List ℕ) → Type 0
-CarryStandsTogether role client_config server_config mine theirs piece rest =
-    StandTogether role client_config server_config mine theirs → output_octets theirs.output ≡ piece ++ rest → piece ≢ []
+abbrev pub CarryStandsTogether : Type 0
+CarryStandsTogether =
+    (role : Role) (client_config : Config Client) (server_config : Config Server) (mine theirs : Endpoint)
+    (piece rest : List ℕ)
+    → StandTogether role client_config server_config mine theirs → output_octets theirs.output ≡ piece ++ rest → piece ≢ []
     → All IsOctet piece
     → CarriesOn role client_config server_config theirs (after_feed role (config_of role client_config server_config) mine piece)
 
 -- an ask is accepted
-abbrev pub AskStandsTogether : Role → Config Client → Config Server → (mine theirs : Endpoint) → Ask → List Frame → Type 0
-AskStandsTogether role client_config server_config mine theirs ask frames =
-    StandTogether role client_config server_config mine theirs → AskReadsBack ask → is_made ask ≡ true
+abbrev pub AskStandsTogether : Type 0
+AskStandsTogether =
+    (role : Role) (client_config : Config Client) (server_config : Config Server) (mine theirs : Endpoint) (ask : Ask)
+    (frames : List Frame)
+    → StandTogether role client_config server_config mine theirs → AskReadsBack ask → is_made ask ≡ true
     → ask_verdict role mine.end ask ≡ Puts frames
     → StandTogether role client_config server_config (after_ask role (config_of role client_config server_config) mine ask) theirs
 

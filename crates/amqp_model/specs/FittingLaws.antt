@@ -21,42 +21,56 @@ use Rattle.amqp_model.specs.Machine.{end_after_taken, end_after_put}
 use Rattle.amqp_model.specs.Fitting.{MethodFits, HeaderFits, ConfigFits, ConfigWrites, AgreedFits, AskFits, HelloFits, config_fault, IfAgreedFits}
 
 -- what is written of a method that fits its fields reads as the method
-abbrev pub MethodReadsBack : Method → Type 0
-MethodReadsBack method = MethodFits method → ReadsBack method
+abbrev pub MethodReadsBack : Type 0
+MethodReadsBack =
+    (method : Method)
+    → MethodFits method → ReadsBack method
 
 -- what is written of a content header that fits its fields reads as the header
 abbrev pub HeaderReadsBack : Header → Type 0
 HeaderReadsBack header = HeaderFits header → header_at (plain_header header) ≡ Some header
 
 -- a configuration that has no fault fits its fields, where its numbers and its hello do
-abbrev pub FaultlessConfigFits : (role : Role) → Config role → Type 0
-FaultlessConfigFits role config =
-    config_fault role config ≡ None → config.channel_max < 2 ^ 16 → config.max_body < 2 ^ 64 → HelloFits config.hello → ConfigFits config
+abbrev pub FaultlessConfigFits : Type 0
+FaultlessConfigFits =
+    (role : Role) (config : Config role)
+    → config_fault role config ≡ None → config.channel_max < 2 ^ 16 → config.max_body < 2 ^ 64 → HelloFits config.hello → ConfigFits config
 
 -- and one that fits has none
-abbrev pub FittingConfigIsFaultless : (role : Role) → Config role → Type 0
-FittingConfigIsFaultless role config = ConfigFits config → config_fault role config ≡ None
+abbrev pub FittingConfigIsFaultless : Type 0
+FittingConfigIsFaultless =
+    (role : Role) (config : Config role)
+    → ConfigFits config → config_fault role config ≡ None
 
 -- what an end says of itself can be written where its configuration fits its fields
-abbrev pub FittingConfigWrites : (role : Role) → Config role → Type 0
-FittingConfigWrites role config = ConfigFits config → ConfigWrites config
+abbrev pub FittingConfigWrites : Type 0
+FittingConfigWrites =
+    (role : Role) (config : Config role)
+    → ConfigFits config → ConfigWrites config
 
 -- what is written for an ask reads back, where the ask fits its fields
-abbrev pub AskedReadsBack : Ask → Type 0
-AskedReadsBack ask = AskFits ask → AskReadsBack ask
+abbrev pub AskedReadsBack : Type 0
+AskedReadsBack =
+    (ask : Ask)
+    → AskFits ask → AskReadsBack ask
 
 -- what is written of the methods that a verdict puts reads as they are
-abbrev pub OwedReadBack : (role : Role) → Facts role → Reading → Type 0
-OwedReadBack role facts reading = ConfigWrites facts.config → AllReadBack (methods_put facts (verdict_on facts reading))
+abbrev pub OwedReadBack : Type 0
+OwedReadBack =
+    (role : Role) (facts : Facts role) (reading : Reading)
+    → ConfigWrites facts.config → AllReadBack (methods_put facts (verdict_on facts reading))
 
 -- what is written of the close that an end puts where a frame is above the limit reads as that close
-abbrev pub CloseReadsBack : (role : Role) → Facts role → Type 0
-CloseReadsBack role facts = AllReadBack (methods_put facts (Faults (Peer FrameError)))
+abbrev pub CloseReadsBack : Type 0
+CloseReadsBack =
+    (role : Role) (facts : Facts role)
+    → AllReadBack (methods_put facts (Faults (Peer FrameError)))
 
 -- each frame of a message that reads back says the payload that it was made of
-abbrev pub FramesSayPayloads : (max channel : ℕ) → Message → Type 0
-FramesSayPayloads max channel message =
-    AskReadsBack (Send channel message)
+abbrev pub FramesSayPayloads : Type 0
+FramesSayPayloads =
+    (max channel : ℕ) (message : Message)
+    → AskReadsBack (Send channel message)
     → map (λ (frame : Frame). payload_of (reading_of frame)) (map (payload_frame channel) (message_payloads max message))
     ≡ message_payloads max message
 
@@ -65,17 +79,22 @@ abbrev pub AllReadsBack : (role : Role) → Config role → Type 0
 AllReadsBack role config = ConfigWrites config → WritesReadBack role config
 
 -- the frame of a server's start fits its fields
-abbrev pub StartFits : Config Server → Type 0
-StartFits config = ConfigWrites config → Fits (method_frame 0 (start config))
+abbrev pub StartFits : Type 0
+StartFits =
+    (config : Config Server)
+    → ConfigWrites config → Fits (method_frame 0 (start config))
 
 -- the frames of the methods that a verdict puts fit their fields
-abbrev pub OwedFit : (role : Role) → Facts role → Reading → Type 0
-OwedFit role facts reading =
-    ConfigWrites facts.config → facts.number < 2 ^ 16 → AllFit (map frame_of (methods_put facts (verdict_on facts reading)))
+abbrev pub OwedFit : Type 0
+OwedFit =
+    (role : Role) (facts : Facts role) (reading : Reading)
+    → ConfigWrites facts.config → facts.number < 2 ^ 16 → AllFit (map frame_of (methods_put facts (verdict_on facts reading)))
 
 -- the frame of the close that an end puts where a frame is above the limit fits its fields
-abbrev pub CloseFits : (role : Role) → Facts role → Type 0
-CloseFits role facts = AllFit (map frame_of (methods_put facts (Faults (Peer FrameError))))
+abbrev pub CloseFits : Type 0
+CloseFits =
+    (role : Role) (facts : Facts role)
+    → AllFit (map frame_of (methods_put facts (Faults (Peer FrameError))))
 
 -- the frames that an accepted ask puts fit their fields, where what is written for it reads back
 abbrev pub AskedFit : Role → End → Ask → List Frame → Type 0
@@ -100,9 +119,10 @@ AskedAreWithin role end ask frames =
     AskReadsBack ask → FRAME_MIN ≤ frame_max end.agreed → ask_verdict role end ask ≡ Puts frames → AllWithin (frame_max end.agreed) frames
 
 -- what was agreed in a lawful history is within the limits
-abbrev pub AgreedIsWithin : (role : Role) → Config role → (failed : Bool) → History → Type 0
-AgreedIsWithin role config failed history =
-    ConfigWrites config → Lawful role config failed history → IfAgreedFits (end_from role config failed history).agreed
+abbrev pub AgreedIsWithin : Type 0
+AgreedIsWithin =
+    (role : Role) (config : Config role) (failed : Bool) (history : History)
+    → ConfigWrites config → Lawful role config failed history → IfAgreedFits (end_from role config failed history).agreed
 
 -- it stays so by each frame that an end takes
 abbrev pub AgreedStaysWithin : (role : Role) → Config role → End → Frame → Type 0

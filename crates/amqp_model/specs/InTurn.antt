@@ -64,9 +64,10 @@ life_here role channel history = lives role (before_leaving (notes_on channel hi
 -- Of one end.
 
 -- in each life the n-th reply answers the n-th request
-abbrev pub AnswersInTurn : (role : Role) → Config role → History → (n life : ℕ) → Type 0
-AnswersInTurn role config history n life =
-    WritesReadBack role config → Lawful role config false history
+abbrev pub AnswersInTurn : Type 0
+AnswersInTurn =
+    (role : Role) (config : Config role) (history : History) (n life : ℕ)
+    → WritesReadBack role config → Lawful role config false history
     → InTurn (replies_at role (suc n) life history) (requests_at role (suc n) life history)
 
 -- a client has sent at most one request more than it has replies
@@ -76,9 +77,10 @@ AsksOneAtATime config history n life =
     → length (requests_at Client (suc n) life history) ≤ suc (length (replies_at Client (suc n) life history))
 
 -- an Open channel keeps the requests of its life that have no reply, in order
-abbrev pub KeepsUnanswered : (role : Role) → Config role → End → History → (n : ℕ) → Life → Type 0
-KeepsUnanswered role config end history n life =
-    WritesReadBack role config → Lawful role config false history → StandsFor role config false end history
+abbrev pub KeepsUnanswered : Type 0
+KeepsUnanswered =
+    (role : Role) (config : Config role) (end : End) (history : History) (n : ℕ) (life : Life)
+    → WritesReadBack role config → Lawful role config false history → StandsFor role config false end history
     → end.channels (suc n) ≡ Open life → life.requests ≡ unanswered_at role (suc n) (life_here role (suc n) history) history
 
 -- and the reply that is due is to the first of them

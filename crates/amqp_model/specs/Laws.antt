@@ -8,7 +8,15 @@ use Rattle.amqp_model.specs.Lives.{lives, state, has_left, pauses_other}
 use Rattle.amqp_model.specs.Sentences.{PausesOther}
 use Rattle.amqp_model.specs.Verdict.{Event, GoesOn, verdict}
 use Rattle.amqp_model.specs.Carried.{Carried, Carry, message_frames, put_by, taken_by, NoteInLife, life_of, puts, takes, sent, acted}
-use Rattle.amqp_model.specs.Runs.{IsNext}
+use Rattle.amqp_model.specs.Runs.{IsNext, RunAt}
+
+-- A law of both ends of every run of a channel: `mine` are the notes of the end in this role, `theirs` those of the other.
+abbrev pub OnEachRun : (Role → (mine theirs : List Note) → Type 0) → Type 0
+OnEachRun Law = (role : Role) (mine theirs : List Note) → RunAt role mine theirs → Law role mine theirs
+
+-- what the end took is, frame by frame, a prefix of what the other put
+abbrev pub TakesPrefix : Role → (mine theirs : List Note) → Type 0
+TakesPrefix role mine theirs = IsPrefixOf (takes role mine) (puts (other_end role) theirs)
 
 -- the i-th note that an end took has the life of the i-th note that the other put
 abbrev pub SidesAgree : Role → (mine theirs : List Note) → Type 0
@@ -90,6 +98,7 @@ ActsOnNothingAfterItsClose role mine =
     → acted role (lives role before) mine ≡ acted role (lives role before) before
 
 -- from where the end puts connection.close, it acts on nothing
-abbrev pub ActsOnNothingAfterLeaving : Role → (mine : List Note) → Type 0
-ActsOnNothingAfterLeaving role mine =
-    (life : ℕ) (later before : List Note) → mine ≡ later ++ Leaving ∷ before → acted role life mine ≡ acted role life before
+abbrev pub ActsOnNothingAfterLeaving : Type 0
+ActsOnNothingAfterLeaving =
+    (role : Role) (mine : List Note)
+    → (life : ℕ) (later before : List Note) → mine ≡ later ++ Leaving ∷ before → acted role life mine ≡ acted role life before

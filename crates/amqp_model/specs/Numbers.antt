@@ -14,6 +14,7 @@ abbrev pub NoneAbove : End → Type 0
 NoneAbove end = (n : ℕ) → channel_max end.agreed < n → end.channels n ≡ Free
 
 -- so it is of every end that stands for a lawful history
-abbrev pub StandsNumbered : (role : Role) → Config role → End → History → Type 0
-StandsNumbered role config end history =
-    WritesReadBack role config → Lawful role config false history → StandsFor role config false end history → NoneAbove end
+abbrev pub StandsNumbered : Type 0
+StandsNumbered =
+    (role : Role) (config : Config role) (end : End) (history : History)
+    → WritesReadBack role config → Lawful role config false history → StandsFor role config false end history → NoneAbove end

@@ -78,9 +78,10 @@ CutStops role config endpoint p q =
     (after_feed role config endpoint p).outcome ≢ Unfinished → after_feed role config endpoint (p ++ q) ≡ after_feed role config endpoint p
 
 -- a piece that has octets loses one, unless the end is closed or has failed
-abbrev pub FeedProgresses : (role : Role) → Config role → Endpoint → (piece : List ℕ) → Type 0
-FeedProgresses role config endpoint piece =
-    endpoint.end.phase ≢ Closed → endpoint.end.phase ≢ Failed → piece ≢ [] → 0 < (after_feed role config endpoint piece).taken
+abbrev pub FeedProgresses : Type 0
+FeedProgresses =
+    (role : Role) (config : Config role) (endpoint : Endpoint) (piece : List ℕ)
+    → endpoint.end.phase ≢ Closed → endpoint.end.phase ≢ Failed → piece ≢ [] → 0 < (after_feed role config endpoint piece).taken
 
 -- no more octets are taken than the piece has
 abbrev pub FeedTakesWithin : (role : Role) → Config role → Endpoint → (piece : List ℕ) → Type 0
@@ -197,9 +198,10 @@ abbrev pub NewStands : (role : Role) → Config role → Type 0
 NewStands role config = EndpointStandsFor role config (new_endpoint role) [] [] []
 
 -- an octet is fed to an end that stands for a history
-abbrev pub OctetFollows : (role : Role) → Config role → Endpoint → History → (fed written : List ℕ) → (octet : ℕ) → Type 0
-OctetFollows role config endpoint history fed written octet =
-    EndpointStandsFor role config endpoint history fed written → IsOctet octet → ConfigWrites config
+abbrev pub OctetFollows : Type 0
+OctetFollows =
+    (role : Role) (config : Config role) (endpoint : Endpoint) (history : History) (fed written : List ℕ) (octet : ℕ)
+    → EndpointStandsFor role config endpoint history fed written → IsOctet octet → ConfigWrites config
     → Follows role config endpoint history fed written (octet ∷ []) (after_octet role config endpoint octet)
 
 -- a piece of octets is fed to it, in which something comes at the last octet taken, if at all
@@ -216,9 +218,10 @@ AcceptedFollows role config endpoint history fed written ask frames =
     → EndpointStandsFor role config (after_ask role config endpoint ask) (then_put frames history) fed written
 
 -- an ask is refused: nothing changes
-abbrev pub RefusedStays : (role : Role) → Config role → Endpoint → Ask → Refusal → Type 0
-RefusedStays role config endpoint ask refusal =
-    ask_verdict role endpoint.end ask ≡ Refused refusal → after_ask role config endpoint ask ≡ endpoint
+abbrev pub RefusedStays : Type 0
+RefusedStays =
+    (role : Role) (config : Config role) (endpoint : Endpoint) (ask : Ask) (refusal : Refusal)
+    → ask_verdict role endpoint.end ask ≡ Refused refusal → after_ask role config endpoint ask ≡ endpoint
 
 -- some octets of the output are written, or all of them: the end stands for what was written and these
 abbrev pub WroteFollows : (role : Role) → Config role → Endpoint → History → (fed written : List ℕ) → (n : ℕ) → Type 0

@@ -58,20 +58,23 @@ abbrev pub NewEndsPair : Role → Config Client → Config Server → Type 0
 NewEndsPair role client_config server_config = PairOf role client_config server_config [] []
 
 -- and a pair stays one with each step of an end, where a frame that it takes comes next
-abbrev pub StepStaysPair :
-    (role : Role) → Config Client → Config Server → (mine theirs : History) → Option Frame → (after : History) → Type 0
-StepStaysPair role client_config server_config mine theirs taken after =
-    PairOf role client_config server_config mine theirs → AllComeNext theirs mine taken
+abbrev pub StepStaysPair : Type 0
+StepStaysPair =
+    (role : Role) (client_config : Config Client) (server_config : Config Server) (mine theirs : History)
+    (taken : Option Frame) (after : History)
+    → PairOf role client_config server_config mine theirs → AllComeNext theirs mine taken
     → Goes role (config_of role client_config server_config) mine taken false after
     → PairOf role client_config server_config after theirs
 
 -- the two histories are lawful
-abbrev pub BothLawful : Config Client → Config Server → (client server : History) → Type 0
-BothLawful client_config server_config client server =
-    Pair client_config server_config client server → Lawful Client client_config false client × Lawful Server server_config false server
+abbrev pub BothLawful : Type 0
+BothLawful =
+    (client_config : Config Client) (server_config : Config Server) (client server : History)
+    → Pair client_config server_config client server → Lawful Client client_config false client × Lawful Server server_config false server
 
 -- on each channel above 0 the two histories are a run in the sense of the lives of a channel
-abbrev pub RunsOnEach : Config Client → Config Server → (client server : History) → Type 0
-RunsOnEach client_config server_config client server =
-    WritesReadBack Client client_config → WritesReadBack Server server_config → Pair client_config server_config client server
+abbrev pub RunsOnEach : Type 0
+RunsOnEach =
+    (client_config : Config Client) (server_config : Config Server) (client server : History)
+    → WritesReadBack Client client_config → WritesReadBack Server server_config → Pair client_config server_config client server
     → (n : ℕ) → Run (notes_on (suc n) client) (notes_on (suc n) server)

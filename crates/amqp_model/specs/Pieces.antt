@@ -40,13 +40,16 @@ pub record HoldsUnfinished (role : Role) (endpoint : Endpoint) : Type 0 where
   pub of_frame : reads_frames role endpoint.end.phase ≡ true → AreBegun (frame_limit endpoint.end.agreed) endpoint.unfinished
 
 -- a new end holds none
-abbrev pub NewHolds : Role → Type 0
-NewHolds role = HoldsUnfinished role (new_endpoint role)
+abbrev pub NewHolds : Type 0
+NewHolds =
+    (role : Role)
+    → HoldsUnfinished role (new_endpoint role)
 
 -- what an end holds that stands for a history is such
-abbrev pub StandsHolds : (role : Role) → Config role → Endpoint → History → (fed written : List ℕ) → Type 0
-StandsHolds role config endpoint history fed written =
-    EndpointStandsFor role config endpoint history fed written → HoldsUnfinished role endpoint
+abbrev pub StandsHolds : Type 0
+StandsHolds =
+    (role : Role) (config : Config role) (endpoint : Endpoint) (history : History) (fed written : List ℕ)
+    → EndpointStandsFor role config endpoint history fed written → HoldsUnfinished role endpoint
 
 -- and so is what it holds after a piece, an ask and a write
 abbrev pub FeedHolds : (role : Role) → Config role → Endpoint → (piece : List ℕ) → Type 0
@@ -57,8 +60,10 @@ abbrev pub AskHolds : (role : Role) → Config role → Endpoint → Ask → Typ
 AskHolds role config endpoint ask =
     HoldsUnfinished role endpoint → AskReadsBack ask → HoldsUnfinished role (after_ask role config endpoint ask)
 
-abbrev pub WroteHolds : (role : Role) → Endpoint → (n : ℕ) → Type 0
-WroteHolds role endpoint n = HoldsUnfinished role endpoint → HoldsUnfinished role (after_wrote n endpoint)
+abbrev pub WroteHolds : Type 0
+WroteHolds =
+    (role : Role) (endpoint : Endpoint) (n : ℕ)
+    → HoldsUnfinished role endpoint → HoldsUnfinished role (after_wrote n endpoint)
 
 -- A piece, where frames are read.
 

@@ -41,7 +41,8 @@ RanOutWrites role config endpoint history fed written n =
     → RanOut role config (after_wrote n endpoint) history fed (written ++ take n (output_octets endpoint.output))
 
 -- and takes no octet more
-abbrev pub RanOutStays : (role : Role) → Config role → Endpoint → History → (fed written piece : List ℕ) → Type 0
-RanOutStays role config endpoint history fed written piece =
-    RanOut role config endpoint history fed written
+abbrev pub RanOutStays : Type 0
+RanOutStays =
+    (role : Role) (config : Config role) (endpoint : Endpoint) (history : History) (fed written piece : List ℕ)
+    → RanOut role config endpoint history fed written
     → after_feed role config endpoint piece ≡ record { endpoint = endpoint; taken = 0; outcome = Found AlreadyFailed }

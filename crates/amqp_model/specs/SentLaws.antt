@@ -1,6 +1,6 @@
 -- What holds of the items that two ends send each other and act on: the statements that the public laws carry.
-use Rattle.std.specs.Prelude.{◌≡◌, true, false, ℕ, List, [], ◌∷◌, ◌++◌}
-use Rattle.amqp_model.specs.Notes.{Role, other_end}
+use Rattle.std.specs.Prelude.{◌≡◌, true, false, ℕ, suc, List, [], ◌∷◌, ◌++◌}
+use Rattle.amqp_model.specs.Notes.{Role, Client, Server, other_end}
 use Rattle.amqp_model.specs.Carried.{Carried, message_frames, put_by, taken_by, acted}
 use Rattle.amqp_model.specs.Prefixes.{IsPrefixOf}
 use Rattle.amqp_model.specs.Laws.{IsLive, EndedByPeer}
@@ -12,8 +12,14 @@ use Rattle.amqp_model.specs.StateFromHistory.{end_from}
 use Rattle.amqp_model.specs.Frame.{Frame}
 use Rattle.amqp_model.specs.EndLaws.{notes_on}
 use Rattle.amqp_model.specs.Arrangement.{is_leaving}
-use Rattle.amqp_model.specs.Pairs.{ComesNext}
+use Rattle.amqp_model.specs.Pairs.{ComesNext, PairAt}
 use Rattle.amqp_model.specs.Sent.{items_in, items_sent, items_acted, life_on, told, said, items_of}
+
+-- a law of both ends of every pair of ends, on each channel above 0
+abbrev pub OnEachPair : (Role → (channel : ℕ) → (mine theirs : History) → Type 0) → Type 0
+OnEachPair Law =
+    (role : Role) (client_config : Config Client) (server_config : Config Server) (mine theirs : History) (n : ℕ)
+    → PairAt role client_config server_config mine theirs → Law role (suc n) mine theirs
 
 -- in each life, the items that an end acted on are a prefix of those that the other sent
 abbrev pub ActsOnPrefixOfItems : Role → (channel : ℕ) → (mine theirs : History) → Type 0
@@ -71,9 +77,10 @@ TellsWhatIsActedOn role config channel history =
     Lawful role config false history → (life : ℕ) → items_of channel life (told role config history) ≡ items_acted role channel life history
 
 -- a frame that the end finds fault with tells nothing
-abbrev pub FaultTellsNothing : (role : Role) → Config role → History → Frame → Type 0
-FaultTellsNothing role config history frame =
-    goes_on (end_verdict config (end_from role config false history) frame) ≡ false
+abbrev pub FaultTellsNothing : Type 0
+FaultTellsNothing =
+    (role : Role) (config : Config role) (history : History) (frame : Frame)
+    → goes_on (end_verdict config (end_from role config false history) frame) ≡ false
     → told role config (then_taken config (end_from role config false history) frame history) ≡ told role config history
 
 -- the items said on a channel in a life are those that the end sent in it

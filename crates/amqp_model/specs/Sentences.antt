@@ -1,8 +1,8 @@
 -- The words of `Lives`, said of a whole history: what each recursion there counts.
-use Rattle.std.specs.Prelude.{◌≡◌, ◌⊎◌, true, false, ℕ, List, [], ◌∷◌, ◌++◌, count_by}
+use Rattle.std.specs.Prelude.{◌≡◌, ◌↔◌, ◌⊎◌, true, false, ℕ, List, [], ◌∷◌, ◌++◌, count_by}
 use Rattle.amqp_model.specs.Notes.{Role, is_client, is_server, Note, Leaving}
 use Rattle.amqp_model.specs.States.{State, Free, Opening, Closing}
-use Rattle.amqp_model.specs.Lives.{Test, either, puts_close, takes_close_ok, is_opening, ends_life, takes_open_ok, puts_flow, takes_flow_ok, takes_flow, takes_pause, takes_pause_ok, puts_restart}
+use Rattle.amqp_model.specs.Lives.{state, before_leaving, Test, either, puts_close, takes_close_ok, is_opening, ends_life, takes_open_ok, puts_flow, takes_flow_ok, takes_flow, takes_pause, takes_pause_ok, puts_restart}
 
 -- none of these notes, each with all that stands before it, is so
 abbrev pub NoneSo : Test → (notes before : List Note) → Type 0
@@ -71,3 +71,9 @@ pub data IsBeforeLeaving (history : List Note) : List Note → Type 0 where
   never_left : (HasLeft history → ⊥) → IsBeforeLeaving history history
   left_once :
       {notes : List Note} (later : List Note) → history ≡ later ++ Leaving ∷ notes → (HasLeft notes → ⊥) → IsBeforeLeaving history notes
+
+-- the state counted in a history is the one that its notes before connection.close are in
+abbrev pub StatesRead : Type 0
+StatesRead =
+    (role : Role) (history : List Note) (word : State)
+    → (state role history ≡ word) ↔ IsInState role (before_leaving history) word

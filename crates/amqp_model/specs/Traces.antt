@@ -70,8 +70,10 @@ pub record IsNoteOf (direction : Direction) (frame : Frame) (note : Noted) : Typ
   pub on_zero : frame.channel ≡ 0 → note.word ≡ Other
   pub above_zero : frame.channel ≢ 0 → is_word_of note.word (reading frame) ≡ true
 
-abbrev pub NotesFrame : Direction → Frame → Type 0
-NotesFrame direction frame = IsNoteOf direction frame (noted direction frame)
+abbrev pub NotesFrame : Type 0
+NotesFrame =
+    (direction : Direction) (frame : Frame)
+    → IsNoteOf direction frame (noted direction frame)
 
 -- the notes of a history, the oldest first
 abbrev pub trace : History → List Noted
@@ -84,9 +86,10 @@ abbrev pub TracePuts : List Frame → History → Type 0
 TracePuts frames history = trace (then_put frames history) ≡ trace history ++ map (noted IsPut) frames
 
 -- a frame that is taken is noted, and then those that it makes the end put
-abbrev pub TraceTakes : (role : Role) → Config role → History → Frame → Type 0
-TraceTakes role config history frame =
-    trace (then_taken config (end_of config history) frame history)
+abbrev pub TraceTakes : Type 0
+TraceTakes =
+    (role : Role) (config : Config role) (history : History) (frame : Frame)
+    → trace (then_taken config (end_of config history) frame history)
     ≡ trace history ++ noted IsTaken frame ∷ map (noted IsPut) (end_puts config (end_of config history) frame)
 
 -- the item that an event tells: a message, a flow or a flow-ok
@@ -139,9 +142,10 @@ item_of_message (Plain method) = PlainMethod method
 item_of_message (Whole content) = WholeContent content
 
 -- A message that an end sends makes `said` longer by just that message, last of all, whatever frames it is put in.
-abbrev pub SaysMessage : (role : Role) → Config role → History → (channel : ℕ) → Message → List Frame → Type 0
-SaysMessage role config history channel message frames =
-    WritesReadBack role config → Lawful role config false history
+abbrev pub SaysMessage : Type 0
+SaysMessage =
+    (role : Role) (config : Config role) (history : History) (channel : ℕ) (message : Message) (frames : List Frame)
+    → WritesReadBack role config → Lawful role config false history
     → is_made (Send channel message) ≡ true → AskReadsBack (Send channel message)
     → ask_verdict role (end_of config history) (Send channel message) ≡ Puts frames
     → said role (then_put frames history)
@@ -162,5 +166,7 @@ SaysAsk role config history ask frames =
     → said role (then_put frames history) ≡ said role history ++ said_by_ask role ask history
 
 -- and frames that are taken leave it
-abbrev pub TakenSaysNothing : Role → Frame → History → Type 0
-TakenSaysNothing role frame history = said role (Took frame ∷ history) ≡ said role history
+abbrev pub TakenSaysNothing : Type 0
+TakenSaysNothing =
+    (role : Role) (frame : Frame) (history : History)
+    → said role (Took frame ∷ history) ≡ said role history

@@ -35,7 +35,8 @@ Tells channel None event = item_in_event event ≡ None
 
 -- On an Open channel of a Running end the event tells the item that the frame ends, on this channel, and no item where it ends
 -- none.
-abbrev pub TellsItemEnded : (role : Role) → Facts role → Reading → Life → Type 0
-TellsItemEnded role facts reading life =
-    facts.phase ≡ Running → facts.number ≢ 0 → facts.channel ≡ Open life → goes_on (verdict_on facts reading) ≡ true
+abbrev pub TellsItemEnded : Type 0
+TellsItemEnded =
+    (role : Role) (facts : Facts role) (reading : Reading) (life : Life)
+    → facts.phase ≡ Running → facts.number ≢ 0 → facts.channel ≡ Open life → goes_on (verdict_on facts reading) ≡ true
     → Tells facts.number (item_ended life.content (payload_of reading)) (event_told facts (verdict_on facts reading))

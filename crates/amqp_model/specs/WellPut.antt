@@ -32,13 +32,16 @@ pub record IsWellPut (role : Role) (limits : Agreed) (frame : Frame) : Type 0 wh
   pub within : frame_length frame ≤ limits.frame_max
 
 -- so is each frame that an end of a pair puts
-abbrev pub PutsWell : Role → Config Client → Config Server → (mine theirs : History) → Type 0
-PutsWell role client_config server_config mine theirs =
-    PairWrites role client_config server_config mine theirs
+abbrev pub PutsWell : Type 0
+PutsWell =
+    (role : Role) (client_config : Config Client) (server_config : Config Server) (mine theirs : History)
+    → PairWrites role client_config server_config mine theirs
     → AllByRecursion (λ frame. IsWellPut role (smaller_limits client_config server_config) frame) (frames_put mine)
 
 -- and each that comes next to it
-abbrev pub NextIsWellPut : Role → Config Client → Config Server → (mine theirs : History) → Frame → Type 0
-NextIsWellPut role client_config server_config mine theirs frame =
-    PairWrites role client_config server_config mine theirs → ComesNext theirs mine frame
+abbrev pub NextIsWellPut : Type 0
+NextIsWellPut =
+    (role : Role) (client_config : Config Client) (server_config : Config Server) (mine theirs : History)
+    (frame : Frame)
+    → PairWrites role client_config server_config mine theirs → ComesNext theirs mine frame
     → IsWellPut (other_end role) (smaller_limits client_config server_config) frame

@@ -32,19 +32,24 @@ abbrev pub AreWholeMessages : List Payload → Type 0
 AreWholeMessages payloads = FitAfter Nothing payloads
 
 -- where payloads are whole messages, each can come next after those before it
-abbrev pub EachFitsNext : (prefix : List Payload) → Payload → (later : List Payload) → Type 0
-EachFitsNext prefix payload later = AreWholeMessages (prefix ++ payload ∷ later) → FitsNext (step (gathering (reverse prefix)) payload)
+abbrev pub EachFitsNext : Type 0
+EachFitsNext =
+    (prefix : List Payload) (payload : Payload) (later : List Payload)
+    → AreWholeMessages (prefix ++ payload ∷ later) → FitsNext (step (gathering (reverse prefix)) payload)
 
 -- what an end puts on a channel in a life is whole messages
-abbrev pub PutsWholeMessages : (role : Role) → Config role → (failed : Bool) → History → (n life : ℕ) → Type 0
-PutsWholeMessages role config failed history n life =
-    WritesReadBack role config → Lawful role config failed history
+abbrev pub PutsWholeMessages : Type 0
+PutsWholeMessages =
+    (role : Role) (config : Config role) (failed : Bool) (history : History) (n life : ℕ)
+    → WritesReadBack role config → Lawful role config failed history
     → AreWholeMessages (map payload_in (sent role life (notes_on (suc n) history)))
 
 -- a message that comes next to a Running end, on a channel that it has Open, fits after the content that it keeps
-abbrev pub FitsWhatIsKept : Role → Config Client → Config Server → (mine theirs : History) → (n : ℕ) → Frame → Type 0
-FitsWhatIsKept role client_config server_config mine theirs n frame =
-    PairAt role client_config server_config mine theirs
+abbrev pub FitsWhatIsKept : Type 0
+FitsWhatIsKept =
+    (role : Role) (client_config : Config Client) (server_config : Config Server) (mine theirs : History) (n : ℕ)
+    (frame : Frame)
+    → PairAt role client_config server_config mine theirs
     → (end_of (config_of role client_config server_config) mine).phase ≡ Running
     → ComesNext theirs mine frame → frame.channel ≡ suc n → is_message (kind_of (reading frame)) ≡ true
     → (life : Life) → (end_of (config_of role client_config server_config) mine).channels (suc n) ≡ Open life

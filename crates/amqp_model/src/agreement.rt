@@ -26,8 +26,8 @@ use crate::fitting::written_reads_back;
 /// Whatever an end has agreed to is the smaller of the two ends' limits, so both agree to the same; and an end that is past
 /// its handshake has agreed to it.
 pub fn limits_are_the_smaller()
-    ensures agreed { (role : Role) (client_config : Config Client) (server_config : Config Server) (mine theirs : History) (agreed : Agreed) → AgreesOnSmaller role client_config server_config mine theirs agreed }
-    ensures past_handshake { (role : Role) (client_config : Config Client) (server_config : Config Server) (mine theirs : History) → AgreesPastHandshake role client_config server_config mine theirs }
+    ensures agreed { AgreesOnSmaller }
+    ensures past_handshake { AgreesPastHandshake }
 {
     written_reads_back();
 }
@@ -36,9 +36,9 @@ pub fn limits_are_the_smaller()
 /// of another channel comes next, the end is Running, or has put connection.close. An end that is closed has taken all that the
 /// other put, on every channel.
 pub fn connection_goes_on()
-    ensures zero { (role : Role) (client_config : Config Client) (server_config : Config Server) (mine theirs : History) (frame : Frame) → GoesOnAtZero role client_config server_config mine theirs frame }
-    ensures above { (role : Role) (client_config : Config Client) (server_config : Config Server) (mine theirs : History) (frame : Frame) → RunsWhereNextIsAbove role client_config server_config mine theirs frame }
-    ensures closed { (role : Role) (client_config : Config Client) (server_config : Config Server) (mine theirs : History) (channel : ℕ) → ClosedHasTakenAll role client_config server_config mine theirs channel }
+    ensures zero { GoesOnAtZero }
+    ensures above { RunsWhereNextIsAbove }
+    ensures closed { ClosedHasTakenAll }
 {
     written_reads_back();
 }
@@ -47,8 +47,8 @@ pub fn connection_goes_on()
 /// other there; or, above channel 0, a content header or a part of a body. On channel 0 it has at most 4096 octets; any other
 /// is of a channel up to the agreed maximum, and of at most the agreed size. So is each frame that comes next.
 pub fn frames_are_well_put()
-    ensures put { (role : Role) (client_config : Config Client) (server_config : Config Server) (mine theirs : History) → PutsWell role client_config server_config mine theirs }
-    ensures next { (role : Role) (client_config : Config Client) (server_config : Config Server) (mine theirs : History) (frame : Frame) → NextIsWellPut role client_config server_config mine theirs frame }
+    ensures put { PutsWell }
+    ensures next { NextIsWellPut }
 {
     written_reads_back();
 }
@@ -102,10 +102,10 @@ pub fn ends_agree_on_lives()
 /// Two new ends stand together: their histories are those of a pair, and each was fed what the other wrote. So they go on with
 /// each ask that is accepted, and with each piece of the one's output that is fed to the other, in which no fault is found.
 pub fn ends_stand_together()
-    ensures new { (role : Role) (client_config : Config Client) (server_config : Config Server) → NewStandTogether role client_config server_config }
-    ensures turned { (role : Role) (client_config : Config Client) (server_config : Config Server) (mine theirs : Endpoint) → StandTogetherTurned role client_config server_config mine theirs }
-    ensures carried { (role : Role) (client_config : Config Client) (server_config : Config Server) (mine theirs : Endpoint) (piece rest : List ℕ) → CarryStandsTogether role client_config server_config mine theirs piece rest }
-    ensures asked { (role : Role) (client_config : Config Client) (server_config : Config Server) (mine theirs : Endpoint) (ask : Ask) (frames : List Frame) → AskStandsTogether role client_config server_config mine theirs ask frames }
+    ensures new { NewStandTogether }
+    ensures turned { StandTogetherTurned }
+    ensures carried { CarryStandsTogether }
+    ensures asked { AskStandsTogether }
     ensures pair { (role : Role) (client_config : Config Client) (server_config : Config Server) (mine theirs : History) (end : End) (ask : Ask) (frames : List Frame) → AskedStaysPair role client_config server_config mine theirs end ask frames }
 {
     written_reads_back();

@@ -13,7 +13,7 @@ ghost use Rattle.amqp_model.specs.Notes.{Role};
 /// The state of a channel up to the agreed maximum is that of its notes, until the connection is closed and all are Free.
 pub fn states_are_of_notes()
     ensures open { (role : Role) (config : Config role) (end : End) (history : History) (n : ℕ) → StateIsOfNotes role config end history n }
-    ensures closed { (end : End) (n : ℕ) → ClosedIsFree end n }
+    ensures closed { ClosedIsFree }
 {}
 
 /// The octets gathered on an Open channel of a Running connection are those of the body parts of the content under way, and
@@ -21,10 +21,10 @@ pub fn states_are_of_notes()
 pub fn octets_are_of_body()
     ensures under_way { (role : Role) (config : Config role) (end : End) (history : History) (n : ℕ) (life : Life) (since : List Payload) → GatheredIsUnderWay role config end history n life since }
     ensures none { (role : Role) (config : Config role) (end : End) (history : History) (n : ℕ) (life : Life) → NoneIsGathered role config end history n life }
-    ensures elsewhere { (end : End) (n : ℕ) → OnlyOpenGathers end n }
+    ensures elsewhere { OnlyOpenGathers }
 {}
 
 /// A reply is due on an Open channel alone. Which one it is says `unanswered_are_kept`.
 pub fn replies_are_due_where_open()
-    ensures { (end : End) (n : ℕ) → OnlyOpenIsDue end n }
+    ensures { OnlyOpenIsDue }
 {}

@@ -17,10 +17,10 @@ ghost use Rattle.amqp_model.specs.Numbers.{StandsNumbered};
 /// Each Open channel of an end is within its bounds: of a new end, after each frame and each ask, and so of every end that
 /// stands for a lawful history.
 pub fn ends_are_bounded()
-    ensures new { (role : Role) (config : Config role) → NewIsWithin role config }
+    ensures new { NewIsWithin }
     ensures frame { (role : Role) (config : Config role) (end : End) (frame : Frame) → FrameStaysWithin role config end frame }
     ensures ask { (role : Role) (config : Config role) (end : End) (ask : Ask) (frames : List Frame) → AskStaysWithin role config end ask frames }
-    ensures stands { (role : Role) (config : Config role) (end : End) (history : History) → StandsWithin role config end history }
+    ensures stands { StandsWithin }
 {}
 
 /// What such an end answers: no more octets of a body than the greatest that it takes, and no state but Free of channel 0 and
@@ -32,5 +32,5 @@ pub fn answers_are_bounded()
 
 /// No channel above the agreed maximum is kept: at most so many channels are other than Free.
 pub fn channels_are_numbered()
-    ensures { (role : Role) (config : Config role) (end : End) (history : History) → StandsNumbered role config end history }
+    ensures { StandsNumbered }
 {}

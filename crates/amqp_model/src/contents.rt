@@ -18,8 +18,8 @@ ghost use Rattle.amqp_model.specs.Methods.{Method};
 /// Payloads are at most one content, and no content is a prefix of another. So a list of payloads falls into contents
 /// in one way only.
 pub fn one_content()
-    ensures unique { (payloads : List Payload) → IsAtMostOneContent payloads }
-    ensures no_prefix { (payloads : List Payload) → NoContentAtStart payloads }
+    ensures unique { IsAtMostOneContent }
+    ensures no_prefix { NoContentAtStart }
 {}
 
 /// What is written of a content is that content, each part as long as fits, in as few frames as can be.
@@ -39,31 +39,31 @@ pub fn sizes_of_cut()
 
 /// At most one content is under way, and what goes on with it is of the kind that is due.
 pub fn under_way()
-    ensures one { (taken : List Payload) → OneUnderWay taken }
-    ensures due { (taken since : List Payload) → GoesOnAsDue taken since }
+    ensures one { OneUnderWay }
+    ensures due { GoesOnAsDue }
 {}
 
 /// The machine keeps what is under way: its state says what that is, and is the only one that does. The octets that
 /// it keeps are those of the parts taken.
 pub fn gathering_is_under_way()
-    ensures state { (taken : List Payload) (state : Gathering) → KeepsUnderWay taken state }
-    ensures octets { (taken since : List Payload) → KeepsItsOctets taken since }
+    ensures state { KeepsUnderWay }
+    ensures octets { KeepsItsOctets }
 {}
 
 /// Nothing is under way after a whole content, nor after a method that carries none. What comes after is gathered as
 /// if nothing had come before: so what an end keeps of a channel needs no scope, since a channel is opened by a method.
 pub fn gathering_begins_afresh()
-    ensures content { (taken : List Payload) (content : Content) → NothingAfterContent taken content }
-    ensures method { (before : List Payload) (method : Method) → NothingAfterMethod before method }
-    ensures later { (later before : List Payload) → GathersAfresh later before }
+    ensures content { NothingAfterContent }
+    ensures method { NothingAfterMethod }
+    ensures later { GathersAfresh }
 {}
 
 /// The machine's answer to a payload: a content exactly when its payloads are all there, a misfit exactly when the payload
 /// can't come next, and else what is then under way.
 pub fn step_tells()
-    ensures whole { (before : List Payload) (payload : Payload) (content : Content) → TellsWhole before payload content }
-    ensures misfit { (before : List Payload) (payload : Payload) (misfit : Misfit) → TellsMisfits before payload misfit }
-    ensures goes_on { (before : List Payload) (payload : Payload) (state : Gathering) → GoesOnWith before payload state }
+    ensures whole { TellsWhole }
+    ensures misfit { TellsMisfits }
+    ensures goes_on { GoesOnWith }
 {}
 
 /// A content without a body is reported at its header, another at the part that fills its size, whatever empty parts came
@@ -76,7 +76,7 @@ pub fn told_at_last()
 
 /// The items that the machine tells are those that the payloads encode.
 pub fn items_are_encoded()
-    ensures item { (before : List Payload) (payload : Payload) (item : Item) → TellsItems before payload item }
+    ensures item { TellsItems }
     ensures items { (taken : List Payload) (list : List Item) → ItemsAreEncoded taken list }
 {}
 
@@ -84,10 +84,10 @@ pub fn items_are_encoded()
 /// content; what is under way has added nothing; and where nothing is under way, as after a method that carries no
 /// content, the items of what comes after are added.
 pub fn items_follow()
-    ensures prefix { (prefix whole : List Payload) → ItemsOfPrefix prefix whole }
-    ensures one_more { (prefix : List Payload) (payload : Payload) → OneMoreEncoded prefix payload }
-    ensures content { (prefix payloads : List Payload) (content : Content) → ContentEncodedAfter prefix payloads content }
-    ensures unfinished { (taken since : List Payload) → UnfinishedEncodesNothing taken since }
-    ensures later { (prefix later : List Payload) → EncodedAfresh prefix later }
-    ensures method { (prefix : List Payload) (method : Method) (later : List Payload) → MethodStandsAlone prefix method later }
+    ensures prefix { ItemsOfPrefix }
+    ensures one_more { OneMoreEncoded }
+    ensures content { ContentEncodedAfter }
+    ensures unfinished { UnfinishedEncodesNothing }
+    ensures later { EncodedAfresh }
+    ensures method { MethodStandsAlone }
 {}

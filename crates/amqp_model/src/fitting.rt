@@ -19,7 +19,7 @@ ghost use Rattle.amqp_model.specs.Readings.{Reading};
 
 /// What is written of a method, and of a content header, reads as it, where it fits its fields.
 pub fn written_reads_back()
-    ensures method { (method : Method) → MethodReadsBack method }
+    ensures method { MethodReadsBack }
     ensures header { (header : Header) → HeaderReadsBack header }
 {
     amqp_method::plain_is_encoded();
@@ -29,16 +29,16 @@ pub fn written_reads_back()
 /// A configuration fits its fields exactly when it has no fault, if its numbers and its hello do. What an end says of itself
 /// can be written then.
 pub fn fitting_config_writes()
-    ensures faultless { (role : Role) (config : Config role) → FaultlessConfigFits role config }
-    ensures no_fault { (role : Role) (config : Config role) → FittingConfigIsFaultless role config }
-    ensures writes { (role : Role) (config : Config role) → FittingConfigWrites role config }
+    ensures faultless { FaultlessConfigFits }
+    ensures no_fault { FittingConfigIsFaultless }
+    ensures writes { FittingConfigWrites }
 {
     written_reads_back();
 }
 
 /// What is written for an ask reads back, where the ask fits its fields: its method, and the header of its content.
 pub fn asked_reads_back()
-    ensures { (ask : Ask) → AskedReadsBack ask }
+    ensures { AskedReadsBack }
 {
     written_reads_back();
 }
@@ -46,8 +46,8 @@ pub fn asked_reads_back()
 /// The methods that a verdict puts read back, and so does the close that an end puts where a frame is above the limit:
 /// all that an end writes of itself.
 pub fn owed_read_back()
-    ensures verdict { (role : Role) (facts : Facts role) (reading : Reading) → OwedReadBack role facts reading }
-    ensures too_large { (role : Role) (facts : Facts role) → CloseReadsBack role facts }
+    ensures verdict { OwedReadBack }
+    ensures too_large { CloseReadsBack }
     ensures all { (role : Role) (config : Config role) → AllReadsBack role config }
 {
     written_reads_back();
@@ -55,22 +55,22 @@ pub fn owed_read_back()
 
 /// Each frame of a message says the payload that it was made of, where its method and its header read back.
 pub fn frames_say_payloads()
-    ensures { (max channel : ℕ) (message : Message) → FramesSayPayloads max channel message }
+    ensures { FramesSayPayloads }
 {}
 
 /// Each frame that an end puts fits its fields: start, what verdicts and a frame above the limit make it put, and what it
 /// puts for an accepted ask.
 pub fn frames_fit()
-    ensures start { (config : Config Server) → StartFits config }
-    ensures verdict { (role : Role) (facts : Facts role) (reading : Reading) → OwedFit role facts reading }
-    ensures too_large { (role : Role) (facts : Facts role) → CloseFits role facts }
+    ensures start { StartFits }
+    ensures verdict { OwedFit }
+    ensures too_large { CloseFits }
     ensures asked { (role : Role) (end : End) (ask : Ask) (frames : List Frame) → AskedFit role end ask frames }
 {}
 
 /// What was agreed in a lawful history has a channel at least, fits its fields, and has a frame size of 4096 to 1048576
 /// octets. It stays so by each frame that an end takes, and no ask changes it.
 pub fn agreed_is_within()
-    ensures history { (role : Role) (config : Config role) (failed : Bool) (history : History) → AgreedIsWithin role config failed history }
+    ensures history { AgreedIsWithin }
     ensures frame { (role : Role) (config : Config role) (end : End) (frame : Frame) → AgreedStaysWithin role config end frame }
     ensures ask { (role : Role) (config : Config role) (end : End) (ask : Ask) (frames : List Frame) → AskKeepsAgreed role config end ask frames }
 {

@@ -10,66 +10,66 @@
 
 ghost use Rattle.std.specs.Prelude.{◌≡◌, ◌↔◌, true, ℕ, List};
 ghost use Rattle.amqp_model.specs.Carried.{puts, takes};
-ghost use Rattle.amqp_model.specs.Connections.{ConnectionNote, ConnectionRun, notes_of, overtaken_client, overtaking_server};
+ghost use Rattle.amqp_model.specs.Connections.{ConnectionRun, EachChannelRuns, notes_of, overtaken_client, overtaking_server};
 ghost use Rattle.amqp_model.specs.Frame.{Frame};
-ghost use Rattle.amqp_model.specs.Laws.{ActsOnPrefix, ActsOnNothingAfterItsClose, ActsOnNothingAfterLeaving, AllActedOnAtClose, AllActedOnAtConnectionClose, FindsNoFault, NoPauseBeforeContent, OnItsWayIsOfItsLife, SentIsActedOnOrOnItsWay, SidesAgree, TakesNoContentPaused};
+ghost use Rattle.amqp_model.specs.Laws.{OnEachRun, TakesPrefix, ActsOnPrefix, ActsOnNothingAfterItsClose, ActsOnNothingAfterLeaving, AllActedOnAtClose, AllActedOnAtConnectionClose, FindsNoFault, NoPauseBeforeContent, OnItsWayIsOfItsLife, SentIsActedOnOrOnItsWay, SidesAgree, TakesNoContentPaused};
 ghost use Rattle.amqp_model.specs.Prefixes.{IsPrefixOf};
 ghost use Rattle.amqp_model.specs.Lives.{awaits_flow_ok, before_leaving, has_left, has_open_ok, pauses_other, is_alive, is_opening, is_paused, lives, state, waits};
 ghost use Rattle.amqp_model.specs.Notes.{Note, Role, other_end};
 ghost use Rattle.amqp_model.specs.Runs.{Run, RunAt};
 ghost use Rattle.amqp_model.specs.Scripts.{ClosedAndReopened, ClosedAtOnce, CrossingCloses, DiscardedContents, DroppedClient, MessageThenClose, PausedServer, RestartedServer, ServerLeaves, Step, crossing_closes, replay};
-ghost use Rattle.amqp_model.specs.Sentences.{AwaitsFlowOk, HasLeft, HasOpenOk, PausesOther, IsAlive, IsBeforeLeaving, IsInState, IsPaused, Waits, places_with};
+ghost use Rattle.amqp_model.specs.Sentences.{StatesRead, AwaitsFlowOk, HasLeft, HasOpenOk, PausesOther, IsAlive, IsBeforeLeaving, IsInState, IsPaused, Waits, places_with};
 ghost use Rattle.amqp_model.specs.States.{State};
 
 /// Both ends mean the same life: the i-th note that one took has the life of the i-th note that the other put, and
 /// what was taken is, frame by frame, a prefix of what was put.
 pub fn sides_agree()
-    ensures lives { (role : Role) (mine theirs : List Note) → RunAt role mine theirs → SidesAgree role mine theirs }
-    ensures notes { (role : Role) (mine theirs : List Note) → RunAt role mine theirs → IsPrefixOf (takes role mine) (puts (other_end role) theirs) }
+    ensures lives { OnEachRun SidesAgree }
+    ensures notes { OnEachRun TakesPrefix }
 {}
 
 /// Whatever comes next to an end has a verdict that goes on.
 pub fn no_fault()
-    ensures { (role : Role) (mine theirs : List Note) → RunAt role mine theirs → FindsNoFault role mine theirs }
+    ensures { OnEachRun FindsNoFault }
 {}
 
 /// In each life, the frames that an end acted on are a prefix of those that the other sent.
 pub fn acted_is_prefix_of_sent()
-    ensures { (role : Role) (mine theirs : List Note) → RunAt role mine theirs → ActsOnPrefix role mine theirs }
+    ensures { OnEachRun ActsOnPrefix }
 {}
 
 /// Where the channel is Opening or Open at an end that has not put connection.close, all that is in flight to it is
 /// of its own life, and with what it acted on it is all that the other sent in that life.
 pub fn in_flight()
-    ensures life { (role : Role) (mine theirs : List Note) → RunAt role mine theirs → OnItsWayIsOfItsLife role mine theirs }
-    ensures sent { (role : Role) (mine theirs : List Note) → RunAt role mine theirs → SentIsActedOnOrOnItsWay role mine theirs }
+    ensures life { OnEachRun OnItsWayIsOfItsLife }
+    ensures sent { OnEachRun SentIsActedOnOrOnItsWay }
 {}
 
 /// Where the other's close of the channel ended a life, and was taken before the end put one, everything sent in that life
 /// was acted on; and so it is in a life that goes on, where the end has taken all that the other put.
 pub fn all_acted_on_at_close()
-    ensures channel { (role : Role) (mine theirs : List Note) → RunAt role mine theirs → AllActedOnAtClose role mine theirs }
-    ensures connection { (role : Role) (mine theirs : List Note) → RunAt role mine theirs → AllActedOnAtConnectionClose role mine theirs }
+    ensures channel { OnEachRun AllActedOnAtClose }
+    ensures connection { OnEachRun AllActedOnAtConnectionClose }
 {}
 
 /// From where an end puts a close, of the channel or of the connection, it acts on nothing more of that life, or of the
 /// connection.
 pub fn nothing_acted_on_after_own_close()
-    ensures channel { (role : Role) (mine theirs : List Note) → RunAt role mine theirs → ActsOnNothingAfterItsClose role mine }
-    ensures connection { (role : Role) (mine : List Note) → ActsOnNothingAfterLeaving role mine }
+    ensures channel { OnEachRun (λ role mine theirs. ActsOnNothingAfterItsClose role mine) }
+    ensures connection { ActsOnNothingAfterLeaving }
 {}
 
 /// From where an end took flow-ok with active 0 in a life until it puts flow with active 1, it takes no content but
 /// get-ok.
 pub fn no_content_while_paused()
-    ensures counted { (role : Role) (mine theirs : List Note) → RunAt role mine theirs → TakesNoContentPaused role mine theirs }
-    ensures plain { (role : Role) (mine theirs : List Note) → RunAt role mine theirs → NoPauseBeforeContent role mine theirs }
+    ensures counted { OnEachRun TakesNoContentPaused }
+    ensures plain { OnEachRun NoPauseBeforeContent }
 {}
 
 /// A connection of many channels is a run on each of them, where each channel's frames come in order: those of
 /// different channels may overtake each other, as in one that is stated.
 pub fn each_channel_runs()
-    ensures each { (client server : List ConnectionNote) → ConnectionRun client server → (channel : ℕ) → Run (notes_of channel client) (notes_of channel server) }
+    ensures each { EachChannelRuns }
     ensures overtaking { (f : ℕ → Frame) → ConnectionRun (overtaken_client f) (overtaking_server f) }
 {}
 
@@ -84,7 +84,7 @@ pub fn words_read()
     ensures pauses_other { (role : Role) (history : List Note) → (pauses_other role history ≡ true) ↔ PausesOther role history }
     ensures left { (history : List Note) → (has_left history ≡ true) ↔ HasLeft history }
     ensures before_leaving { (history : List Note) → IsBeforeLeaving history (before_leaving history) }
-    ensures state { (role : Role) (history : List Note) (word : State) → (state role history ≡ word) ↔ IsInState role (before_leaving history) word }
+    ensures state { StatesRead }
 {}
 
 /// There are runs: each script plays one, and one of them has closes that cross and two lives.

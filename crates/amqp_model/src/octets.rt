@@ -29,7 +29,7 @@ pub fn judged_is_said()
 pub fn cut_changes_nothing()
     ensures goes_on { (role : Role) (config : Config role) (endpoint : Endpoint) (p q : List ℕ) → CutGoesOn role config endpoint p q }
     ensures stops { (role : Role) (config : Config role) (endpoint : Endpoint) (p q : List ℕ) → CutStops role config endpoint p q }
-    ensures progress { (role : Role) (config : Config role) (endpoint : Endpoint) (piece : List ℕ) → FeedProgresses role config endpoint piece }
+    ensures progress { FeedProgresses }
     ensures within { (role : Role) (config : Config role) (endpoint : Endpoint) (piece : List ℕ) → FeedTakesWithin role config endpoint piece }
     ensures all { (role : Role) (config : Config role) (endpoint : Endpoint) (piece : List ℕ) → FeedTakesAll role config endpoint piece }
     ensures closed { (role : Role) (config : Config role) (endpoint : Endpoint) (piece : List ℕ) → FeedStaysClosed role config endpoint piece }
@@ -41,10 +41,10 @@ pub fn cut_changes_nothing()
 /// the octets fed tell why, and its output is still that of what it put.
 pub fn octets_follow()
     ensures new { (role : Role) (config : Config role) → NewStands role config }
-    ensures octet { (role : Role) (config : Config role) (endpoint : Endpoint) (history : History) (fed written : List ℕ) (octet : ℕ) → OctetFollows role config endpoint history fed written octet }
+    ensures octet { OctetFollows }
     ensures feed { (role : Role) (config : Config role) (endpoint : Endpoint) (history : History) (fed written piece : List ℕ) → FeedFollows role config endpoint history fed written piece }
     ensures accepted { (role : Role) (config : Config role) (endpoint : Endpoint) (history : History) (fed written : List ℕ) (ask : Ask) (frames : List Frame) → AcceptedFollows role config endpoint history fed written ask frames }
-    ensures refused { (role : Role) (config : Config role) (endpoint : Endpoint) (ask : Ask) (refusal : Refusal) → RefusedStays role config endpoint ask refusal }
+    ensures refused { RefusedStays }
     ensures wrote { (role : Role) (config : Config role) (endpoint : Endpoint) (history : History) (fed written : List ℕ) (n : ℕ) → WroteFollows role config endpoint history fed written n }
     ensures wrote_failed { (role : Role) (config : Config role) (limit : ℕ) (opening : List ℕ) (history : History) (fed written : List ℕ) (endpoint : Endpoint) (n : ℕ) → FailedWrites role config limit opening history fed written endpoint n }
 {

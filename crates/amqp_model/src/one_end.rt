@@ -21,15 +21,15 @@ ghost use Rattle.amqp_model.specs.Readings.{Reading};
 /// What an end keeps of a channel follows from what it kept before, the entry, and the facts that its verdict rests
 /// on, and stands for that channel's entries extended.
 pub fn record_follows()
-    ensures taken { (role : Role) (facts : Facts role) (reading : Reading) (frame : Frame) (entries : List ChannelEntry) → FollowsTaken role facts reading frame entries }
-    ensures put { (role : Role) (channel : Channel) (reading : Reading) (frame : Frame) (entries : List ChannelEntry) → FollowsPut role channel reading frame entries }
-    ensures at_leaving { (role : Role) (channel : Channel) (entries : List ChannelEntry) → StaysAtLeaving role channel entries }
-    ensures leaving { (role : Role) (channel : Channel) (entry : ChannelEntry) (entries : List ChannelEntry) → StaysLeaving role channel entry entries }
+    ensures taken { FollowsTaken }
+    ensures put { FollowsPut }
+    ensures at_leaving { StaysAtLeaving }
+    ensures leaving { StaysLeaving }
 {}
 
 /// An entry of another channel above 0 leaves what an end keeps of a channel, and what that stands for.
 pub fn others_stay()
-    ensures { (entry : Entry) (history : History) (channel : ℕ) → LeavesOthers entry history channel }
+    ensures { LeavesOthers }
 {}
 
 /// The record of a channel is what the channel's entries count to, and its state the one of the lives of a channel.
@@ -51,25 +51,25 @@ pub fn ask_is_of_history()
 /// Where an end goes on after a frame of a channel above 0, the lives of a channel go on too, and owe the reply that its
 /// verdict puts; or it refuses a content, of which they say that it came. Which event it is says `verdict_names_event`.
 pub fn verdict_agrees()
-    ensures { (role : Role) (facts : Facts role) (reading : Reading) → VerdictAgrees role facts reading }
+    ensures { VerdictAgrees }
 {}
 
 /// A frame that an end takes, and what it accepts to put, act on each channel above 0 as the lives of a channel allow.
 /// So the histories of two ends are a run on each.
 pub fn history_acts()
-    ensures taken { (role : Role) (config : Config role) (history : History) (frame : Frame) (n : ℕ) (theirs : List Note) → TakesActs role config history frame n theirs }
-    ensures asked { (role : Role) (config : Config role) (history : History) (ask : Ask) (frames : List Frame) (n : ℕ) (theirs : List Note) → AsksActs role config history ask frames n theirs }
-    ensures lawful { (client_config : Config Client) (server_config : Config Server) (client server : History) → BothLawful client_config server_config client server }
-    ensures pair { (client_config : Config Client) (server_config : Config Server) (client server : History) → RunsOnEach client_config server_config client server }
+    ensures taken { TakesActs }
+    ensures asked { AsksActs }
+    ensures lawful { BothLawful }
+    ensures pair { RunsOnEach }
 {}
 
 /// What an end keeps follows each entry of its history, each frame that it takes with the frames that it owes, and
 /// each ask that it accepts. A new end stands for the history of nothing.
 pub fn end_follows()
-    ensures new { (role : Role) (config : Config role) → NewEndStands role config }
-    ensures entry { (role : Role) (config : Config role) (end : End) (history : History) (entry : Entry) → EndFollows role config end history entry }
-    ensures frame { (role : Role) (config : Config role) (end : End) (history : History) (frame : Frame) → FrameFollows role config end history frame }
-    ensures ask { (role : Role) (config : Config role) (end : End) (history : History) (ask : Ask) (frames : List Frame) → AskFollows role config end history ask frames }
+    ensures new { NewEndStands }
+    ensures entry { EndFollows }
+    ensures frame { FrameFollows }
+    ensures ask { AskFollows }
 {}
 
 /// What an end that has failed keeps stands for its history too: with the frame that it found fault with and the close
@@ -77,9 +77,9 @@ pub fn end_follows()
 /// the phase, what was agreed and channel 0 are looked at, and no more. An end that stands for a history without a failure has not
 /// failed.
 pub fn failed_follows()
-    ensures frame { (role : Role) (config : Config role) (end : End) (history : History) (frame : Frame) → FrameFails role config end history frame }
-    ensures too_large { (role : Role) (config : Config role) (end : End) (history : History) → TooLargeFails role config end history }
-    ensures other { (role : Role) (config : Config role) (end : End) (history : History) → AnyFails role config end history }
+    ensures frame { FrameFails }
+    ensures too_large { TooLargeFails }
+    ensures other { AnyFails }
     ensures read { (role : Role) (config : Config role) (end next : End) (history : History) → FailedIsRead role config end next history }
     ensures not_yet { (role : Role) (config : Config role) (end : End) (history : History) → StandingHasNotFailed role config end history }
 {}
@@ -87,9 +87,9 @@ pub fn failed_follows()
 /// Each lawful history is one that an end stands for: what is read off it, and what an end keeps that goes on with each of
 /// its steps. What the end keeps says which steps these are.
 pub fn lawful_stands()
-    ensures read { (role : Role) (config : Config role) (failed : Bool) (history : History) → LawfulStands role config failed history }
-    ensures step { (role : Role) (config : Config role) (end : End) (before : History) (taken : Option Frame) (failed : Bool) (after : History) → StepFollows role config end before taken failed after }
-    ensures steps { (role : Role) (config : Config role) (end : End) (history : History) → EndSteps role config end history }
+    ensures read { LawfulStands }
+    ensures step { StepFollows }
+    ensures steps { EndSteps }
 {}
 
 /// What an end answers of its channels is what every history gives for which it stands.

@@ -19,11 +19,11 @@ ghost use Rattle.amqp_model.specs.Pieces.{AskHolds, FeedBeginsOpening, FeedEndsO
 /// What is unfinished at an end is a proper prefix of the protocol header where that is awaited, and octets of one frame
 /// where frames are read: at a new end, at one that stands for a history, and after each piece, ask and write.
 pub fn unfinished_is_held()
-    ensures new { (role : Role) → NewHolds role }
-    ensures stands { (role : Role) (config : Config role) (endpoint : Endpoint) (history : History) (fed written : List ℕ) → StandsHolds role config endpoint history fed written }
+    ensures new { NewHolds }
+    ensures stands { StandsHolds }
     ensures feed { (role : Role) (config : Config role) (endpoint : Endpoint) (piece : List ℕ) → FeedHolds role config endpoint piece }
     ensures ask { (role : Role) (config : Config role) (endpoint : Endpoint) (ask : Ask) → AskHolds role config endpoint ask }
-    ensures wrote { (role : Role) (endpoint : Endpoint) (n : ℕ) → WroteHolds role endpoint n }
+    ensures wrote { WroteHolds }
 {}
 
 /// Where a splitter answers with a frame, the end does what it does with that frame. Where it answers with none, all of the

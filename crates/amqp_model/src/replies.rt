@@ -14,13 +14,13 @@ ghost use Rattle.amqp_model.specs.Notes.{Client, Role, Server};
 /// In each life of a channel the n-th reply of a server answers the n-th request that it acted on, and the n-th reply that
 /// a client acted on answers the n-th request that it sent. A client has at most one request without its reply.
 pub fn replies_are_in_turn()
-    ensures in_turn { (role : Role) (config : Config role) (history : History) (n life : ℕ) → AnswersInTurn role config history n life }
+    ensures in_turn { AnswersInTurn }
     ensures one_at_a_time { (config : Config Client) (history : History) (n life : ℕ) → AsksOneAtATime config history n life }
 {}
 
 /// An Open channel keeps the requests of its life that have no reply yet, and the reply that is due is to the first of them.
 pub fn unanswered_are_kept()
-    ensures kept { (role : Role) (config : Config role) (end : End) (history : History) (n : ℕ) (life : Life) → KeepsUnanswered role config end history n life }
+    ensures kept { KeepsUnanswered }
     ensures due { (role : Role) (config : Config role) (end : End) (history : History) (n : ℕ) (life : Life) → DueIsFirst role config end history n life }
 {}
 

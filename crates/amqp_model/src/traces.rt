@@ -19,8 +19,8 @@ ghost use Rattle.amqp_model.specs.Traces.{Direction, NotesFrame, PutsTellNothing
 /// Each frame put or taken is noted once, after all earlier ones, with its channel and the word for what it is to its channel.
 pub fn frames_are_noted()
     ensures put { (frames : List Frame) (history : History) → TracePuts frames history }
-    ensures taken { (role : Role) (config : Config role) (history : History) (frame : Frame) → TraceTakes role config history frame }
-    ensures note { (direction : Direction) (frame : Frame) → NotesFrame direction frame }
+    ensures taken { TraceTakes }
+    ensures note { NotesFrame }
 {}
 
 /// What an end told grows by the item of the event that a frame comes to, in the life of its channel, and by nothing else.
@@ -33,8 +33,8 @@ pub fn events_are_told()
 /// its asks, a message and a flow add themselves and the others nothing. What it takes adds nothing.
 pub fn messages_are_said()
     ensures method { (role : Role) (channel : ℕ) (method : Method) (history : History) → SaysMethod role channel method history }
-    ensures message { (role : Role) (config : Config role) (history : History) (channel : ℕ) (message : Message) (frames : List Frame) → SaysMessage role config history channel message frames }
-    ensures taken { (role : Role) (frame : Frame) (history : History) → TakenSaysNothing role frame history }
+    ensures message { SaysMessage }
+    ensures taken { TakenSaysNothing }
     ensures ask { (role : Role) (config : Config role) (history : History) (ask : Ask) (frames : List Frame) → SaysAsk role config history ask frames }
 {}
 
@@ -43,5 +43,5 @@ pub fn messages_are_said()
 pub fn memory_runs_out()
     ensures stands { (role : Role) (config : Config role) (endpoint : Endpoint) (history : History) (fed written : List ℕ) → RunsOut role config endpoint history fed written }
     ensures wrote { (role : Role) (config : Config role) (endpoint : Endpoint) (history : History) (fed written : List ℕ) (n : ℕ) → RanOutWrites role config endpoint history fed written n }
-    ensures fed { (role : Role) (config : Config role) (endpoint : Endpoint) (history : History) (fed written piece : List ℕ) → RanOutStays role config endpoint history fed written piece }
+    ensures fed { RanOutStays }
 {}

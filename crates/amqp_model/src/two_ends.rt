@@ -14,54 +14,54 @@ ghost use Rattle.amqp_model.specs.Histories.{History};
 ghost use Rattle.amqp_model.specs.Negotiation.{Config};
 ghost use Rattle.amqp_model.specs.Notes.{Client, Role, Server};
 ghost use Rattle.amqp_model.specs.Pairs.{NewEndsPair, PairAt, StepStaysPair};
-ghost use Rattle.amqp_model.specs.SentLaws.{ActsOnPrefixOfItems, AllItemsActedOnAtClose, AllItemsActedOnAtConnectionClose, AllItemsActedOnOfEnded, FaultTellsNothing, ItemsSentAreActedOnOrInFlight, NoItemsBeforeFirstLife, NothingOfChannel0, SaysWhatIsSent, TellsWhatIsActedOn};
+ghost use Rattle.amqp_model.specs.SentLaws.{OnEachPair, ActsOnPrefixOfItems, AllItemsActedOnAtClose, AllItemsActedOnAtConnectionClose, AllItemsActedOnOfEnded, FaultTellsNothing, ItemsSentAreActedOnOrInFlight, NoItemsBeforeFirstLife, NothingOfChannel0, SaysWhatIsSent, TellsWhatIsActedOn};
 ghost use Rattle.amqp_model.specs.WholeMessages.{EachFitsNext, FitsWhatIsKept, PutsWholeMessages};
 
 /// Two new ends are a pair, and a pair stays one with each step of either end, where a frame that it takes is the next on
 /// its channel.
 pub fn steps_stay_pairs()
     ensures new { (role : Role) (client_config : Config Client) (server_config : Config Server) → NewEndsPair role client_config server_config }
-    ensures step { (role : Role) (client_config : Config Client) (server_config : Config Server) (mine theirs : History) (taken : Option Frame) (after : History) → StepStaysPair role client_config server_config mine theirs taken after }
+    ensures step { StepStaysPair }
 {}
 
 /// What an end puts on a channel in a life is whole messages, one after another, so that each of their payloads can come
 /// next after those before it. And so it is taken: what comes next to a Running end, on a channel that it has Open, fits
 /// after the content that it keeps. No part of a content is out of place, and no message stands inside one.
 pub fn whole_messages_are_put()
-    ensures whole { (role : Role) (config : Config role) (failed : Bool) (history : History) (n life : ℕ) → PutsWholeMessages role config failed history n life }
-    ensures each { (prefix : List Payload) (payload : Payload) (later : List Payload) → EachFitsNext prefix payload later }
-    ensures taken { (role : Role) (client_config : Config Client) (server_config : Config Server) (mine theirs : History) (n : ℕ) (frame : Frame) → FitsWhatIsKept role client_config server_config mine theirs n frame }
+    ensures whole { PutsWholeMessages }
+    ensures each { EachFitsNext }
+    ensures taken { FitsWhatIsKept }
 {}
 
 /// In each life of a channel, the items that an end acted on are a prefix of those that the other sent.
 pub fn items_acted_on_are_prefix()
-    ensures { (role : Role) (client_config : Config Client) (server_config : Config Server) (mine theirs : History) (n : ℕ) → PairAt role client_config server_config mine theirs → ActsOnPrefixOfItems role (suc n) mine theirs }
+    ensures { OnEachPair ActsOnPrefixOfItems }
 {}
 
 /// Where the other's close ended a life, of the channel or of the connection, and was taken before the end put one,
 /// every item sent in that life was acted on.
 pub fn all_items_acted_on_at_close()
-    ensures channel { (role : Role) (client_config : Config Client) (server_config : Config Server) (mine theirs : History) (n : ℕ) → PairAt role client_config server_config mine theirs → AllItemsActedOnAtClose role (suc n) mine theirs }
-    ensures connection { (role : Role) (client_config : Config Client) (server_config : Config Server) (mine theirs : History) (n : ℕ) → PairAt role client_config server_config mine theirs → AllItemsActedOnAtConnectionClose role (suc n) mine theirs }
-    ensures ended { (role : Role) (client_config : Config Client) (server_config : Config Server) (mine theirs : History) (n : ℕ) → PairAt role client_config server_config mine theirs → AllItemsActedOnOfEnded role (suc n) mine theirs }
+    ensures channel { OnEachPair AllItemsActedOnAtClose }
+    ensures connection { OnEachPair AllItemsActedOnAtConnectionClose }
+    ensures ended { OnEachPair AllItemsActedOnOfEnded }
 {}
 
 /// Where the channel is Opening or Open at an end that has not put connection.close, the items that the other sent in
 /// that life are those that the frames acted on and then the messages in flight encode, read one after the other.
 pub fn items_in_flight()
-    ensures { (role : Role) (client_config : Config Client) (server_config : Config Server) (mine theirs : History) (n : ℕ) → PairAt role client_config server_config mine theirs → ItemsSentAreActedOnOrInFlight role (suc n) mine theirs }
+    ensures { OnEachPair ItemsSentAreActedOnOrInFlight }
 {}
 
 /// Before a channel's first life its end sends nothing, and acts on nothing.
 pub fn no_items_before_first_life()
-    ensures { (role : Role) (client_config : Config Client) (server_config : Config Server) (mine theirs : History) (n : ℕ) → PairAt role client_config server_config mine theirs → NoItemsBeforeFirstLife role (suc n) mine }
+    ensures { OnEachPair (λ role channel mine theirs. NoItemsBeforeFirstLife role channel mine) }
 {}
 
 /// What an end that has not failed tells, item by item as they end, is for each channel above 0 and each life what it acted
 /// on; a frame that it finds fault with tells nothing. What it says is what it sent. It tells and says nothing of channel 0.
 pub fn items_are_told_and_said()
     ensures told { (role : Role) (config : Config role) (n : ℕ) (history : History) → TellsWhatIsActedOn role config (suc n) history }
-    ensures fault { (role : Role) (config : Config role) (history : History) (frame : Frame) → FaultTellsNothing role config history frame }
+    ensures fault { FaultTellsNothing }
     ensures said { (role : Role) (n : ℕ) (history : History) → SaysWhatIsSent role (suc n) history }
     ensures channel_0 { (role : Role) (config : Config role) (history : History) → NothingOfChannel0 role config history }
 {}
@@ -69,14 +69,14 @@ pub fn items_are_told_and_said()
 /// The frames that a history puts and takes on a channel are those that the channel's notes put and take, in order, and
 /// each of these notes says what its frame is to the channel.
 pub fn notes_are_of_frames()
-    ensures frames { (channel : ℕ) (history : History) → FramesAreOfChannel channel history }
-    ensures notes { (channel : ℕ) (history : History) → NotesAreOfFrames channel history }
+    ensures frames { FramesAreOfChannel }
+    ensures notes { NotesAreOfFrames }
 {}
 
 /// Where the octets that an end was fed are a prefix of those that the other put, the frames that it took are on each
 /// channel a prefix of those that the other put, and a frame that the next octets complete comes next.
 pub fn octets_carry_channels()
     ensures opening { (role : Role) → OpeningsMeet role }
-    ensures taken { (role : Role) (limit : ℕ) (mine theirs : History) (put fed unfinished rest : List ℕ) → TakesPrefixOnEach role limit mine theirs put fed unfinished rest }
-    ensures next { (role : Role) (limit : ℕ) (mine theirs : History) (put fed unfinished rest : List ℕ) → CompletedComesNext role limit mine theirs put fed unfinished rest }
+    ensures taken { TakesPrefixOnEach }
+    ensures next { CompletedComesNext }
 {}

@@ -12,5 +12,5 @@ ghost use Rattle.amqp_model.specs.VerdictInWords.{SaysAsLives, TellsItemEnded};
 /// message it tells the item that is whole with the frame, if one is, on the channel of the frame.
 pub fn verdict_names_event()
     ensures lives { (role : Role) (facts : Facts role) (reading : Reading) (event : Event) (owed : Option Kind) → SaysAsLives role facts reading event owed }
-    ensures item { (role : Role) (facts : Facts role) (reading : Reading) (life : Life) → TellsItemEnded role facts reading life }
+    ensures item { TellsItemEnded }
 {}
