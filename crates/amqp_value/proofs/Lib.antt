@@ -1,4 +1,5 @@
 pub mod Adding
+pub mod Checked
 pub mod Complete
 pub mod Depths
 pub mod Elements
@@ -7,6 +8,7 @@ pub mod Numbers
 pub mod One
 pub mod OnlyTold
 pub mod PairLemmas
+pub mod Skipping
 pub mod Sound
 pub mod TableLaws
 pub mod Tags

@@ -2,8 +2,10 @@
 //! that is met, and written in its one plain encoding (AMQP 0-9-1 specification, 4.2.1 and 4.2.5).
 #![tactic(auto)]
 
+mod check;
 mod display;
 mod fault;
+mod fields;
 mod from;
 mod laws;
 mod length;
@@ -17,6 +19,7 @@ mod text;
 mod values;
 mod write;
 
+pub use check::check_table;
 pub use display::{write_hexadecimal, write_quoted};
 pub use fault::{OutOfMemory, ValueFault, ValueFaultKind};
 pub use laws::{one_table, one_value};
