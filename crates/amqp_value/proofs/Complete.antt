@@ -116,6 +116,16 @@ unfolding list_of_pairs
 pairs_of-list no_pairs = refl
 pairs_of-list (pair name value pairs) = ap (pair name value) (pairs_of-list pairs)
 
+pub list_of-items : (xs : List Datum) → list_of_items (items_of xs) ≡ xs
+unfolding list_of_items
+list_of-items [] = refl
+list_of-items (x ∷ xs) = ap (λ ys. x ∷ ys) (list_of-items xs)
+
+pub list_of-pairs : (xs : List (List ℕ × Datum)) → list_of_pairs (pairs_of xs) ≡ xs
+unfolding list_of_pairs
+list_of-pairs [] = refl
+list_of-pairs (x ∷ xs) = ap (λ ys. x ∷ ys) (list_of-pairs xs)
+
 -- a reader takes all that it says, and an octet at least
 pub record IsComplete (levels : ℕ) (read : Reader Datum) : Type 0 where
   pub again : (end : ℕ) (value : Datum) (field after : List ℕ) → EncodesField value field → depth value ≤ levels → read end ((tag_octet value ∷ field) ++ after) ≡ Ok (value, after)

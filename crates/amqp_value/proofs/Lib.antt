@@ -7,6 +7,7 @@ pub mod Lengths
 pub mod Numbers
 pub mod One
 pub mod OnlyTold
+pub mod Owning
 pub mod PairLemmas
 pub mod Skipping
 pub mod Sound
@@ -14,5 +15,6 @@ pub mod TableLaws
 pub mod Tags
 pub mod Texts
 pub mod Told
+pub mod Whole
 pub mod Words
 pub mod Written

@@ -3,6 +3,7 @@ pub mod Faults
 pub mod Fields
 pub mod FirstFault
 pub mod Laws
+pub mod Lent
 pub mod Plain
 pub mod Reading
 pub mod Stored
@@ -11,6 +12,7 @@ pub mod Tables
 pub mod Text
 pub mod Values
 pub mod View
+pub mod Whole
 pub mod Lengths
 pub mod Pairs
 pub mod Queries

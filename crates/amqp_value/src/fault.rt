@@ -75,6 +75,17 @@ impl<T: Drop> From<AllocFailed<T>> for ValueFault {
     }
 }
 
+impl From<OutOfMemory> for ValueFault {
+    ghost from_gives = { λ _ e. e ≡ out_of_memory };
+
+    fn from(_error: OutOfMemory) -> ValueFault {
+        ValueFault {
+            at: 0,
+            kind: ValueFaultKind::OutOfMemory,
+        }
+    }
+}
+
 impl From<AllocError> for OutOfMemory {
     fn from(_error: AllocError) -> OutOfMemory {
         OutOfMemory

@@ -114,7 +114,7 @@ impl Value {
         match self {
             Value::Table(pairs) => {
                 if shallow {
-                    Ok(Table::from_pairs(pairs))
+                    Ok(Table::of_checked(pairs))
                 } else {
                     Err(Value::Table(pairs))
                 }

@@ -52,7 +52,7 @@ impl Table {
         }
     }
 
-    pub(crate) fn from_pairs(pairs: Vec<(ShortStr, Value)>) -> Table
+    pub(crate) fn of_checked(pairs: Vec<(ShortStr, Value)>) -> Table
         requires { table_depth (pairs_view pairs.items) ≤ 32 }
         ensures { table_view result ≡ pairs_view pairs.items }
     {

@@ -3,7 +3,7 @@ use Rattle.amqp_value.specs.Reading.{scalar_of, value_at}
 use Rattle.amqp_value.specs.Values.{scalar}
 use Rattle.amqp_value.proofs.Adding.{named-is}
 use Rattle.amqp_value.proofs.Elements.{named-ok}
-use Rattle.amqp_value.proofs.read.read_short_pair.Goals as goal
+use Rattle.amqp_value.proofs.own.own_short_pair.Goals as goal
 
 pub returns-in-Some-clause-added : goal.returns-in-Some-clause-added
 returns-in-Some-clause-added c = λ levels end.

@@ -3,7 +3,7 @@ use Rattle.std.proofs.lemmas.List.{length-drop, take_all}
 use Rattle.byteorder.specs.Endian.{big_number}
 use Rattle.amqp_value.specs.Reading.{counted}
 use Rattle.amqp_value.proofs.Adding.{counted-is, long_string-read}
-use Rattle.amqp_value.proofs.read.short_text.Goals as goal
+use Rattle.amqp_value.proofs.own.short_text.Goals as goal
 
 pub returns : goal.returns
 returns c = λ levels end.

@@ -1,6 +1,6 @@
 use Rattle.std.proofs.Common.{Some, ap, sym, ◌∙◌}
 use Rattle.amqp_value.proofs.Adding.{scalar-read}
-use Rattle.amqp_value.proofs.read.scalar_octets.Goals as goal
+use Rattle.amqp_value.proofs.own.scalar_octets.Goals as goal
 
 pub returns-in-Fixed-clause-read : goal.returns-in-Fixed-clause-read
 returns-in-Fixed-clause-read c = λ levels end.
