@@ -9,6 +9,7 @@ pub mod One
 pub mod OnlyTold
 pub mod Owning
 pub mod PairLemmas
+pub mod Places
 pub mod Skipping
 pub mod Sound
 pub mod TableLaws

@@ -250,7 +250,7 @@ array-parts octet rest fits h is =
       begins = is_read (counted 0 rest) b.0 b.1;
       are_items = λ body rest_after read. subst (λ (y : List ℕ × List ℕ). AreItems y.0) (ok_is _ _ (sym b.1 ∙ read)) (is_read (elements (value_at 31) 0 b.0.0) d.0 inside);
       value_is = λ body rest_after read.
-      subst (λ (y : List ℕ × List ℕ). value_at 31 0 (octet ∷ rest) ≡ Ok (array (items_of (items_encoded y.0)), y.1)) (ok_is _ _ (sym b.1 ∙ read)) found;
+          subst (λ (y : List ℕ × List ℕ). value_at 31 0 (octet ∷ rest) ≡ Ok (array (items_of (items_encoded y.0)), y.1)) (ok_is _ _ (sym b.1 ∙ read)) found;
     }
 
 -- a nested table
@@ -275,7 +275,7 @@ nested-parts octet rest fits h is =
     record {
       begins = is_read (table_at rest) (pairs, length value.field) reads;
       value_is = λ other n read.
-      subst (λ (y : Pairs × ℕ). value_at 31 0 (octet ∷ rest) ≡ Ok (table y.0, drop y.1 rest)) (ok_is _ _ (sym reads ∙ read)) all;
+          subst (λ (y : Pairs × ℕ). value_at 31 0 (octet ∷ rest) ≡ Ok (table y.0, drop y.1 rest)) (ok_is _ _ (sym reads ∙ read)) all;
     }
 
 -- ---- a tag, and the octets after it

@@ -4,6 +4,7 @@ pub mod Fields
 pub mod FirstFault
 pub mod Laws
 pub mod Lent
+pub mod Places
 pub mod Plain
 pub mod Reading
 pub mod Stored

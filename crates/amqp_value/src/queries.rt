@@ -2,6 +2,7 @@
 
 ghost use Rattle.std.specs.Prelude.{◌≡◌, MatchOption, None, Some};
 ghost use Rattle.amqp_value.specs.Pairs.{value_named};
+ghost use Rattle.amqp_value.specs.Places.{StandsAt};
 ghost use Rattle.amqp_value.specs.Queries.{truth_in, whole_in, natural_of, octets_in, items_in, pairs_in, value_in};
 ghost use Rattle.amqp_value.specs.View.{view, items_view, pairs_view};
 
@@ -17,6 +18,22 @@ pub(crate) fn find<'a>(pairs: &'a [(ShortStr, Value)], name: &[u8]) -> Option<&'
         if pair.0.as_bytes() == name {
             return Some(&pair.1);
         }
+    }
+    None
+}
+
+/// The place of the first pair with a name.
+#[tactic(auto, using(crate::proofs::Places::none_after))]
+pub(crate) fn place_of(pairs: &[(ShortStr, Value)], name: &[u8]) -> Option<usize>
+    ensures { MatchOption result (value_named name.now (pairs_view pairs.now) ≡ None)
+        (λ place. StandsAt name.now pairs.now place) }
+{
+    let mut place = 0;
+    while place < pairs.len() {
+        if pairs[place].0.as_bytes() == name {
+            return Some(place);
+        }
+        place += 1;
     }
     None
 }

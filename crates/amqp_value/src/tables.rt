@@ -6,10 +6,11 @@ ghost use Rattle.amqp_value.specs.View.{pairs_view};
 
 use crate::fault::{OutOfMemory, ValueFault, ValueFaultKind};
 use crate::length::table_length;
-use crate::queries::find;
+use crate::queries::{find, place_of};
 use crate::short_str::ShortStr;
-use crate::values::{Value, copy_pairs, drop_pairs, nests_within};
+use crate::values::{Value, copy_pairs, drop_pairs, nests_within, pairs_nest_within};
 use std::alloc::Global;
+use std::mem::replace;
 use std::slice;
 
 /// How deep tables and arrays may nest: a table has depth 1, and each table or array inside adds 1.
@@ -32,9 +33,9 @@ impl Drop for Table {
 }
 
 impl Table {
-    ghost use Rattle.std.specs.Prelude.{◌≡◌, ◌<◌, ◌↔◌, ◌⊎◌, OnOk, OnErr, length, ◌==◌, IfOk, IfErr, MatchOption, Some, None, Err};
+    ghost use Rattle.std.specs.Prelude.{◌≡◌, ◌<◌, ◌↔◌, ◌⊎◌, OnOk, OnErr, length, ◌==◌, IfOk, IfErr, IsOk, MatchOption, Some, None, Err};
     ghost use Rattle.std.specs.Slice.Iter.{iter_rest};
-    ghost use Rattle.amqp_value.specs.Pairs.{pair_count, value_named};
+    ghost use Rattle.amqp_value.specs.Pairs.{pair_count, value_named, with_value, without};
     ghost use Rattle.amqp_value.specs.Lengths.{capped};
     ghost use Rattle.amqp_value.specs.Plain.{plain_table};
     ghost use Rattle.amqp_value.specs.Faults.{fault_at, out_of_memory};
@@ -59,6 +60,19 @@ impl Table {
         Table { pairs }
     }
 
+    /// The table of these pairs. Pairs that would nest deeper than [`MAX_DEPTH`] are given back.
+    pub fn from_pairs(pairs: Vec<(ShortStr, Value)>) -> Result<Table, Vec<(ShortStr, Value)>>
+        ensures table { IfOk result (λ t. table_view t ≡ pairs_view pairs.items) }
+        ensures when { IsOk result ↔ (table_depth (pairs_view pairs.items) ≤ 32) }
+        ensures same { IfErr result (λ back. back.items ≡ pairs.items) }
+    {
+        if pairs_nest_within(&pairs, MAX_DEPTH - 1) {
+            Ok(Table { pairs })
+        } else {
+            Err(pairs)
+        }
+    }
+
     /// Adds a pair after the last. TooDeep at 0 where the table would nest deeper than [`MAX_DEPTH`];
     /// after a fault the table is as it was, and the pair is dropped.
     pub fn push(&mut self, name: ShortStr, value: Value) -> Result<(), ValueFault>
@@ -76,6 +90,45 @@ impl Table {
         }
         self.pairs.push((name, value))?;
         Ok(())
+    }
+
+    /// Puts a value under a name: in place of that of the first pair with the name, which is the answer, or else in a pair
+    /// after the last. TooDeep at 0 where the table would nest deeper than [`MAX_DEPTH`]; after a fault the table is as it
+    /// was, and name and value are dropped.
+    pub fn set(&mut self, name: ShortStr, value: Value) -> Result<Option<Value>, ValueFault>
+        ensures ok { OnOk result (table_view self.new ≡ with_value (table_view self.old) name (view value)) }
+        ensures held { IfOk result (λ held. MatchOption held (value_named name (table_view self.old) ≡ None)
+            (λ v. value_named name (table_view self.old) ≡ Some (view v))) }
+        ensures too_deep { (result ≡ Err (fault_at 0 TooDeep))
+            ↔ (32 < table_depth (with_value (table_view self.old) name (view value))) }
+        ensures err { IfErr result (λ e. (e ≡ fault_at 0 TooDeep) ⊎ (e ≡ out_of_memory)) }
+        ensures same { OnErr result (table_view self.new ≡ table_view self.old) }
+    {
+        let fits = nests_within(&value, MAX_DEPTH - 1);
+        if !fits {
+            return Err(ValueFault {
+                at: 0,
+                kind: ValueFaultKind::TooDeep,
+            });
+        }
+        match place_of(&self.pairs, name.as_bytes()) {
+            Some(place) => Ok(Some(replace(&mut self.pairs[place].1, value))),
+            None => {
+                self.pairs.push((name, value))?;
+                Ok(None)
+            }
+        }
+    }
+
+    /// Takes the first pair with this name out of the table. The answer is its value.
+    pub fn remove(&mut self, name: &[u8]) -> Option<Value>
+        ensures table { table_view self.new ≡ without name.now (table_view self.old) }
+        ensures value { MatchOption result (value_named name.now (table_view self.old) ≡ None)
+            (λ v. value_named name.now (table_view self.old) ≡ Some (view v)) }
+    {
+        let place = place_of(&self.pairs, name)?;
+        let (_, value) = self.pairs.remove(place);
+        Some(value)
     }
 
     /// Where the table takes its memory.

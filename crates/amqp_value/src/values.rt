@@ -1,7 +1,7 @@
 //! Field values.
 
 ghost use Rattle.std.specs.Prelude.{◌≡◌, ◌≤◌, ◌↔◌, IsTrue, IfOk};
-ghost use Rattle.amqp_value.specs.Values.{depth, long_string};
+ghost use Rattle.amqp_value.specs.Values.{depth, pairs_depth, long_string};
 ghost use Rattle.amqp_value.specs.View.{view, items_view, pairs_view};
 
 use crate::fault::OutOfMemory;
@@ -194,4 +194,16 @@ pub(crate) fn nests_within(value: &Value, levels: usize) -> bool
         }
         _ => true,
     }
+}
+
+/// The same of each value of pairs.
+pub(crate) fn pairs_nest_within(pairs: &[(ShortStr, Value)], levels: usize) -> bool
+    ensures { IsTrue result ↔ (pairs_depth (pairs_view pairs.now) ≤ levels) }
+{
+    for pair in pairs {
+        if !nests_within(&pair.1, levels) {
+            return false;
+        }
+    }
+    true
 }
