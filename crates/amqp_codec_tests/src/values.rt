@@ -1,5 +1,6 @@
 //! Short strings, values and tables.
 
+mod entries;
 mod faults;
 mod large;
 mod memory;
@@ -7,3 +8,4 @@ mod numbers;
 mod tables;
 mod texts;
 mod variants;
+mod views;
