@@ -1,5 +1,5 @@
 -- What a check of a table may promise, from the size or the fault that it answers.
-use Rattle.std.proofs.Common.{◌≡◌, ℕ, ◌≤◌, List, ◌++◌, length, take, Result, Ok, Err, refl, sym, ap, subst, ◌∙◌}
+use Rattle.std.proofs.Common.{◌≡◌, ℕ, ◌≤◌, List, ◌++◌, length, take, Result, Ok, Err, ap, ◌∙◌}
 use Rattle.std.specs.Prelude.{IfOk, IfErr}
 use Rattle.amqp_value.specs.Checking.{measured}
 use Rattle.amqp_value.specs.Encoding.{EncodesTable}

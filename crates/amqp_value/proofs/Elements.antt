@@ -1,9 +1,9 @@
 -- Reading elements one after the other, as a loop does.
-use Rattle.std.proofs.Common.{◌≡◌, ℕ, zero, suc, ◌+◌, ◌-◌, ◌≤◌, ◌<◌, ◌==◌, Bool, true, false, cond, ltb, List, [], ◌∷◌, ◌++◌, length, take, drop, Option, Some, None, Result, Ok, Err, refl, sym, ap, ◌∙◌, append_assoc, arith, inl, inr, length-drop}
+use Rattle.std.proofs.Common.{◌≡◌, ℕ, zero, suc, ◌+◌, ◌-◌, ◌≤◌, ◌<◌, ◌==◌, Bool, true, false, cond, ltb, List, [], ◌∷◌, ◌++◌, length, take, drop, Option, Some, None, Result, Ok, Err, refl, sym, ap, ◌∙◌, arith, inl, inr, length-drop}
 use Rattle.std.proofs.lemmas.Bool.{eqb-true, cases_lt}
-use Rattle.std.proofs.lemmas.List.{append-nil, drop-drop, drop_all}
+use Rattle.std.proofs.lemmas.List.{drop-drop, drop_all}
 use Rattle.byteorder.specs.Endian.{big_number}
-use Rattle.amqp_value.specs.Reading.{◌>>=◌, Fails, Reader, AddsOne, prefix_of, counted, name_at, many, elements, named, after_tag, tagged, tag_of, value_at}
+use Rattle.amqp_value.specs.Reading.{◌>>=◌, Reader, prefix_of, counted, name_at, many, elements, named, after_tag, tagged, tag_of, value_at}
 use Rattle.amqp_value.specs.Values.{Datum}
 use Rattle.amqp_value.specs.declared.fault.ValueFault.{ValueFault}
 use Rattle.amqp_value.specs.declared.tag.Tag.{Tag}
@@ -61,48 +61,6 @@ elements-next read end h (octet ∷ octets) long =
     bind_same (read end (octet ∷ octets)) _ _ (λ x e.
     let shorter : length x.1 < length (octet ∷ octets) = h.consumes (octet ∷ octets) x e in
     ap (λ r. r >>= λ others. Ok (x.0 ∷ others)) (many-fuel read end h (length octets) (length x.1) x.1 (omega arith) (omega arith)))
-
--- what was read before, and what is still read
-abbrev pub with_prefix : {X : Type 0} → List X → Result (List X) ValueFault → Result (List X) ValueFault
-with_prefix prefix read = read >>= λ xs. Ok (prefix ++ xs)
-
-pub with_prefix-nil : {X : Type 0} (read : Result (List X) ValueFault) → with_prefix [] read ≡ read
-with_prefix-nil (Ok xs) = refl
-with_prefix-nil (Err e) = refl
-
-regroup : {X : Type 0} (prefix : List X) (x : X) (read : Result (List X) ValueFault) → with_prefix prefix (read >>= λ others. Ok (x ∷ others)) ≡ with_prefix (prefix ++ x ∷ []) read
-regroup prefix x (Ok xs) = ap (λ ys. Ok ys) (sym (append_assoc prefix (x ∷ []) xs))
-regroup prefix x (Err e) = refl
-
-pub goes_on : {X : Type 0} (read : Reader X) (end : ℕ) → Consumes read end → (prefix : List X) (octets : List ℕ) (x : X) (after : List ℕ) (total : Result (List X) ValueFault)
-    → 0 < length octets → read end octets ≡ Ok (x, after) → with_prefix prefix (elements read end octets) ≡ total → with_prefix (prefix ++ x ∷ []) (elements read end after) ≡ total
-goes_on read end h prefix octets x after total long is so_far =
-    let one : with_prefix prefix (elements read end octets) ≡ with_prefix (prefix ++ x ∷ []) (elements read end after) =
-    rw (elements-next read end h octets long, is) (regroup prefix x (elements read end after)) in
-    sym one ∙ so_far
-
--- the same, for an element that was added
-pub adds_on : {X : Type 0} (read : Reader X) (end : ℕ) → Consumes read end → (prefix longer : List X) (octets rest : List ℕ) (total : Result (List X) ValueFault)
-    → AddsOne prefix (read end octets) rest longer → 0 < length octets → length octets ≤ end → with_prefix prefix (elements read end octets) ≡ total
-    → (length rest ≤ end) × (with_prefix longer (elements read end rest) ≡ total)
-adds_on read end h prefix longer octets rest total one long within so_far =
-    let shorter = h.consumes octets (one.element, rest) one.is_read in (
-      omega arith,
-      rw one.is_added (goes_on read end h prefix octets one.element rest total long one.is_read so_far),
-    )
-
-pub ends : {X : Type 0} (read : Reader X) (end : ℕ) → Consumes read end → (e : ValueFault) (prefix : List X) (octets : List ℕ) (total : Result (List X) ValueFault)
-    → 0 < length octets → Fails e (read end octets) → with_prefix prefix (elements read end octets) ≡ total → Fails e total
-ends read end h e prefix octets total long (inl memory) so_far = inl memory
-ends read end h e prefix octets total long (inr is) so_far =
-    let one : with_prefix prefix (elements read end octets) ≡ Err e = rw (elements-next read end h octets long, is) refl in
-    inr (sym so_far ∙ one)
-
-pub is_done : {X : Type 0} (read : Reader X) (end : ℕ) (prefix : List X) (octets : List ℕ) (total : Result (List X) ValueFault) → length octets ≡ 0 → with_prefix prefix (elements read end octets) ≡ total → total ≡ Ok prefix
-is_done read end prefix [] total none so_far =
-    let one : with_prefix prefix (elements read end []) ≡ Ok prefix = rw (elements-nil read end) (ap (λ xs. Ok xs) (append-nil prefix)) in
-    sym so_far ∙ one
-is_done read end prefix (octet ∷ octets) total none so_far = absurd (omega arith)
 
 -- ---- what a field leaves
 
@@ -222,17 +180,6 @@ pub named-ok : {X : Type 0} (read : Reader X) (end : ℕ) (octets name field aft
     → name_at end octets ≡ Ok (name, field) → read end field ≡ Ok (x, after) → named read end octets ≡ Ok ((name, x), after)
 unfolding named
 named-ok read end octets name field after x first second = rw (first, second) refl
-
-pub named-no_name : {X : Type 0} (read : Reader X) (end : ℕ) (octets : List ℕ) (e : ValueFault) → Fails e (name_at end octets) → Fails e (named read end octets)
-unfolding named
-named-no_name read end octets e (inl memory) = inl memory
-named-no_name read end octets e (inr is) = inr (rw is refl)
-
-pub named-no_value : {X : Type 0} (read : Reader X) (end : ℕ) (octets name field : List ℕ) (e : ValueFault)
-    → name_at end octets ≡ Ok (name, field) → Fails e (read end field) → Fails e (named read end octets)
-unfolding named
-named-no_value read end octets name field e first (inl memory) = inl memory
-named-no_value read end octets name field e first (inr is) = inr (rw (first, is) refl)
 
 -- ---- what `is_empty` says
 

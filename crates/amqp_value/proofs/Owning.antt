@@ -1,15 +1,14 @@
 -- Going over whole elements one after the other, as a loop does that keeps them.
-use Rattle.std.proofs.Common.{◌≡◌, inl, inr, ℕ, Bool, true, false, ◌==◌, ◌-◌, ◌≤◌, ◌<◌, List, [], ◌∷◌, ◌++◌, length, Ok, refl, sym, ap, subst, ◌∙◌, append_assoc, arith}
-use Rattle.std.specs.Result.{is_ok, result_unwrap_or}
+use Rattle.std.proofs.Common.{◌≡◌, inl, inr, ℕ, false, ◌==◌, ◌≤◌, ◌<◌, List, [], ◌∷◌, ◌++◌, length, Ok, refl, sym, ap, subst, ◌∙◌, append_assoc, arith}
 use Rattle.std.proofs.lemmas.Bool.{cases_Bool, eqb-true}
 use Rattle.std.proofs.lemmas.List.{append-nil}
-use Rattle.amqp_value.specs.Reading.{Reader, AddsOne, elements, named, value_at}
+use Rattle.amqp_value.specs.Reading.{AddsOne, named, value_at}
 use Rattle.amqp_value.specs.Pairs.{pair_count}
 use Rattle.amqp_value.specs.Values.{Datum, pairs_of}
 use Rattle.amqp_value.specs.Whole.{items_encoded, pairs_encoded, AreItems, ArePairs, BeginsPair, BeginsName, BeginsValue}
 use Rattle.amqp_value.specs.Reading.{name_at}
-use Rattle.amqp_value.proofs.Elements.{Consumes, ok_is, value_at-consumes, pair-consumes}
-use Rattle.amqp_value.proofs.Whole.{First, first-item, first-pair, no-items, no-pairs, name-parts, has_read, is_read}
+use Rattle.amqp_value.proofs.Elements.{ok_is, value_at-consumes, pair-consumes}
+use Rattle.amqp_value.proofs.Whole.{first-item, first-pair, no-items, no-pairs, name-parts, has_read, is_read}
 
 -- what is left after an element
 pub record Next {X : Type 0} (octets after : List ℕ) (whole : List ℕ → Type 0) (list : List ℕ → List X) (element : X) : Type 0 where

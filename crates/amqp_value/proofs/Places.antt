@@ -1,10 +1,9 @@
 -- The first pair with a name: found, replaced, taken out.
-use Rattle.std.proofs.Common.{◌≡◌, ℕ, zero, suc, max, ◌+◌, ◌≤◌, ◌<◌, Bool, true, false, cond, List, [], ◌∷◌, ◌++◌, length, get_or, slice_set, take, drop, Option, Some, None, refl, sym, ap, subst, ◌∙◌, arith, add-one}
+use Rattle.std.proofs.Common.{◌≡◌, ℕ, zero, suc, max, ◌+◌, ◌≤◌, ◌<◌, Bool, true, false, cond, List, [], ◌∷◌, ◌++◌, length, get_or, slice_set, take, drop, Option, Some, None, refl, sym, ap, ◌∙◌, arith, add-one}
 use Rattle.std.specs.Str.{bytes_eq}
 use Rattle.std.proofs.lemmas.List.{take_all}
 use Rattle.amqp_value.specs.Pairs.{value_named, with_value, without}
-use Rattle.amqp_value.specs.Places.{StandsAt}
-use Rattle.amqp_value.specs.Values.{Datum, Pairs, no_pairs, pair, with_pair, depth, pairs_depth, table_depth}
+use Rattle.amqp_value.specs.Values.{Datum, Pairs, no_pairs, pair, with_pair, depth, pairs_depth}
 use Rattle.amqp_value.specs.View.{view, pairs_view}
 use Rattle.amqp_value.specs.declared.values.Value.{Value}
 use Rattle.amqp_value.proofs.Depths.{Pair}

@@ -1,6 +1,6 @@
 -- Checking elements one after the other, as a loop does.
-use Rattle.std.proofs.Common.{◌≡◌, ℕ, zero, suc, ◌+◌, ◌-◌, ◌≤◌, ◌<◌, List, [], ◌∷◌, ◌++◌, length, Option, Some, None, Result, Ok, Err, refl, sym, ap, ◌∙◌, arith}
-use Rattle.amqp_value.specs.Checking.{Equals, skipped, measured, fault_in}
+use Rattle.std.proofs.Common.{◌≡◌, ℕ, ◌<◌, List, [], ◌∷◌, length, Some, None, Result, Ok, Err, refl, sym, ap, ◌∙◌, arith}
+use Rattle.amqp_value.specs.Checking.{skipped, measured, fault_in}
 use Rattle.amqp_value.specs.Reading.{◌>>=◌, Read, Reader, name_at, elements, named, under}
 use Rattle.amqp_value.specs.declared.fault.ValueFault.{ValueFault}
 use Rattle.amqp_value.proofs.Adding.{named-is}

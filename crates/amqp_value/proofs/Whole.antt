@@ -1,5 +1,5 @@
 -- Octets that encode a whole, and their parts.
-use Rattle.std.proofs.Common.{◌≡◌, ℕ, suc, ◌+◌, ◌-◌, ◌≤◌, ◌<◌, ltb, IsTrue, List, [], ◌∷◌, ◌++◌, length, take, drop, Option, Some, None, Result, Ok, Err, refl, sym, ap, subst, ◌∙◌, arith, length-take, length-drop, length-append}
+use Rattle.std.proofs.Common.{◌≡◌, ℕ, suc, ◌+◌, ◌-◌, ◌≤◌, ◌<◌, ltb, IsTrue, List, [], ◌∷◌, ◌++◌, length, take, drop, Option, Some, None, Result, Ok, Err, refl, sym, ap, subst, ◌∙◌, arith, length-take, length-drop}
 use Rattle.std.specs.Result.{is_ok, result_unwrap_or}
 use Rattle.std.proofs.lemmas.Bool.{ltb-false}
 use Rattle.std.proofs.lemmas.List.{append-nil, take_all, drop_at}
@@ -8,7 +8,7 @@ use Rattle.amqp_value.specs.Checking.{measured}
 use Rattle.amqp_value.specs.Encoding.{EncodesTable}
 use Rattle.amqp_value.specs.Reading.{Reader, counted, name_at, width_of, scalar_of, elements, named, after_tag, tagged, tag_of, value_at, table_at}
 use Rattle.amqp_value.specs.Values.{Datum, scalar, long_string, byte_array, array, table, items_of, Pairs, no_pairs, pairs_of}
-use Rattle.amqp_value.specs.Whole.{items_encoded, pairs_encoded, table_encoded, AreItems, ArePairs, IsTable, BeginsTable, BeginsValue, BeginsName, BeginsCounted, Tagged}
+use Rattle.amqp_value.specs.Whole.{items_encoded, pairs_encoded, table_encoded, AreItems, ArePairs, IsTable, BeginsTable, BeginsValue, BeginsCounted, Tagged}
 use Rattle.amqp_value.specs.declared.fault.ValueFault.{ValueFault}
 use Rattle.amqp_value.specs.declared.tag.Tag.{Tag}
 use Rattle.amqp_value.specs.declared.tag.Tag.TheVariants.{Fixed, LongString, ByteArray, Array, Table}

@@ -39,11 +39,6 @@ pub record AddsOne {X : Type 0} (before : List X) (read : Read X) (rest : List �
   pub is_read : read ≡ Ok (element, rest)
   pub is_added : after ≡ before ++ element ∷ []
 
--- What a call returned that adds what it reads, and answers the octets after it, unless memory ran out.
-abbrev pub Adds : {X Y : Type 0} → List X → (Y → List ℕ) → Result Y ValueFault → Read X → List X → Type 0
-Adds before view (Ok rest) read after = AddsOne before read (view rest) after
-Adds before view (Err e) read after = Fails e read
-
 -- a fault of the element that begins with the first of the octets
 abbrev pub fault_here : ℕ → List ℕ → ValueFaultKind → ValueFault
 fault_here end octets kind = fault_at (end - length octets) kind

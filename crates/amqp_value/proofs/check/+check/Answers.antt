@@ -1,6 +1,5 @@
-use Rattle.std.proofs.Common.{◌≡◌, ◌≤◌, ◌<◌, ◌∙◌, ap, sym, length, Ok, arith}
+use Rattle.std.proofs.Common.{◌≤◌, ◌<◌, sym, length, arith}
 use Rattle.std.proofs.lemmas.Result.{err_from_is_err_and}
-use Rattle.amqp_value.specs.Checking.{fault_in}
 use Rattle.amqp_value.specs.Reading.{elements, named, value_at}
 use Rattle.amqp_value.proofs.Elements.{some_left, none_left, value_at-consumes, pair-consumes}
 use Rattle.amqp_value.proofs.Skipping.{fault_goes_on, fault_ends, fault_is_done, skipped-shorter, named-skipped, named-unnamed}

@@ -1,5 +1,4 @@
-use Rattle.std.proofs.Common.{◌≡◌, ◌-◌, ◌≤◌, ◌<◌, ◌∙◌, ap, sym, refl, subst, ℕ, List, [], ◌∷◌, ◌++◌, length, take, drop, map, Ok, arith}
-use Rattle.std.specs.Result.{is_ok}
+use Rattle.std.proofs.Common.{◌≡◌, ◌-◌, ◌<◌, ◌∙◌, ap, sym, refl, subst, ℕ, List, [], ◌∷◌, ◌++◌, length, take, drop, map, Ok, arith}
 use Rattle.std.proofs.lemmas.List.{map_push, take_all, length-drop}
 use Rattle.amqp_value.specs.Lent.{value_ref_view}
 use Rattle.amqp_value.specs.Reading.{AddsOne, named, value_at}
@@ -7,7 +6,7 @@ use Rattle.amqp_value.specs.View.{view, named_view}
 use Rattle.amqp_value.specs.Whole.{items_encoded, pairs_encoded}
 use Rattle.amqp_value.specs.declared.values.Value.{Value}
 use Rattle.amqp_value.proofs.Elements.{IsEnd-last, some_left, none_left, pair-consumes, value_at-consumes, named-ok}
-use Rattle.amqp_value.proofs.Owning.{next-item, next-pair, begins-item, begins-pair, pair-name, pair-value, keeps, adds, all-items, all-pairs}
+use Rattle.amqp_value.proofs.Owning.{next-item, begins-item, begins-pair, pair-name, pair-value, keeps, adds, all-items, all-pairs}
 use Rattle.amqp_value.proofs.own.+own.Goals as goal
 
 pub own_items-split_value-requires : goal.own_items-split_value-requires

@@ -1,7 +1,6 @@
-use Rattle.std.proofs.Common.{◌≡◌, ◌-◌, ◌≤◌, ◌∙◌, List, ℕ, length, take, drop, ap, sym, subst, arith, length-drop}
+use Rattle.std.proofs.Common.{◌≡◌, ◌-◌, List, ℕ, length, take, drop, sym, arith, length-drop}
 use Rattle.std.proofs.lemmas.List.{take_all}
-use Rattle.amqp_value.specs.Values.{pairs_of}
-use Rattle.amqp_value.specs.Whole.{ArePairs, pairs_encoded, table_encoded}
+use Rattle.amqp_value.specs.Whole.{table_encoded}
 use Rattle.amqp_value.proofs.TableLaws.{table_at-takes}
 use Rattle.amqp_value.proofs.Whole.{table-body, table-reads}
 use Rattle.amqp_value.proofs.split.after_count.Goals as goal

@@ -1,4 +1,4 @@
-use Rattle.std.proofs.Common.{◌≡◌, ◌∙◌, sym, ap, subst, Some, refl}
+use Rattle.std.proofs.Common.{◌∙◌, sym, subst, refl}
 use Rattle.std.specs.Option.{IsSome}
 use Rattle.amqp_value.proofs.Whole.{begins-long, tagged-of}
 use Rattle.amqp_value.proofs.split.split_tag.Goals as goal

@@ -1,11 +1,10 @@
-use Rattle.std.proofs.Common.{◌≡◌, ◌-◌, ◌≤◌, ◌∙◌, length, take, drop, Ok, ap, sym, subst, arith, length-drop}
+use Rattle.std.proofs.Common.{◌≡◌, ◌-◌, ◌∙◌, length, take, drop, Ok, ap, sym, subst, arith, length-drop}
 use Rattle.std.proofs.lemmas.List.{take_all}
 use Rattle.amqp_value.specs.Lent.{octets_of}
-use Rattle.amqp_value.specs.Reading.{value_at}
 use Rattle.amqp_value.specs.Values.{items_of, array}
 use Rattle.amqp_value.specs.Whole.{Tagged, items_encoded}
 use Rattle.amqp_value.proofs.Whole.{fixed-of, string-of, bytes-of, array-of, nested-of}
-use Rattle.amqp_value.specs.declared.tag.Tag.TheVariants.{Fixed, LongString, ByteArray, Array, Table}
+use Rattle.amqp_value.specs.declared.tag.Tag.TheVariants.{Fixed}
 use Rattle.amqp_value.proofs.split.split_value.Goals as goal
 
 pub split_at-requires : goal.split_at-requires

@@ -1,7 +1,5 @@
-use Rattle.std.proofs.Common.{◌≡◌, ◌<◌, length, ap, arith, refl}
-use Rattle.amqp_value.specs.Lent.{value_ref_view, items_left}
-use Rattle.amqp_value.specs.Reading.{value_at}
-use Rattle.amqp_value.specs.Whole.{items_encoded}
+use Rattle.std.proofs.Common.{length, ap, arith}
+use Rattle.amqp_value.specs.Lent.{value_ref_view}
 use Rattle.amqp_value.proofs.Elements.{some_left, none_left}
 use Rattle.amqp_value.proofs.Owning.{next-item, begins-item}
 use Rattle.amqp_value.proofs.Whole.{no-items}

@@ -1,7 +1,6 @@
-use Rattle.std.proofs.Common.{◌≡◌, ◌<◌, length, ap, arith, refl}
-use Rattle.amqp_value.specs.Lent.{named_ref_view, value_ref_view, pairs_left}
-use Rattle.amqp_value.specs.Reading.{named, value_at}
-use Rattle.amqp_value.specs.Whole.{pairs_encoded}
+use Rattle.std.proofs.Common.{length, ap, arith}
+use Rattle.amqp_value.specs.Lent.{value_ref_view}
+use Rattle.amqp_value.specs.Reading.{value_at}
 use Rattle.amqp_value.proofs.Elements.{some_left, none_left, named-ok}
 use Rattle.amqp_value.proofs.Owning.{next-pair, begins-pair, pair-name, pair-value}
 use Rattle.amqp_value.proofs.Whole.{no-pairs}

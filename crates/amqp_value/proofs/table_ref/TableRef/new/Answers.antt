@@ -1,7 +1,6 @@
-use Rattle.std.proofs.Common.{◌≡◌, ◌≤◌, length, take, arith, length-take, ap, sym, subst, ◌∙◌}
-use Rattle.std.proofs.lemmas.Result.{err_from_is_err_and}
+use Rattle.std.proofs.Common.{arith, sym, ◌∙◌}
 use Rattle.amqp_value.specs.Reading.{table_at}
-use Rattle.amqp_value.proofs.Checked.{measured_ok, measured_err}
+use Rattle.amqp_value.proofs.Checked.{measured_ok}
 use Rattle.amqp_value.proofs.Whole.{own-table}
 use Rattle.amqp_value.proofs.table_ref.TableRef.new.Goals as goal
 

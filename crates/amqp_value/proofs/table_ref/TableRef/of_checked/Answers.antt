@@ -1,5 +1,4 @@
-use Rattle.std.proofs.Common.{◌≡◌, ◌≤◌, ◌+◌, length, take, arith, length-take, ap, sym, subst, ◌∙◌}
-use Rattle.byteorder.specs.Endian.{big_number}
+use Rattle.std.proofs.Common.{◌≡◌, ◌+◌, take, arith, length-take, ap, sym, subst, ◌∙◌}
 use Rattle.amqp_value.specs.Reading.{table_at}
 use Rattle.amqp_value.proofs.Whole.{has_read, table-parts, own-table, OwnTable}
 use Rattle.amqp_value.proofs.table_ref.TableRef.of_checked.Goals as goal

@@ -1,8 +1,6 @@
-use Rattle.std.proofs.Common.{◌≡◌, ◌≤◌, ◌<◌, ℕ, suc, ◌+◌, List, ◌++◌, None, Some, get_or, take, drop, sym, ◌∙◌, ap, subst, refl, arith, add-one}
+use Rattle.std.proofs.Common.{◌≡◌, ℕ, ◌+◌, List, ◌++◌, None, Some, take, drop, sym, ◌∙◌, ap, subst, arith, add-one}
 use Rattle.amqp_value.specs.Pairs.{value_named, without}
 use Rattle.amqp_value.specs.Places.{StandsAt}
-use Rattle.amqp_value.specs.Tables.{table_view}
-use Rattle.amqp_value.specs.Values.{pairs_depth}
 use Rattle.amqp_value.specs.View.{view, pairs_view}
 use Rattle.amqp_value.proofs.Depths.{Pair}
 use Rattle.amqp_value.proofs.Places.{named-here, taken-out, none-taken, without-depth}

@@ -1,4 +1,4 @@
-use Rattle.std.proofs.Common.{◌≡◌, ◌≤◌, ◌<◌, ℕ, List, [], ◌∷◌, ◌++◌, Option, Result, Err, None, Some, get_or, slice_set, sym, ◌∙◌, ap, subst, refl, arith}
+use Rattle.std.proofs.Common.{◌≡◌, ◌≤◌, ◌<◌, ℕ, List, Option, Result, Err, None, Some, get_or, slice_set, sym, ◌∙◌, ap, subst, refl, arith}
 use Rattle.std.proofs.lemmas.Result.{err_from_is_err_and}
 use Rattle.amqp_value.specs.Faults.{fault_at, out_of_memory}
 use Rattle.amqp_value.specs.declared.fault.ValueFault.{ValueFault}
@@ -6,7 +6,7 @@ use Rattle.amqp_value.specs.declared.fault.ValueFaultKind.TheVariants.{OutOfMemo
 use Rattle.amqp_value.specs.Pairs.{value_named, with_value}
 use Rattle.amqp_value.specs.Places.{StandsAt}
 use Rattle.amqp_value.specs.Tables.{table_view}
-use Rattle.amqp_value.specs.Values.{depth, pairs_depth, table_depth}
+use Rattle.amqp_value.specs.Values.{depth}
 use Rattle.amqp_value.specs.View.{view, pairs_view}
 use Rattle.amqp_value.specs.declared.values.Value.{Value}
 use Rattle.amqp_value.proofs.Depths.{Pair, above_from, push_within, pairs_view-push}
