@@ -11,16 +11,19 @@ use std::alloc::Global;
 use std::fmt;
 
 /// How many octets stand before a payload: the type, the channel and the payload's size.
-pub(crate) const HEADER_LENGTH: usize = 7;
+pub const HEADER_LENGTH: usize = 7;
 
 /// Where the payload's size stands in a frame: after the type and the channel.
 const SIZE_PLACE: usize = 3;
 
 /// How many octets a frame has beside its payload: those before it, and the end octet.
-pub(crate) const OVERHEAD: usize = 8;
+pub const OVERHEAD: usize = 8;
 
 /// What a client writes before its first frame: `AMQP`, then 0, 0, 9, 1 (section 4.2.2, "Protocol Header").
 pub const PROTOCOL_HEADER: [u8; 8] = [0x41, 0x4d, 0x51, 0x50, 0, 0, 9, 1];
+
+/// A whole heartbeat: the type octet 8, the channel 0, no payload, and the end octet (section 4.2.7, "Heartbeat Frames").
+pub const HEARTBEAT: [u8; OVERHEAD] = [8, 0, 0, 0, 0, 0, 0, END];
 
 /// The octet that ends each frame (section 4.2.3, "frame-end").
 pub(crate) const END: u8 = 0xce;
@@ -87,7 +90,14 @@ pub struct FrameRef<'a> {
     pub payload: &'a [u8],
 }
 
-impl FrameRef<'_> {
+impl<'a> FrameRef<'a> {
+    /// The same frame on another channel.
+    pub fn on_channel(self, channel: u16) -> FrameRef<'a>
+        ensures { lent result ≡ record (lent self.entry) { channel = channel } }
+    {
+        FrameRef { channel, ..self }
+    }
+
     /// The same frame with a payload of its own.
     pub fn to_raw(&self, alloc: Global) -> Result<RawFrame, OutOfMemory>
         ensures { IfOk result (λ f. owned f ≡ lent self.now) }

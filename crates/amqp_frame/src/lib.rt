@@ -17,8 +17,8 @@ mod splitting;
 
 pub use crate::faults::{FrameFault, FrameFaultKind, OutOfMemory};
 pub use crate::frames::{
-    FrameKind, FrameRef, PROTOCOL_HEADER, RawFrame, begin_frame, finish_frame, write_frame,
-    write_frame_ref,
+    FrameKind, FrameRef, HEADER_LENGTH, HEARTBEAT, OVERHEAD, PROTOCOL_HEADER, RawFrame,
+    begin_frame, finish_frame, write_frame, write_frame_ref,
 };
 pub use crate::laws::{faults_are_judged, one_frame_at_start, one_split, prefix_has_no_fault};
 pub use crate::splitting::{Fed, FedRef, Splitter};
