@@ -77,7 +77,13 @@ fn no_value_is_set_too_deep(rt: HostRuntime) -> Result<(), Fail> {
     let held = table.set(name(rt.alloc(), b"b")?, arrays(rt.alloc(), 31)?)?;
     assert_eq!(rt; held, Some(Value::LongInt(3)));
     let refused = table.set(name(rt.alloc(), b"a")?, arrays(rt.alloc(), 32)?);
-    assert_eq!(rt; refused.err(), Some(ValueFault { at: 0, kind: TooDeep }));
+    assert_eq!(rt;
+        refused.err(),
+        Some(ValueFault {
+            at: 0,
+            kind: TooDeep
+        })
+    );
     assert!(rt; table.get(b"a") == Some(&Value::LongInt(1)));
     Ok(())
 }
@@ -86,6 +92,9 @@ fn no_value_is_set_too_deep(rt: HostRuntime) -> Result<(), Fail> {
 fn pairs_that_nest_too_deep_are_given_back(rt: HostRuntime) -> Result<(), Fail> {
     let mut deep = Vec::new(rt.alloc());
     deep.push((name(rt.alloc(), b"a")?, arrays(rt.alloc(), 32)?))?;
-    assert_eq!(rt; Table::from_pairs(deep).err().map(|pairs| pairs.len()), Some(1));
+    assert_eq!(rt;
+        Table::from_pairs(deep).err().map(|pairs| pairs.len()),
+        Some(1)
+    );
     Ok(())
 }

@@ -44,7 +44,12 @@ fn get<'a>(rt: &impl Abort, table: TableRef<'a>, name: &[u8]) -> ValueRef<'a> {
     }
 }
 
-fn assert_number(rt: &impl Abort, alloc: Global, value: ValueRef<'_>, number: i64) -> Result<(), Fail> {
+fn assert_number(
+    rt: &impl Abort,
+    alloc: Global,
+    value: ValueRef<'_>,
+    number: i64,
+) -> Result<(), Fail> {
     assert_eq!(rt; value.as_i64(), Some(number));
     assert_eq!(rt; value.to_owned(alloc)?.as_i64(), Some(number));
     assert_eq!(rt; value.as_u64(), u64::try_from(number).ok());
@@ -70,7 +75,11 @@ fn other_values_where_they_lie(rt: HostRuntime) -> Result<(), Fail> {
     for (name, text) in OTHERS.iter().copied() {
         let value = get(&rt, table, name);
         assert_eq!(rt; value.as_i64(), None);
-        assert_text(&rt, text_of(rt.alloc(), &value.to_owned(rt.alloc())?)?.as_str(), text);
+        assert_text(
+            &rt,
+            text_of(rt.alloc(), &value.to_owned(rt.alloc())?)?.as_str(),
+            text,
+        );
     }
     Ok(())
 }
@@ -115,8 +124,7 @@ fn values_of_a_lent_array(rt: HostRuntime) -> Result<(), Fail> {
 }
 
 /// A name twice, and the second pair's value a table with a table in it: the first pair counts.
-const REPEATED: &str =
-    "0000001c01614900000001016149000000020162460000000701634600000000";
+const REPEATED: &str = "0000001c01614900000001016149000000020162460000000701634600000000";
 
 #[test]
 fn the_first_pair_of_a_name(rt: HostRuntime) -> Result<(), Fail> {
@@ -124,7 +132,10 @@ fn the_first_pair_of_a_name(rt: HostRuntime) -> Result<(), Fail> {
     let table = TableRef::new(&octets)?;
     assert_eq!(rt; table.octets().len(), 32);
     assert_eq!(rt; get(&rt, table, b"a").as_i64(), Some(1));
-    let Some(inner) = get(&rt, table, b"b").get(b"c").and_then(|value| value.as_table()) else {
+    let Some(inner) = get(&rt, table, b"b")
+        .get(b"c")
+        .and_then(|value| value.as_table())
+    else {
         panic!(rt; "no nested table");
     };
     assert!(rt; inner.is_empty());
