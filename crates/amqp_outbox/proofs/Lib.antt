@@ -8,5 +8,6 @@ mod OutboxRows
 mod OutboxSlots
 mod OutboxStates
 mod OutboxTurns
+mod OutboxWaiting
 mod OutboxWrites
 mod ReadLemmas

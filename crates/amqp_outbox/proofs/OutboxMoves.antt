@@ -1,19 +1,21 @@
 -- What the calls of an outbox make of its fields.
 use Rattle.std.proofs.Common.{◌≡◌, ℕ, ◌+◌, ◌-◌, ◌<◌, ◌≤◌, List, [], ◌∷◌, ◌++◌, length, map, take, drop, All, refl, sym, ap, ap₂, ◌∙◌, subst, arith, append_assoc, append-nil, length-append, length-drop, take-append-drop, get_or}
 use Rattle.std.proofs.lemmas.List.{drop_at, take_at, length-map, length-take-le, map-append, get_or_at, drop-take, drop-map}
-use Rattle.std.proofs.lemmas.List.Elements.{All-push, All-append, All-take, All-drop, All-cons, All-head, All-tail}
+use Rattle.std.proofs.lemmas.List.Elements.{All-nil, All-push, All-append, All-take, All-drop, All-cons, All-head, All-tail}
 use Rattle.amqp_frame.specs.Frame.{Frame, octets}
 use Rattle.amqp_frame.specs.Splitting.{stream}
 use Rattle.amqp_model.specs.Arrangement.{HasChannel, IsChannel, IsArranged, placed}
 use Rattle.amqp_model.specs.ArrangementLaws.{PutArranges}
 use Rattle.amqp_model.specs.Outputs.{output_octets, after_put, after_puts}
-use Rattle.amqp_outbox.specs.OutboxSlots.{slot_of, slot_length, slots_length, moved_up, moved_down}
+use Rattle.amqp_outbox.specs.OutboxSlots.{slot_of, slots_in, slot_length, slots_length, moved_up, moved_down}
 use Rattle.amqp_outbox.specs.OutboxView.{Outgoing, only, with_staged, all_put, IsPutOfFirst}
-use Rattle.amqp_outbox.specs.OutboxFields.{row_of, staged_of, outgoing_of, IsSound}
+use Rattle.amqp_outbox.specs.OutboxFields.{row_of, staged_of, outgoing_of, all_slots, IsSound}
 use Rattle.amqp_outbox.specs.declared.slots.Slot.{Slot}
+use Rattle.amqp_outbox.specs.declared.slots.Waiting.{Waiting}
 use Rattle.amqp_outbox.specs.declared.outbox.Outbox.TheInside.{Inside}
 use Rattle.amqp_outbox.proofs.OutboxLists.{moved_up-is, moved_down-is, last_of_three, last_of_four}
 use Rattle.amqp_outbox.proofs.OutboxRows.{stream-append, length-octets, slots_length-row}
+use Rattle.amqp_outbox.proofs.OutboxWaiting.{count-slots, slot-at, slots-before, slots-after}
 use Rattle.amqp_outbox.proofs.OutboxStates.{IsLaidOut, IsKept, laid_out, view, outgoing}
 
 -- the octets to write are those from the written ones up to those staged
@@ -30,9 +32,9 @@ output-is x s =
     ap (take (x.arranged - x.written)) b ∙ take_at (ahead ++ stream (row_of x)) (stream (staged_of x)) (x.arranged - x.written) (omega arith)
 
 -- The octets that are written are dropped.
-pub written-dropped : (x y : Inside) → IsSound x → y.octets.items ≡ drop x.written x.octets.items → y.slots.items ≡ x.slots.items → y.written ≡ 0 → y.begun ≡ x.begun - x.written → y.arranged ≡ x.arranged - x.written
+pub written-dropped : (x y : Inside) → IsSound x → y.octets.items ≡ drop x.written x.octets.items → all_slots y ≡ all_slots x → y.written ≡ 0 → y.begun ≡ x.begun - x.written → y.arranged ≡ x.arranged - x.written
     → y.slots_begun ≡ x.slots_begun → y.slots_arranged ≡ x.slots_arranged
-    → IsLaidOut y [] (drop x.written (take x.begun x.octets.items)) (take x.slots_begun x.slots.items) (row_of x) (staged_of x)
+    → IsLaidOut y [] (drop x.written (take x.begun x.octets.items)) (take x.slots_begun (all_slots x)) (row_of x) (staged_of x)
 written-dropped x y s octets slots written begun arranged slots_begun slots_arranged =
     let l = laid_out x s in
     let ahead = drop x.written (take x.begun x.octets.items) in
@@ -51,7 +53,7 @@ written-dropped x y s octets slots written begun arranged slots_begun slots_arra
     }
 
 -- The slots of the frames that are begun are dropped.
-pub begun-dropped : (x y : Inside) → IsSound x → y.octets.items ≡ x.octets.items → y.slots.items ≡ drop x.slots_begun x.slots.items → y.written ≡ x.written → y.begun ≡ x.begun → y.arranged ≡ x.arranged
+pub begun-dropped : (x y : Inside) → IsSound x → y.octets.items ≡ x.octets.items → all_slots y ≡ drop x.slots_begun (all_slots x) → y.written ≡ x.written → y.begun ≡ x.begun → y.arranged ≡ x.arranged
     → y.slots_begun ≡ 0 → y.slots_arranged ≡ x.slots_arranged - x.slots_begun
     → IsLaidOut y (take x.written x.octets.items) (drop x.written (take x.begun x.octets.items)) [] (row_of x) (staged_of x)
 begun-dropped x y s octets slots written begun arranged slots_begun slots_arranged =
@@ -62,7 +64,7 @@ begun-dropped x y s octets slots written begun arranged slots_begun slots_arrang
     let c = l.slots_arranged in
     record {
       octets = octets ∙ l.octets;
-      slots = slots ∙ (ap (drop x.slots_begun) l.slots ∙ drop_at (take x.slots_begun x.slots.items) rest x.slots_begun (sym l.slots_begun));
+      slots = slots ∙ (ap (drop x.slots_begun) l.slots ∙ drop_at (take x.slots_begun (all_slots x)) rest x.slots_begun (sym l.slots_begun));
       written = written ∙ l.written;
       begun = omega arith;
       arranged = omega arith;
@@ -77,16 +79,16 @@ same_view x y gone past value e f l =
     view y gone ahead past (row_of x) (staged_of x) l ∙ (ap (λ last. outgoing ahead last (row_of x) (staged_of x)) f ∙ e)
 
 -- A frame is staged after the others.
-pub frame-staged : (x y : Inside) (f : Frame) → IsSound x → y.octets.items ≡ x.octets.items ++ octets f → y.slots.items ≡ x.slots.items ++ slot_of f ∷ [] → y.written ≡ x.written → y.begun ≡ x.begun → y.arranged ≡ x.arranged
+pub frame-staged : (x y : Inside) (f : Frame) → IsSound x → y.octets.items ≡ x.octets.items ++ octets f → all_slots y ≡ all_slots x ++ slot_of f ∷ [] → y.written ≡ x.written → y.begun ≡ x.begun → y.arranged ≡ x.arranged
     → y.slots_begun ≡ x.slots_begun → y.slots_arranged ≡ x.slots_arranged
-    → IsLaidOut y (take x.written x.octets.items) (drop x.written (take x.begun x.octets.items)) (take x.slots_begun x.slots.items) (row_of x) (staged_of x ++ f ∷ [])
+    → IsLaidOut y (take x.written x.octets.items) (drop x.written (take x.begun x.octets.items)) (take x.slots_begun (all_slots x)) (row_of x) (staged_of x ++ f ∷ [])
 frame-staged x y f s more more_slots written begun arranged slots_begun slots_arranged =
     let l = laid_out x s in
     let gone = take x.written x.octets.items in
     let ahead = drop x.written (take x.begun x.octets.items) in
     let row = row_of x in
     let staged = staged_of x in
-    let past = take x.slots_begun x.slots.items in
+    let past = take x.slots_begun (all_slots x) in
     let a = l.begun in
     let b = l.arranged in
     let c = l.slots_arranged in
@@ -111,6 +113,46 @@ staged_view x y f gone past value e g l =
     let ahead = drop x.written (take x.begun x.octets.items) in
     view y gone ahead past (row_of x) (staged_of x ++ f ∷ []) l ∙ (ap (λ last. outgoing ahead last (row_of x) (staged_of x ++ f ∷ [])) g ∙ ap (λ v. with_staged v (f ∷ [])) e)
 
+-- What is staged is dropped.
+pub staged-dropped : (x y : Inside) → IsSound x → y.octets.items ≡ take x.arranged x.octets.items → all_slots y ≡ take x.slots_arranged (all_slots x) → y.written ≡ x.written → y.begun ≡ x.begun → y.arranged ≡ x.arranged
+    → y.slots_begun ≡ x.slots_begun → y.slots_arranged ≡ x.slots_arranged
+    → IsLaidOut y (take x.written x.octets.items) (drop x.written (take x.begun x.octets.items)) (take x.slots_begun (all_slots x)) (row_of x) []
+staged-dropped x y s octets slots written begun arranged slots_begun slots_arranged =
+    let l = laid_out x s in
+    let gone = take x.written x.octets.items in
+    let ahead = drop x.written (take x.begun x.octets.items) in
+    let row = stream (row_of x) in
+    let past = take x.slots_begun (all_slots x) in
+    let rows = map slot_of (row_of x) in
+    let whole : x.octets.items ≡ (gone ++ (ahead ++ row)) ++ stream (staged_of x) = l.octets ∙ sym (last_of_three gone ahead row (stream (staged_of x))) in
+    let wholes : all_slots x ≡ (past ++ rows) ++ map slot_of (staged_of x) = l.slots ∙ sym (append_assoc past rows (map slot_of (staged_of x))) in
+    let a = length-append gone (ahead ++ row) in
+    let b = length-append ahead row in
+    let c = length-append past rows in
+    let d = length-map (row_of x) slot_of in
+    let w = l.written in
+    let e = l.begun in
+    let f = l.arranged in
+    let g = l.slots_begun in
+    let h = l.slots_arranged in
+    record {
+      octets = octets ∙ (ap (take x.arranged) whole ∙ (take_at (gone ++ (ahead ++ row)) (stream (staged_of x)) x.arranged (omega arith) ∙ ap (λ os. gone ++ (ahead ++ os)) (sym (append-nil row))));
+      slots = slots ∙ (ap (take x.slots_arranged) wholes ∙ (take_at (past ++ rows) (map slot_of (staged_of x)) x.slots_arranged (omega arith) ∙ ap (λ ss. past ++ ss) (sym (append-nil rows))));
+      written = written ∙ w;
+      begun = omega arith;
+      arranged = omega arith;
+      slots_begun = slots_begun ∙ g;
+      slots_arranged = omega arith;
+    }
+
+pub kept-row : (x : Inside) → IsSound x → IsKept x.last (row_of x) []
+kept-row x s = record { in_turn = s.in_turn; row_channels = s.row_channels; staged_channels = All-nil HasChannel }
+
+pub row_view : (x y : Inside) (gone : List ℕ) (past : List Slot) (value : Outgoing) → outgoing_of x ≡ value → y.last ≡ x.last → IsLaidOut y gone (drop x.written (take x.begun x.octets.items)) past (row_of x) [] → outgoing_of y ≡ only value.output
+row_view x y gone past value e f l =
+    let ahead = drop x.written (take x.begun x.octets.items) in
+    view y gone ahead past (row_of x) [] l ∙ (ap (λ last. outgoing ahead last (row_of x) []) f ∙ ap (λ (v : Outgoing). only v.output) e)
+
 -- the frame appended stands from where the octets ended before
 pub frame-appended : (f : Frame) (old new : List ℕ) (at : ℕ) → at ≡ length old → new ≡ old ++ octets f → drop at new ≡ octets f
 frame-appended f old new at e g = ap (drop at) g ∙ drop_at old (octets f) at (sym e)
@@ -122,15 +164,15 @@ length-appended f old new at e g =
     omega arith
 
 -- The slot of the first frame that is staged is put after so many slots of the row.
-slots-put : (x y : Inside) (f : Frame) (later : List Frame) (p : ℕ) → IsSound x → staged_of x ≡ f ∷ later → p ≤ length (row_of x) → y.slots.items ≡ moved_up (x.slots_begun + p) (x.slots_arranged + 1) 1 x.slots.items
-    → y.slots.items ≡ take x.slots_begun x.slots.items ++ (map slot_of (take p (row_of x) ++ f ∷ drop p (row_of x)) ++ map slot_of later)
+slots-put : (x y : Inside) (f : Frame) (later : List Frame) (p : ℕ) → IsSound x → staged_of x ≡ f ∷ later → p ≤ length (row_of x) → all_slots y ≡ moved_up (x.slots_begun + p) (x.slots_arranged + 1) 1 (all_slots x)
+    → all_slots y ≡ take x.slots_begun (all_slots x) ++ (map slot_of (take p (row_of x) ++ f ∷ drop p (row_of x)) ++ map slot_of later)
 slots-put x y f later p s staged few slots_are =
     let l = laid_out x s in
     let row = row_of x in
-    let past = take x.slots_begun x.slots.items in
+    let past = take x.slots_begun (all_slots x) in
     let c = l.slots_arranged in
     let slots1 : map slot_of row ≡ map slot_of (take p row) ++ map slot_of (drop p row) = ap (map slot_of) (sym (take-append-drop p row)) ∙ map-append slot_of (take p row) (drop p row) in
-    let slots2 : x.slots.items ≡ (past ++ map slot_of (take p row)) ++ (map slot_of (drop p row) ++ ((slot_of f ∷ []) ++ map slot_of later)) =
+    let slots2 : all_slots x ≡ (past ++ map slot_of (take p row)) ++ (map slot_of (drop p row) ++ ((slot_of f ∷ []) ++ map slot_of later)) =
     l.slots
     ∙ (ap₂ (λ r t. past ++ (r ++ map slot_of t)) slots1 staged
     ∙ (ap (λ ss. past ++ ss) (append_assoc (map slot_of (take p row)) (map slot_of (drop p row)) (slot_of f ∷ map slot_of later)) ∙ sym (append_assoc past (map slot_of (take p row)) (map slot_of (drop p row) ++ (slot_of f ∷ map slot_of later))))) in
@@ -140,7 +182,7 @@ slots-put x y f later p s staged few slots_are =
     let count4 = l.slots_begun in
     let count5 = length-map (drop p row) slot_of in
     let count6 = length-drop p row in
-    let slots_then : y.slots.items ≡ (past ++ map slot_of (take p row)) ++ ((slot_of f ∷ []) ++ (map slot_of (drop p row) ++ map slot_of later)) =
+    let slots_then : all_slots y ≡ (past ++ map slot_of (take p row)) ++ ((slot_of f ∷ []) ++ (map slot_of (drop p row) ++ map slot_of later)) =
     slots_are ∙ (ap (moved_up (x.slots_begun + p) (x.slots_arranged + 1) 1) slots2 ∙ moved_up-is (past ++ map slot_of (take p row)) (map slot_of (drop p row)) (slot_of f ∷ []) (map slot_of later) (x.slots_begun + p) (x.slots_arranged + 1) 1 (omega arith) (omega arith) refl) in
     let row_slots_then : map slot_of (take p row ++ f ∷ drop p row) ≡ map slot_of (take p row) ++ slot_of f ∷ map slot_of (drop p row) = map-append slot_of (take p row) (f ∷ drop p row) in
     let regrouped_slots : (past ++ map slot_of (take p row)) ++ (slot_of f ∷ (map slot_of (drop p row) ++ map slot_of later)) ≡ past ++ ((map slot_of (take p row) ++ slot_of f ∷ map slot_of (drop p row)) ++ map slot_of later) =
@@ -149,9 +191,9 @@ slots-put x y f later p s staged few slots_are =
 
 -- The first frame that is staged is put after so many frames of the row.
 pub frame-put : (x y : Inside) (f : Frame) (later : List Frame) (p moved count end : ℕ) → IsSound x → staged_of x ≡ f ∷ later → p ≤ length (row_of x) → moved ≡ length (stream (drop p (row_of x))) → count ≡ length f.payload + 8 → end ≡ x.arranged + count
-    → y.octets.items ≡ moved_up (x.arranged - moved) end count x.octets.items → y.slots.items ≡ moved_up (x.slots_begun + p) (x.slots_arranged + 1) 1 x.slots.items
+    → y.octets.items ≡ moved_up (x.arranged - moved) end count x.octets.items → all_slots y ≡ moved_up (x.slots_begun + p) (x.slots_arranged + 1) 1 (all_slots x)
     → y.written ≡ x.written → y.begun ≡ x.begun → y.arranged ≡ end → y.slots_begun ≡ x.slots_begun → y.slots_arranged ≡ x.slots_arranged + 1
-    → IsLaidOut y (take x.written x.octets.items) (drop x.written (take x.begun x.octets.items)) (take x.slots_begun x.slots.items) (take p (row_of x) ++ f ∷ drop p (row_of x)) later
+    → IsLaidOut y (take x.written x.octets.items) (drop x.written (take x.begun x.octets.items)) (take x.slots_begun (all_slots x)) (take p (row_of x) ++ f ∷ drop p (row_of x)) later
 frame-put x y f later p moved count end s staged few moved_is count_is end_is octets_are slots_are written begun arranged slots_begun slots_arranged =
     let l = laid_out x s in
     let row = row_of x in
@@ -198,9 +240,9 @@ frame-put x y f later p moved count end s staged few moved_is count_is end_is oc
 
 -- The same, where what stands before the place makes room.
 pub frame-put-down : (x y : Inside) (f : Frame) (later : List Frame) (p moved count : ℕ) → IsSound x → staged_of x ≡ f ∷ later → p ≤ length (row_of x) → moved ≡ length (stream (drop p (row_of x))) → count ≡ length f.payload + 8 → count ≤ x.written
-    → y.octets.items ≡ moved_down x.written (x.arranged - moved) x.arranged count x.octets.items → y.slots.items ≡ moved_up (x.slots_begun + p) (x.slots_arranged + 1) 1 x.slots.items
+    → y.octets.items ≡ moved_down x.written (x.arranged - moved) x.arranged count x.octets.items → all_slots y ≡ moved_up (x.slots_begun + p) (x.slots_arranged + 1) 1 (all_slots x)
     → y.written ≡ x.written - count → y.begun ≡ x.begun - count → y.arranged ≡ x.arranged → y.slots_begun ≡ x.slots_begun → y.slots_arranged ≡ x.slots_arranged + 1
-    → IsLaidOut y (take (x.written - count) (take x.written x.octets.items)) (drop x.written (take x.begun x.octets.items)) (take x.slots_begun x.slots.items) (take p (row_of x) ++ f ∷ drop p (row_of x)) later
+    → IsLaidOut y (take (x.written - count) (take x.written x.octets.items)) (drop x.written (take x.begun x.octets.items)) (take x.slots_begun (all_slots x)) (take p (row_of x) ++ f ∷ drop p (row_of x)) later
 frame-put-down x y f later p moved count s staged few moved_is count_is room octets_are slots_are written begun arranged slots_begun slots_arranged =
     let l = laid_out x s in
     let row = row_of x in
@@ -269,26 +311,29 @@ put_view x y f later p gone past value e g at l =
     ∙ ap (λ (v : Outgoing). record { output = after_put f v.output; staged = later }) e)
 
 -- the first slot that is staged is that of the first frame
-pub first-staged : (x : Inside) (d : Slot) (f : Frame) (later : List Frame) → IsSound x → staged_of x ≡ f ∷ later → (get_or x.slots.items x.slots_arranged d ≡ slot_of f) × (x.slots_arranged < length x.slots.items)
+pub first-staged : (x : Inside) (d : Slot) (f : Frame) (later : List Frame) → IsSound x → staged_of x ≡ f ∷ later → (get_or (all_slots x) x.slots_arranged d ≡ slot_of f) × (x.slots_arranged < length x.slots.items)
 first-staged x d f later s staged =
     let l = laid_out x s in
-    let past = take x.slots_begun x.slots.items in
+    let past = take x.slots_begun (all_slots x) in
     let row = row_of x in
     let a = l.slots_begun in
     let b = l.slots_arranged in
     let c = length-append past (map slot_of row) in
     let e = length-map row slot_of in
-    let whole : x.slots.items ≡ (past ++ map slot_of row) ++ slot_of f ∷ map slot_of later = l.slots ∙ (ap (λ t. past ++ (map slot_of row ++ map slot_of t)) staged ∙ sym (append_assoc past (map slot_of row) (slot_of f ∷ map slot_of later))) in
+    let whole : all_slots x ≡ (past ++ map slot_of row) ++ slot_of f ∷ map slot_of later = l.slots ∙ (ap (λ t. past ++ (map slot_of row ++ map slot_of t)) staged ∙ sym (append_assoc past (map slot_of row) (slot_of f ∷ map slot_of later))) in
     let size = ap length whole ∙ length-append (past ++ map slot_of row) (slot_of f ∷ map slot_of later) in
+    let all = count-slots x.slots.items in
     (ap (λ ss. get_or ss x.slots_arranged d) whole ∙ get_or_at (past ++ map slot_of row) (slot_of f) (map slot_of later) d x.slots_arranged (omega arith), omega arith)
 
 -- the slots of the row, as they are lent
-pub row-lent : (x : Inside) (items : List Slot) → IsSound x → items ≡ x.slots.items → take (x.slots_arranged - x.slots_begun) (drop x.slots_begun items) ≡ map slot_of (row_of x)
+pub row-lent : (x : Inside) (items : List Waiting) → IsSound x → items ≡ x.slots.items → slots_in (take (x.slots_arranged - x.slots_begun) (drop x.slots_begun items)) ≡ map slot_of (row_of x)
 row-lent x items s e =
     let a = s.slots_begun in
-    ap (λ ss. take (x.slots_arranged - x.slots_begun) (drop x.slots_begun ss)) e
-    ∙ (sym (drop-take x.slots_begun (x.slots_arranged - x.slots_begun) x.slots.items)
-    ∙ (ap (λ n. drop x.slots_begun (take n x.slots.items)) (omega arith) ∙ sym s.row_described))
+    ap (λ ss. slots_in (take (x.slots_arranged - x.slots_begun) (drop x.slots_begun ss))) e
+    ∙ (slots-before (x.slots_arranged - x.slots_begun) (drop x.slots_begun x.slots.items)
+    ∙ (ap (take (x.slots_arranged - x.slots_begun)) (slots-after x.slots_begun x.slots.items)
+    ∙ (sym (drop-take x.slots_begun (x.slots_arranged - x.slots_begun) (all_slots x))
+    ∙ (ap (λ n. drop x.slots_begun (take n (all_slots x))) (omega arith) ∙ sym s.row_described))))
 
 -- the length of the slots of the row from a place on
 pub row-length : (x : Inside) (slots : List Slot) (p : ℕ) → slots ≡ map slot_of (row_of x) → slots_length (drop p slots) ≡ length (stream (drop p (row_of x)))
@@ -322,16 +367,17 @@ pub record FirstStaged (x : Inside) (slot : Slot) (count : ℕ) (f : Frame) (lat
   pub count_is : count ≡ length f.payload + 8
   pub within : x.arranged + count ≤ length x.octets.items
 
-pub first_staged : (x : Inside) (value : Outgoing) (slot : Slot) (count : ℕ) (f : Frame) (later : List Frame) → IsSound x → outgoing_of x ≡ value → value.staged ≡ f ∷ later → slot ≡ get_or x.slots.items x.slots_arranged slot → count ≡ slot_length slot → FirstStaged x slot count f later
-first_staged x value slot count f later s e staged at size =
+pub first_staged : (x : Inside) (value : Outgoing) (slot : Slot) (count : ℕ) (f : Frame) (later : List Frame) (waiting d : Waiting) → IsSound x → outgoing_of x ≡ value → value.staged ≡ f ∷ later → waiting ≡ get_or x.slots.items x.slots_arranged d → slot ≡ waiting.slot → count ≡ slot_length slot → FirstStaged x slot count f later
+first_staged x value slot count f later waiting d s e staged at slot_at size =
     let staged2 : staged_of x ≡ f ∷ later = ap (λ (v : Outgoing). v.staged) e ∙ staged in
-    let slot_is : slot ≡ slot_of f = at ∙ (first-staged x slot f later s staged2).0 in
+    let first = first-staged x d.slot f later s staged2 in
+    let slot_is : slot ≡ slot_of f = slot_at ∙ (ap (λ (w : Waiting). w.slot) at ∙ (sym (slot-at x.slots.items x.slots_arranged d first.1) ∙ first.0)) in
     let count_is : count ≡ length f.payload + 8 = size ∙ ap slot_length slot_is in
     let l = laid_out x s in
     let a = ap length s.staged_encoded in
     let b = ap length (ap stream staged2) ∙ length-append (octets f) (stream later) in
     let c = length-octets f in
-    let d = length-drop x.arranged x.octets.items in
+    let h = length-drop x.arranged x.octets.items in
     let g = s.arranged in
     record { staged = staged2; slot_is = sym slot_is; count_is = count_is; within = omega arith }
 

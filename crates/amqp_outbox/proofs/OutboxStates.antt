@@ -7,17 +7,18 @@ use Rattle.amqp_model.specs.Arrangement.{IsArranged, HasChannel}
 use Rattle.amqp_outbox.specs.OutboxSlots.{slot_of, frames_in}
 use Rattle.amqp_outbox.specs.OutboxLaps.{laps_of}
 use Rattle.amqp_outbox.specs.OutboxView.{Outgoing}
-use Rattle.amqp_outbox.specs.OutboxFields.{row_octets, row_slots, row_laps, row_of, staged_octets, staged_slots, staged_of, outgoing_of, IsSound}
+use Rattle.amqp_outbox.specs.OutboxFields.{row_octets, row_slots, row_laps, row_of, staged_octets, staged_slots, staged_of, outgoing_of, all_slots, all_laps, IsSound}
 use Rattle.amqp_outbox.specs.declared.slots.Slot.{Slot}
 use Rattle.amqp_outbox.specs.declared.outbox.Outbox.TheInside.{Inside}
 use Rattle.amqp_outbox.proofs.OutboxLaps.{length-laps}
 use Rattle.amqp_outbox.proofs.OutboxLists.{second, three, four, length-second}
 use Rattle.amqp_outbox.proofs.OutboxRows.{row-read}
+use Rattle.amqp_outbox.proofs.OutboxWaiting.{count-slots, count-laps}
 
 -- the octets and the slots, part by part
 pub record IsLaidOut (x : Inside) (gone ahead : List ℕ) (past : List Slot) (row staged : List Frame) : Type 0 where
   pub octets : x.octets.items ≡ gone ++ (ahead ++ (stream row ++ stream staged))
-  pub slots : x.slots.items ≡ past ++ (map slot_of row ++ map slot_of staged)
+  pub slots : all_slots x ≡ past ++ (map slot_of row ++ map slot_of staged)
   pub written : x.written ≡ length gone
   pub begun : x.begun ≡ x.written + length ahead
   pub arranged : x.arranged ≡ x.begun + length (stream row)
@@ -68,11 +69,15 @@ parts x gone ahead past row staged l =
 
 -- the laps of a row, part by part: those of its frames stand after others, and more may stand after them
 pub record IsInLaps (x : Inside) (past own rest : List ℕ) (row staged : List Frame) : Type 0 where
-  pub laps : x.laps.items ≡ past ++ (own ++ rest)
+  pub laps : all_laps x ≡ past ++ (own ++ rest)
   pub past_are : length past ≡ x.slots_begun
   pub laps_are : own ≡ laps_of x.lap x.last (map slot_of row)
   pub rest_are : length staged ≤ length rest
   pub left : x.lap + (length row + length staged) + 1 < 2 ^ 64
+
+-- the slots of the row are some of all
+pub slots_within : (x : Inside) → IsSound x → x.slots_arranged ≤ length (all_slots x)
+slots_within x s = let a = count-slots x.slots.items in let b = s.slots_arranged in omega arith
 
 -- fields that are laid out so are sound
 pub sound : (x : Inside) (gone ahead : List ℕ) (past : List Slot) (row staged : List Frame) (laps_past laps laps_rest : List ℕ) → IsLaidOut x gone ahead past row staged → IsKept x.last row staged → IsInLaps x laps_past laps laps_rest row staged → IsSound x
@@ -92,6 +97,7 @@ sound x gone ahead past row staged laps_past laps laps_rest l k i =
     let past_are = i.past_are in
     let rest_are = i.rest_are in
     let left = i.left in
+    let all = count-slots x.slots.items in
     record {
       written = omega arith;
       begun = omega arith;
@@ -105,7 +111,6 @@ sound x gone ahead past row staged laps_past laps laps_rest l k i =
       in_turn = rw p.row_is k.in_turn;
       row_channels = rw p.row_is k.row_channels;
       staged_channels = rw p.staged_is k.staged_channels;
-      laps_kept = let z = l.slots_arranged in omega arith;
       laps_are = in_part ∙ (i.laps_are ∙ ap (laps_of x.lap x.last) (sym p.row_slots_are));
       laps_left = let z = l.slots_arranged in let y = l.slots_begun in omega arith;
     }
@@ -118,19 +123,21 @@ view x gone ahead past row staged l =
 
 -- sound fields are laid out
 pub laid_out : (x : Inside) → IsSound x
-    → IsLaidOut x (take x.written x.octets.items) (drop x.written (take x.begun x.octets.items)) (take x.slots_begun x.slots.items) (row_of x) (staged_of x)
+    → IsLaidOut x (take x.written x.octets.items) (drop x.written (take x.begun x.octets.items)) (take x.slots_begun (all_slots x)) (row_of x) (staged_of x)
 laid_out x s =
     let a = length-take-le x.written x.octets.items (omega arith) in
     let b = length-second x.octets.items x.written x.begun s.written (omega arith) in
     let c = length-second x.octets.items x.begun x.arranged s.begun s.arranged in
-    let d = length-take-le x.slots_begun x.slots.items (omega arith) in
-    let e = length-second x.slots.items x.slots_begun x.slots_arranged s.slots_begun s.slots_arranged in
+    let in_all = slots_within x s in
+    let ordered = s.slots_begun in
+    let d = length-take-le x.slots_begun (all_slots x) (omega arith) in
+    let e = length-second (all_slots x) x.slots_begun x.slots_arranged s.slots_begun (slots_within x s) in
     let f = length-map (row_of x) slot_of in
     let g = ap length s.row_encoded in
     let h = ap length s.row_described in
     record {
       octets = four x.octets.items x.written x.begun x.arranged s.written s.begun s.arranged ∙ ap₂ (λ y z. take x.written x.octets.items ++ (drop x.written (take x.begun x.octets.items) ++ (y ++ z))) (sym s.row_encoded) (sym s.staged_encoded);
-      slots = three x.slots.items x.slots_begun x.slots_arranged s.slots_begun s.slots_arranged ∙ ap₂ (λ y z. take x.slots_begun x.slots.items ++ (y ++ z)) (sym s.row_described) (sym s.staged_described);
+      slots = three (all_slots x) x.slots_begun x.slots_arranged s.slots_begun (slots_within x s) ∙ ap₂ (λ y z. take x.slots_begun (all_slots x) ++ (y ++ z)) (sym s.row_described) (sym s.staged_described);
       written = sym a;
       begun = omega arith;
       arranged = omega arith;
@@ -142,22 +149,23 @@ pub kept : (x : Inside) → IsSound x → IsKept x.last (row_of x) (staged_of x)
 kept x s = record { in_turn = s.in_turn; row_channels = s.row_channels; staged_channels = s.staged_channels }
 
 -- the laps of sound fields
-pub in_laps : (x : Inside) → IsSound x → IsInLaps x (take x.slots_begun x.laps.items) (row_laps x) (drop x.slots_arranged x.laps.items) (row_of x) (staged_of x)
+pub in_laps : (x : Inside) → IsSound x → IsInLaps x (take x.slots_begun (all_laps x)) (row_laps x) (drop x.slots_arranged (all_laps x)) (row_of x) (staged_of x)
 in_laps x s =
     let a = s.slots_begun in
-    let b = s.slots_arranged in
-    let c = s.laps_kept in
+    let b = slots_within x s in
+    let c = count-laps x.slots.items in
+    let c2 = count-slots x.slots.items in
     let d = length-map (row_of x) slot_of in
     let e = ap length s.row_described in
-    let f = length-second x.slots.items x.slots_begun x.slots_arranged s.slots_begun s.slots_arranged in
+    let f = length-second (all_slots x) x.slots_begun x.slots_arranged s.slots_begun (slots_within x s) in
     let g = length-map (staged_of x) slot_of in
     let h = ap length s.staged_described in
-    let i = length-drop x.slots_arranged x.slots.items in
-    let j = length-drop x.slots_arranged x.laps.items in
+    let i = length-drop x.slots_arranged (all_slots x) in
+    let j = length-drop x.slots_arranged (all_laps x) in
     let left = s.laps_left in
     record {
-      laps = three x.laps.items x.slots_begun x.slots_arranged s.slots_begun (omega arith);
-      past_are = length-take-le x.slots_begun x.laps.items (omega arith);
+      laps = three (all_laps x) x.slots_begun x.slots_arranged s.slots_begun (omega arith);
+      past_are = length-take-le x.slots_begun (all_laps x) (omega arith);
       laps_are = s.laps_are ∙ ap (laps_of x.lap x.last) (sym s.row_described);
       rest_are = omega arith;
       left = omega arith;

@@ -6,13 +6,15 @@ use Rattle.std.proofs.lemmas.List.Elements.{All-head, All-tail, All-take, All-dr
 use Rattle.amqp_frame.specs.Frame.{Frame}
 use Rattle.amqp_model.specs.Arrangement.{is_leaving, steps, last_after, last_after_all, IsArranged, HasChannel}
 use Rattle.amqp_model.specs.ArrangementLaws.{PlaceIsAfterItsQueue}
-use Rattle.amqp_outbox.specs.OutboxSlots.{slot_of, slots_last, turns_before, EndsWithChannel, IsPlace}
-use Rattle.amqp_outbox.specs.OutboxLaps.{lap_after, laps_of, laps_last, moment, count_until, AreInOrder, Counts, TakesLap, IsLap}
+use Rattle.amqp_outbox.specs.OutboxSlots.{slot_of, slots_in, slots_last, turns_before, EndsWithChannel, IsPlace}
+use Rattle.amqp_outbox.specs.OutboxLaps.{lap_after, laps_in, laps_of, laps_last, moment, count_until, AreInOrder, Counts, TakesLap, IsLap}
 use Rattle.amqp_outbox.specs.declared.slots.Slot.{Slot}
+use Rattle.amqp_outbox.specs.declared.slots.Waiting.{Waiting}
 use Rattle.amqp_outbox.proofs.OutboxLaps.{moves, in_order, turns-counted, Takes, laps-in, zero-in, plain-counted, laps-from, laps-append, laps-at, laps-most, length-laps}
 use Rattle.amqp_outbox.proofs.OutboxLists.{take_past, drop_past}
 use Rattle.amqp_outbox.proofs.OutboxPlaces.{from_beginning, after_own}
 use Rattle.amqp_outbox.proofs.OutboxRows.{slots_last-row}
+use Rattle.amqp_outbox.proofs.OutboxWaiting.{count-slots, slot-at, lap-at}
 use Rattle.amqp_outbox.proofs.OutboxWrites.{arranged-from}
 
 -- the channel of the last of the slots
@@ -176,9 +178,6 @@ not-own slots own n channel e within other k d z same =
     let i : (own + n) - 1 ≡ own + k = omega arith in
     other (ap (λ (s : Slot). s.channel) (ap (λ j. get_or slots j e) i ∙ get_or_default slots (own + k) e d (omega arith)) ∙ same)
 
-pub counts-lent : (at n own : ℕ) (slots : List Slot) (laps : List ℕ) → Counts at n (take (length slots - own) (drop own slots)) (take (length laps - own) (drop own laps)) → Counts at n (drop own slots) (drop own laps)
-counts-lent at n own slots laps h = same_counts n at at _ _ _ _ refl (take_rest slots own) (take_rest laps own) h
-
 -- a frame that leaves the connection is of channel 0
 pub lap-on_leaving : (lap last n : ℕ) (slot : Slot) (slots : List Slot) → slot.leaving ≡ true → IsLap lap last slot slots n 0
 lap-on_leaving lap last n slot slots t f row e g arranged channels =
@@ -189,13 +188,32 @@ lap-on_leaving lap last n slot slots t f row e g arranged channels =
 -- the channel's own frames were all passed
 pub counted-last : (slots : List Slot) (laps : List ℕ) (slot : Slot) (lap last own next target ahead n : ℕ) → 0 < slot.channel → slot.channel < 65536 → last < 65536 → laps ≡ laps_of lap last slots
     → next ≡ lap_after (laps_last lap last (take own slots)) (slots_last last (take own slots)) slot → next < 2 ^ 64 → target ≡ min (next + ahead) (2 ^ 64 - 1) → ahead ≡ 0
-    → Counts (moment target slot.channel) n (take (length slots - own) (drop own slots)) (take (length laps - own) (drop own laps))
+    → Counts (moment target slot.channel) n (drop own slots) (drop own laps)
     → ((k : ℕ) (d : Slot) → n ≡ suc k → (get_or slots (own + k) d).channel ≡ slot.channel → ⊥)
     → (f : Frame) (row : List Frame) → slot_of f ≡ slot → map slot_of row ≡ slots → IsArranged last row → All HasChannel row → Counted lap last own next n slot slots
 counted-last slots laps slot lap last own next target ahead n above fc l laps_are next_is small target_is none counts other =
     let t : target ≡ next = omega arith in
-    counted-on slots laps slot lap last own next n above fc l laps_are next_is (counts-lent (moment next slot.channel) n own slots laps (subst (λ (x : ℕ). Counts (moment x slot.channel) n (take (length slots - own) (drop own slots)) (take (length laps - own) (drop own laps))) t counts)) other
+    counted-on slots laps slot lap last own next n above fc l laps_are next_is (subst (λ (x : ℕ). Counts (moment x slot.channel) n (drop own slots) (drop own laps)) t counts) other
 
 -- the same of the frame and of the row
 pub takes-row : (its lap last p : ℕ) (f : Frame) (row : List Frame) (slot : Slot) (slots : List Slot) → slot_of f ≡ slot → map slot_of row ≡ slots → TakesLap its lap last p slot slots → TakesLap its lap last p (slot_of f) (map slot_of row)
 takes-row its lap last p f row slot slots e g h = subst (λ (s : Slot). TakesLap its lap last p s (map slot_of row)) (sym e) (subst (λ (xs : List Slot). TakesLap its lap last p slot xs) (sym g) h)
+
+-- the lap of a channel's next turn, read off the last frame of a part
+pub next-at : (own lap last : ℕ) (slot : Slot) (row : List Waiting) (d : Waiting) → 0 < own → 0 < slot.channel → laps_in row ≡ laps_of lap last (slots_in row) → EndsWithChannel slot.channel (take own (slots_in row)) → own ≤ length row
+    → (get_or row (own - 1) d).lap + 1 ≡ lap_after (laps_last lap last (take own (slots_in row))) (slots_last last (take own (slots_in row))) slot
+next-at own lap last slot row d some above e ends h =
+    let n = count-slots row in
+    ap (λ (k : ℕ). k + 1) (sym (lap-at row (own - 1) d (omega arith))) ∙ next-lap_is own lap last slot (slots_in row) (laps_in row) some above e ends (omega arith)
+
+pub next-most : (own lap last : ℕ) (row : List Waiting) (d : Waiting) → 0 < own → own ≤ length row → laps_in row ≡ laps_of lap last (slots_in row) → (get_or row (own - 1) d).lap ≤ lap + own
+next-most own lap last row d some h e =
+    let a = next-lap_most own lap last (slots_in row) (laps_in row) some e in
+    let b = lap-at row (own - 1) d (omega arith) in
+    omega arith
+
+-- the last of the frames passed isn't of the channel
+pub not-own-in : (row : List Waiting) (own n channel : ℕ) (e : Waiting) → own + n ≤ length row → ((get_or row ((own + n) - 1) e).slot.channel ≡ channel → ⊥) → (k : ℕ) (d : Slot) → n ≡ suc k → (get_or (slots_in row) (own + k) d).channel ≡ channel → ⊥
+not-own-in row own n channel e within other k d z same =
+    let c = count-slots row in
+    not-own (slots_in row) own n channel e.slot (omega arith) (λ s. other (ap (λ (x : Slot). x.channel) (sym (slot-at row ((own + n) - 1) e (omega arith))) ∙ s)) k d z same

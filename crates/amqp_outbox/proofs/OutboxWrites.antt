@@ -9,7 +9,7 @@ use Rattle.amqp_model.specs.Arrangement.{IsArranged, HasChannel, last_after, las
 use Rattle.amqp_model.specs.Outputs.{Output, output_octets, row_after_writing, after_writing}
 use Rattle.amqp_outbox.specs.OutboxSlots.{slot_of, slots_length, slots_last, begun_by}
 use Rattle.amqp_outbox.specs.OutboxView.{Outgoing, with_output}
-use Rattle.amqp_outbox.specs.OutboxFields.{row_of, staged_of, outgoing_of, IsSound}
+use Rattle.amqp_outbox.specs.OutboxFields.{row_of, staged_of, outgoing_of, IsSound, all_slots}
 use Rattle.amqp_outbox.specs.declared.slots.Slot.{Slot}
 use Rattle.amqp_outbox.specs.declared.outbox.Outbox.TheInside.{Inside}
 use Rattle.amqp_outbox.proofs.OutboxLists.{drop_past, length-second}
@@ -61,9 +61,9 @@ pub kept-written : (x : Inside) (k : ℕ) → IsSound x → IsKept (last_after_a
 kept-written x k s = record { in_turn = arranged-from k x.last (row_of x) s.in_turn; row_channels = All-drop HasChannel k (row_of x) s.row_channels; staged_channels = s.staged_channels }
 
 -- Fewer octets are written than stand ahead.
-pub ahead-written : (x y : Inside) (n : ℕ) → IsSound x → n < x.begun - x.written → y.octets.items ≡ x.octets.items → y.slots.items ≡ x.slots.items → y.written ≡ x.written + n → y.begun ≡ x.begun → y.arranged ≡ x.arranged
+pub ahead-written : (x y : Inside) (n : ℕ) → IsSound x → n < x.begun - x.written → y.octets.items ≡ x.octets.items → all_slots y ≡ all_slots x → y.written ≡ x.written + n → y.begun ≡ x.begun → y.arranged ≡ x.arranged
     → y.slots_begun ≡ x.slots_begun → y.slots_arranged ≡ x.slots_arranged
-    → IsLaidOut y (take (x.written + n) x.octets.items) (drop n (drop x.written (take x.begun x.octets.items))) (take x.slots_begun x.slots.items) (row_of x) (staged_of x)
+    → IsLaidOut y (take (x.written + n) x.octets.items) (drop n (drop x.written (take x.begun x.octets.items))) (take x.slots_begun (all_slots x)) (row_of x) (staged_of x)
 ahead-written x y n s h octets slots written begun arranged slots_begun slots_arranged =
     let l = laid_out x s in
     let ahead = drop x.written (take x.begun x.octets.items) in
@@ -91,9 +91,9 @@ ahead-written x y n s h octets slots written begun arranged slots_begun slots_ar
     }
 
 -- Octets of the row are written, all that stood ahead before, and so many frames begun.
-pub row-begun : (x y : Inside) (m k : ℕ) → IsSound x → k ≤ length (row_of x) → m ≤ length (stream (take k (row_of x))) → y.octets.items ≡ x.octets.items → y.slots.items ≡ x.slots.items → y.written ≡ x.begun + m
+pub row-begun : (x y : Inside) (m k : ℕ) → IsSound x → k ≤ length (row_of x) → m ≤ length (stream (take k (row_of x))) → y.octets.items ≡ x.octets.items → all_slots y ≡ all_slots x → y.written ≡ x.begun + m
     → y.begun ≡ x.begun + length (stream (take k (row_of x))) → y.arranged ≡ x.arranged → y.slots_begun ≡ x.slots_begun + k → y.slots_arranged ≡ x.slots_arranged
-    → IsLaidOut y (take (x.begun + m) x.octets.items) (drop m (stream (take k (row_of x)))) (take (x.slots_begun + k) x.slots.items) (drop k (row_of x)) (staged_of x)
+    → IsLaidOut y (take (x.begun + m) x.octets.items) (drop m (stream (take k (row_of x)))) (take (x.slots_begun + k) (all_slots x)) (drop k (row_of x)) (staged_of x)
 row-begun x y m k s few h octets slots written begun arranged slots_begun slots_arranged =
     let l = laid_out x s in
     let row = row_of x in
@@ -102,7 +102,7 @@ row-begun x y m k s few h octets slots written begun arranged slots_begun slots_
     let ahead = drop x.written (take x.begun x.octets.items) in
     let first = stream (take k row) in
     let rest = stream (drop k row) ++ stream staged in
-    let past = take x.slots_begun x.slots.items in
+    let past = take x.slots_begun (all_slots x) in
     let a = l.begun in
     let b = l.arranged in
     let c = l.slots_arranged in
@@ -122,13 +122,13 @@ row-begun x y m k s few h octets slots written begun arranged slots_begun slots_
     let size5 = length-drop m first in
     let size6 = ap length split ∙ length-append first (stream (drop k row)) in
     let slots1 : map slot_of row ≡ map slot_of (take k row) ++ map slot_of (drop k row) = ap (map slot_of) (sym (take-append-drop k row)) ∙ map-append slot_of (take k row) (drop k row) in
-    let slots2 : x.slots.items ≡ (past ++ map slot_of (take k row)) ++ (map slot_of (drop k row) ++ map slot_of staged) =
+    let slots2 : all_slots x ≡ (past ++ map slot_of (take k row)) ++ (map slot_of (drop k row) ++ map slot_of staged) =
     l.slots ∙ (ap (λ ss. past ++ (ss ++ map slot_of staged)) slots1 ∙ (ap (λ ss. past ++ ss) (append_assoc (map slot_of (take k row)) (map slot_of (drop k row)) (map slot_of staged)) ∙ sym (append_assoc past (map slot_of (take k row)) (map slot_of (drop k row) ++ map slot_of staged)))) in
     let count1 = length-map (take k row) slot_of in
     let count2 = length-take-le k row few in
     let count3 = length-append past (map slot_of (take k row)) in
     let count4 = l.slots_begun in
-    let slots3 : take (x.slots_begun + k) x.slots.items ≡ past ++ map slot_of (take k row) = ap (take (x.slots_begun + k)) slots2 ∙ take_at (past ++ map slot_of (take k row)) (map slot_of (drop k row) ++ map slot_of staged) (x.slots_begun + k) (omega arith) in
+    let slots3 : take (x.slots_begun + k) (all_slots x) ≡ past ++ map slot_of (take k row) = ap (take (x.slots_begun + k)) slots2 ∙ take_at (past ++ map slot_of (take k row)) (map slot_of (drop k row) ++ map slot_of staged) (x.slots_begun + k) (omega arith) in
     let count5 = ap length slots3 in
     let count6 = length-drop k row in
     record {
@@ -184,9 +184,9 @@ is_write x slots n k passed now s e ahead count passed_is now_is few reached =
       now_is = now_is ∙ (ap (slots_last x.last) b ∙ slots_last-row x.last (take k row));
     }
 
-pub write-laid_out : (x y : Inside) (n k passed now : ℕ) → IsSound x → IsWrite x n k passed now → y.octets.items ≡ x.octets.items → y.slots.items ≡ x.slots.items → y.written ≡ x.written + n → y.begun ≡ x.begun + passed
+pub write-laid_out : (x y : Inside) (n k passed now : ℕ) → IsSound x → IsWrite x n k passed now → y.octets.items ≡ x.octets.items → all_slots y ≡ all_slots x → y.written ≡ x.written + n → y.begun ≡ x.begun + passed
     → y.arranged ≡ x.arranged → y.slots_begun ≡ x.slots_begun + k → y.slots_arranged ≡ x.slots_arranged
-    → IsLaidOut y (take (x.begun + (n - length (drop x.written (take x.begun x.octets.items)))) x.octets.items) (drop (n - length (drop x.written (take x.begun x.octets.items))) (stream (take k (row_of x)))) (take (x.slots_begun + k) x.slots.items) (drop k (row_of x)) (staged_of x)
+    → IsLaidOut y (take (x.begun + (n - length (drop x.written (take x.begun x.octets.items)))) x.octets.items) (drop (n - length (drop x.written (take x.begun x.octets.items))) (stream (take k (row_of x)))) (take (x.slots_begun + k) (all_slots x)) (drop k (row_of x)) (staged_of x)
 write-laid_out x y n k passed now s w octets slots written begun arranged slots_begun slots_arranged =
     let a = length-ahead x s in
     let b = w.ahead in

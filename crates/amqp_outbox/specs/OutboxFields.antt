@@ -3,32 +3,39 @@ use Rattle.std.specs.Prelude.{◌≡◌, ◌+◌, ◌-◌, ◌^◌, ◌<◌, ◌
 use Rattle.amqp_frame.specs.Frame.{Frame}
 use Rattle.amqp_frame.specs.Splitting.{stream}
 use Rattle.amqp_model.specs.Arrangement.{IsArranged, HasChannel}
-use Rattle.amqp_outbox.specs.OutboxSlots.{slot_of, frames_in}
-use Rattle.amqp_outbox.specs.OutboxLaps.{laps_of}
+use Rattle.amqp_outbox.specs.OutboxSlots.{slot_of, slots_in, frames_in}
+use Rattle.amqp_outbox.specs.OutboxLaps.{laps_in, laps_of}
 use Rattle.amqp_outbox.specs.OutboxView.{Outgoing}
 use Rattle.amqp_outbox.specs.declared.slots.Slot.{Slot}
 use Rattle.amqp_outbox.specs.declared.outbox.Outbox.TheInside.{Inside}
+
+-- the slots of all frames, and their laps
+abbrev pub all_slots : Inside → List Slot
+all_slots x = slots_in x.slots.items
+
+abbrev pub all_laps : Inside → List ℕ
+all_laps x = laps_in x.slots.items
 
 -- the octets and the slots of the row
 abbrev pub row_octets : Inside → List ℕ
 row_octets x = drop x.begun (take x.arranged x.octets.items)
 
 abbrev pub row_slots : Inside → List Slot
-row_slots x = drop x.slots_begun (take x.slots_arranged x.slots.items)
+row_slots x = drop x.slots_begun (take x.slots_arranged (all_slots x))
 
 abbrev pub row_of : Inside → List Frame
 row_of x = frames_in (row_slots x) (row_octets x)
 
 -- the laps of the row
 abbrev pub row_laps : Inside → List ℕ
-row_laps x = drop x.slots_begun (take x.slots_arranged x.laps.items)
+row_laps x = drop x.slots_begun (take x.slots_arranged (all_laps x))
 
 -- the octets and the slots that are staged
 abbrev pub staged_octets : Inside → List ℕ
 staged_octets x = drop x.arranged x.octets.items
 
 abbrev pub staged_slots : Inside → List Slot
-staged_slots x = drop x.slots_arranged x.slots.items
+staged_slots x = drop x.slots_arranged (all_slots x)
 
 abbrev pub staged_of : Inside → List Frame
 staged_of x = frames_in (staged_slots x) (staged_octets x)
@@ -52,7 +59,6 @@ pub record IsSound (x : Inside) : Type 0 where
   pub in_turn : IsArranged x.last (row_of x)
   pub row_channels : All HasChannel (row_of x)
   pub staged_channels : All HasChannel (staged_of x)
-  pub laps_kept : length x.slots.items ≤ length x.laps.items
   pub laps_are : row_laps x ≡ laps_of x.lap x.last (row_slots x)
   -- each frame that waits can have a lap of its own
   pub laps_left : x.lap + (length x.slots.items - x.slots_begun) + 1 < 2 ^ 64

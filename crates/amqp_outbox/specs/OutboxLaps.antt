@@ -5,6 +5,7 @@ use Rattle.amqp_frame.specs.Frame.{Frame}
 use Rattle.amqp_model.specs.Arrangement.{IsArranged, HasChannel}
 use Rattle.amqp_outbox.specs.OutboxSlots.{slot_of, slot_last}
 use Rattle.amqp_outbox.specs.declared.slots.Slot.{Slot}
+use Rattle.amqp_outbox.specs.declared.slots.Waiting.{Waiting}
 
 -- the lap of the writer once the frame is begun, where it stood in a lap at LAST: channel 0 doesn't move it
 abbrev pub lap_after : (lap last : ℕ) → Slot → ℕ
@@ -13,6 +14,10 @@ lap_after lap last slot = cond (slot.channel == 0) lap (cond (nat_lt last slot.c
 -- the lap that is kept of a frame, 0 on channel 0
 abbrev pub slot_lap : (lap last : ℕ) → Slot → ℕ
 slot_lap lap last slot = cond (slot.channel == 0) 0 (lap_after lap last slot)
+
+-- the laps that are kept of frames that wait
+abbrev pub laps_in : List Waiting → List ℕ
+laps_in row = map (λ (waiting : Waiting). waiting.lap) row
 
 -- the laps of the frames of a row
 abbrev pub laps_of : (lap last : ℕ) → List Slot → List ℕ

@@ -3,9 +3,14 @@ use Rattle.std.specs.Prelude.{◌≡◌, ℕ, suc, ◌+◌, ◌-◌, cond, ◌==
 use Rattle.amqp_frame.specs.Frame.{Frame}
 use Rattle.amqp_model.specs.Arrangement.{is_leaving, steps, IsArranged, HasChannel, placed}
 use Rattle.amqp_outbox.specs.declared.slots.Slot.{Slot}
+use Rattle.amqp_outbox.specs.declared.slots.Waiting.{Waiting}
 
 abbrev pub slot_of : Frame → Slot
 slot_of f = record { size = length f.payload; channel = f.channel; kind = f.kind; leaving = is_leaving f }
+
+-- the slots of frames that wait
+abbrev pub slots_in : List Waiting → List Slot
+slots_in row = map (λ (waiting : Waiting). waiting.slot) row
 
 -- how many octets the frame has
 abbrev pub slot_length : Slot → ℕ

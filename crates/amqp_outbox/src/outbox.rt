@@ -24,10 +24,11 @@ ghost use Rattle.amqp_model.specs.Methods.{ReadsBack};
 ghost use Rattle.amqp_model.specs.Outputs.{output_octets, after_writing};
 ghost use Rattle.amqp_outbox.specs.OutboxFaults.{out_of_memory, too_long};
 ghost use Rattle.amqp_outbox.specs.OutboxFrames.{header_frame, body_frame, HeaderReadsBack};
-ghost use Rattle.amqp_outbox.specs.OutboxSlots.{moved_up, moved_down};
+ghost use Rattle.amqp_outbox.specs.OutboxLaps.{laps_in};
+ghost use Rattle.amqp_outbox.specs.OutboxSlots.{slots_in, moved_up, moved_down};
 ghost use Rattle.amqp_outbox.specs.OutboxView.{only, begins_with, with_staged, with_output, all_put, IsPutOfFirst};
 
-use crate::slots::{Slot, begun_of, length_from, place_of};
+use crate::slots::{Waiting, begun_of, length_from, place_of};
 use crate::staging::{StageFault, append_body, append_header, append_method, enlist};
 use amqp_frame::FrameKind;
 use amqp_method::{Header, Method};
@@ -37,6 +38,12 @@ use std::marker::Model;
 
 /// How many octets most frames of a method or of a header have at most.
 const USUAL_FRAME: usize = 512;
+
+/// For how many octets an outbox keeps its room, however few wait.
+const KEPT_OCTETS: usize = 65_536;
+
+/// For how many frames it does: their slots take as much as so many octets.
+const KEPT_SLOTS: usize = 4_096;
 
 /// What an end has put and not written, and the frames that it is about to put.
 ///
@@ -49,11 +56,9 @@ pub struct Outbox {
     written: usize,
     begun: usize,
     arranged: usize,
-    slots: Vec<Slot>,
+    slots: Vec<Waiting>,
     slots_begun: usize,
     slots_arranged: usize,
-    /// the laps in which the frames of the row have their turn, each at the place of its slot
-    laps: Vec<u64>,
     /// the lap in which the frame was begun that moved `last`
     lap: u64,
     /// the channel above 0 whose frame was begun most recently, 0 at first
@@ -85,7 +90,6 @@ impl Outbox {
             slots: Vec::new(alloc),
             slots_begun: 0,
             slots_arranged: 0,
-            laps: Vec::new(alloc),
             lap: 0,
             last: 0,
         }
@@ -124,7 +128,19 @@ impl Outbox {
     }
 
     /// So many octets of the output are written.
+    ///
+    /// Room is given back where little is left of much: an outbox keeps at most eight times the octets that it holds, or
+    /// 64 KiB where that is more, and the like of its slots.
     pub fn wrote(&mut self, octets: usize)
+        requires { octets ≤ length (output_octets self.old.output) }
+        ensures { self.new ≡ with_output self.old (after_writing octets self.old.output) }
+    {
+        self.count_written(octets);
+        self.give_back();
+    }
+
+    /// So many octets of the output are written: counts them, and the frames that are begun.
+    fn count_written(&mut self, octets: usize)
         requires { octets ≤ length (output_octets self.old.output) }
         ensures { self.new ≡ with_output self.old (after_writing octets self.old.output) }
     {
@@ -155,11 +171,18 @@ impl Outbox {
         ensures { self.new ≡ self.old }
     {
         if self.drops_before(coming) {
-            forget(&mut self.octets, self.written);
-            self.begun -= self.written;
-            self.arranged -= self.written;
-            self.written = 0;
+            self.forget_written();
         }
+    }
+
+    /// Drops the octets that are written.
+    fn forget_written(&mut self)
+        ensures { self.new ≡ self.old }
+    {
+        forget(&mut self.octets, self.written);
+        self.begun -= self.written;
+        self.arranged -= self.written;
+        self.written = 0;
     }
 
     /// Drops the slots of the frames that are begun, where these are more than the others.
@@ -167,10 +190,37 @@ impl Outbox {
         ensures { self.new ≡ self.old }
     {
         if self.slots.len() - self.slots_begun < self.slots_begun {
-            forget(&mut self.slots, self.slots_begun);
-            forget(&mut self.laps, self.slots_begun);
-            self.slots_arranged -= self.slots_begun;
-            self.slots_begun = 0;
+            self.forget_begun();
+        }
+    }
+
+    /// Drops the slots of the frames that are begun.
+    fn forget_begun(&mut self)
+        ensures { self.new ≡ self.old }
+    {
+        forget(&mut self.slots, self.slots_begun);
+        self.slots_arranged -= self.slots_begun;
+        self.slots_begun = 0;
+    }
+
+    /// Gives back room that is large and nearly empty.
+    ///
+    /// What is left is moved into a smaller room with as much again beside it. So the room has to be filled anew before
+    /// it is given back once more, and each octet that is staged pays for at most a few that are moved here. Up to
+    /// `KEPT_OCTETS` nothing is given back: what passes through so much room takes none anew.
+    fn give_back(&mut self)
+        ensures { self.new ≡ self.old }
+    {
+        let left = self.octets.len() - self.written;
+        if is_spare(self.octets.capacity(), left, KEPT_OCTETS) {
+            self.forget_written();
+            self.octets
+                .shrink_to(left.saturating_mul(2).max(KEPT_OCTETS));
+        }
+        let left = self.slots.len() - self.slots_begun;
+        if is_spare(self.slots.capacity(), left, KEPT_SLOTS) {
+            self.forget_begun();
+            self.slots.shrink_to(left.saturating_mul(2).max(KEPT_SLOTS));
         }
     }
 
@@ -182,7 +232,6 @@ impl Outbox {
         self.drop_written(octets);
         self.octets.reserve(octets)?;
         self.slots.reserve(frames)?;
-        self.laps.reserve(frames)?;
         Ok(())
     }
 
@@ -195,8 +244,7 @@ impl Outbox {
     {
         self.drop_written(USUAL_FRAME);
         self.drop_begun();
-        let slots = self.slots.len();
-        provide_lap(&mut self.laps, slots, slots - self.slots_begun, self.lap)?;
+        expect_lap(self.slots.len() - self.slots_begun, self.lap)?;
         let at = self.octets.len();
         append_method(&mut self.octets, channel, method)?;
         let kind = FrameKind::Method;
@@ -213,8 +261,7 @@ impl Outbox {
     {
         self.drop_written(USUAL_FRAME);
         self.drop_begun();
-        let slots = self.slots.len();
-        provide_lap(&mut self.laps, slots, slots - self.slots_begun, self.lap)?;
+        expect_lap(self.slots.len() - self.slots_begun, self.lap)?;
         let at = self.octets.len();
         append_header(&mut self.octets, channel, header)?;
         let kind = FrameKind::Header;
@@ -230,8 +277,7 @@ impl Outbox {
     {
         self.drop_written(part.len());
         self.drop_begun();
-        let slots = self.slots.len();
-        provide_lap(&mut self.laps, slots, slots - self.slots_begun, self.lap)?;
+        expect_lap(self.slots.len() - self.slots_begun, self.lap)?;
         let at = self.octets.len();
         append_body(&mut self.octets, channel, part)?;
         let kind = FrameKind::Body;
@@ -263,16 +309,15 @@ impl Outbox {
         ensures { IsPutOfFirst self.old self.new }
     {
         arrangement::put_keeps_arranged();
-        let slot = self.slots[self.slots_arranged];
+        let waiting = self.slots[self.slots_arranged];
+        let slot = waiting.slot;
         let row = &self.slots[self.slots_begun..self.slots_arranged];
-        let laps = &self.laps[self.slots_begun..self.slots_arranged];
-        let place = place_of(row, laps, slot, self.lap, self.last);
+        let place = place_of(row, slot, self.lap, self.last);
         let moved = length_from(row, place.before, self.arranged - self.begun);
         let count = slot.length();
         let at = self.arranged - moved;
         let first = self.slots_begun + place.before;
-        move_up(&mut self.slots, first, self.slots_arranged + 1, 1);
-        put_lap(&mut self.laps, first, self.slots_arranged, place.lap);
+        put_slot(&mut self.slots, first, self.slots_arranged, place.lap);
         self.slots_arranged += 1;
         if count <= self.written && at - self.written < moved {
             move_down(&mut self.octets, self.written, at, self.arranged, count);
@@ -294,28 +339,21 @@ impl Outbox {
     }
 }
 
-/// Provides the lap of one slot more. So many slots wait, and the writer stands in a lap: the 2 ^ 64th frame of an end
+/// Whether a frame more can have a lap, where so many wait and the writer stands in a lap: the 2 ^ 64th frame of an end
 /// is refused, since its lap might pass the greatest number.
-fn provide_lap(
-    laps: &mut Vec<u64>,
-    slots: usize,
-    waiting: usize,
-    lap: u64,
-) -> Result<(), StageFault>
-    requires { slots ≤ length laps.old.items }
-    ensures ok { OnOk result (slots < length laps.new.items) }
+fn expect_lap(waiting: usize, lap: u64) -> Result<(), StageFault>
     ensures left { OnOk result (lap + waiting + 2 < 2 ^ 64) }
-    ensures same { (k : ℕ) → k ≤ slots → take k laps.new.items ≡ take k laps.old.items }
-    ensures kept { slots ≤ length laps.new.items }
     ensures err { IfErr result (λ e. e ≡ out_of_memory) }
 {
     if lap.saturating_add(waiting as u64) >= u64::MAX - 1 {
         return Err(StageFault::OutOfMemory);
     }
-    if laps.len() == slots {
-        laps.push(0)?;
-    }
     Ok(())
+}
+
+/// Whether room for so many is more than is kept of it where so many are left.
+fn is_spare(room: usize, left: usize, kept: usize) -> bool {
+    room > kept && left < room / 8
 }
 
 /// Drops the first of the items.
@@ -338,14 +376,29 @@ fn move_up<T>(items: &mut Vec<T>, place: usize, end: usize, count: usize)
     part.rotate_right(count);
 }
 
-/// Puts the lap of the frame that stands at an end, and moves it up to an earlier place.
-fn put_lap(laps: &mut Vec<u64>, place: usize, end: usize, lap: u64)
+/// Gives the frame whose slot stands at an end its lap, and moves the slot up to an earlier place.
+fn put_slot(slots: &mut Vec<Waiting>, place: usize, end: usize, lap: u64)
     requires order { place ≤ end }
-    requires end { end < length laps.old.items }
-    ensures { laps.new.items ≡ moved_up place (end + 1) 1 (slice_set laps.old.items end lap) }
+    requires end { end < length slots.old.items }
+    ensures slots { slots_in slots.new.items ≡ moved_up place (end + 1) 1 (slots_in slots.old.items) }
+    ensures laps { laps_in slots.new.items ≡ moved_up place (end + 1) 1 (slice_set (laps_in slots.old.items) end lap) }
 {
-    laps[end] = lap;
-    move_up(laps, place, end + 1, 1);
+    set_lap(slots, end, lap);
+    move_up(slots, place, end + 1, 1);
+}
+
+/// Gives the frame whose slot stands at a place its lap.
+fn set_lap(slots: &mut Vec<Waiting>, at: usize, lap: u64)
+    requires { at < length slots.old.items }
+    ensures count { length slots.new.items ≡ length slots.old.items }
+    ensures slots { slots_in slots.new.items ≡ slots_in slots.old.items }
+    ensures laps { laps_in slots.new.items ≡ slice_set (laps_in slots.old.items) at lap }
+{
+    let waiting = slots[at];
+    slots[at] = Waiting {
+        slot: waiting.slot,
+        lap,
+    };
 }
 
 /// Moves so many octets, which stand at a place, down before those from an earlier place on. Those from a still earlier

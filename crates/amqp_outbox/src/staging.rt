@@ -11,9 +11,10 @@ ghost use Rattle.amqp_model.specs.Closes.{method_frame};
 ghost use Rattle.amqp_model.specs.Methods.{ReadsBack};
 ghost use Rattle.amqp_outbox.specs.OutboxFaults.{out_of_memory, too_long};
 ghost use Rattle.amqp_outbox.specs.OutboxFrames.{header_frame, body_frame, HeaderReadsBack};
-ghost use Rattle.amqp_outbox.specs.OutboxSlots.{slot_of};
+ghost use Rattle.amqp_outbox.specs.OutboxLaps.{laps_in};
+ghost use Rattle.amqp_outbox.specs.OutboxSlots.{slot_of, slots_in};
 
-use crate::slots::Slot;
+use crate::slots::{Slot, Waiting};
 use amqp_frame::{FrameKind, begin_frame, finish_frame};
 use amqp_method::{Header, Method, MethodFault, MethodFaultKind, write_header, write_method};
 use std::alloc::{AllocError, AllocFailed};
@@ -186,7 +187,7 @@ fn slot_for(kind: FrameKind, channel: u16, frame: &[u8]) -> Slot
 /// back.
 pub(crate) fn enlist(
     octets: &mut Vec<u8>,
-    slots: &mut Vec<Slot>,
+    slots: &mut Vec<Waiting>,
     at: usize,
     kind: FrameKind,
     channel: u16,
@@ -194,13 +195,14 @@ pub(crate) fn enlist(
     requires room { at + 8 ≤ length octets.old.items }
     requires fits { length octets.old.items < at + 8 + 2 ^ 32 }
     ensures same { OnOk result (octets.new.items ≡ octets.old.items) }
-    ensures slot { (f : Frame) → f.kind ≡ kind → f.channel ≡ channel → drop at octets.old.items ≡ encoded f → OnOk result (slots.new.items ≡ slots.old.items ++ slot_of f ∷ []) }
+    ensures slot { (f : Frame) → f.kind ≡ kind → f.channel ≡ channel → drop at octets.old.items ≡ encoded f → OnOk result (slots_in slots.new.items ≡ slots_in slots.old.items ++ slot_of f ∷ []) }
+    ensures laps { OnOk result (laps_in slots.new.items ≡ laps_in slots.old.items ++ 0 ∷ []) }
     ensures err { IfErr result (λ e. e ≡ out_of_memory) }
     ensures back { OnErr result (octets.new.items ≡ take at octets.old.items) }
     ensures slots_same { OnErr result (slots.new.items ≡ slots.old.items) }
 {
     let slot = slot_for(kind, channel, &octets[at..]);
-    let Ok(()) = slots.push(slot) else {
+    let Ok(()) = slots.push(Waiting { slot, lap: 0 }) else {
         octets.truncate(at);
         return Err(StageFault::OutOfMemory);
     };

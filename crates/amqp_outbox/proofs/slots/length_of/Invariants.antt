@@ -1,6 +1,6 @@
 use Rattle.std.proofs.Common.{◌≡◌, take}
-use Rattle.amqp_outbox.specs.OutboxSlots.{slots_length}
+use Rattle.amqp_outbox.specs.OutboxSlots.{slots_in, slots_length}
 use Rattle.amqp_outbox.proofs.slots.length_of.Given as goal
 
-abbrev pub invariant-loop-slot : goal.invariant-loop-slot
-invariant-loop-slot l = l.total ≡ slots_length (take l.slot-index l.slots)
+abbrev pub invariant-loop-waiting : goal.invariant-loop-waiting
+invariant-loop-waiting l = l.total ≡ slots_length (take l.waiting-index (slots_in l.row))

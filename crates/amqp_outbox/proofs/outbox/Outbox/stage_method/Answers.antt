@@ -28,16 +28,16 @@ invariant_of-self-2 c =
     let f : Frame = method_frame c.args.channel (method_view c.args.method.now) in
     let x = c.self.inside in
     let at = frame-appended f x.octets.items c.append_method.new.octets.items c.len-at.result (omega arith) c.in_ok-append_method.ensures.ok in
-    let y : Inside = record x { octets = c.enlist.new.octets; slots = c.enlist.new.slots; laps = c.provide_lap.new.laps } in
+    let y : Inside = record x { octets = c.enlist.new.octets; slots = c.enlist.new.slots } in
     sound _ _ _ _ _ _ _ _ _ (frame-staged x _ f c.self.invariant (c.in_ok-enlist.ensures.same ∙ c.in_ok-append_method.ensures.ok) (c.in_ok-enlist.ensures.slot f refl refl at) refl refl refl refl refl)
     (kept-staged x f c.self.invariant c.ranges.channel.fits)
-    (laps-staged x y f c.self.invariant (λ k h. c.in_ok-provide_lap.ensures.same k (omega arith)) (let m = c.in_ok-provide_lap.ensures.ok in omega arith) (let m = c.in_ok-provide_lap.ensures.left in omega arith) refl refl refl)
+    (laps-staged x y f c.self.invariant c.in_ok-enlist.ensures.laps (let m = c.in_ok-expect_lap.ensures.left in omega arith) refl refl refl)
 
 pub returns-clause-ok : goal.returns-clause-ok
 returns-clause-ok c =
     let f : Frame = method_frame c.args.channel (method_view c.args.method.now) in
     let x = c.self.inside in
     let at = frame-appended f x.octets.items c.append_method.new.octets.items c.len-at.result (omega arith) c.in_ok-append_method.ensures.ok in
-    let y : Inside = record x { octets = c.enlist.new.octets; slots = c.enlist.new.slots; laps = c.provide_lap.new.laps } in
+    let y : Inside = record x { octets = c.enlist.new.octets; slots = c.enlist.new.slots } in
     staged_view x y f _ _ c.args.self.now (c.self.view_is ∙ (c.drop_begun.ensures ∙ c.drop_written.ensures)) refl
     (frame-staged x y f c.self.invariant (c.in_ok-enlist.ensures.same ∙ c.in_ok-append_method.ensures.ok) (c.in_ok-enlist.ensures.slot f refl refl at) refl refl refl refl refl)
