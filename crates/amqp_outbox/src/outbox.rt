@@ -129,8 +129,8 @@ impl Outbox {
 
     /// So many octets of the output are written.
     ///
-    /// Room is given back where little is left of much: an outbox keeps at most eight times the octets that it holds, or
-    /// 64 KiB where that is more, and the like of its slots.
+    /// Room is given back where little is left of much: after a write an outbox keeps room for at most sixteen times the
+    /// octets that it holds, or for 64 KiB where that is more, and the like of its slots.
     pub fn wrote(&mut self, octets: usize)
         requires { octets ≤ length (output_octets self.old.output) }
         ensures { self.new ≡ with_output self.old (after_writing octets self.old.output) }
@@ -205,22 +205,23 @@ impl Outbox {
 
     /// Gives back room that is large and nearly empty.
     ///
-    /// What is left is moved into a smaller room with as much again beside it. So the room has to be filled anew before
-    /// it is given back once more, and each octet that is staged pays for at most a few that are moved here. Up to
-    /// `KEPT_OCTETS` nothing is given back: what passes through so much room takes none anew.
+    /// What is left is moved into a smaller room, with as much again beside it. So an eighth of the room is moved at
+    /// most, and the next such move comes after as much was written or staged again. Up to `KEPT_OCTETS` nothing is given
+    /// back: a load that passes through so much room moves nothing and takes no memory.
     fn give_back(&mut self)
         ensures { self.new ≡ self.old }
     {
         let left = self.octets.len() - self.written;
         if is_spare(self.octets.capacity(), left, KEPT_OCTETS) {
+            let room = left.saturating_mul(2).max(KEPT_OCTETS);
             self.forget_written();
-            self.octets
-                .shrink_to(left.saturating_mul(2).max(KEPT_OCTETS));
+            self.octets.shrink_to(room);
         }
         let left = self.slots.len() - self.slots_begun;
         if is_spare(self.slots.capacity(), left, KEPT_SLOTS) {
+            let room = left.saturating_mul(2).max(KEPT_SLOTS);
             self.forget_begun();
-            self.slots.shrink_to(left.saturating_mul(2).max(KEPT_SLOTS));
+            self.slots.shrink_to(room);
         }
     }
 
@@ -353,7 +354,7 @@ fn expect_lap(waiting: usize, lap: u64) -> Result<(), StageFault>
 
 /// Whether room for so many is more than is kept of it where so many are left.
 fn is_spare(room: usize, left: usize, kept: usize) -> bool {
-    room > kept && left < room / 8
+    room > kept && left < room / 16
 }
 
 /// Drops the first of the items.

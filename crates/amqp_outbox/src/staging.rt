@@ -202,9 +202,22 @@ pub(crate) fn enlist(
     ensures slots_same { OnErr result (slots.new.items ≡ slots.old.items) }
 {
     let slot = slot_for(kind, channel, &octets[at..]);
-    let Ok(()) = slots.push(Waiting { slot, lap: 0 }) else {
+    let Ok(()) = add_slot(slots, slot) else {
         octets.truncate(at);
         return Err(StageFault::OutOfMemory);
     };
+    Ok(())
+}
+
+/// Adds a slot. The first one gets room for itself alone: an idle end has no more of them at a time.
+fn add_slot(slots: &mut Vec<Waiting>, slot: Slot) -> Result<(), StageFault>
+    ensures slots { OnOk result (slots_in slots.new.items ≡ slots_in slots.old.items ++ slot ∷ []) }
+    ensures laps { OnOk result (laps_in slots.new.items ≡ laps_in slots.old.items ++ 0 ∷ []) }
+    ensures same { OnErr result (slots.new.items ≡ slots.old.items) }
+{
+    if slots.is_empty() {
+        slots.reserve_exact(1)?;
+    }
+    slots.push(Waiting { slot, lap: 0 })?;
     Ok(())
 }
