@@ -1,7 +1,7 @@
 -- The place of a frame and its lap, after the last frame of its channel.
 use Rattle.std.proofs.Common.{◌≡◌, ℕ, zero, suc, ◌+◌, ◌-◌, ◌^◌, ◌<◌, ◌≤◌, min, Bool, true, false, cond, ◌==◌, nat_lt, inl, inr, List, [], ◌∷◌, ◌++◌, length, map, take, drop, All, get_or, refl, sym, ap, ap₂, ◌∙◌, subst, arith, append_assoc, take-append-drop, ne_eqb, le-ltb, eqb-true}
 use Rattle.std.proofs.lemmas.Bool.{cond-false, and_parts}
-use Rattle.std.proofs.lemmas.List.{take_rest, get_or_default, get_or-drop, get_or_at, take-map, drop-map, length-take-le, length-append, get_or-take}
+use Rattle.std.proofs.lemmas.List.{get_or_default, get_or-drop, get_or_at, take-map, drop-map, length-take-le, length-append, get_or-take}
 use Rattle.std.proofs.lemmas.List.Elements.{All-head, All-tail, All-take, All-drop}
 use Rattle.amqp_frame.specs.Frame.{Frame}
 use Rattle.amqp_model.specs.Arrangement.{is_leaving, steps, last_after, last_after_all, IsArranged, HasChannel}

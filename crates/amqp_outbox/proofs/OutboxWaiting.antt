@@ -2,7 +2,7 @@
 use Rattle.std.proofs.Common.{◌≡◌, ℕ, zero, suc, ◌+◌, ◌-◌, ◌<◌, ◌≤◌, true, false, List, [], ◌∷◌, ◌++◌, length, map, take, drop, get_or, set, refl, sym, ap, ap₂, ◌∙◌, subst, arith}
 use Rattle.std.proofs.lemmas.List.{length-map, take-map, drop-map, get_or-map, map-append, take_rest}
 use Rattle.amqp_outbox.specs.OutboxSlots.{slots_in, slot_length, slots_length, slot_last, slots_last, EndsWithChannel, moved_up}
-use Rattle.amqp_outbox.specs.OutboxLaps.{laps_in, lap_after, laps_of, laps_last, is_after, count_until, AreInOrder, Counts}
+use Rattle.amqp_outbox.specs.OutboxLaps.{laps_in, lap_after, laps_last, is_after, count_until, AreInOrder, Counts}
 use Rattle.amqp_outbox.specs.declared.slots.Slot.{Slot}
 use Rattle.amqp_outbox.specs.declared.slots.Waiting.{Waiting}
 use Rattle.amqp_outbox.proofs.OutboxSlots.{length-more, length-within, BegunSoFar, begun-more, ends-with}

@@ -1,4 +1,4 @@
-use Rattle.std.proofs.Common.{arith, take, sym, ap, ◌∙◌}
+use Rattle.std.proofs.Common.{arith, take}
 use Rattle.std.proofs.lemmas.List.{length-take-le}
 use Rattle.amqp_outbox.specs.OutboxSlots.{slots_in}
 use Rattle.amqp_outbox.proofs.OutboxLaps.{laps_last-most}
