@@ -1,5 +1,5 @@
 -- One feed more, and what comes of the octets that are read after.
-use Rattle.std.proofs.Common.{◌≡◌, ℕ, ◌<◌, List, ◌++◌, length, drop, option_to_list, Option, Result, Ok, Err, sym, ◌∙◌, ap, subst, inr}
+use Rattle.std.proofs.Common.{◌≡◌, ℕ, ◌<◌, ◌≤◌, List, ◌++◌, length, drop, option_to_list, Option, Result, Ok, Err, sym, ◌∙◌, ap, subst, inr}
 use Rattle.std.specs.Io.KnownBytes.{prepend_known}
 use Rattle.amqp_model.specs.Endpoint.{Endpoint}
 use Rattle.amqp_model.specs.Negotiation.{Config}
@@ -35,22 +35,27 @@ fed_further role config old intake new taken so_far some feeds octets events =
     subst (λ (k : Intake). FeedsOn role config old k) same (once_more intake taken new.endpoint so_far some feeds)
 
 -- a fault in feeding what was read
-pub stops_later : (role : Role) (config : Config role) (fault : IoFault) (old between new : Intake) (octets : List ℕ) (to_give left : Option (List ℕ))
-    → FeedsAll role config old between → AreRead octets to_give left → StopsFeeding role config fault (with_octets octets between) new
-    → Pulls role config (Err fault) old new to_give left
-stops_later role config (io.Core fault) old between new octets to_give left kept read stops =
+pub stops_later : (room : ℕ) (role : Role) (config : Config role) (fault : IoFault) (old between new : Intake) (octets : List ℕ) (to_give left : Option (List ℕ))
+    → FeedsAll role config old between → AreRead room octets to_give left → StopsFeeding role config fault (with_octets octets between) new
+    → Pulls room role config (Err fault) old new to_give left
+stops_later room role config (io.Core fault) old between new octets to_give left kept read stops =
     inr (record { between = between; octets = octets; kept_fed = kept; read = read; then_fed = stops })
-stops_later role config io.OutOfMemory old between new octets to_give left kept read stops =
+stops_later room role config io.OutOfMemory old between new octets to_give left kept read stops =
     inr (record { between = between; octets = octets; kept_fed = kept; read = read; then_fed = stops })
-stops_later role config io.Read old between new octets to_give left kept read stops = absurd stops
-stops_later role config io.Write old between new octets to_give left kept read stops = absurd stops
-stops_later role config io.EndOfInput old between new octets to_give left kept read stops = absurd stops
+stops_later room role config io.Read old between new octets to_give left kept read stops = absurd stops
+stops_later room role config io.Write old between new octets to_give left kept read stops = absurd stops
+stops_later room role config io.EndOfInput old between new octets to_give left kept read stops = absurd stops
 
--- what was read of a stream that was left alone before and after
-pub read_from : (octets : List ℕ) (to_give before after left : Option (List ℕ)) → before ≡ to_give → left ≡ after
-    → AreRead octets before after → AreRead octets to_give left
-read_from octets to_give before after left first last read =
-    record { some = read.some; most = read.most; given = sym first ∙ (read.given ∙ ap (prepend_known octets) (sym last)) }
+-- what was read, into room that stayed, of a stream that was left alone before and after
+pub read_from : (room kept : ℕ) (octets : List ℕ) (to_give before after left : Option (List ℕ))
+    → kept ≡ room → before ≡ to_give → left ≡ after
+    → AreRead kept octets before after → AreRead room octets to_give left
+read_from room kept octets to_give before after left same first last read =
+    record {
+      some = read.some;
+      most = subst (λ (most : ℕ). length octets ≤ most) same read.most;
+      given = sym first ∙ (read.given ∙ ap (prepend_known octets) (sym last));
+    }
 
 -- what comes of feeding, of an end set up as the one that the feeds began with
 

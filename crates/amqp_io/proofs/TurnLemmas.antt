@@ -32,18 +32,18 @@ moves limit count n old new output before after output_is count_is within writte
     }
 
 -- a pull that answered Ok, and a push of all that there was to write then
-pub pulled_and_pushed : (role : Role) (config : Config role) (result : Result ℕ IoFault) (count all : ℕ) (old between new : Intake)
+pub pulled_and_pushed : (room : ℕ) (role : Role) (config : Config role) (result : Result ℕ IoFault) (count all : ℕ) (old between new : Intake)
     (to_give middle left before during after : Option (List ℕ))
-    → Pulls role config (Ok count) old between to_give middle → left ≡ middle
+    → Pulls room role config (Ok count) old between to_give middle → left ≡ middle
     → all ≡ length (output_octets between.endpoint.output)
     → Pushes all result between.endpoint new.endpoint during after → during ≡ before
     → new.octets ≡ between.octets → new.events ≡ between.events
-    → PullThenPush role config result old new to_give left before after
-pulled_and_pushed role config result count all old between new to_give middle left before during after pulls same_left same_all pushes same_taken octets events =
+    → PullThenPush room role config result old new to_give left before after
+pulled_and_pushed room role config result count all old between new to_give middle left before during after pulls same_left same_all pushes same_taken octets events =
     record {
       count = count;
       between = between;
-      pulls = subst (λ (k : Option (List ℕ)). Pulls role config (Ok count) old between to_give k) (sym same_left) pulls;
+      pulls = subst (λ (k : Option (List ℕ)). Pulls room role config (Ok count) old between to_give k) (sym same_left) pulls;
       pushes = subst (λ (n : ℕ). Pushes n result between.endpoint new.endpoint before after) same_all
           (subst (λ (k : Option (List ℕ)). Pushes all result between.endpoint new.endpoint k after) same_taken pushes);
       octets_stay = octets;

@@ -1,6 +1,7 @@
 pub mod Streams
 pub mod Reading
 pub mod Refilling
+pub mod Buffering
 pub mod UnfedFields
 pub mod Sockets
 pub mod SocketFields

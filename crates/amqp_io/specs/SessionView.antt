@@ -18,14 +18,18 @@ stream_of session = session.stream
 
 -- the octets that were read and not fed
 abbrev pub unfed_in : {R H S : Type 0} {G : Ghosts R H} → Session R S H G → List ℕ
-unfed_in session = session.unfed
+unfed_in session = session.unfed.octets
+
+-- how many octets a read takes at most
+abbrev pub room_in : {R H S : Type 0} {G : Ghosts R H} → Session R S H G → ℕ
+room_in session = session.unfed.room
 
 -- the events that were not handed out, oldest first
 abbrev pub events_in : {R H S : Type 0} {G : Ghosts R H} → Session R S H G → List Event
 events_in session = session.events.items
 
 abbrev pub intake_of : {R H S : Type 0} {G : Ghosts R H} → Session R S H G → Intake
-intake_of session = record { endpoint = endpoint_of session.end; octets = session.unfed; events = session.events.items }
+intake_of session = record { endpoint = endpoint_of session.end; octets = session.unfed.octets; events = session.events.items }
 
 -- what the end is set up with
 abbrev pub settings_in : {R H S : Type 0} {G : Ghosts R H} → Session R S H G → Settings

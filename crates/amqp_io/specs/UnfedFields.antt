@@ -1,10 +1,18 @@
--- Which octets are read and not fed.
-use Rattle.std.specs.Prelude.{◌≤◌, ℕ, List, take, drop}
+-- Which octets are read and not fed, and the room for those of a read.
+use Rattle.std.specs.Prelude.{◌≤◌, ◌<◌, ℕ, List, length, take, drop}
+use Rattle.amqp_io.specs.Buffering.{Buffered}
+use Rattle.amqp_io.specs.declared.unfed.Room.{Room}
+use Rattle.amqp_io.specs.declared.unfed.Room.TheVariants.{Own, Given}
 use Rattle.amqp_io.specs.declared.unfed.Unfed.TheInside.{Inside}
 
--- those that were read, without those that were fed
-abbrev pub unfed_of : Inside → List ℕ
-unfed_of x = drop x.fed (take x.read x.octets)
+-- the octets of the room, whether read or not
+abbrev pub octets_in : Room → List ℕ
+octets_in (Own octets) = octets
+octets_in (Given octets) = octets.items
+
+-- those that were read, without those that were fed; and how many the room holds
+abbrev pub buffered_of : Inside → Buffered
+buffered_of x = record { octets = drop x.fed (take x.read (octets_in x.room)); room = length (octets_in x.room) }
 
 abbrev pub IsSound : Inside → Type 0
-IsSound x = (x.fed ≤ x.read) × (x.read ≤ 4096)
+IsSound x = (x.fed ≤ x.read) × (x.read ≤ length (octets_in x.room)) × (0 < length (octets_in x.room))

@@ -20,6 +20,7 @@ mod writing;
 
 pub use crate::faults::{IoFault, OutOfMemory, StreamFailed};
 pub use crate::script::{Answer, Script};
-pub use crate::session::Session;
+pub use crate::session::{Parts, Session};
 pub use crate::socket::Socket;
 pub use crate::stream::Stream;
+pub use crate::unfed::Unfed;

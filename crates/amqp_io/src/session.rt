@@ -24,7 +24,8 @@ use std::collections::VecDeque;
 /// `push(usize::MAX)`, and [`Session::turn`] does the one and then the other. The end's events are kept until
 /// [`Session::next_event`] hands them out. After a fault the session may be used again: [`IoFault`] says what stands after each.
 ///
-/// It has room for the 4096 octets of one read in itself, so that reading takes no memory.
+/// It has room for the 4096 octets of one read in itself, or the room that [`Session::with_room`] was given, so that
+/// reading takes no memory.
 #[derive(Drop)]
 pub struct Session<R: Role, S: Stream> {
     end: End<R>,
@@ -33,6 +34,17 @@ pub struct Session<R: Role, S: Stream> {
     unfed: Unfed,
     /// what was not handed out, oldest first
     events: VecDeque<Event>,
+}
+
+/// What a session holds.
+#[derive(Drop)]
+pub struct Parts<R: Role, S: Stream> {
+    pub end: End<R>,
+    pub stream: S,
+    /// What was read and not fed: the next octets of the peer.
+    pub unfed: Unfed,
+    /// The events that were not handed out, oldest first.
+    pub events: VecDeque<Event>,
 }
 
 /// Keeps an event, if there is one, after those that are there.
@@ -47,7 +59,7 @@ fn keep(events: &mut VecDeque<Event>, event: Option<Event>)
 }
 
 impl<R: Role, S: Stream> Session<R, S> {
-    ghost use Rattle.amqp_io.specs.SessionView.{end_of, stream_of, unfed_in, events_in, intake_of, settings_in, role_in, config_in};
+    ghost use Rattle.amqp_io.specs.SessionView.{end_of, stream_of, unfed_in, events_in, intake_of, settings_in, role_in, config_in, room_in};
 
     /// An end over a stream. Nothing is read or written yet.
     pub fn new(alloc: Global, end: End<R>, stream: S) -> Session<R, S>
@@ -55,11 +67,30 @@ impl<R: Role, S: Stream> Session<R, S> {
         ensures stream { stream_of result ≡ stream }
         ensures unfed { unfed_in result ≡ [] }
         ensures events { events_in result ≡ [] }
+        ensures room { room_in result ≡ 4096 }
     {
         Session {
             end,
             stream,
             unfed: Unfed::new(),
+            events: VecDeque::new(alloc),
+        }
+    }
+
+    /// An end over a stream, as [`Session::new`] makes it, that reads into this room: at most as many octets at once as it
+    /// is long, as `vec![in alloc; 0; 65_536]?`, whatever stands in it. Few large reads cost less than many small ones.
+    pub fn with_room(alloc: Global, end: End<R>, stream: S, room: Vec<u8>) -> Session<R, S>
+        requires { 0 < length room.items }
+        ensures end { end_of result ≡ end }
+        ensures stream { stream_of result ≡ stream }
+        ensures unfed { unfed_in result ≡ [] }
+        ensures events { events_in result ≡ [] }
+        ensures room { room_in result ≡ length room.items }
+    {
+        Session {
+            end,
+            stream,
+            unfed: Unfed::with_room(room),
             events: VecDeque::new(alloc),
         }
     }
@@ -79,7 +110,7 @@ impl<R: Role, S: Stream> Session<R, S> {
     }
 
     /// Gives the end and the stream back. Octets that were read and not fed are dropped, and so are the events that were not
-    /// handed out.
+    /// handed out: [`Session::into_all`] gives these too.
     pub fn into_parts(self) -> (End<R>, S)
         ensures end { result.0 ≡ end_of self }
         ensures stream { result.1 ≡ stream_of self }
@@ -93,6 +124,27 @@ impl<R: Role, S: Stream> Session<R, S> {
         (end, stream)
     }
 
+    /// Gives all back that the session holds.
+    pub fn into_all(self) -> Parts<R, S>
+        ensures end { result.end ≡ end_of self }
+        ensures stream { result.stream ≡ stream_of self }
+        ensures unfed { result.unfed.octets ≡ unfed_in self }
+        ensures events { result.events.items ≡ events_in self }
+    {
+        let Session {
+            end,
+            stream,
+            unfed,
+            events,
+        } = self;
+        Parts {
+            end,
+            stream,
+            unfed,
+            events,
+        }
+    }
+
     /// Asks something of the end, as [`End::ask`].
     pub fn ask(&mut self, ask: &Ask) -> Result<Option<u16>, AskFault>
         ensures accepted { OnOk result (AcceptsAsk (role_in self.old) (config_in self.old) (ask_view ask.now) (endpoint_of (end_of self.old)) (endpoint_of (end_of self.new))) }
@@ -102,6 +154,7 @@ impl<R: Role, S: Stream> Session<R, S> {
         ensures stream { stream_of self.new ≡ stream_of self.old }
         ensures unfed { unfed_in self.new ≡ unfed_in self.old }
         ensures events { events_in self.new ≡ events_in self.old }
+        ensures room { room_in self.new ≡ room_in self.old }
     {
         self.end.ask(ask)
     }
@@ -113,6 +166,7 @@ impl<R: Role, S: Stream> Session<R, S> {
         ensures end { end_of self.new ≡ end_of self.old }
         ensures stream { stream_of self.new ≡ stream_of self.old }
         ensures unfed { unfed_in self.new ≡ unfed_in self.old }
+        ensures room { room_in self.new ≡ room_in self.old }
     {
         self.events.pop_front()
     }
@@ -128,6 +182,7 @@ impl<R: Role, S: Stream> Session<R, S> {
         ensures settings { settings_in self.new ≡ settings_in self.old }
         ensures unfed { unfed_in self.new ≡ unfed_in self.old }
         ensures events { events_in self.new ≡ events_in self.old }
+        ensures room { room_in self.new ≡ room_in self.old }
     {
         let output = self.end.output();
         let count = limit.min(output.len());
@@ -144,6 +199,7 @@ impl<R: Role, S: Stream> Session<R, S> {
         ensures fed { FeedsThose (role_in self.old) (config_in self.old) result (intake_of self.old) (intake_of self.new) }
         ensures settings { settings_in self.new ≡ settings_in self.old }
         ensures stream { stream_of self.new ≡ stream_of self.old }
+        ensures room { room_in self.new ≡ room_in self.old }
     {
         while !self.unfed.is_empty() {
             let Ok(()) = self.events.try_reserve(1) else {
@@ -163,14 +219,15 @@ impl<R: Role, S: Stream> Session<R, S> {
         Ok(())
     }
 
-    /// Feeds the end what was read before and not fed. Then it reads once, at most 4096 octets, and feeds all of them. It
-    /// answers how many it read: at least 1. Nothing is written.
+    /// Feeds the end what was read before and not fed. Then it reads once, at most as many octets as there is room for,
+    /// and feeds all of them. It answers how many it read: at least 1. Nothing is written.
     pub fn pull(&mut self) -> Result<usize, IoFault>
-        ensures pulled { Pulls (role_in self.old) (config_in self.old) result (intake_of self.old) (intake_of self.new) (S.to_give (stream_of self.old)) (S.to_give (stream_of self.new)) }
+        ensures pulled { Pulls (room_in self.old) (role_in self.old) (config_in self.old) result (intake_of self.old) (intake_of self.new) (S.to_give (stream_of self.old)) (S.to_give (stream_of self.new)) }
         ensures taken { S.taken (stream_of self.new) ≡ S.taken (stream_of self.old) }
         ensures failure { Marks (result ≡ Err IoFault.Read) (S.failures (stream_of self.old)) (S.failures (stream_of self.new)) }
         ensures end { Marks (result ≡ Err IoFault.EndOfInput) (S.ends (stream_of self.old)) (S.ends (stream_of self.new)) }
         ensures settings { settings_in self.new ≡ settings_in self.old }
+        ensures room { room_in self.new ≡ room_in self.old }
     {
         self.feed_all()?;
         let count = match self.unfed.refill(&mut self.stream) {
@@ -185,10 +242,11 @@ impl<R: Role, S: Stream> Session<R, S> {
     /// Pulls, and then, if that answers Ok, pushes the whole output. A client speaks first, so it pushes before its first
     /// turn: else both sides wait.
     pub fn turn(&mut self) -> Result<(), IoFault>
-        ensures turned { Turns (role_in self.old) (config_in self.old) result (intake_of self.old) (intake_of self.new) (S.to_give (stream_of self.old)) (S.to_give (stream_of self.new)) (S.taken (stream_of self.old)) (S.taken (stream_of self.new)) }
+        ensures turned { Turns (room_in self.old) (role_in self.old) (config_in self.old) result (intake_of self.old) (intake_of self.new) (S.to_give (stream_of self.old)) (S.to_give (stream_of self.new)) (S.taken (stream_of self.old)) (S.taken (stream_of self.new)) }
         ensures failure { Marks ((result ≡ Err IoFault.Read) ⊎ (result ≡ Err IoFault.Write)) (S.failures (stream_of self.old)) (S.failures (stream_of self.new)) }
         ensures end { Marks (result ≡ Err IoFault.EndOfInput) (S.ends (stream_of self.old)) (S.ends (stream_of self.new)) }
         ensures settings { settings_in self.new ≡ settings_in self.old }
+        ensures room { room_in self.new ≡ room_in self.old }
     {
         self.pull()?;
         let all = self.end.output().len();

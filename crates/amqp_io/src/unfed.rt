@@ -1,5 +1,5 @@
 //! The octets that a session has read and not fed yet.
-ghost use Rattle.std.specs.Prelude.{◌≡◌, ◌≤◌, ◌==◌, [], length, drop};
+ghost use Rattle.std.specs.Prelude.{◌≡◌, ◌≤◌, ◌<◌, ◌==◌, [], length, drop};
 ghost use Rattle.amqp_io.specs.Streams.{Marks};
 ghost use Rattle.amqp_io.specs.Refilling.{Refills};
 
@@ -7,13 +7,23 @@ use crate::reading::{Arrival, read_once};
 use crate::stream::Stream;
 use std::marker::Model;
 
-/// At most so many octets are read at once.
+/// At most so many octets are read at once, where the caller doesn't say otherwise.
 const MOST: usize = 4096;
 
-/// Octets that were read and not fed yet. They are read into room that it keeps, so reading takes no memory.
+/// The room into which octets are read.
 #[derive(Drop)]
-pub(crate) struct Unfed {
-    octets: [u8; MOST],
+pub(crate) enum Room {
+    /// Room for [`MOST`] octets, which takes no memory.
+    Own([u8; MOST]),
+    /// Room that the caller gave.
+    Given(Vec<u8>),
+}
+
+/// Octets that a session has read and not fed to its end. They are read into room that it keeps, so reading takes no
+/// memory.
+#[derive(Drop)]
+pub struct Unfed {
+    room: Room,
     /// how many of the octets read were fed
     fed: usize,
     /// how many octets were read
@@ -21,54 +31,71 @@ pub(crate) struct Unfed {
 }
 
 impl Model for Unfed {
-    ghost use Rattle.std.specs.Prelude.{ℕ, List};
+    ghost use Rattle.amqp_io.specs.Buffering.{Buffered};
 
-    ghost Value = { List ℕ };
+    ghost Value = { Buffered };
 
-    ghost use Rattle.amqp_io.specs.UnfedFields.{unfed_of, IsSound};
+    ghost use Rattle.amqp_io.specs.UnfedFields.{buffered_of, IsSound};
 
-    ghost view = { unfed_of };
+    ghost view = { buffered_of };
 
     ghost invariant = { IsSound };
 }
 
 impl Unfed {
-    /// No octet.
+    /// No octet, and room for 4096.
     pub(crate) fn new() -> Unfed
-        ensures { result ≡ [] }
+        ensures octets { result.octets ≡ [] }
+        ensures room { result.room ≡ 4096 }
     {
         Unfed {
-            octets: [0; MOST],
+            room: Room::Own([0; MOST]),
+            fed: 0,
+            read: 0,
+        }
+    }
+
+    /// No octet, and this room, whatever stands in it.
+    pub(crate) fn with_room(room: Vec<u8>) -> Unfed
+        requires { 0 < length room.items }
+        ensures octets { result.octets ≡ [] }
+        ensures room { result.room ≡ length room.items }
+    {
+        Unfed {
+            room: Room::Given(room),
             fed: 0,
             read: 0,
         }
     }
 
     /// The octets, in the order in which they were read.
-    pub(crate) fn octets(&self) -> &[u8]
-        ensures { result.now ≡ self.now }
+    pub fn octets(&self) -> &[u8]
+        ensures { result.now ≡ self.now.octets }
     {
-        &self.octets[self.fed..self.read]
+        match &self.room {
+            Room::Own(octets) => &octets[self.fed..self.read],
+            Room::Given(octets) => &octets[self.fed..self.read],
+        }
     }
 
     /// There is none.
-    pub(crate) fn is_empty(&self) -> bool
-        ensures { result ≡ (length self.now == 0) }
+    pub fn is_empty(&self) -> bool
+        ensures { result ≡ (length self.now.octets == 0) }
     {
         self.fed == self.read
     }
 
     /// So many octets from the start were fed.
     pub(crate) fn fed(&mut self, count: usize)
-        requires { count ≤ length self.old }
-        ensures { self.new ≡ drop count self.old }
+        requires { count ≤ length self.old.octets }
+        ensures { self.new ≡ record self.old { octets = drop count self.old.octets } }
     {
         self.fed += count;
     }
 
     /// Drops the octets.
     pub(crate) fn clear(&mut self)
-        ensures { self.new ≡ [] }
+        ensures { self.new ≡ record self.old { octets = [] } }
     {
         self.fed = 0;
         self.read = 0;
@@ -76,12 +103,16 @@ impl Unfed {
 
     /// Reads once, in place of what was there.
     pub(crate) fn refill<S: Stream>(&mut self, stream: &mut S) -> Arrival
-        ensures given { Refills result self.new (S.to_give stream.old) (S.to_give stream.new) }
+        ensures given { Refills self.old.room result self.new.octets (S.to_give stream.old) (S.to_give stream.new) }
+        ensures room { self.new.room ≡ self.old.room }
         ensures taken { S.taken stream.new ≡ S.taken stream.old }
         ensures failure { Marks (result ≡ Arrival.Failure) (S.failures stream.old) (S.failures stream.new) }
         ensures end { Marks (result ≡ Arrival.End) (S.ends stream.old) (S.ends stream.new) }
     {
-        let arrival = read_once(stream, &mut self.octets);
+        let arrival = match &mut self.room {
+            Room::Own(octets) => read_once(stream, octets),
+            Room::Given(octets) => read_once(stream, octets),
+        };
         self.fed = 0;
         self.read = match arrival {
             Arrival::Octets(count) => count,

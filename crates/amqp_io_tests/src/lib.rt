@@ -16,6 +16,8 @@ mod memory;
 #[cfg(test)]
 mod octets;
 #[cfg(test)]
+mod rooms;
+#[cfg(test)]
 mod scripts;
 #[cfg(test)]
 mod sessions;

@@ -2,6 +2,7 @@
 use crate::streams::assert_steps;
 use amqp_io::Socket;
 use std::alloc::Global;
+use std::io::ErrorKind;
 use std::net::{Net, TcpListener, TcpStream};
 use std::process::Abort;
 use std::test::Fail;
@@ -41,12 +42,42 @@ fn octets_over_tcp(rt: HostRuntime) -> Result<(), Fail> {
     outcome
 }
 
-/// A read that would block fails.
+/// A read that would block fails, and says so.
 fn assert_blocked(rt: &impl Abort, alloc: Global, server: &mut Socket) -> Result<(), Fail> {
+    assert!(rt; server.failure().is_none() && !server.would_block());
     server.get_ref().set_nonblocking(true)?;
     assert_steps(rt, alloc, server, "read 16 = fail")?;
     server.get_ref().set_nonblocking(false)?;
+    assert_failure(rt, server, ErrorKind::WouldBlock);
+    assert!(rt; server.would_block() && !server.was_interrupted());
     Ok(())
+}
+
+/// The last call that failed did so for a reason of this kind.
+fn assert_failure(rt: &impl Abort, socket: &Socket, kind: ErrorKind) {
+    let found = socket.failure().map(|why| why.kind());
+    assert!(rt; found == Some(kind));
+}
+
+/// A connection whose peer is gone with octets that it did not read is broken, and does not only have to wait.
+fn assert_reset(rt: &impl Abort, alloc: Global, server: &mut Socket) -> Result<(), Fail> {
+    assert_steps(rt, alloc, server, "read 16 = fail")?;
+    assert_failure(rt, server, ErrorKind::ConnectionReset);
+    assert!(rt; !server.would_block() && !server.was_interrupted());
+    Ok(())
+}
+
+#[test]
+fn a_connection_that_is_reset(rt: HostRuntime) -> Result<(), Fail> {
+    let (client, mut server) = connected(&rt)?;
+    let written = assert_steps(&rt, rt.alloc(), &mut server, "write 414d5150 = 4");
+    drop(client.into_inner());
+    let reset = match written {
+        Ok(()) => assert_reset(&rt, rt.alloc(), &mut server),
+        Err(fail) => Err(fail),
+    };
+    drop(server);
+    reset
 }
 
 #[test]

@@ -1,7 +1,7 @@
 -- A pull that was answered Ok, and then a push of all that there was to write.
 use Rattle.std.proofs.Common.{length, ap, inr}
 use Rattle.std.proofs.lemmas.Result.{err_from_is_err_and}
-use Rattle.amqp_io.specs.SessionView.{intake_of, role_in, config_in}
+use Rattle.amqp_io.specs.SessionView.{intake_of, role_in, config_in, room_in}
 use Rattle.amqp_io.proofs.TurnLemmas.{pulled_and_pushed}
 use Rattle.amqp_io.proofs.session.Session.turn.Goals as goal
 
@@ -13,7 +13,7 @@ returns-in_err-push-clause-turned g c =
     let new = intake_of c.push.new.self in
     let pull = c.in_ok-pull.ensures in
     let push = c.in_err-push.ensures in
-    rw (p.1, p.2) (inr (pulled_and_pushed (role_in old) (config_in old) _ _ _ (intake_of old) between new _ _ _ _ _ _
+    rw (p.1, p.2) (inr (pulled_and_pushed (room_in old) (role_in old) (config_in old) _ _ _ (intake_of old) between new _ _ _ _ _ _
     pull.pulled push.to_give (ap length c.output-all.ensures.octets) push.pushed pull.taken push.unfed push.events))
 
 pub returns-clause-turned : goal.returns-clause-turned
@@ -23,6 +23,6 @@ returns-clause-turned g c =
     let new = intake_of c.push.new.self in
     let pull = c.in_ok-pull.ensures in
     let push = c.in_ok-push.ensures in
-    let both = pulled_and_pushed (role_in old) (config_in old) _ _ _ (intake_of old) between new _ _ _ _ _ _
+    let both = pulled_and_pushed (room_in old) (role_in old) (config_in old) _ _ _ (intake_of old) between new _ _ _ _ _ _
     pull.pulled push.to_give (ap length c.output-all.ensures.octets) push.pushed pull.taken push.unfed push.events in
     (c.in_ok-push.field-0, both)
