@@ -76,6 +76,51 @@ def to_the_broker():
     says("publish, as amqp-get gets it", True, got.stdout == body)
 
 
+def with_options():
+    """`publish` with each option, read back by pika; logins that a broker takes and refuses; and contents that no queue takes."""
+    connection = pika.BlockingConnection(pika.ConnectionParameters("127.0.0.1", PORT, heartbeat=0))
+    channel = connection.channel()
+    queue = channel.queue_declare("", exclusive=True).method.queue
+    headers = ["--header", "source=shell", "--header", "empty=", "--header", "text=\u00e9=1"]
+    whole = {
+        "content_type": "text/plain", "headers": {"source": "shell", "empty": "", "text": "\u00e9=1"}, "delivery_mode": 2,
+        "correlation_id": "c", "reply_to": "answers", "expiration": "60000",
+    }
+    for options, wanted in (
+        (["--content-type", "text/plain"], {"content_type": "text/plain"}),
+        (headers, {"headers": whole["headers"]}),
+        (["--persistent"], {"delivery_mode": 2}),
+        (["--correlation-id", "c"], {"correlation_id": "c"}),
+        (["--reply-to", "answers"], {"reply_to": "answers"}),
+        (["--expiration", "60000"], {"expiration": "60000"}),
+        (["--content-type", "text/plain", *headers, "--persistent", "--correlation-id", "c", "--reply-to", "answers", "--expiration", "60000"], whole),
+    ):
+        what = " ".join(["publish", *options])
+        says(what, ("published 2\n", 0, ""), published([BROKER, "", queue, "--mandatory", *options], b"hi"))
+        _, properties, came = channel.basic_get(queue, auto_ack=True)
+        found = {name: value for name, value in vars(properties).items() if value is not None}
+        says(f"{what}, as pika gets it", (b"hi", wanted), (came, found))
+    for words in (["", "no such queue"], ["amq.direct", "no such key"]):
+        returned = ("fault short\n", 1, f'amqp: {BROKER}: the server returned the content: 312 "NO_ROUTE"\n')
+        says(f"publish --mandatory to {words}", returned, published([BROKER, *words, "--mandatory"], b"hi"))
+    says(
+        "publish --mandatory to no such exchange",
+        ("fault short\n", 1, f"amqp: {BROKER}: the server closed the channel: 404 \"NOT_FOUND - no exchange 'nowhere' in vhost '/'\"\n"),
+        published([BROKER, "nowhere", "key", "--mandatory"], b"hi"),
+    )
+    for words in ([f"amqp://{BROKER}"], [f"amqp://guest:guest@{BROKER}/%2F"], ["--user", "guest", "--password", "guest", "--vhost", "/", BROKER]):
+        says(f"publish to {words}", ("published 2\n", 0, ""), published([*words, "", queue, "--mandatory"], b"hi"))
+        _, _, came = channel.basic_get(queue, auto_ack=True)
+        says(f"publish to {words}, as pika gets it", b"hi", came)
+    # this broker resets the connection, or hangs up, where it refuses a login: the client has not said that it hears refusals
+    for words in ([f"amqp://guest:wrong@{BROKER}"], ["--user", "nobody", BROKER]):
+        printed, status, said = published([*words, "", queue], b"hi")
+        says(f"publish to {words}", (True, 1, False), (printed in ("fault read\n", "fault end-of-input\n"), status, "wrong" in said))
+    closed = f"amqp: {BROKER}: the server closed the connection: 530 \"NOT_ALLOWED - vhost nowhere not found\"\n"
+    says("publish to no such virtual host", ("fault short\n", 1, closed), published(["--vhost", "nowhere", BROKER, "", queue], b"hi"))
+    connection.close()
+
+
 class Served:
     """A run of `serve`, which listens once it is made."""
 
@@ -193,6 +238,6 @@ def with_tools():
     says("serve amqp-declare-queue", ([*shaken(), told, "fault end-of-input"], 1), (printed, status))
 
 
-for part in (to_the_broker, with_pika, with_py_amqp, with_tools):
+for part in (to_the_broker, with_options, with_pika, with_py_amqp, with_tools):
     part()
 sys.exit(1 if failed else 0)

@@ -67,18 +67,33 @@ fn select_method(alloc: Global) -> Result<Message, OutOfMemory> {
     Ok(Message::plain(Method::new(Kind::ConfirmSelect, args)))
 }
 
-/// What publishes a content without properties. One that is mandatory comes back where no queue takes it.
+/// Asks the server for something that changes nothing: any number of unconfirmed deliveries. Once it answers, it has
+/// done what was sent on the channel before.
+pub fn ask_back<R: Role, S: Stream>(
+    alloc: Global,
+    session: &mut Session<R, S>,
+) -> Result<(), Stop> {
+    let unlimited = qos_method(alloc)?;
+    ask_once(session, Ask::Send(CHANNEL, unlimited))
+}
+
+fn qos_method(alloc: Global) -> Result<Message, OutOfMemory> {
+    let args = vec![in alloc; Arg::Long(0), Arg::Short(0), Arg::Bit(false)]?;
+    Ok(Message::plain(Method::new(Kind::BasicQos, args)))
+}
+
+/// What publishes a content. One that is mandatory comes back where no queue takes it.
 pub fn publish(
     alloc: Global,
     exchange: ShortStr,
     key: ShortStr,
     mandatory: bool,
+    properties: Properties,
     body: Vec<u8>,
 ) -> Result<Ask, OutOfMemory> {
     let exchange = Arg::ShortStr(exchange);
     let key = Arg::ShortStr(key);
     let args = vec![in alloc; exchange, key, Arg::Bit(mandatory), Arg::Bit(false)]?;
     let method = Method::new(Kind::BasicPublish, args);
-    let properties = Properties::default();
     Ok(Ask::Send(CHANNEL, Message::content(method, properties, body)))
 }

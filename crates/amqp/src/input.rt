@@ -28,6 +28,17 @@ pub fn read_all<I: Read>(alloc: Global, input: &mut I) -> Result<Vec<u8>, InputF
     Ok(octets)
 }
 
+/// The first line that the input gives, without its end.
+pub fn first_line<I: Read>(alloc: Global, input: &mut I) -> Result<Vec<u8>, InputFault> {
+    let mut text = read_all(alloc, input)?;
+    let end = text.iter().position(|octet| *octet == b'\n');
+    text.truncate(end.unwrap_or(text.len()));
+    if text.last() == Some(&b'\r') {
+        text.pop();
+    }
+    Ok(text)
+}
+
 /// The octets that all lines of the input encode.
 pub fn read_octets<I: Read>(alloc: Global, input: &mut I) -> Result<Vec<u8>, InputFault> {
     let text = read_all(alloc, input)?;

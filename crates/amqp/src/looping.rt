@@ -1,14 +1,13 @@
 //! The subcommand `loop`: both ends of a connection in one process, over two sockets.
 use crate::asks::{CHANNEL, ask, close_channel, close_connection, open_channel, publish};
-use crate::connection::Connection;
 use crate::printing::Stop;
 use crate::progress::Progress;
 use crate::sessions::{client_end, is_closed, pull, push_some, server_end};
 use crate::words::short;
 use amqp_command::Limits;
 use amqp_core::{Ask, ChannelState, Client, Phase, Role, Server};
-use amqp_io::Session;
-use amqp_method::OutOfMemory;
+use amqp_io::{Session, Socket};
+use amqp_method::{OutOfMemory, Properties};
 use amqp_text::{EXCHANGE, KEY, Load, Tally, pattern};
 use std::alloc::Global;
 use std::io::Write;
@@ -22,8 +21,8 @@ pub fn run_loop<E: Write + Drop>(
     alloc: Global,
     limits: Limits,
     load: Load,
-    to_server: Connection,
-    to_client: Connection,
+    to_server: Socket,
+    to_client: Socket,
     progress: &mut Progress<E>,
 ) -> Result<bool, Stop> {
     let end = client_end(alloc, limits)?;
@@ -37,8 +36,8 @@ fn run_with_server<E: Write + Drop>(
     alloc: Global,
     limits: Limits,
     load: Load,
-    client: &mut Session<Client, Connection>,
-    to_client: Connection,
+    client: &mut Session<Client, Socket>,
+    to_client: Socket,
     progress: &mut Progress<E>,
 ) -> Result<bool, Stop> {
     let end = server_end(alloc, limits)?;
@@ -51,8 +50,8 @@ fn run_with_server<E: Write + Drop>(
 fn run_with_source<E: Write + Drop>(
     alloc: Global,
     load: Load,
-    client: &mut Session<Client, Connection>,
-    server: &mut Session<Server, Connection>,
+    client: &mut Session<Client, Socket>,
+    server: &mut Session<Server, Socket>,
     progress: &mut Progress<E>,
 ) -> Result<bool, Stop> {
     let body = pattern(alloc, load.size as usize)?;
@@ -68,8 +67,8 @@ fn run_with_source<E: Write + Drop>(
 fn run_with_tally<E: Write + Drop>(
     mut source: Source,
     load: Load,
-    client: &mut Session<Client, Connection>,
-    server: &mut Session<Server, Connection>,
+    client: &mut Session<Client, Socket>,
+    server: &mut Session<Server, Socket>,
     tally: &mut Tally,
     progress: &mut Progress<E>,
 ) -> Result<bool, Stop> {
@@ -83,8 +82,8 @@ fn run_with_tally<E: Write + Drop>(
 fn turn_until_still<E: Write + Drop>(
     source: &mut Source,
     load: Load,
-    client: &mut Session<Client, Connection>,
-    server: &mut Session<Server, Connection>,
+    client: &mut Session<Client, Socket>,
+    server: &mut Session<Server, Socket>,
     tally: &mut Tally,
     progress: &mut Progress<E>,
 ) -> Result<(), Stop> {
@@ -100,8 +99,8 @@ fn turn_until_still<E: Write + Drop>(
 
 /// The client asks what it can and writes, the server takes that, and then the other way round. It answers whether any octet moved.
 fn take_turns(
-    client: &mut Session<Client, Connection>,
-    server: &mut Session<Server, Connection>,
+    client: &mut Session<Client, Socket>,
+    server: &mut Session<Server, Socket>,
     source: &mut Source,
     tally: &mut Tally,
 ) -> Result<bool, Stop> {
@@ -115,8 +114,8 @@ fn take_turns(
 
 /// One end writes some octets, and the other reads until they have come. It answers how many.
 fn pass<A: Role, B: Role>(
-    from: &mut Session<A, Connection>,
-    to: &mut Session<B, Connection>,
+    from: &mut Session<A, Socket>,
+    to: &mut Session<B, Socket>,
 ) -> Result<usize, Stop> {
     let written = push_some(from, AT_ONCE)?;
     let mut missing = written;
@@ -129,7 +128,7 @@ fn pass<A: Role, B: Role>(
     Ok(written)
 }
 
-fn hear_server(server: &mut Session<Server, Connection>, tally: &mut Tally) {
+fn hear_server(server: &mut Session<Server, Socket>, tally: &mut Tally) {
     for _ in 0..u64::MAX {
         let Some(event) = server.next_event() else {
             break;
@@ -139,7 +138,7 @@ fn hear_server(server: &mut Session<Server, Connection>, tally: &mut Tally) {
 }
 
 /// Drops the client's events. Its end knows how far it is.
-fn hear_client(client: &mut Session<Client, Connection>) {
+fn hear_client(client: &mut Session<Client, Socket>) {
     for _ in 0..u64::MAX {
         let Some(_) = client.next_event() else {
             break;
@@ -171,7 +170,7 @@ fn content_of(alloc: Global, load: Load) -> Result<Ask, OutOfMemory> {
     let exchange = short(alloc, EXCHANGE)?;
     let key = short(alloc, KEY)?;
     let body = pattern(alloc, load.size as usize)?;
-    publish(alloc, exchange, key, false, body)
+    publish(alloc, exchange, key, false, Properties::default(), body)
 }
 
 impl Source {
@@ -186,7 +185,7 @@ impl Source {
     }
 
     /// Asks one thing, if nothing that was asked before waits to be written.
-    fn ask(&mut self, client: &mut Session<Client, Connection>) -> Result<(), Stop> {
+    fn ask(&mut self, client: &mut Session<Client, Socket>) -> Result<(), Stop> {
         if !client.end().output().is_empty() || client.end().phase() != Phase::Running {
             return Ok(());
         }
@@ -203,7 +202,7 @@ impl Source {
     }
 
     /// Publishes the next content, or closes the channel, once it is open; or the connection, where the server closed the channel.
-    fn publish(&mut self, client: &mut Session<Client, Connection>, left: u32) -> Result<(), Stop> {
+    fn publish(&mut self, client: &mut Session<Client, Socket>, left: u32) -> Result<(), Stop> {
         match client.end().channel_state(CHANNEL) {
             ChannelState::Open if left > 0 => {
                 ask(client, &self.content)?;
@@ -221,7 +220,7 @@ impl Source {
         }
     }
 
-    fn close_connection(&mut self, client: &mut Session<Client, Connection>) -> Result<(), Stop> {
+    fn close_connection(&mut self, client: &mut Session<Client, Socket>) -> Result<(), Stop> {
         close_connection(self.alloc, client)?;
         self.next = Step::Nothing;
         Ok(())

@@ -1,9 +1,9 @@
 //! `amqp`: reads AMQP 0-9-1 octets and says what they are, and speaks AMQP 0-9-1 with other programs.
 #![tactic(auto)]
 
+mod access;
 mod asks;
 mod checking;
-mod connection;
 mod hellos;
 mod input;
 mod linking;
@@ -24,16 +24,21 @@ mod words;
 use crate::notes::Notes;
 use crate::progress::Progress;
 use crate::sockets::HERE;
-use amqp_command::{Destination, Limits, Peer, Request, request_of};
+use amqp_command::{Environment, Limits, Peer, Publication, Request, request_of};
 use amqp_text::Load;
 use std::alloc::Global;
+use std::env::{self, VarError};
 use std::io::{self, BufWriter, IsTerminal, Write};
 use std::process::ExitCode;
 
 fn main(rt: HostRuntime) -> anyhow::Result<ExitCode> {
     let alloc = rt.alloc();
-    let words: Vec<String> = std::env::args(&rt)?.collect(alloc)?;
-    let request = match request_of(alloc, words.as_slice()) {
+    let words: Vec<String> = env::args(&rt)?.collect(alloc)?;
+    let environment = Environment {
+        url: variable(&rt, "AMQP_URL")?,
+        password: variable(&rt, "AMQP_PASSWORD")?,
+    };
+    let request = match request_of(alloc, words.as_slice(), &environment) {
         Ok(request) => request,
         Err(error) => {
             error.print(&rt)?;
@@ -42,6 +47,16 @@ fn main(rt: HostRuntime) -> anyhow::Result<ExitCode> {
     };
     let status = answer(&rt, alloc, request)?;
     Ok(ExitCode::from(status))
+}
+
+/// The variable of the environment, if it is set.
+fn variable(rt: &HostRuntime, name: &str) -> io::Result<Option<String>> {
+    match env::var(rt, name) {
+        Ok(text) => Ok(Some(text)),
+        Err(VarError::NotPresent) => Ok(None),
+        Err(VarError::OutOfMemory) => Err(io::Error::from(io::ErrorKind::OutOfMemory)),
+        Err(VarError::NotUnicode) => Err(io::Error::from(io::ErrorKind::InvalidData)),
+    }
 }
 
 /// Does what is asked for, and answers the exit status.
@@ -60,8 +75,8 @@ fn run<W: Write>(rt: &HostRuntime, alloc: Global, request: Request, output: &mut
         Request::Serve(peer, limits) => {
             sockets::serve_at(rt, alloc, &peer, limits, output, rt.stderr())
         }
-        Request::Publish(peer, destination, limits) => {
-            publish(rt, alloc, &peer, destination, limits, output)
+        Request::Publish(peer, publication, limits) => {
+            publish(rt, alloc, &peer, publication, limits, output)
         }
         Request::Loop(load, limits) => run_loop(rt, alloc, load, limits, output),
     }
@@ -71,7 +86,7 @@ fn publish<W: Write>(
     rt: &HostRuntime,
     alloc: Global,
     peer: &Peer,
-    destination: Destination,
+    publication: Publication,
     limits: Limits,
     output: &mut W,
 ) -> u8 {
@@ -81,7 +96,7 @@ fn publish<W: Write>(
         rt,
         alloc,
         peer,
-        destination,
+        publication,
         limits,
         input,
         output,

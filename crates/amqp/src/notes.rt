@@ -34,6 +34,7 @@ impl<'a, E: Write + Drop> Notes<'a, E> {
             Stop::NotWritten(why) => self.say_why("standard output can't be written", &why),
             Stop::OutOfMemory => self.say("out of memory"),
             Stop::NotGiven(why) => self.say_why("standard input can't be read", &why),
+            Stop::NoPassword(why) => self.say_why("the file of the password can't be read", &why),
             Stop::NotHex(_) => self.say("standard input isn't hexadecimal"),
             Stop::Config(fault) => self.say_why("no session with these limits", &fault),
             Stop::NotRead(failure) => self.say_failure("the connection failed in a read", failure),

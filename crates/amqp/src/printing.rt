@@ -13,6 +13,8 @@ pub enum Stop {
     NotWritten(io::Error),
     /// Standard input gave no more.
     NotGiven(io::Error),
+    /// The file of the password can't be read.
+    NoPassword(io::Error),
     /// This line of standard input isn't hexadecimal of whole octets.
     NotHex(usize),
     OutOfMemory,
@@ -48,6 +50,7 @@ impl Stop {
             | Stop::HungUpInHeader(_) => true,
             Stop::NotWritten(_)
             | Stop::NotGiven(_)
+            | Stop::NoPassword(_)
             | Stop::NotHex(_)
             | Stop::OutOfMemory
             | Stop::Config(_)
@@ -135,6 +138,7 @@ fn print_stop<W: Write>(stop: Stop, output: &mut W) -> io::Result<()> {
         Stop::Config(fault) => print_number("config", u16::from(fault.number()), output),
         Stop::Core(fault) => print_fault(fault, output),
         Stop::NotGiven(_) => print_word("read", output),
+        Stop::NoPassword(_) => print_word("read", output),
         Stop::OutOfMemory => print_word("memory", output),
         // what was to be sent can't be sent
         Stop::Refused(_) => print_word("short", output),

@@ -1,17 +1,32 @@
 //! The steps of a client that publishes one content, and what it hears of the server.
-use crate::asks::{CHANNEL, ask, close_channel, close_connection, open_channel, select_confirms};
+use crate::asks::{
+    CHANNEL, ask, ask_back, close_channel, close_connection, open_channel, select_confirms,
+};
 use crate::printing::Stop;
 use amqp_core::{Ask, AskFault, ChannelState, Client, End, Event, Phase};
 use amqp_io::{Session, Stream};
 use amqp_method::{Kind, Method};
 use std::alloc::Global;
 
-/// What the client asks next. The steps come in this order; confirms are selected only where they are wanted.
+/// What the client waits for between the content and the close of the channel.
+#[derive(Clone, Copy, PartialEq, Eq)]
+pub enum Awaited {
+    /// Nothing but that the content is written.
+    Nothing,
+    /// That the server returns the content, or answers a request after it and so has not returned it.
+    Return,
+    /// That the server confirms that it took the content.
+    Confirm,
+}
+
+/// What the client asks next. The steps come in this order; confirms are selected, and the server is asked back, only
+/// where that is waited for.
 #[derive(Clone, Copy)]
 enum Step {
     OpenChannel,
     SelectConfirms,
     Publish,
+    AskBack,
     CloseChannel,
     CloseConnection,
     /// Nothing more.
@@ -19,7 +34,7 @@ enum Step {
 }
 
 /// The most steps that are taken at once.
-const STEPS: u8 = 5;
+const STEPS: u8 = 6;
 
 /// A client that publishes one content.
 #[derive(Drop)]
@@ -27,26 +42,25 @@ pub struct Publisher {
     alloc: Global,
     /// the ask that publishes, until the end has taken it over
     content: Option<Ask>,
-    /// the server is to confirm that it took the content
-    confirm: bool,
+    awaited: Awaited,
     next: Step,
     /// the server answered that it will confirm
     selected: bool,
-    /// the server confirmed that it took the content
-    confirmed: bool,
+    /// the server confirmed that it took the content, or answered the request after it
+    answered: bool,
     /// the server closed the channel or the connection, or did not take the content
     refused: bool,
 }
 
 impl Publisher {
-    pub fn new(alloc: Global, content: Ask, confirm: bool) -> Publisher {
+    pub fn new(alloc: Global, content: Ask, awaited: Awaited) -> Publisher {
         Publisher {
             alloc,
             content: Some(content),
-            confirm,
+            awaited,
             next: Step::OpenChannel,
             selected: false,
-            confirmed: false,
+            answered: false,
             refused: false,
         }
     }
@@ -74,7 +88,8 @@ impl Publisher {
     fn hear_method(&mut self, method: &Method) {
         match method.kind() {
             Kind::ConfirmSelectOk => self.selected = true,
-            Kind::BasicAck => self.confirmed |= is_of_first(method),
+            Kind::BasicAck => self.answered |= is_of_first(method),
+            Kind::BasicQosOk => self.answered = true,
             Kind::BasicNack => self.refused |= is_of_first(method),
             Kind::BasicReturn => self.refused = true,
             _ => {}
@@ -129,7 +144,8 @@ impl Publisher {
         match self.next {
             Step::OpenChannel => true,
             Step::SelectConfirms => channel == ChannelState::Open,
-            Step::Publish => channel == ChannelState::Open && self.selected == self.confirm,
+            Step::Publish => channel == ChannelState::Open && self.may_publish(),
+            Step::AskBack => channel == ChannelState::Open,
             Step::CloseChannel => {
                 channel == ChannelState::Open && self.is_answered() && end.output().is_empty()
             }
@@ -138,9 +154,14 @@ impl Publisher {
         }
     }
 
+    /// Whether the server will confirm the content, or need not.
+    fn may_publish(&self) -> bool {
+        self.selected || self.awaited != Awaited::Confirm
+    }
+
     /// Whether the server has said of the content what it is to say.
     fn is_answered(&self) -> bool {
-        !self.confirm || self.confirmed || self.refused
+        self.awaited == Awaited::Nothing || self.answered || self.refused
     }
 
     fn ask<S: Stream>(&mut self, session: &mut Session<Client, S>) -> Result<(), Stop> {
@@ -148,6 +169,7 @@ impl Publisher {
             Step::OpenChannel => open_channel(session),
             Step::SelectConfirms => select_confirms(self.alloc, session),
             Step::Publish => self.publish(session),
+            Step::AskBack => ask_back(self.alloc, session),
             Step::CloseChannel => close_channel(self.alloc, session),
             Step::CloseConnection => close_connection(self.alloc, session),
             Step::Nothing => Ok(()),
@@ -165,10 +187,12 @@ impl Publisher {
 
     fn following(&self) -> Step {
         match self.next {
-            Step::OpenChannel if self.confirm => Step::SelectConfirms,
+            Step::OpenChannel if self.awaited == Awaited::Confirm => Step::SelectConfirms,
             Step::OpenChannel => Step::Publish,
             Step::SelectConfirms => Step::Publish,
+            Step::Publish if self.awaited == Awaited::Return => Step::AskBack,
             Step::Publish => Step::CloseChannel,
+            Step::AskBack => Step::CloseChannel,
             Step::CloseChannel => Step::CloseConnection,
             Step::CloseConnection => Step::Nothing,
             Step::Nothing => Step::Nothing,

@@ -1,32 +1,70 @@
 //! The subcommand `publish`, over a socket.
 use crate::asks;
-use crate::connection::Connection;
+use crate::hellos::Access;
 use crate::notes::Notes;
 use crate::printing::Stop;
-use crate::publisher::Publisher;
+use crate::publisher::{Awaited, Publisher};
 use crate::readiness::Readiness;
-use crate::sessions::{ANSWERS, client_end, pull_ready, settle, waiting};
+use crate::sessions::{ANSWERS, client_end_of, pull_ready, settle, waiting};
 use amqp_command::{Destination, Limits};
 use amqp_core::{Client, Event, Reason};
-use amqp_io::Session;
-use amqp_method::{Kind, Method, OutOfMemory};
+use amqp_io::{Session, Socket};
+use amqp_method::{Kind, Method, OutOfMemory, Properties};
 use std::alloc::Global;
 use std::io::Write;
 use std::net::Net;
 use std::time::Clock;
 
+/// What is published, and by whom.
+#[derive(Drop)]
+pub struct Content {
+    pub access: Access,
+    pub destination: Destination,
+    pub properties: Properties,
+    pub body: Vec<u8>,
+}
+
 /// Publishes one content and closes the connection. It answers whether nothing told that the server did not take the content.
 pub fn publish<N: Net + Clock, E: Write + Drop>(
     alloc: Global,
     limits: Limits,
-    destination: Destination,
-    body: Vec<u8>,
-    connection: Connection,
+    content: Content,
+    socket: Socket,
     readiness: &mut Readiness<'_, N>,
     notes: &mut Notes<'_, E>,
 ) -> Result<bool, Stop> {
-    let mut publisher = publisher_of(alloc, destination, body)?;
-    let run = run_publisher(alloc, limits, &mut publisher, connection, readiness, notes);
+    let Content {
+        access,
+        destination,
+        properties,
+        body,
+    } = content;
+    let end = client_end_of(alloc, limits, access)?;
+    let mut session = Session::new(alloc, end, socket);
+    let run = publish_in(
+        alloc,
+        &mut session,
+        destination,
+        properties,
+        body,
+        readiness,
+        notes,
+    );
+    drop(session);
+    run
+}
+
+fn publish_in<N: Net + Clock, E: Write + Drop>(
+    alloc: Global,
+    session: &mut Session<Client, Socket>,
+    destination: Destination,
+    properties: Properties,
+    body: Vec<u8>,
+    readiness: &mut Readiness<'_, N>,
+    notes: &mut Notes<'_, E>,
+) -> Result<bool, Stop> {
+    let mut publisher = publisher_of(alloc, destination, properties, body)?;
+    let run = run_session(session, &mut publisher, readiness, notes);
     let refused = publisher.is_refused();
     drop(publisher);
     match run {
@@ -40,36 +78,35 @@ pub fn publish<N: Net + Clock, E: Write + Drop>(
 fn publisher_of(
     alloc: Global,
     destination: Destination,
+    properties: Properties,
     body: Vec<u8>,
 ) -> Result<Publisher, OutOfMemory> {
+    let awaited = awaited_of(&destination);
     let Destination {
         exchange,
         key,
+        mandatory,
         confirm,
     } = destination;
-    let content = asks::publish(alloc, exchange, key, confirm, body)?;
-    Ok(Publisher::new(alloc, content, confirm))
+    let content = asks::publish(alloc, exchange, key, mandatory || confirm, properties, body)?;
+    Ok(Publisher::new(alloc, content, awaited))
 }
 
-fn run_publisher<N: Net + Clock, E: Write + Drop>(
-    alloc: Global,
-    limits: Limits,
-    publisher: &mut Publisher,
-    connection: Connection,
-    readiness: &mut Readiness<'_, N>,
-    notes: &mut Notes<'_, E>,
-) -> Result<(), Stop> {
-    let end = client_end(alloc, limits)?;
-    let mut session = Session::new(alloc, end, connection);
-    let run = run_session(&mut session, publisher, readiness, notes);
-    drop(session);
-    run
+/// What is waited for. A server that confirms a content says of one that it returned, too, that it took it.
+fn awaited_of(destination: &Destination) -> Awaited {
+    if destination.confirm {
+        return Awaited::Confirm;
+    }
+    if destination.mandatory {
+        return Awaited::Return;
+    }
+    Awaited::Nothing
 }
 
 /// Takes the steps of the publisher until the connection is closed. Where a write fails, what the server had sent by
 /// then is heard first.
 fn run_session<N: Net + Clock, E: Write + Drop>(
-    session: &mut Session<Client, Connection>,
+    session: &mut Session<Client, Socket>,
     publisher: &mut Publisher,
     readiness: &mut Readiness<'_, N>,
     notes: &mut Notes<'_, E>,
@@ -84,7 +121,7 @@ fn run_session<N: Net + Clock, E: Write + Drop>(
 /// Takes turns until the connection is closed: reads once, asks what follows from what came, and writes. Where the
 /// channel is to be closed it reads nothing before: a content that is written at once and its close leave together.
 fn take_turns<N: Net + Clock, E: Write + Drop>(
-    session: &mut Session<Client, Connection>,
+    session: &mut Session<Client, Socket>,
     publisher: &mut Publisher,
     readiness: &mut Readiness<'_, N>,
     notes: &mut Notes<'_, E>,
@@ -108,7 +145,7 @@ fn take_turns<N: Net + Clock, E: Write + Drop>(
 
 /// Takes all steps that can be taken now. It answers how many octets they put.
 fn ask_all(
-    session: &mut Session<Client, Connection>,
+    session: &mut Session<Client, Socket>,
     publisher: &mut Publisher,
 ) -> Result<usize, Stop> {
     let before = waiting(session);
@@ -118,7 +155,7 @@ fn ask_all(
 
 /// Reads what is there, and tells the publisher the events.
 fn hear_rest<E: Write + Drop>(
-    session: &mut Session<Client, Connection>,
+    session: &mut Session<Client, Socket>,
     publisher: &mut Publisher,
     notes: &mut Notes<'_, E>,
 ) -> Result<(), Stop> {
@@ -134,7 +171,7 @@ fn hear_rest<E: Write + Drop>(
 
 /// Tells the publisher the events that came.
 fn hear_all<E: Write + Drop>(
-    session: &mut Session<Client, Connection>,
+    session: &mut Session<Client, Socket>,
     publisher: &mut Publisher,
     notes: &mut Notes<'_, E>,
 ) -> Result<(), OutOfMemory> {

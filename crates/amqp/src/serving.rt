@@ -1,11 +1,10 @@
 //! The subcommand `serve`, over a socket.
-use crate::connection::Connection;
 use crate::printing::Stop;
 use crate::readiness::Readiness;
 use crate::sessions::{ANSWERS, pull_ready, server_end, settle};
 use amqp_command::Limits;
 use amqp_core::{Event, Server};
-use amqp_io::Session;
+use amqp_io::{Session, Socket};
 use amqp_text::print_event;
 use amqp_text::statuses::DONE;
 use std::alloc::Global;
@@ -17,12 +16,12 @@ use std::time::Clock;
 pub fn serve<N: Net + Clock, W: Write>(
     alloc: Global,
     limits: Limits,
-    connection: Connection,
+    socket: Socket,
     readiness: &mut Readiness<'_, N>,
     output: &mut W,
 ) -> Result<u8, Stop> {
     let end = server_end(alloc, limits)?;
-    let mut session = Session::new(alloc, end, connection);
+    let mut session = Session::new(alloc, end, socket);
     let run = serve_session(&mut session, readiness, output);
     drop(session);
     run
@@ -30,7 +29,7 @@ pub fn serve<N: Net + Clock, W: Write>(
 
 /// Takes what comes until the connection is closed. The events of each read are printed before the next.
 fn serve_session<N: Net + Clock, W: Write>(
-    session: &mut Session<Server, Connection>,
+    session: &mut Session<Server, Socket>,
     readiness: &mut Readiness<'_, N>,
     output: &mut W,
 ) -> Result<u8, Stop> {
@@ -49,7 +48,7 @@ fn serve_session<N: Net + Clock, W: Write>(
 
 /// Why the run is given up. Where a write failed, what the client had sent by then is read and printed first.
 fn give_up<W: Write>(
-    session: &mut Session<Server, Connection>,
+    session: &mut Session<Server, Socket>,
     stop: Stop,
     greeted: bool,
     output: &mut W,
@@ -65,10 +64,7 @@ fn give_up<W: Write>(
 }
 
 /// Reads what is there, and prints the events.
-fn print_rest<W: Write>(
-    session: &mut Session<Server, Connection>,
-    output: &mut W,
-) -> Result<(), Stop> {
+fn print_rest<W: Write>(session: &mut Session<Server, Socket>, output: &mut W) -> Result<(), Stop> {
     for _ in 0..u64::MAX {
         let pulled = pull_ready(session, usize::MAX);
         print_events(session, output)?;
@@ -81,7 +77,7 @@ fn print_rest<W: Write>(
 
 /// Prints the events that came. It answers whether any did: the first tells that the protocol header is whole.
 fn print_events<W: Write>(
-    session: &mut Session<Server, Connection>,
+    session: &mut Session<Server, Socket>,
     output: &mut W,
 ) -> Result<bool, Stop> {
     let mut came = false;

@@ -2,13 +2,12 @@
 //!
 //! A session over a socket whose calls don't wait reads and writes by turns, and waits only where it can do neither.
 //! So two ends that both write much don't wait for each other to read.
-use crate::connection::Connection;
-use crate::hellos::{client_config, server_config};
+use crate::hellos::{Access, client_config, client_config_of, server_config};
 use crate::printing::Stop;
 use crate::readiness::Readiness;
 use amqp_command::Limits;
 use amqp_core::{Client, End, Phase, Role, Server};
-use amqp_io::{IoFault, Session};
+use amqp_io::{IoFault, Session, Socket};
 use std::alloc::Global;
 use std::net::Net;
 use std::time::Clock;
@@ -26,6 +25,12 @@ pub fn client_end(alloc: Global, limits: Limits) -> Result<End<Client>, Stop> {
     Ok(End::new(alloc, config)?)
 }
 
+/// A client with these limits that logs in so.
+pub fn client_end_of(alloc: Global, limits: Limits, access: Access) -> Result<End<Client>, Stop> {
+    let config = client_config_of(alloc, limits, access)?;
+    Ok(End::new(alloc, config)?)
+}
+
 /// A server with these limits.
 pub fn server_end(alloc: Global, limits: Limits) -> Result<End<Server>, Stop> {
     let config = server_config(alloc, limits)?;
@@ -33,12 +38,12 @@ pub fn server_end(alloc: Global, limits: Limits) -> Result<End<Server>, Stop> {
 }
 
 /// Whether the connection is closed.
-pub fn is_closed<R: Role>(session: &Session<R, Connection>) -> bool {
+pub fn is_closed<R: Role>(session: &Session<R, Socket>) -> bool {
     session.end().phase() == Phase::Closed
 }
 
 /// Why a session is given up after this fault.
-pub fn stop_of<R: Role>(session: &Session<R, Connection>, fault: IoFault) -> Stop {
+pub fn stop_of<R: Role>(session: &Session<R, Socket>, fault: IoFault) -> Stop {
     match fault {
         IoFault::Read => Stop::NotRead(session.stream().failure()),
         IoFault::Write => Stop::NotSent(session.stream().failure()),
@@ -49,10 +54,7 @@ pub fn stop_of<R: Role>(session: &Session<R, Connection>, fault: IoFault) -> Sto
 }
 
 /// Writes at most so many of the octets that the end has put. It answers how many.
-pub fn push_some<R: Role>(
-    session: &mut Session<R, Connection>,
-    limit: usize,
-) -> Result<usize, Stop> {
+pub fn push_some<R: Role>(session: &mut Session<R, Socket>, limit: usize) -> Result<usize, Stop> {
     match session.push(limit) {
         Ok(count) => Ok(count),
         Err(fault) => Err(stop_of(session, fault)),
@@ -60,7 +62,7 @@ pub fn push_some<R: Role>(
 }
 
 /// Reads once, and feeds the end. It answers how many octets came.
-pub fn pull<R: Role>(session: &mut Session<R, Connection>) -> Result<usize, Stop> {
+pub fn pull<R: Role>(session: &mut Session<R, Socket>) -> Result<usize, Stop> {
     match session.pull() {
         Ok(count) => Ok(count),
         Err(fault) => Err(stop_of(session, fault)),
@@ -68,32 +70,34 @@ pub fn pull<R: Role>(session: &mut Session<R, Connection>) -> Result<usize, Stop
 }
 
 /// How many octets the end has put that are not written.
-pub fn waiting<R: Role>(session: &Session<R, Connection>) -> usize {
+pub fn waiting<R: Role>(session: &Session<R, Socket>) -> usize {
     session.end().output().len()
+}
+
+/// Whether the last call that failed may be made again: it would have had to wait, or a signal interrupted it.
+fn is_held_up(socket: &Socket) -> bool {
+    socket.would_block() || socket.was_interrupted()
 }
 
 /// Reads once what is there, and feeds the end, unless it has more than so many octets to write. It answers whether
 /// any came.
-pub fn pull_ready<R: Role>(
-    session: &mut Session<R, Connection>,
-    most: usize,
-) -> Result<bool, Stop> {
+pub fn pull_ready<R: Role>(session: &mut Session<R, Socket>, most: usize) -> Result<bool, Stop> {
     if waiting(session) > most {
         return Ok(false);
     }
     match session.pull() {
         Ok(_) => Ok(true),
-        Err(IoFault::Read) if session.stream().would_wait() => Ok(false),
+        Err(IoFault::Read) if is_held_up(session.stream()) => Ok(false),
         Err(fault) => Err(stop_of(session, fault)),
     }
 }
 
 /// Writes of what the end has put as much as the socket takes at once. It answers whether any octet went.
-fn push_ready<R: Role>(session: &mut Session<R, Connection>) -> Result<bool, Stop> {
+fn push_ready<R: Role>(session: &mut Session<R, Socket>) -> Result<bool, Stop> {
     let before = waiting(session);
     match session.push(AT_ONCE) {
         Ok(_) => {}
-        Err(IoFault::Write) if session.stream().would_wait() => {}
+        Err(IoFault::Write) if is_held_up(session.stream()) => {}
         Err(fault) => return Err(stop_of(session, fault)),
     }
     Ok(waiting(session) < before)
@@ -101,7 +105,7 @@ fn push_ready<R: Role>(session: &mut Session<R, Connection>) -> Result<bool, Sto
 
 /// Writes all that the end has put, and waits where the socket takes no more for now.
 fn push_all<R: Role, N: Net + Clock>(
-    session: &mut Session<R, Connection>,
+    session: &mut Session<R, Socket>,
     readiness: &mut Readiness<'_, N>,
 ) -> Result<(), Stop> {
     for _ in 0..u64::MAX {
@@ -121,7 +125,7 @@ fn push_all<R: Role, N: Net + Clock>(
 /// be written. Once the connection is closed, or after a fault, it writes all, so that the other end learns what was
 /// wrong. It answers whether the run is over: once the connection is closed, whatever was read after the close.
 pub fn settle<R: Role, N: Net + Clock>(
-    session: &mut Session<R, Connection>,
+    session: &mut Session<R, Socket>,
     pulled: Result<bool, Stop>,
     readiness: &mut Readiness<'_, N>,
 ) -> Result<bool, Stop> {
@@ -144,7 +148,7 @@ pub fn settle<R: Role, N: Net + Clock>(
 
 /// Writes what can be written at once. Where nothing can, and nothing came either, waits.
 fn exchange<R: Role, N: Net + Clock>(
-    session: &mut Session<R, Connection>,
+    session: &mut Session<R, Socket>,
     came: bool,
     readiness: &mut Readiness<'_, N>,
 ) -> Result<(), Stop> {

@@ -1,19 +1,21 @@
 //! The subcommands over TCP: the sockets are opened here, and all else is done over streams.
-use crate::connection::Connection;
+use crate::access::access_of;
 use crate::input::read_all;
 use crate::looping::run_loop;
 use crate::notes::Notes;
 use crate::printing::{Stop, finish, flushed};
 use crate::progress::Progress;
-use crate::publishing::publish;
+use crate::publishing::{Content, publish};
 use crate::readiness::Readiness;
 use crate::serving::serve;
-use amqp_command::{Destination, Limits, Peer};
+use amqp_command::{Limits, Peer, Publication};
+use amqp_io::Socket;
 use amqp_text::statuses::{DONE, FAULT};
 use amqp_text::{Load, print_outcome};
 use std::alloc::{AllocError, Global};
 use std::io::{self, Read, Write};
 use std::net::{Net, SocketAddr, TcpListener, TcpStream, ToSocketAddrs};
+use std::rt::Files;
 use std::time::{Clock, Duration};
 
 /// The step in which no connection came about.
@@ -101,6 +103,13 @@ fn finish_noted<W: Write, E: Write + Drop>(
     finish(run, output)
 }
 
+/// A connected stream. What is written is sent at once: the ends write whole frames, and wait for answers.
+fn socket_over(stream: TcpStream) -> Socket {
+    // without it the connection is slower, and no less right
+    let _ = stream.set_nodelay(true);
+    Socket::new(stream)
+}
+
 /// Takes one connection at an address, and serves it.
 pub fn serve_at<
     R: Net<Stream = TcpStream, Listener = TcpListener> + Clock,
@@ -129,8 +138,8 @@ fn serve_client<R: Net + Clock, W: Write, E: Write + Drop>(
 ) -> u8 {
     match Readiness::new(rt, alloc, &stream, time_out) {
         Ok(mut readiness) => {
-            let connection = Connection::new(stream);
-            let run = serve(alloc, limits, connection, &mut readiness, output);
+            let socket = socket_over(stream);
+            let run = serve(alloc, limits, socket, &mut readiness, output);
             drop(readiness);
             finish_noted(run, output, notes)
         }
@@ -210,9 +219,9 @@ fn leaves_port(address: &str) -> bool {
     }
 }
 
-/// Reads the body from the input, connects to an address, and publishes it.
+/// Reads the password and the body, connects to an address, and publishes the body.
 pub fn publish_at<
-    R: Net<Stream = TcpStream, Listener = TcpListener> + Clock,
+    R: Net<Stream = TcpStream, Listener = TcpListener> + Clock + Files,
     I: Read,
     W: Write,
     E: Write + Drop,
@@ -220,19 +229,41 @@ pub fn publish_at<
     rt: &R,
     alloc: Global,
     peer: &Peer,
-    destination: Destination,
+    publication: Publication,
     limits: Limits,
     input: &mut I,
     output: &mut W,
     notes: &mut Notes<'_, E>,
 ) -> u8 {
-    match read_all(alloc, input) {
-        Ok(body) => publish_body(rt, alloc, peer, destination, limits, body, output, notes),
-        Err(fault) => finish_noted(Err(Stop::from(fault)), output, notes),
+    match content_of(rt, alloc, publication, input) {
+        Ok(content) => publish_content(rt, alloc, peer, content, limits, output, notes),
+        Err(stop) => finish_noted(Err(stop), output, notes),
     }
 }
 
-fn publish_body<
+/// The content that is asked for, with the input as its body.
+fn content_of<R: Files, I: Read>(
+    rt: &R,
+    alloc: Global,
+    publication: Publication,
+    input: &mut I,
+) -> Result<Content, Stop> {
+    let Publication {
+        login,
+        destination,
+        properties,
+    } = publication;
+    let access = access_of(rt, alloc, login)?;
+    let body = read_all(alloc, input)?;
+    Ok(Content {
+        access,
+        destination,
+        properties,
+        body,
+    })
+}
+
+fn publish_content<
     R: Net<Stream = TcpStream, Listener = TcpListener> + Clock,
     W: Write,
     E: Write + Drop,
@@ -240,22 +271,20 @@ fn publish_body<
     rt: &R,
     alloc: Global,
     peer: &Peer,
-    destination: Destination,
+    content: Content,
     limits: Limits,
-    body: Vec<u8>,
     output: &mut W,
     notes: &mut Notes<'_, E>,
 ) -> u8 {
     match connect(rt, alloc, peer) {
         Ok((stream, mut readiness)) => {
-            let connection = Connection::new(stream);
+            let socket = socket_over(stream);
             let run = publish_over(
                 alloc,
-                connection,
+                socket,
                 &mut readiness,
-                destination,
+                content,
                 limits,
-                body,
                 output,
                 notes,
             );
@@ -301,24 +330,15 @@ fn connect_within<R: Net<Stream = TcpStream, Listener = TcpListener>>(
 
 fn publish_over<N: Net + Clock, W: Write, E: Write + Drop>(
     alloc: Global,
-    connection: Connection,
+    socket: Socket,
     readiness: &mut Readiness<'_, N>,
-    destination: Destination,
+    content: Content,
     limits: Limits,
-    body: Vec<u8>,
     output: &mut W,
     notes: &mut Notes<'_, E>,
 ) -> Result<u8, Stop> {
-    let size = body.len();
-    let taken = publish(
-        alloc,
-        limits,
-        destination,
-        body,
-        connection,
-        readiness,
-        notes,
-    )?;
+    let size = content.body.len();
+    let taken = publish(alloc, limits, content, socket, readiness, notes)?;
     print_published(taken, size, output)
 }
 
@@ -359,8 +379,8 @@ fn loop_over<W: Write, E: Write + Drop>(
     notes: &mut Notes<'_, E>,
     progress: &mut Progress<E>,
 ) -> u8 {
-    let client = Connection::new(client);
-    let server = Connection::new(server);
+    let client = socket_over(client);
+    let server = socket_over(server);
     let run = run_loop(alloc, limits, load, client, server, progress);
     progress.end();
     let run = match run {

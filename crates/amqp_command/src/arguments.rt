@@ -1,23 +1,29 @@
 //! The subcommands with their options, and the request that words make of them.
+use crate::environment::Environment;
 use crate::help;
 use crate::options::{limits_of, time_out_of, time_out_option, with_limits};
-use crate::requests::{Destination, Peer, Request, Start};
+use crate::publishing::{publish_command, publish_request};
+use crate::requests::{Peer, Request, Start};
+use crate::words::{text_of, word};
 use amqp_channel::Side;
 use amqp_text::Load;
-use amqp_value::ShortStr;
-use clap::error::ErrorKind;
 use clap::{Arg, ArgAction, ArgMatches, Command, Error, value_parser};
 use std::alloc::{AllocError, Global};
 
 static SIDES: [&str; 2] = ["client", "server"];
 
-/// The request that the words encode. The first word is the program's name.
+/// The request that the words encode, with what the environment adds to them. The first word is the program's name.
 ///
-/// An error carries the text to print, also where help or the version was asked for.
-pub fn request_of<'a>(alloc: Global, words: &'a [String]) -> Result<Request, Error> {
-    let mut command = program(alloc)?;
+/// An error carries the text to print, also where help or the version was asked for. No text repeats a password, or a
+/// URL that may hold one.
+pub fn request_of<'a>(
+    alloc: Global,
+    words: &'a [String],
+    environment: &Environment,
+) -> Result<Request, Error> {
+    let mut command = program(alloc, environment)?;
     let request = match command.try_get_matches_from_mut(words) {
-        Ok(matches) => request_in_owned(alloc, matches),
+        Ok(matches) => request_in_owned(alloc, matches, environment),
         Err(error) => Err(error),
     };
     drop(command);
@@ -25,13 +31,21 @@ pub fn request_of<'a>(alloc: Global, words: &'a [String]) -> Result<Request, Err
 }
 
 /// The request of the matches, which are let go.
-fn request_in_owned(alloc: Global, matches: ArgMatches) -> Result<Request, Error> {
-    let request = request_in(alloc, &matches);
+fn request_in_owned(
+    alloc: Global,
+    matches: ArgMatches,
+    environment: &Environment,
+) -> Result<Request, Error> {
+    let request = request_in(alloc, &matches, environment);
     drop(matches);
     request
 }
 
-fn request_in(alloc: Global, matches: &ArgMatches) -> Result<Request, Error> {
+fn request_in(
+    alloc: Global,
+    matches: &ArgMatches,
+    environment: &Environment,
+) -> Result<Request, Error> {
     if let Some(check) = matches.subcommand_matches("check") {
         return Ok(Request::Check(side_of(check), limits_of(check)));
     }
@@ -42,7 +56,7 @@ fn request_in(alloc: Global, matches: &ArgMatches) -> Result<Request, Error> {
         return Ok(Request::Serve(peer_of(alloc, serve)?, limits_of(serve)));
     }
     if let Some(publish) = matches.subcommand_matches("publish") {
-        return publish_request(alloc, publish);
+        return publish_request(alloc, publish, environment);
     }
     if let Some(over) = matches.subcommand_matches("loop") {
         return Ok(Request::Loop(load_of(over), limits_of(over)));
@@ -53,7 +67,7 @@ fn request_in(alloc: Global, matches: &ArgMatches) -> Result<Request, Error> {
     Ok(Request::Show(Start::Frame))
 }
 
-fn program<'a>(alloc: Global) -> Result<Command<'a>, AllocError> {
+fn program<'a>(alloc: Global, environment: &Environment) -> Result<Command<'a>, AllocError> {
     let command = Command::new(alloc, "amqp")
         .version("0.1.0")
         .about(help::ABOUT)
@@ -63,7 +77,7 @@ fn program<'a>(alloc: Global) -> Result<Command<'a>, AllocError> {
     let command = with_subcommand(command, check_command(alloc))?;
     let command = with_subcommand(command, link_command(alloc))?;
     let command = with_subcommand(command, serve_command(alloc))?;
-    let command = with_subcommand(command, publish_command(alloc))?;
+    let command = with_subcommand(command, publish_command(alloc, environment))?;
     with_subcommand(command, loop_command(alloc))
 }
 
@@ -116,15 +130,6 @@ fn link_command<'a>(alloc: Global) -> Result<Command<'a>, AllocError> {
     with_limits(alloc, link)
 }
 
-/// A word that has to be given.
-fn word<'a>(alloc: Global, id: &'a str, name: &'a str, text: &'a str) -> Arg<'a> {
-    Arg::new(alloc, id)
-        .required(true)
-        .action(ArgAction::Set)
-        .value_name(name)
-        .help(text)
-}
-
 fn serve_command<'a>(alloc: Global) -> Result<Command<'a>, AllocError> {
     let address = word(alloc, "address", "ADDR", "Where to listen, as HOST:PORT");
     let serve = Command::new(alloc, "serve")
@@ -134,34 +139,6 @@ fn serve_command<'a>(alloc: Global) -> Result<Command<'a>, AllocError> {
         .arg(address)?;
     let serve = serve.arg(time_out_option(alloc))?;
     with_limits(alloc, serve)
-}
-
-fn publish_command<'a>(alloc: Global) -> Result<Command<'a>, AllocError> {
-    let address = word(alloc, "address", "ADDR", "The server, as HOST:PORT");
-    let publish = Command::new(alloc, "publish")
-        .about(help::PUBLISH_ABOUT)
-        .long_about(help::PUBLISH_DETAILS)
-        .after_long_help(help::PUBLISH_EXAMPLE)
-        .arg(address)?;
-    let exchange = word(
-        alloc,
-        "exchange",
-        "EXCHANGE",
-        "The exchange, at most 255 octets",
-    );
-    let publish = publish.arg(exchange)?;
-    let key = word(alloc, "key", "KEY", "The routing key, at most 255 octets");
-    let publish = publish.arg(key)?;
-    let publish = publish.arg(confirm_option(alloc))?;
-    let publish = publish.arg(time_out_option(alloc))?;
-    with_limits(alloc, publish)
-}
-
-fn confirm_option<'a>(alloc: Global) -> Arg<'a> {
-    Arg::new(alloc, "confirm")
-        .long("confirm")
-        .action(ArgAction::SetTrue)
-        .help("Wait until the server confirms that it took the content")
 }
 
 fn loop_command<'a>(alloc: Global) -> Result<Command<'a>, AllocError> {
@@ -197,11 +174,6 @@ fn side_of(matches: &ArgMatches) -> Side {
     }
 }
 
-/// The word that was given.
-fn text_of(alloc: Global, matches: &ArgMatches, id: &str) -> Result<String, AllocError> {
-    String::from_str(alloc, matches.get_str(id).unwrap_or(""))
-}
-
 fn load_of(matches: &ArgMatches) -> Load {
     let count = matches.get_one::<u32>("count");
     let size = matches.get_one::<u32>("size");
@@ -211,55 +183,10 @@ fn load_of(matches: &ArgMatches) -> Load {
     }
 }
 
-fn publish_request(alloc: Global, matches: &ArgMatches) -> Result<Request, Error> {
-    let destination = destination_of(alloc, matches)?;
-    match peer_of(alloc, matches) {
-        Ok(peer) => Ok(Request::Publish(peer, destination, limits_of(matches))),
-        Err(AllocError) => Err(Error::from(AllocError)),
-    }
-}
-
 fn peer_of(alloc: Global, matches: &ArgMatches) -> Result<Peer, AllocError> {
     let address = text_of(alloc, matches, "address")?;
     Ok(Peer {
         address,
         time_out: time_out_of(matches),
     })
-}
-
-fn destination_of(alloc: Global, matches: &ArgMatches) -> Result<Destination, Error> {
-    let exchange = short_of(
-        alloc,
-        matches,
-        "exchange",
-        "EXCHANGE has more than 255 octets",
-    )?;
-    let key = short_of(alloc, matches, "key", "KEY has more than 255 octets")?;
-    Ok(Destination {
-        exchange,
-        key,
-        confirm: matches.get_flag("confirm"),
-    })
-}
-
-/// The word that was given, which is refused with this text where it is too long for a short string.
-fn short_of(
-    alloc: Global,
-    matches: &ArgMatches,
-    id: &str,
-    refusal: &str,
-) -> Result<ShortStr, Error> {
-    let word = matches.get_str(id).unwrap_or("");
-    match ShortStr::new(alloc, word.as_bytes()) {
-        Ok(text) => Ok(text),
-        Err(_) => Err(refused(alloc, refusal)?),
-    }
-}
-
-/// The error of a word that `publish` doesn't take.
-fn refused(alloc: Global, text: &str) -> Result<Error, AllocError> {
-    let mut command = publish_command(alloc)?.bin_name("amqp publish")?;
-    let error = command.error(ErrorKind::ValueValidation, text);
-    drop(command);
-    error
 }

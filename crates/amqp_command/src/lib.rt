@@ -2,10 +2,15 @@
 #![tactic(auto)]
 
 mod arguments;
+mod environment;
 mod help;
 mod options;
+mod publishing;
 mod requests;
+mod servers;
+mod words;
 
 pub use crate::arguments::request_of;
+pub use crate::environment::Environment;
 pub use crate::options::Limits;
-pub use crate::requests::{Destination, Peer, Request, Start};
+pub use crate::requests::{Destination, Login, Password, Peer, Publication, Request, Start};

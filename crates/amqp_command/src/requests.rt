@@ -1,6 +1,7 @@
 //! What a command line asks for.
 use crate::options::Limits;
 use amqp_channel::Side;
+use amqp_method::Properties;
 use amqp_text::Load;
 use amqp_value::ShortStr;
 use std::time::Duration;
@@ -17,7 +18,7 @@ pub enum Request {
     /// Serve one connection of this peer.
     Serve(Peer, Limits),
     /// Publish to this peer.
-    Publish(Peer, Destination, Limits),
+    Publish(Peer, Publication, Limits),
     /// Send contents from a client to a server here.
     Loop(Load, Limits),
 }
@@ -39,10 +40,40 @@ pub struct Peer {
     pub time_out: Option<Duration>,
 }
 
-/// Where a content is published, and whether the server is to confirm that it took it.
+/// What is published, and by whom.
+#[derive(Drop)]
+pub struct Publication {
+    pub login: Login,
+    pub destination: Destination,
+    /// The properties of the content.
+    pub properties: Properties,
+}
+
+/// As whom a client logs in, and to which virtual host.
+#[derive(Drop)]
+pub struct Login {
+    /// No octet is 0.
+    pub user: Vec<u8>,
+    pub password: Password,
+    pub virtual_host: ShortStr,
+}
+
+/// Where the password is. It has no `Debug`, so that nothing prints it.
+#[derive(Drop)]
+pub enum Password {
+    /// These octets.
+    Given(Vec<u8>),
+    /// The first line of the file at this path.
+    InFile(String),
+}
+
+/// Where a content is published, and what the server is to say of it.
 #[derive(Drop)]
 pub struct Destination {
     pub exchange: ShortStr,
     pub key: ShortStr,
+    /// The server returns the content where no queue takes it, and is waited for.
+    pub mandatory: bool,
+    /// The content is mandatory, and the server confirms that it took it.
     pub confirm: bool,
 }
