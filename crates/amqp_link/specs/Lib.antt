@@ -14,5 +14,6 @@ pub mod SeatSteps
 pub mod SeatView
 pub mod Seats
 pub mod SetUps
+pub mod StepTexts
 pub mod Tallies
 pub mod TallyView
