@@ -222,6 +222,9 @@ class Method:
     def is_plain(self):
         return all(field.is_plain() for field in self.fields)
 
+    def is_bare(self):
+        return not self.fields
+
     def sentence(self):
         return f"/// {SUMMARIES[self.label]} `{self.label}`, class {self.class_id}, method {self.id}."
 
@@ -278,14 +281,17 @@ def call_clause(method, terms):
     return [start.rstrip()] + lines
 
 
+def alias_of(method):
+    """Of a method without arguments: the one struct that all of them share, with the method's marker."""
+    return [method.sentence(), f"pub type {method.name} = Bare<{method.kind}>;", ""]
+
+
 def struct_of(method):
     lines = [method.sentence()]
     if method.is_plain():
         lines.append("#[derive(Clone, Copy, PartialEq, Eq, Debug)]")
     else:
         lines.append("#[derive(Debug, Drop, PartialEq, Eq)]")
-    if not method.fields:
-        return lines + [f"pub struct {method.name};", ""]
     lines.append(f"pub struct {method.name} {{")
     for field in method.fields:
         if field.doc():
@@ -295,8 +301,6 @@ def struct_of(method):
 
 
 def new_of(method):
-    if not method.fields:
-        return []
     given = [field for field in method.fields if field.is_given()]
     defaults = [field for field in method.fields if not field.is_given()]
     params = ["alloc: Global"] if any(field.kind == "table" for field in method.fields) else []
@@ -334,13 +338,10 @@ def literal(indent, name, fields, end, head=""):
 
 
 def into_method_of(method):
-    lines = ["    /// The method with these arguments." if method.fields else "    /// The method, which takes no memory."]
+    lines = ["    /// The method with these arguments."]
     lines.append("    pub fn into_method(self, alloc: Global) -> Result<Method, OutOfMemory>")
-    fact = f"IfOk result (λ m. method_view m ≡ {method.snake}_call self)"
-    lines.append(clause("", fact if method.fields else fact.replace("IfOk", "IsOkAnd")))
+    lines.append(clause("", f"IfOk result (λ m. method_view m ≡ {method.snake}_call self)"))
     lines.append("    {")
-    if not method.fields:
-        return lines + [f"        Ok(bare_method(alloc, Kind::{method.kind}))", "    }", ""]
     args = [f"Arg::{field.variant}(self.{field.name})" for field in method.fields]
     lines += call_lines("        ", method.kind, args)
     return lines + ["    }", ""]
@@ -405,14 +406,6 @@ def from_ref_of(method):
     lines.append(f"    pub fn from_ref(method: &Method) -> Option<{method.name}>")
     lines += lent_clauses(method, method.snake)
     lines.append("    {")
-    if not method.fields:
-        lines += [
-            f"        if is_kind(method, Kind::{method.kind}) {{",
-            f"            return Some({method.name});",
-            "        }",
-            "        None",
-        ]
-        return lines + ["    }", ""]
     return lines + lent_body(method, method.name) + ["    }", ""]
 
 
@@ -455,7 +448,7 @@ def ref_of(method):
     if method.is_plain():
         return []
     lines = [f"/// [`{method.name}`], lent by a method."]
-    lines.append("#[derive(Clone, Copy, Debug)]")
+    lines.append("#[derive(Clone, Copy)]")
     lines.append(f"pub struct {method.name}Ref<'a> {{")
     lines += [f"    pub {field.name}: {field.lent}," for field in method.fields]
     lines += ["}", "", f"impl<'a> {method.name}Ref<'a> {{"]
@@ -476,10 +469,11 @@ def class_file(name, all_methods):
     of_class = [method for method in all_methods if method.class_name == name]
     items = []
     for method in of_class:
-        items += struct_of(method) + impl_of(method) + ref_of(method)
+        items += alias_of(method) if method.is_bare() else struct_of(method) + impl_of(method) + ref_of(method)
     code = "\n".join(items[:-1])
     clauses = "\n".join(line for line in items if "ensures" in line or line.startswith("            "))
     prelude = ["◌≡◌", "◌↔◌"]
+    own = with_fields(name, all_methods)
     for word in ("IfOk", "IfErr", "IfSome", "IsOk", "IsOkAnd", "IsSome", "false"):
         if word != "false" and re.search(rf"\b{word}\b", clauses):
             prelude.append(word)
@@ -489,7 +483,8 @@ def class_file(name, all_methods):
         prelude += ["◌∷◌", "[]"]
     lines = [f"//! The methods of the class {name} (`amqp0-9-1.xml`, class {of_class[0].class_id})."]
     lines += HEAD.rstrip().split("\n")
-    lines.append(f"ghost use Rattle.std.specs.Prelude.{{{', '.join(prelude)}}};")
+    if own:
+        lines.append(f"ghost use Rattle.std.specs.Prelude.{{{', '.join(prelude)}}};")
     if "table_view" in clauses:
         lines.append("ghost use Rattle.amqp_value.specs.Tables.{table_view};")
     if "no_pairs" in clauses:
@@ -501,21 +496,29 @@ def class_file(name, all_methods):
         lines.append("ghost use Rattle.amqp_method.specs.HeaderView.{properties_view};")
         lines.append("ghost use Rattle.amqp_method.specs.MessageView.{message_view};")
         lines.append("ghost use Rattle.amqp_method.specs.Messages.{letter_with};")
-    lines.append("ghost use Rattle.amqp_method.specs.MethodView.{method_view};")
-    kinds = ", ".join(method.kind for method in of_class)
-    lines.append(f"ghost use Rattle.amqp_method.specs.declared.kinds.Kind.TheVariants.{{{kinds}}};")
-    calls = [method.snake + "_call" for method in of_class]
-    calls += [method.snake + "_ref_call" for method in of_class if not method.is_plain()]
-    lines.append(f"ghost use Rattle.amqp_typed.specs.{camel(name)}.{{{', '.join(calls)}}};")
-    lines.append("")
+    if own:
+        lines.append("ghost use Rattle.amqp_method.specs.MethodView.{method_view};")
+        kinds = ", ".join(method.kind for method in own)
+        lines.append(f"ghost use Rattle.amqp_method.specs.declared.kinds.Kind.TheVariants.{{{kinds}}};")
+        calls = [method.snake + "_call" for method in own]
+        calls += [method.snake + "_ref_call" for method in own if not method.is_plain()]
+        lines.append(f"ghost use Rattle.amqp_typed.specs.{camel(name)}.{{{', '.join(calls)}}};")
+        lines.append("")
     helpers = sorted(word for word in [row[3] for row in KINDS.values()] + [row[3] + "_at" for row in KINDS.values()] + list(COUNTS.values()) + ["bare_method", "is_kind", "method_of", "own_args"] if re.search(rf"(?<![\w.:]){word}(\(|::<)", code))
-    lines += use_lines("crate::args", helpers)
+    if helpers:
+        lines += use_lines("crate::args", helpers)
+    bare = [method.kind for method in of_class if method.is_bare()]
+    if bare:
+        lines.append("use crate::bare::Bare;")
+        lines += use_lines("crate::bare_kinds", sorted(bare))
     types = [word for word in ("Arg", "Kind", "Message", "Method", "OutOfMemory", "Properties") if re.search(rf"\b{word}\b", code)]
-    lines += use_lines("amqp_method", types)
+    if types:
+        lines += use_lines("amqp_method", types)
     values = [word for word in ("ShortStr", "Table") if re.search(rf"(?<!Arg::)\b{word}\b", code)]
     if values:
         lines += use_lines("amqp_value", values)
-    lines.append("use std::alloc::Global;")
+    if own:
+        lines.append("use std::alloc::Global;")
     return "\n".join(lines) + "\n\n" + code + "\n"
 
 
@@ -528,11 +531,41 @@ def use_lines(path, names):
     return [f"use {path}::{{"] + wrapped("    ", [word + "," for word in names], "", "    ", 99) + ["};"]
 
 
+def with_fields(name, all_methods):
+    return [method for method in all_methods if method.class_name == name and not method.is_bare()]
+
+
+def bare_kinds_file(all_methods):
+    """The markers of the methods without arguments."""
+    of_file = [method for method in all_methods if method.is_bare()]
+    lines = ["//! The kinds of the methods without arguments, each as a type. The types have the names of [`Kind`]'s variants."]
+    lines += HEAD.rstrip().split("\n")
+    lines.append("ghost use Rattle.std.proofs.Common.{refl};")
+    lines.append("ghost use Rattle.amqp_method.specs.declared.kinds.Kind.TheVariants as kind;")
+    lines += ["", "use crate::bare::BareKind;", "use amqp_method::Kind;", ""]
+    for method in of_file:
+        lines += [
+            f"/// `{method.label}`.",
+            "#[derive(Clone, Copy)]",
+            f"pub struct {method.kind};",
+            "",
+            f"impl BareKind for {method.kind} {{",
+            f"    ghost KIND = {{ kind.{method.kind} }};",
+            "",
+            f"    const KIND: Kind = Kind::{method.kind};",
+            "",
+            "    ghost bare = { refl };",
+            "}",
+            "",
+        ]
+    return "\n".join(lines[:-1]) + "\n"
+
+
 # ---- definitions
 
 
 def class_spec(name, all_methods):
-    of_class = [method for method in all_methods if method.class_name == name]
+    of_class = with_fields(name, all_methods)
     body = []
     for method in of_class:
         body += spec_of(method, method.name, method.snake + "_call", False)
@@ -541,10 +574,7 @@ def class_spec(name, all_methods):
     text = "\n".join(body)
     lines = [f"-- What the structs of the class {name} stand for: each the call of its method, with the fields as arguments in the order of the table."]
     lines += ["-- " + line[3:] for line in HEAD.rstrip().split("\n")]
-    if "∷" in text:
-        lines.append("use Rattle.std.specs.Prelude.{[], ◌∷◌}")
-    else:
-        lines.append("use Rattle.std.specs.Prelude.{[]}")
+    lines.append("use Rattle.std.specs.Prelude.{[], ◌∷◌}")
     if "table_view" in text:
         lines.append("use Rattle.amqp_value.specs.Tables.{table_view}")
     arguments = [row[4] for row in KINDS.values() if re.search(rf"[(∷] ?{row[4]}\b", text)]
@@ -560,8 +590,6 @@ def class_spec(name, all_methods):
 
 def spec_of(method, struct, call, lent):
     lines = [f"abbrev pub {call} : {struct} → Call"]
-    if not method.fields:
-        return lines + [f"{call} m = call {method.kind} []", ""]
     terms = [field.term(f"m.{field.name}", lent) for field in method.fields]
     one = f"{call} m = call {method.kind} ({' '.join(list_words(terms))})"
     if len(one) <= 100:
@@ -645,6 +673,7 @@ def any_file(all_methods):
     lines = ["//! Every method, as one of the structs."]
     lines += HEAD.rstrip().split("\n")
     lines.append("ghost use Rattle.std.specs.Prelude.{◌≡◌, IfOk};")
+    lines.append("ghost use Rattle.amqp_method.specs.Methods.{row};")
     lines.append("ghost use Rattle.amqp_method.specs.MethodView.{method_view};")
     lines.append("ghost use Rattle.amqp_typed.specs.AnyMethod.{any_call};")
     lines.append("")
@@ -656,40 +685,57 @@ def any_file(all_methods):
     lines.append("#[derive(Debug, Drop)]")
     lines.append("pub enum AnyMethod {")
     lines += [f"    {method.kind}({method.class_name}::{method.name})," for method in all_methods]
-    lines += ["}", "", "impl AnyMethod {"]
-    lines.append("    /// What a method says.")
-    lines.append("    pub fn from_method(method: Method) -> AnyMethod")
+    lines += ["}", ""]
+    for name in CLASSES:
+        lines += any_of_class(name, [method for method in all_methods if method.class_name == name])
+    lines += ["impl AnyMethod {", "    /// What a method says.", "    pub fn from_method(method: Method) -> AnyMethod"]
     lines.append(clause("", "any_call result ≡ method_view method"))
-    lines += ["    {", "        match method.kind() {"]
-    for method in all_methods:
-        lines += arm(f"Kind::{method.kind}", f"AnyMethod::{method.kind}({method.class_name}::{method.name}::from_method(method).unwrap())")
-    lines += ["        }", "    }", ""]
+    lines += ["    {", "        match method.kind().class_id() {"]
+    numbers = {method.class_name: method.class_id for method in all_methods}
+    lines += [f"            {numbers[name]} => any_{name}(method)," for name in CLASSES[:-1]]
+    lines += [f"            _ => any_{CLASSES[-1]}(method),", "        }", "    }", ""]
     lines.append("    /// The method with these arguments.")
     lines.append("    pub fn into_method(self, alloc: Global) -> Result<Method, OutOfMemory>")
     lines.append(clause("", "IfOk result (λ m. method_view m ≡ any_call self)"))
     lines += ["    {", "        match self {"]
     for method in all_methods:
-        lines += arm(f"AnyMethod::{method.kind}(method)", "method.into_method(alloc)")
+        lines += arm(f"AnyMethod::{method.kind}(method)", "method.into_method(alloc)", "            ")
     lines += ["        }", "    }", "}"]
     return "\n".join(lines) + "\n"
 
 
-def arm(pattern, value):
-    one = f"            {pattern} => {value},"
+def any_of_class(name, of_class):
+    lines = [f"/// What a method of the class {name} says."]
+    lines.append(f"fn any_{name}(method: Method) -> AnyMethod")
+    lines.append(f"    requires {{ (row (method_view method).kind).class ≡ {of_class[0].class_id} }}")
+    lines.append(clause("", "any_call result ≡ method_view method", "    "))
+    lines += ["{", "    match method.kind() {"]
+    for method in of_class:
+        value = f"AnyMethod::{method.kind}({name}::{method.name}::from_method(method).unwrap())"
+        lines += arm(f"Kind::{method.kind}", value, "        ")
+    return lines + ["        _ => unreachable!(),", "    }", "}", ""]
+
+
+def arm(pattern, value, indent):
+    one = f"{indent}{pattern} => {value},"
     if len(one) <= 100:
         return [one]
-    return [f"            {pattern} => {{", f"                {value}", "            }"]
+    return [f"{indent}{pattern} => {{", f"{indent}    {value}", f"{indent}}}"]
 
 
 def any_spec(all_methods):
     lines = ["-- What a method of any kind stands for."]
     lines += ["-- " + line[3:] for line in HEAD.rstrip().split("\n")]
-    lines.append("use Rattle.amqp_method.specs.Arguments.{Call}")
+    lines.append("use Rattle.std.specs.Prelude.{[]}")
+    lines.append("use Rattle.amqp_method.specs.Arguments.{Call, call}")
+    lines.append("use Rattle.amqp_method.specs.declared.kinds.Kind.TheVariants as kind")
     lines.append("use Rattle.amqp_typed.specs.declared.any_method.AnyMethod.{AnyMethod}")
     lines.append("use Rattle.amqp_typed.specs.declared.any_method.AnyMethod.TheVariants as any")
-    lines += [f"use Rattle.amqp_typed.specs.{camel(name)} as {name}" for name in CLASSES]
+    lines += [f"use Rattle.amqp_typed.specs.{camel(name)} as {name}" for name in CLASSES if with_fields(name, all_methods)]
     lines += ["", "abbrev pub any_call : AnyMethod → Call"]
-    lines += [f"any_call (any.{method.kind} m) = {method.class_name}.{method.snake}_call m" for method in all_methods]
+    for method in all_methods:
+        of = f"call kind.{method.kind} []" if method.is_bare() else f"{method.class_name}.{method.snake}_call m"
+        lines.append(f"any_call (any.{method.kind} m) = {of}")
     return "\n".join(lines) + "\n"
 
 
@@ -701,7 +747,9 @@ def files():
     found = answers(all_methods)
     for name in CLASSES:
         found[CRATE / "src" / f"{name}.rt"] = class_file(name, all_methods)
-        found[CRATE / "specs" / f"{camel(name)}.antt"] = class_spec(name, all_methods)
+        if with_fields(name, all_methods):
+            found[CRATE / "specs" / f"{camel(name)}.antt"] = class_spec(name, all_methods)
+    found[CRATE / "src" / "bare_kinds.rt"] = bare_kinds_file(all_methods)
     found[CRATE / "src" / "any_method.rt"] = any_file(all_methods)
     found[CRATE / "specs" / "AnyMethod.antt"] = any_spec(all_methods)
     return found

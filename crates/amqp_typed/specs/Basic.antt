@@ -3,9 +3,8 @@
 use Rattle.std.specs.Prelude.{[], ◌∷◌}
 use Rattle.amqp_value.specs.Tables.{table_view}
 use Rattle.amqp_method.specs.Arguments.{Call, call, bit, short, long, long_long, short_string, table}
-use Rattle.amqp_method.specs.declared.kinds.Kind.TheVariants.{BasicQos, BasicQosOk, BasicConsume, BasicConsumeOk, BasicCancel, BasicCancelOk, BasicPublish, BasicReturn, BasicDeliver, BasicGet, BasicGetOk, BasicGetEmpty, BasicAck, BasicReject, BasicRecoverAsync, BasicRecover, BasicRecoverOk, BasicNack}
+use Rattle.amqp_method.specs.declared.kinds.Kind.TheVariants.{BasicQos, BasicConsume, BasicConsumeOk, BasicCancel, BasicCancelOk, BasicPublish, BasicReturn, BasicDeliver, BasicGet, BasicGetOk, BasicAck, BasicReject, BasicRecoverAsync, BasicRecover, BasicNack}
 use Rattle.amqp_typed.specs.declared.basic.Qos.{Qos}
-use Rattle.amqp_typed.specs.declared.basic.QosOk.{QosOk}
 use Rattle.amqp_typed.specs.declared.basic.Consume.{Consume}
 use Rattle.amqp_typed.specs.declared.basic.ConsumeRef.{ConsumeRef}
 use Rattle.amqp_typed.specs.declared.basic.ConsumeOk.{ConsumeOk}
@@ -24,19 +23,14 @@ use Rattle.amqp_typed.specs.declared.basic.Get.{Get}
 use Rattle.amqp_typed.specs.declared.basic.GetRef.{GetRef}
 use Rattle.amqp_typed.specs.declared.basic.GetOk.{GetOk}
 use Rattle.amqp_typed.specs.declared.basic.GetOkRef.{GetOkRef}
-use Rattle.amqp_typed.specs.declared.basic.GetEmpty.{GetEmpty}
 use Rattle.amqp_typed.specs.declared.basic.Ack.{Ack}
 use Rattle.amqp_typed.specs.declared.basic.Reject.{Reject}
 use Rattle.amqp_typed.specs.declared.basic.RecoverAsync.{RecoverAsync}
 use Rattle.amqp_typed.specs.declared.basic.Recover.{Recover}
-use Rattle.amqp_typed.specs.declared.basic.RecoverOk.{RecoverOk}
 use Rattle.amqp_typed.specs.declared.basic.Nack.{Nack}
 
 abbrev pub qos_call : Qos → Call
 qos_call m = call BasicQos (long m.prefetch_size ∷ short m.prefetch_count ∷ bit m.global ∷ [])
-
-abbrev pub qos_ok_call : QosOk → Call
-qos_ok_call m = call BasicQosOk []
 
 abbrev pub consume_call : Consume → Call
 consume_call m =
@@ -121,9 +115,6 @@ get_ok_ref_call m =
     (long_long m.delivery_tag ∷ bit m.redelivered ∷ short_string m.exchange.now
     ∷ short_string m.routing_key.now ∷ long m.message_count ∷ [])
 
-abbrev pub get_empty_call : GetEmpty → Call
-get_empty_call m = call BasicGetEmpty []
-
 abbrev pub ack_call : Ack → Call
 ack_call m = call BasicAck (long_long m.delivery_tag ∷ bit m.multiple ∷ [])
 
@@ -135,9 +126,6 @@ recover_async_call m = call BasicRecoverAsync (bit m.requeue ∷ [])
 
 abbrev pub recover_call : Recover → Call
 recover_call m = call BasicRecover (bit m.requeue ∷ [])
-
-abbrev pub recover_ok_call : RecoverOk → Call
-recover_ok_call m = call BasicRecoverOk []
 
 abbrev pub nack_call : Nack → Call
 nack_call m = call BasicNack (long_long m.delivery_tag ∷ bit m.multiple ∷ bit m.requeue ∷ [])

@@ -2,20 +2,11 @@
 -- Written by `tools/typed_methods.py` from the table of methods in `docs/PROTOCOL.md`: change those and run it again.
 use Rattle.std.specs.Prelude.{[], ◌∷◌}
 use Rattle.amqp_method.specs.Arguments.{Call, call, bit, short, short_string}
-use Rattle.amqp_method.specs.declared.kinds.Kind.TheVariants.{ChannelOpen, ChannelOpenOk, ChannelFlow, ChannelFlowOk, ChannelClose, ChannelCloseOk}
-use Rattle.amqp_typed.specs.declared.channel.Open.{Open}
-use Rattle.amqp_typed.specs.declared.channel.OpenOk.{OpenOk}
+use Rattle.amqp_method.specs.declared.kinds.Kind.TheVariants.{ChannelFlow, ChannelFlowOk, ChannelClose}
 use Rattle.amqp_typed.specs.declared.channel.Flow.{Flow}
 use Rattle.amqp_typed.specs.declared.channel.FlowOk.{FlowOk}
 use Rattle.amqp_typed.specs.declared.channel.Close.{Close}
 use Rattle.amqp_typed.specs.declared.channel.CloseRef.{CloseRef}
-use Rattle.amqp_typed.specs.declared.channel.CloseOk.{CloseOk}
-
-abbrev pub open_call : Open → Call
-open_call m = call ChannelOpen []
-
-abbrev pub open_ok_call : OpenOk → Call
-open_ok_call m = call ChannelOpenOk []
 
 abbrev pub flow_call : Flow → Call
 flow_call m = call ChannelFlow (bit m.active ∷ [])
@@ -32,6 +23,3 @@ abbrev pub close_ref_call : CloseRef → Call
 close_ref_call m =
     call ChannelClose
     (short m.reply_code ∷ short_string m.reply_text.now ∷ short m.class_id ∷ short m.method_id ∷ [])
-
-abbrev pub close_ok_call : CloseOk → Call
-close_ok_call m = call ChannelCloseOk []

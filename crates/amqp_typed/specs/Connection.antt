@@ -3,7 +3,7 @@
 use Rattle.std.specs.Prelude.{[], ◌∷◌}
 use Rattle.amqp_value.specs.Tables.{table_view}
 use Rattle.amqp_method.specs.Arguments.{Call, call, octet, short, long, short_string, long_string, table}
-use Rattle.amqp_method.specs.declared.kinds.Kind.TheVariants.{ConnectionStart, ConnectionStartOk, ConnectionSecure, ConnectionSecureOk, ConnectionTune, ConnectionTuneOk, ConnectionOpen, ConnectionOpenOk, ConnectionClose, ConnectionCloseOk, ConnectionBlocked, ConnectionUnblocked}
+use Rattle.amqp_method.specs.declared.kinds.Kind.TheVariants.{ConnectionStart, ConnectionStartOk, ConnectionSecure, ConnectionSecureOk, ConnectionTune, ConnectionTuneOk, ConnectionOpen, ConnectionClose, ConnectionBlocked}
 use Rattle.amqp_typed.specs.declared.connection.Start.{Start}
 use Rattle.amqp_typed.specs.declared.connection.StartRef.{StartRef}
 use Rattle.amqp_typed.specs.declared.connection.StartOk.{StartOk}
@@ -16,13 +16,10 @@ use Rattle.amqp_typed.specs.declared.connection.Tune.{Tune}
 use Rattle.amqp_typed.specs.declared.connection.TuneOk.{TuneOk}
 use Rattle.amqp_typed.specs.declared.connection.Open.{Open}
 use Rattle.amqp_typed.specs.declared.connection.OpenRef.{OpenRef}
-use Rattle.amqp_typed.specs.declared.connection.OpenOk.{OpenOk}
 use Rattle.amqp_typed.specs.declared.connection.Close.{Close}
 use Rattle.amqp_typed.specs.declared.connection.CloseRef.{CloseRef}
-use Rattle.amqp_typed.specs.declared.connection.CloseOk.{CloseOk}
 use Rattle.amqp_typed.specs.declared.connection.Blocked.{Blocked}
 use Rattle.amqp_typed.specs.declared.connection.BlockedRef.{BlockedRef}
-use Rattle.amqp_typed.specs.declared.connection.Unblocked.{Unblocked}
 
 abbrev pub start_call : Start → Call
 start_call m =
@@ -74,9 +71,6 @@ open_call m = call ConnectionOpen (short_string m.virtual_host ∷ [])
 abbrev pub open_ref_call : OpenRef → Call
 open_ref_call m = call ConnectionOpen (short_string m.virtual_host.now ∷ [])
 
-abbrev pub open_ok_call : OpenOk → Call
-open_ok_call m = call ConnectionOpenOk []
-
 abbrev pub close_call : Close → Call
 close_call m =
     call ConnectionClose
@@ -87,14 +81,8 @@ close_ref_call m =
     call ConnectionClose
     (short m.reply_code ∷ short_string m.reply_text.now ∷ short m.class_id ∷ short m.method_id ∷ [])
 
-abbrev pub close_ok_call : CloseOk → Call
-close_ok_call m = call ConnectionCloseOk []
-
 abbrev pub blocked_call : Blocked → Call
 blocked_call m = call ConnectionBlocked (short_string m.reason ∷ [])
 
 abbrev pub blocked_ref_call : BlockedRef → Call
 blocked_ref_call m = call ConnectionBlocked (short_string m.reason.now ∷ [])
-
-abbrev pub unblocked_call : Unblocked → Call
-unblocked_call m = call ConnectionUnblocked []

@@ -3,19 +3,15 @@
 use Rattle.std.specs.Prelude.{[], ◌∷◌}
 use Rattle.amqp_value.specs.Tables.{table_view}
 use Rattle.amqp_method.specs.Arguments.{Call, call, bit, short_string, table}
-use Rattle.amqp_method.specs.declared.kinds.Kind.TheVariants.{ExchangeDeclare, ExchangeDeclareOk, ExchangeDelete, ExchangeDeleteOk, ExchangeBind, ExchangeBindOk, ExchangeUnbind, ExchangeUnbindOk}
+use Rattle.amqp_method.specs.declared.kinds.Kind.TheVariants.{ExchangeDeclare, ExchangeDelete, ExchangeBind, ExchangeUnbind}
 use Rattle.amqp_typed.specs.declared.exchange.Declare.{Declare}
 use Rattle.amqp_typed.specs.declared.exchange.DeclareRef.{DeclareRef}
-use Rattle.amqp_typed.specs.declared.exchange.DeclareOk.{DeclareOk}
 use Rattle.amqp_typed.specs.declared.exchange.Delete.{Delete}
 use Rattle.amqp_typed.specs.declared.exchange.DeleteRef.{DeleteRef}
-use Rattle.amqp_typed.specs.declared.exchange.DeleteOk.{DeleteOk}
 use Rattle.amqp_typed.specs.declared.exchange.Bind.{Bind}
 use Rattle.amqp_typed.specs.declared.exchange.BindRef.{BindRef}
-use Rattle.amqp_typed.specs.declared.exchange.BindOk.{BindOk}
 use Rattle.amqp_typed.specs.declared.exchange.Unbind.{Unbind}
 use Rattle.amqp_typed.specs.declared.exchange.UnbindRef.{UnbindRef}
-use Rattle.amqp_typed.specs.declared.exchange.UnbindOk.{UnbindOk}
 
 abbrev pub declare_call : Declare → Call
 declare_call m =
@@ -29,9 +25,6 @@ declare_ref_call m =
     (short_string m.exchange.now ∷ short_string m.type_name.now ∷ bit m.passive ∷ bit m.durable
     ∷ bit m.auto_delete ∷ bit m.internal ∷ bit m.no_wait ∷ table (table_view m.arguments.now) ∷ [])
 
-abbrev pub declare_ok_call : DeclareOk → Call
-declare_ok_call m = call ExchangeDeclareOk []
-
 abbrev pub delete_call : Delete → Call
 delete_call m = call ExchangeDelete (short_string m.exchange ∷ bit m.if_unused ∷ bit m.no_wait ∷ [])
 
@@ -39,9 +32,6 @@ abbrev pub delete_ref_call : DeleteRef → Call
 delete_ref_call m =
     call ExchangeDelete
     (short_string m.exchange.now ∷ bit m.if_unused ∷ bit m.no_wait ∷ [])
-
-abbrev pub delete_ok_call : DeleteOk → Call
-delete_ok_call m = call ExchangeDeleteOk []
 
 abbrev pub bind_call : Bind → Call
 bind_call m =
@@ -55,9 +45,6 @@ bind_ref_call m =
     (short_string m.destination.now ∷ short_string m.source.now ∷ short_string m.routing_key.now
     ∷ bit m.no_wait ∷ table (table_view m.arguments.now) ∷ [])
 
-abbrev pub bind_ok_call : BindOk → Call
-bind_ok_call m = call ExchangeBindOk []
-
 abbrev pub unbind_call : Unbind → Call
 unbind_call m =
     call ExchangeUnbind
@@ -69,6 +56,3 @@ unbind_ref_call m =
     call ExchangeUnbind
     (short_string m.destination.now ∷ short_string m.source.now ∷ short_string m.routing_key.now
     ∷ bit m.no_wait ∷ table (table_view m.arguments.now) ∷ [])
-
-abbrev pub unbind_ok_call : UnbindOk → Call
-unbind_ok_call m = call ExchangeUnbindOk []

@@ -3,7 +3,6 @@ pub mod Channel
 pub mod Exchange
 pub mod Queue
 pub mod Basic
-pub mod Tx
 pub mod Confirm
 pub mod AnyMethod
 pub mod Kinds

@@ -3,17 +3,15 @@
 use Rattle.std.specs.Prelude.{[], ◌∷◌}
 use Rattle.amqp_value.specs.Tables.{table_view}
 use Rattle.amqp_method.specs.Arguments.{Call, call, bit, long, short_string, table}
-use Rattle.amqp_method.specs.declared.kinds.Kind.TheVariants.{QueueDeclare, QueueDeclareOk, QueueBind, QueueBindOk, QueueUnbind, QueueUnbindOk, QueuePurge, QueuePurgeOk, QueueDelete, QueueDeleteOk}
+use Rattle.amqp_method.specs.declared.kinds.Kind.TheVariants.{QueueDeclare, QueueDeclareOk, QueueBind, QueueUnbind, QueuePurge, QueuePurgeOk, QueueDelete, QueueDeleteOk}
 use Rattle.amqp_typed.specs.declared.queue.Declare.{Declare}
 use Rattle.amqp_typed.specs.declared.queue.DeclareRef.{DeclareRef}
 use Rattle.amqp_typed.specs.declared.queue.DeclareOk.{DeclareOk}
 use Rattle.amqp_typed.specs.declared.queue.DeclareOkRef.{DeclareOkRef}
 use Rattle.amqp_typed.specs.declared.queue.Bind.{Bind}
 use Rattle.amqp_typed.specs.declared.queue.BindRef.{BindRef}
-use Rattle.amqp_typed.specs.declared.queue.BindOk.{BindOk}
 use Rattle.amqp_typed.specs.declared.queue.Unbind.{Unbind}
 use Rattle.amqp_typed.specs.declared.queue.UnbindRef.{UnbindRef}
-use Rattle.amqp_typed.specs.declared.queue.UnbindOk.{UnbindOk}
 use Rattle.amqp_typed.specs.declared.queue.Purge.{Purge}
 use Rattle.amqp_typed.specs.declared.queue.PurgeRef.{PurgeRef}
 use Rattle.amqp_typed.specs.declared.queue.PurgeOk.{PurgeOk}
@@ -55,9 +53,6 @@ bind_ref_call m =
     (short_string m.queue.now ∷ short_string m.exchange.now ∷ short_string m.routing_key.now
     ∷ bit m.no_wait ∷ table (table_view m.arguments.now) ∷ [])
 
-abbrev pub bind_ok_call : BindOk → Call
-bind_ok_call m = call QueueBindOk []
-
 abbrev pub unbind_call : Unbind → Call
 unbind_call m =
     call QueueUnbind
@@ -69,9 +64,6 @@ unbind_ref_call m =
     call QueueUnbind
     (short_string m.queue.now ∷ short_string m.exchange.now ∷ short_string m.routing_key.now
     ∷ table (table_view m.arguments.now) ∷ [])
-
-abbrev pub unbind_ok_call : UnbindOk → Call
-unbind_ok_call m = call QueueUnbindOk []
 
 abbrev pub purge_call : Purge → Call
 purge_call m = call QueuePurge (short_string m.queue ∷ bit m.no_wait ∷ [])

@@ -1,20 +1,21 @@
 //! The methods of the class basic (`amqp0-9-1.xml`, class 60).
 // Written by `tools/typed_methods.py` from the table of methods in `docs/PROTOCOL.md`: change those and run it again.
-ghost use Rattle.std.specs.Prelude.{◌≡◌, ◌↔◌, IfOk, IfErr, IfSome, IsOk, IsOkAnd, IsSome, false, ◌∷◌, []};
+ghost use Rattle.std.specs.Prelude.{◌≡◌, ◌↔◌, IfOk, IfErr, IfSome, IsOk, IsSome, false, ◌∷◌, []};
 ghost use Rattle.amqp_value.specs.Values.{no_pairs};
 ghost use Rattle.amqp_method.specs.Arguments.{call, bit, short, long, long_long, short_string, table};
 ghost use Rattle.amqp_method.specs.HeaderView.{properties_view};
 ghost use Rattle.amqp_method.specs.MessageView.{message_view};
 ghost use Rattle.amqp_method.specs.Messages.{letter_with};
 ghost use Rattle.amqp_method.specs.MethodView.{method_view};
-ghost use Rattle.amqp_method.specs.declared.kinds.Kind.TheVariants.{BasicQos, BasicQosOk, BasicConsume, BasicConsumeOk, BasicCancel, BasicCancelOk, BasicPublish, BasicReturn, BasicDeliver, BasicGet, BasicGetOk, BasicGetEmpty, BasicAck, BasicReject, BasicRecoverAsync, BasicRecover, BasicRecoverOk, BasicNack};
-ghost use Rattle.amqp_typed.specs.Basic.{qos_call, qos_ok_call, consume_call, consume_ok_call, cancel_call, cancel_ok_call, publish_call, return_call, deliver_call, get_call, get_ok_call, get_empty_call, ack_call, reject_call, recover_async_call, recover_call, recover_ok_call, nack_call, consume_ref_call, consume_ok_ref_call, cancel_ref_call, cancel_ok_ref_call, publish_ref_call, return_ref_call, deliver_ref_call, get_ref_call, get_ok_ref_call};
+ghost use Rattle.amqp_method.specs.declared.kinds.Kind.TheVariants.{BasicQos, BasicConsume, BasicConsumeOk, BasicCancel, BasicCancelOk, BasicPublish, BasicReturn, BasicDeliver, BasicGet, BasicGetOk, BasicAck, BasicReject, BasicRecoverAsync, BasicRecover, BasicNack};
+ghost use Rattle.amqp_typed.specs.Basic.{qos_call, consume_call, consume_ok_call, cancel_call, cancel_ok_call, publish_call, return_call, deliver_call, get_call, get_ok_call, ack_call, reject_call, recover_async_call, recover_call, nack_call, consume_ref_call, consume_ok_ref_call, cancel_ref_call, cancel_ok_ref_call, publish_ref_call, return_ref_call, deliver_ref_call, get_ref_call, get_ok_ref_call};
 
 use crate::args::{
-    bare_method, bit, bit_at, five, four, is_kind, long, long_at, long_long, long_long_at,
-    method_of, one, own_args, seven, short, short_at, short_str, short_str_at, table, table_at,
-    two,
+    bit, bit_at, five, four, is_kind, long, long_at, long_long, long_long_at, method_of, one,
+    own_args, seven, short, short_at, short_str, short_str_at, table, table_at, two,
 };
+use crate::bare::Bare;
+use crate::bare_kinds::{BasicGetEmpty, BasicQosOk, BasicRecoverOk};
 use amqp_method::{Arg, Kind, Message, Method, OutOfMemory, Properties};
 use amqp_value::{ShortStr, Table};
 use std::alloc::Global;
@@ -86,40 +87,7 @@ impl Qos {
 }
 
 /// Confirms the limits. `basic.qos-ok`, class 60, method 11.
-#[derive(Clone, Copy, PartialEq, Eq, Debug)]
-pub struct QosOk;
-
-impl QosOk {
-    /// The method, which takes no memory.
-    pub fn into_method(self, alloc: Global) -> Result<Method, OutOfMemory>
-        ensures { IsOkAnd result (λ m. method_view m ≡ qos_ok_call self) }
-    {
-        Ok(bare_method(alloc, Kind::BasicQosOk))
-    }
-
-    /// What the method says, or the method as it was if it is another.
-    pub fn from_method(method: Method) -> Result<QosOk, Method>
-        ensures args { IfOk result (λ m. qos_ok_call m ≡ method_view method) }
-        ensures when { IsOk result ↔ ((method_view method).kind ≡ BasicQosOk) }
-        ensures same { IfErr result (λ m. method_view m ≡ method_view method) }
-    {
-        match QosOk::from_ref(&method) {
-            Some(qos_ok) => Ok(qos_ok),
-            None => Err(method),
-        }
-    }
-
-    /// What the method says, if it is this one.
-    pub fn from_ref(method: &Method) -> Option<QosOk>
-        ensures args { IfSome result (λ m. qos_ok_call m ≡ method_view method.now) }
-        ensures when { IsSome result ↔ ((method_view method.now).kind ≡ BasicQosOk) }
-    {
-        if is_kind(method, Kind::BasicQosOk) {
-            return Some(QosOk);
-        }
-        None
-    }
-}
+pub type QosOk = Bare<BasicQosOk>;
 
 /// Starts a consumer of a queue. `basic.consume`, class 60, method 20.
 #[derive(Debug, Drop, PartialEq, Eq)]
@@ -196,7 +164,7 @@ impl Consume {
 }
 
 /// [`Consume`], lent by a method.
-#[derive(Clone, Copy, Debug)]
+#[derive(Clone, Copy)]
 pub struct ConsumeRef<'a> {
     pub queue: &'a ShortStr,
     pub consumer_tag: &'a ShortStr,
@@ -268,7 +236,7 @@ impl ConsumeOk {
 }
 
 /// [`ConsumeOk`], lent by a method.
-#[derive(Clone, Copy, Debug)]
+#[derive(Clone, Copy)]
 pub struct ConsumeOkRef<'a> {
     pub consumer_tag: &'a ShortStr,
 }
@@ -335,7 +303,7 @@ impl Cancel {
 }
 
 /// [`Cancel`], lent by a method.
-#[derive(Clone, Copy, Debug)]
+#[derive(Clone, Copy)]
 pub struct CancelRef<'a> {
     pub consumer_tag: &'a ShortStr,
     pub no_wait: bool,
@@ -397,7 +365,7 @@ impl CancelOk {
 }
 
 /// [`CancelOk`], lent by a method.
-#[derive(Clone, Copy, Debug)]
+#[derive(Clone, Copy)]
 pub struct CancelOkRef<'a> {
     pub consumer_tag: &'a ShortStr,
 }
@@ -490,7 +458,7 @@ impl Publish {
 }
 
 /// [`Publish`], lent by a method.
-#[derive(Clone, Copy, Debug)]
+#[derive(Clone, Copy)]
 pub struct PublishRef<'a> {
     pub exchange: &'a ShortStr,
     pub routing_key: &'a ShortStr,
@@ -592,7 +560,7 @@ impl Return {
 }
 
 /// [`Return`], lent by a method.
-#[derive(Clone, Copy, Debug)]
+#[derive(Clone, Copy)]
 pub struct ReturnRef<'a> {
     pub reply_code: u16,
     pub reply_text: &'a ShortStr,
@@ -700,7 +668,7 @@ impl Deliver {
 }
 
 /// [`Deliver`], lent by a method.
-#[derive(Clone, Copy, Debug)]
+#[derive(Clone, Copy)]
 pub struct DeliverRef<'a> {
     pub consumer_tag: &'a ShortStr,
     pub delivery_tag: u64,
@@ -774,7 +742,7 @@ impl Get {
 }
 
 /// [`Get`], lent by a method.
-#[derive(Clone, Copy, Debug)]
+#[derive(Clone, Copy)]
 pub struct GetRef<'a> {
     pub queue: &'a ShortStr,
     pub no_ack: bool,
@@ -879,7 +847,7 @@ impl GetOk {
 }
 
 /// [`GetOk`], lent by a method.
-#[derive(Clone, Copy, Debug)]
+#[derive(Clone, Copy)]
 pub struct GetOkRef<'a> {
     pub delivery_tag: u64,
     pub redelivered: bool,
@@ -908,40 +876,7 @@ impl<'a> GetOkRef<'a> {
 }
 
 /// Says that the queue has no message. `basic.get-empty`, class 60, method 72.
-#[derive(Clone, Copy, PartialEq, Eq, Debug)]
-pub struct GetEmpty;
-
-impl GetEmpty {
-    /// The method, which takes no memory.
-    pub fn into_method(self, alloc: Global) -> Result<Method, OutOfMemory>
-        ensures { IsOkAnd result (λ m. method_view m ≡ get_empty_call self) }
-    {
-        Ok(bare_method(alloc, Kind::BasicGetEmpty))
-    }
-
-    /// What the method says, or the method as it was if it is another.
-    pub fn from_method(method: Method) -> Result<GetEmpty, Method>
-        ensures args { IfOk result (λ m. get_empty_call m ≡ method_view method) }
-        ensures when { IsOk result ↔ ((method_view method).kind ≡ BasicGetEmpty) }
-        ensures same { IfErr result (λ m. method_view m ≡ method_view method) }
-    {
-        match GetEmpty::from_ref(&method) {
-            Some(get_empty) => Ok(get_empty),
-            None => Err(method),
-        }
-    }
-
-    /// What the method says, if it is this one.
-    pub fn from_ref(method: &Method) -> Option<GetEmpty>
-        ensures args { IfSome result (λ m. get_empty_call m ≡ method_view method.now) }
-        ensures when { IsSome result ↔ ((method_view method.now).kind ≡ BasicGetEmpty) }
-    {
-        if is_kind(method, Kind::BasicGetEmpty) {
-            return Some(GetEmpty);
-        }
-        None
-    }
-}
+pub type GetEmpty = Bare<BasicGetEmpty>;
 
 /// Acknowledges one message or several. `basic.ack`, class 60, method 80.
 #[derive(Clone, Copy, PartialEq, Eq, Debug)]
@@ -1156,40 +1091,7 @@ impl Recover {
 }
 
 /// Confirms that the messages come again. `basic.recover-ok`, class 60, method 111.
-#[derive(Clone, Copy, PartialEq, Eq, Debug)]
-pub struct RecoverOk;
-
-impl RecoverOk {
-    /// The method, which takes no memory.
-    pub fn into_method(self, alloc: Global) -> Result<Method, OutOfMemory>
-        ensures { IsOkAnd result (λ m. method_view m ≡ recover_ok_call self) }
-    {
-        Ok(bare_method(alloc, Kind::BasicRecoverOk))
-    }
-
-    /// What the method says, or the method as it was if it is another.
-    pub fn from_method(method: Method) -> Result<RecoverOk, Method>
-        ensures args { IfOk result (λ m. recover_ok_call m ≡ method_view method) }
-        ensures when { IsOk result ↔ ((method_view method).kind ≡ BasicRecoverOk) }
-        ensures same { IfErr result (λ m. method_view m ≡ method_view method) }
-    {
-        match RecoverOk::from_ref(&method) {
-            Some(recover_ok) => Ok(recover_ok),
-            None => Err(method),
-        }
-    }
-
-    /// What the method says, if it is this one.
-    pub fn from_ref(method: &Method) -> Option<RecoverOk>
-        ensures args { IfSome result (λ m. recover_ok_call m ≡ method_view method.now) }
-        ensures when { IsSome result ↔ ((method_view method.now).kind ≡ BasicRecoverOk) }
-    {
-        if is_kind(method, Kind::BasicRecoverOk) {
-            return Some(RecoverOk);
-        }
-        None
-    }
-}
+pub type RecoverOk = Bare<BasicRecoverOk>;
 
 /// Rejects one message or several, or says that published ones were not taken. `basic.nack`, class 60, method 120.
 #[derive(Clone, Copy, PartialEq, Eq, Debug)]

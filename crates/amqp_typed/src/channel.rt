@@ -1,90 +1,25 @@
 //! The methods of the class channel (`amqp0-9-1.xml`, class 20).
 // Written by `tools/typed_methods.py` from the table of methods in `docs/PROTOCOL.md`: change those and run it again.
-ghost use Rattle.std.specs.Prelude.{◌≡◌, ◌↔◌, IfOk, IfErr, IfSome, IsOk, IsOkAnd, IsSome, ◌∷◌, []};
+ghost use Rattle.std.specs.Prelude.{◌≡◌, ◌↔◌, IfOk, IfErr, IfSome, IsOk, IsSome, ◌∷◌, []};
 ghost use Rattle.amqp_method.specs.Arguments.{call, bit, short, short_string};
 ghost use Rattle.amqp_method.specs.MethodView.{method_view};
-ghost use Rattle.amqp_method.specs.declared.kinds.Kind.TheVariants.{ChannelOpen, ChannelOpenOk, ChannelFlow, ChannelFlowOk, ChannelClose, ChannelCloseOk};
-ghost use Rattle.amqp_typed.specs.Channel.{open_call, open_ok_call, flow_call, flow_ok_call, close_call, close_ok_call, close_ref_call};
+ghost use Rattle.amqp_method.specs.declared.kinds.Kind.TheVariants.{ChannelFlow, ChannelFlowOk, ChannelClose};
+ghost use Rattle.amqp_typed.specs.Channel.{flow_call, flow_ok_call, close_call, close_ref_call};
 
 use crate::args::{
-    bare_method, bit_at, four, is_kind, method_of, own_args, short, short_at, short_str,
-    short_str_at,
+    bit_at, four, is_kind, method_of, own_args, short, short_at, short_str, short_str_at,
 };
+use crate::bare::Bare;
+use crate::bare_kinds::{ChannelCloseOk, ChannelOpen, ChannelOpenOk};
 use amqp_method::{Arg, Kind, Method, OutOfMemory};
 use amqp_value::ShortStr;
 use std::alloc::Global;
 
 /// Opens the channel. `channel.open`, class 20, method 10.
-#[derive(Clone, Copy, PartialEq, Eq, Debug)]
-pub struct Open;
-
-impl Open {
-    /// The method, which takes no memory.
-    pub fn into_method(self, alloc: Global) -> Result<Method, OutOfMemory>
-        ensures { IsOkAnd result (λ m. method_view m ≡ open_call self) }
-    {
-        Ok(bare_method(alloc, Kind::ChannelOpen))
-    }
-
-    /// What the method says, or the method as it was if it is another.
-    pub fn from_method(method: Method) -> Result<Open, Method>
-        ensures args { IfOk result (λ m. open_call m ≡ method_view method) }
-        ensures when { IsOk result ↔ ((method_view method).kind ≡ ChannelOpen) }
-        ensures same { IfErr result (λ m. method_view m ≡ method_view method) }
-    {
-        match Open::from_ref(&method) {
-            Some(open) => Ok(open),
-            None => Err(method),
-        }
-    }
-
-    /// What the method says, if it is this one.
-    pub fn from_ref(method: &Method) -> Option<Open>
-        ensures args { IfSome result (λ m. open_call m ≡ method_view method.now) }
-        ensures when { IsSome result ↔ ((method_view method.now).kind ≡ ChannelOpen) }
-    {
-        if is_kind(method, Kind::ChannelOpen) {
-            return Some(Open);
-        }
-        None
-    }
-}
+pub type Open = Bare<ChannelOpen>;
 
 /// Says that the channel is open. `channel.open-ok`, class 20, method 11.
-#[derive(Clone, Copy, PartialEq, Eq, Debug)]
-pub struct OpenOk;
-
-impl OpenOk {
-    /// The method, which takes no memory.
-    pub fn into_method(self, alloc: Global) -> Result<Method, OutOfMemory>
-        ensures { IsOkAnd result (λ m. method_view m ≡ open_ok_call self) }
-    {
-        Ok(bare_method(alloc, Kind::ChannelOpenOk))
-    }
-
-    /// What the method says, or the method as it was if it is another.
-    pub fn from_method(method: Method) -> Result<OpenOk, Method>
-        ensures args { IfOk result (λ m. open_ok_call m ≡ method_view method) }
-        ensures when { IsOk result ↔ ((method_view method).kind ≡ ChannelOpenOk) }
-        ensures same { IfErr result (λ m. method_view m ≡ method_view method) }
-    {
-        match OpenOk::from_ref(&method) {
-            Some(open_ok) => Ok(open_ok),
-            None => Err(method),
-        }
-    }
-
-    /// What the method says, if it is this one.
-    pub fn from_ref(method: &Method) -> Option<OpenOk>
-        ensures args { IfSome result (λ m. open_ok_call m ≡ method_view method.now) }
-        ensures when { IsSome result ↔ ((method_view method.now).kind ≡ ChannelOpenOk) }
-    {
-        if is_kind(method, Kind::ChannelOpenOk) {
-            return Some(OpenOk);
-        }
-        None
-    }
-}
+pub type OpenOk = Bare<ChannelOpenOk>;
 
 /// Asks the peer to stop or to resume sending contents. `channel.flow`, class 20, method 20.
 #[derive(Clone, Copy, PartialEq, Eq, Debug)]
@@ -241,7 +176,7 @@ impl Close {
 }
 
 /// [`Close`], lent by a method.
-#[derive(Clone, Copy, Debug)]
+#[derive(Clone, Copy)]
 pub struct CloseRef<'a> {
     pub reply_code: u16,
     pub reply_text: &'a ShortStr,
@@ -268,37 +203,4 @@ impl<'a> CloseRef<'a> {
 }
 
 /// Confirms that the channel is closed. `channel.close-ok`, class 20, method 41.
-#[derive(Clone, Copy, PartialEq, Eq, Debug)]
-pub struct CloseOk;
-
-impl CloseOk {
-    /// The method, which takes no memory.
-    pub fn into_method(self, alloc: Global) -> Result<Method, OutOfMemory>
-        ensures { IsOkAnd result (λ m. method_view m ≡ close_ok_call self) }
-    {
-        Ok(bare_method(alloc, Kind::ChannelCloseOk))
-    }
-
-    /// What the method says, or the method as it was if it is another.
-    pub fn from_method(method: Method) -> Result<CloseOk, Method>
-        ensures args { IfOk result (λ m. close_ok_call m ≡ method_view method) }
-        ensures when { IsOk result ↔ ((method_view method).kind ≡ ChannelCloseOk) }
-        ensures same { IfErr result (λ m. method_view m ≡ method_view method) }
-    {
-        match CloseOk::from_ref(&method) {
-            Some(close_ok) => Ok(close_ok),
-            None => Err(method),
-        }
-    }
-
-    /// What the method says, if it is this one.
-    pub fn from_ref(method: &Method) -> Option<CloseOk>
-        ensures args { IfSome result (λ m. close_ok_call m ≡ method_view method.now) }
-        ensures when { IsSome result ↔ ((method_view method.now).kind ≡ ChannelCloseOk) }
-    {
-        if is_kind(method, Kind::ChannelCloseOk) {
-            return Some(CloseOk);
-        }
-        None
-    }
-}
+pub type CloseOk = Bare<ChannelCloseOk>;

@@ -1,12 +1,14 @@
 //! The methods of the class confirm (`amqp0-9-1.xml`, class 85).
 // Written by `tools/typed_methods.py` from the table of methods in `docs/PROTOCOL.md`: change those and run it again.
-ghost use Rattle.std.specs.Prelude.{◌≡◌, ◌↔◌, IfOk, IfErr, IfSome, IsOk, IsOkAnd, IsSome, false, ◌∷◌, []};
+ghost use Rattle.std.specs.Prelude.{◌≡◌, ◌↔◌, IfOk, IfErr, IfSome, IsOk, IsSome, false, ◌∷◌, []};
 ghost use Rattle.amqp_method.specs.Arguments.{call, bit};
 ghost use Rattle.amqp_method.specs.MethodView.{method_view};
-ghost use Rattle.amqp_method.specs.declared.kinds.Kind.TheVariants.{ConfirmSelect, ConfirmSelectOk};
-ghost use Rattle.amqp_typed.specs.Confirm.{select_call, select_ok_call};
+ghost use Rattle.amqp_method.specs.declared.kinds.Kind.TheVariants.{ConfirmSelect};
+ghost use Rattle.amqp_typed.specs.Confirm.{select_call};
 
-use crate::args::{bare_method, bit_at, is_kind, method_of};
+use crate::args::{bit_at, is_kind, method_of};
+use crate::bare::Bare;
+use crate::bare_kinds::ConfirmSelectOk;
 use amqp_method::{Arg, Kind, Method, OutOfMemory};
 use std::alloc::Global;
 
@@ -59,37 +61,4 @@ impl Select {
 }
 
 /// Confirms that the channel uses confirms. `confirm.select-ok`, class 85, method 11.
-#[derive(Clone, Copy, PartialEq, Eq, Debug)]
-pub struct SelectOk;
-
-impl SelectOk {
-    /// The method, which takes no memory.
-    pub fn into_method(self, alloc: Global) -> Result<Method, OutOfMemory>
-        ensures { IsOkAnd result (λ m. method_view m ≡ select_ok_call self) }
-    {
-        Ok(bare_method(alloc, Kind::ConfirmSelectOk))
-    }
-
-    /// What the method says, or the method as it was if it is another.
-    pub fn from_method(method: Method) -> Result<SelectOk, Method>
-        ensures args { IfOk result (λ m. select_ok_call m ≡ method_view method) }
-        ensures when { IsOk result ↔ ((method_view method).kind ≡ ConfirmSelectOk) }
-        ensures same { IfErr result (λ m. method_view m ≡ method_view method) }
-    {
-        match SelectOk::from_ref(&method) {
-            Some(select_ok) => Ok(select_ok),
-            None => Err(method),
-        }
-    }
-
-    /// What the method says, if it is this one.
-    pub fn from_ref(method: &Method) -> Option<SelectOk>
-        ensures args { IfSome result (λ m. select_ok_call m ≡ method_view method.now) }
-        ensures when { IsSome result ↔ ((method_view method.now).kind ≡ ConfirmSelectOk) }
-    {
-        if is_kind(method, Kind::ConfirmSelectOk) {
-            return Some(SelectOk);
-        }
-        None
-    }
-}
+pub type SelectOk = Bare<ConfirmSelectOk>;

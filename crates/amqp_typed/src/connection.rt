@@ -1,16 +1,18 @@
 //! The methods of the class connection (`amqp0-9-1.xml`, class 10).
 // Written by `tools/typed_methods.py` from the table of methods in `docs/PROTOCOL.md`: change those and run it again.
-ghost use Rattle.std.specs.Prelude.{◌≡◌, ◌↔◌, IfOk, IfErr, IfSome, IsOk, IsOkAnd, IsSome, ◌∷◌, []};
+ghost use Rattle.std.specs.Prelude.{◌≡◌, ◌↔◌, IfOk, IfErr, IfSome, IsOk, IsSome, ◌∷◌, []};
 ghost use Rattle.amqp_value.specs.Values.{no_pairs};
 ghost use Rattle.amqp_method.specs.Arguments.{call, octet, short, long, short_string, long_string, table};
 ghost use Rattle.amqp_method.specs.MethodView.{method_view};
-ghost use Rattle.amqp_method.specs.declared.kinds.Kind.TheVariants.{ConnectionStart, ConnectionStartOk, ConnectionSecure, ConnectionSecureOk, ConnectionTune, ConnectionTuneOk, ConnectionOpen, ConnectionOpenOk, ConnectionClose, ConnectionCloseOk, ConnectionBlocked, ConnectionUnblocked};
-ghost use Rattle.amqp_typed.specs.Connection.{start_call, start_ok_call, secure_call, secure_ok_call, tune_call, tune_ok_call, open_call, open_ok_call, close_call, close_ok_call, blocked_call, unblocked_call, start_ref_call, start_ok_ref_call, secure_ref_call, secure_ok_ref_call, open_ref_call, close_ref_call, blocked_ref_call};
+ghost use Rattle.amqp_method.specs.declared.kinds.Kind.TheVariants.{ConnectionStart, ConnectionStartOk, ConnectionSecure, ConnectionSecureOk, ConnectionTune, ConnectionTuneOk, ConnectionOpen, ConnectionClose, ConnectionBlocked};
+ghost use Rattle.amqp_typed.specs.Connection.{start_call, start_ok_call, secure_call, secure_ok_call, tune_call, tune_ok_call, open_call, close_call, blocked_call, start_ref_call, start_ok_ref_call, secure_ref_call, secure_ok_ref_call, open_ref_call, close_ref_call, blocked_ref_call};
 
 use crate::args::{
-    bare_method, five, four, is_kind, long_at, long_str, long_str_at, method_of, octet, octet_at,
-    one, own_args, short, short_at, short_str, short_str_at, table, table_at,
+    five, four, is_kind, long_at, long_str, long_str_at, method_of, octet, octet_at, one, own_args,
+    short, short_at, short_str, short_str_at, table, table_at,
 };
+use crate::bare::Bare;
+use crate::bare_kinds::{ConnectionCloseOk, ConnectionOpenOk, ConnectionUnblocked};
 use amqp_method::{Arg, Kind, Method, OutOfMemory};
 use amqp_value::{ShortStr, Table};
 use std::alloc::Global;
@@ -79,7 +81,7 @@ impl Start {
 }
 
 /// [`Start`], lent by a method.
-#[derive(Clone, Copy, Debug)]
+#[derive(Clone, Copy)]
 pub struct StartRef<'a> {
     pub version_major: u8,
     pub version_minor: u8,
@@ -166,7 +168,7 @@ impl StartOk {
 }
 
 /// [`StartOk`], lent by a method.
-#[derive(Clone, Copy, Debug)]
+#[derive(Clone, Copy)]
 pub struct StartOkRef<'a> {
     pub client_properties: &'a Table,
     pub mechanism: &'a ShortStr,
@@ -233,7 +235,7 @@ impl Secure {
 }
 
 /// [`Secure`], lent by a method.
-#[derive(Clone, Copy, Debug)]
+#[derive(Clone, Copy)]
 pub struct SecureRef<'a> {
     pub challenge: &'a [u8],
 }
@@ -295,7 +297,7 @@ impl SecureOk {
 }
 
 /// [`SecureOk`], lent by a method.
-#[derive(Clone, Copy, Debug)]
+#[derive(Clone, Copy)]
 pub struct SecureOkRef<'a> {
     pub response: &'a [u8],
 }
@@ -489,7 +491,7 @@ impl Open {
 }
 
 /// [`Open`], lent by a method.
-#[derive(Clone, Copy, Debug)]
+#[derive(Clone, Copy)]
 pub struct OpenRef<'a> {
     pub virtual_host: &'a ShortStr,
 }
@@ -510,40 +512,7 @@ impl<'a> OpenRef<'a> {
 }
 
 /// Says that the connection is open. `connection.open-ok`, class 10, method 41.
-#[derive(Clone, Copy, PartialEq, Eq, Debug)]
-pub struct OpenOk;
-
-impl OpenOk {
-    /// The method, which takes no memory.
-    pub fn into_method(self, alloc: Global) -> Result<Method, OutOfMemory>
-        ensures { IsOkAnd result (λ m. method_view m ≡ open_ok_call self) }
-    {
-        Ok(bare_method(alloc, Kind::ConnectionOpenOk))
-    }
-
-    /// What the method says, or the method as it was if it is another.
-    pub fn from_method(method: Method) -> Result<OpenOk, Method>
-        ensures args { IfOk result (λ m. open_ok_call m ≡ method_view method) }
-        ensures when { IsOk result ↔ ((method_view method).kind ≡ ConnectionOpenOk) }
-        ensures same { IfErr result (λ m. method_view m ≡ method_view method) }
-    {
-        match OpenOk::from_ref(&method) {
-            Some(open_ok) => Ok(open_ok),
-            None => Err(method),
-        }
-    }
-
-    /// What the method says, if it is this one.
-    pub fn from_ref(method: &Method) -> Option<OpenOk>
-        ensures args { IfSome result (λ m. open_ok_call m ≡ method_view method.now) }
-        ensures when { IsSome result ↔ ((method_view method.now).kind ≡ ConnectionOpenOk) }
-    {
-        if is_kind(method, Kind::ConnectionOpenOk) {
-            return Some(OpenOk);
-        }
-        None
-    }
-}
+pub type OpenOk = Bare<ConnectionOpenOk>;
 
 /// Closes the connection, and says why. `connection.close`, class 10, method 50.
 #[derive(Debug, Drop, PartialEq, Eq)]
@@ -604,7 +573,7 @@ impl Close {
 }
 
 /// [`Close`], lent by a method.
-#[derive(Clone, Copy, Debug)]
+#[derive(Clone, Copy)]
 pub struct CloseRef<'a> {
     pub reply_code: u16,
     pub reply_text: &'a ShortStr,
@@ -631,40 +600,7 @@ impl<'a> CloseRef<'a> {
 }
 
 /// Confirms that the connection is closed. `connection.close-ok`, class 10, method 51.
-#[derive(Clone, Copy, PartialEq, Eq, Debug)]
-pub struct CloseOk;
-
-impl CloseOk {
-    /// The method, which takes no memory.
-    pub fn into_method(self, alloc: Global) -> Result<Method, OutOfMemory>
-        ensures { IsOkAnd result (λ m. method_view m ≡ close_ok_call self) }
-    {
-        Ok(bare_method(alloc, Kind::ConnectionCloseOk))
-    }
-
-    /// What the method says, or the method as it was if it is another.
-    pub fn from_method(method: Method) -> Result<CloseOk, Method>
-        ensures args { IfOk result (λ m. close_ok_call m ≡ method_view method) }
-        ensures when { IsOk result ↔ ((method_view method).kind ≡ ConnectionCloseOk) }
-        ensures same { IfErr result (λ m. method_view m ≡ method_view method) }
-    {
-        match CloseOk::from_ref(&method) {
-            Some(close_ok) => Ok(close_ok),
-            None => Err(method),
-        }
-    }
-
-    /// What the method says, if it is this one.
-    pub fn from_ref(method: &Method) -> Option<CloseOk>
-        ensures args { IfSome result (λ m. close_ok_call m ≡ method_view method.now) }
-        ensures when { IsSome result ↔ ((method_view method.now).kind ≡ ConnectionCloseOk) }
-    {
-        if is_kind(method, Kind::ConnectionCloseOk) {
-            return Some(CloseOk);
-        }
-        None
-    }
-}
+pub type CloseOk = Bare<ConnectionCloseOk>;
 
 /// Says that the server takes no more messages for now. `connection.blocked`, class 10, method 60.
 #[derive(Debug, Drop, PartialEq, Eq)]
@@ -702,7 +638,7 @@ impl Blocked {
 }
 
 /// [`Blocked`], lent by a method.
-#[derive(Clone, Copy, Debug)]
+#[derive(Clone, Copy)]
 pub struct BlockedRef<'a> {
     pub reason: &'a ShortStr,
 }
@@ -723,37 +659,4 @@ impl<'a> BlockedRef<'a> {
 }
 
 /// Says that the server takes messages again. `connection.unblocked`, class 10, method 61.
-#[derive(Clone, Copy, PartialEq, Eq, Debug)]
-pub struct Unblocked;
-
-impl Unblocked {
-    /// The method, which takes no memory.
-    pub fn into_method(self, alloc: Global) -> Result<Method, OutOfMemory>
-        ensures { IsOkAnd result (λ m. method_view m ≡ unblocked_call self) }
-    {
-        Ok(bare_method(alloc, Kind::ConnectionUnblocked))
-    }
-
-    /// What the method says, or the method as it was if it is another.
-    pub fn from_method(method: Method) -> Result<Unblocked, Method>
-        ensures args { IfOk result (λ m. unblocked_call m ≡ method_view method) }
-        ensures when { IsOk result ↔ ((method_view method).kind ≡ ConnectionUnblocked) }
-        ensures same { IfErr result (λ m. method_view m ≡ method_view method) }
-    {
-        match Unblocked::from_ref(&method) {
-            Some(unblocked) => Ok(unblocked),
-            None => Err(method),
-        }
-    }
-
-    /// What the method says, if it is this one.
-    pub fn from_ref(method: &Method) -> Option<Unblocked>
-        ensures args { IfSome result (λ m. unblocked_call m ≡ method_view method.now) }
-        ensures when { IsSome result ↔ ((method_view method.now).kind ≡ ConnectionUnblocked) }
-    {
-        if is_kind(method, Kind::ConnectionUnblocked) {
-            return Some(Unblocked);
-        }
-        None
-    }
-}
+pub type Unblocked = Bare<ConnectionUnblocked>;

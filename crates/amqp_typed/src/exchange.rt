@@ -1,16 +1,18 @@
 //! The methods of the class exchange (`amqp0-9-1.xml`, class 40).
 // Written by `tools/typed_methods.py` from the table of methods in `docs/PROTOCOL.md`: change those and run it again.
-ghost use Rattle.std.specs.Prelude.{◌≡◌, ◌↔◌, IfOk, IfErr, IfSome, IsOk, IsOkAnd, IsSome, false, ◌∷◌, []};
+ghost use Rattle.std.specs.Prelude.{◌≡◌, ◌↔◌, IfOk, IfErr, IfSome, IsOk, IsSome, false, ◌∷◌, []};
 ghost use Rattle.amqp_value.specs.Values.{no_pairs};
 ghost use Rattle.amqp_method.specs.Arguments.{call, bit, short_string, table};
 ghost use Rattle.amqp_method.specs.MethodView.{method_view};
-ghost use Rattle.amqp_method.specs.declared.kinds.Kind.TheVariants.{ExchangeDeclare, ExchangeDeclareOk, ExchangeDelete, ExchangeDeleteOk, ExchangeBind, ExchangeBindOk, ExchangeUnbind, ExchangeUnbindOk};
-ghost use Rattle.amqp_typed.specs.Exchange.{declare_call, declare_ok_call, delete_call, delete_ok_call, bind_call, bind_ok_call, unbind_call, unbind_ok_call, declare_ref_call, delete_ref_call, bind_ref_call, unbind_ref_call};
+ghost use Rattle.amqp_method.specs.declared.kinds.Kind.TheVariants.{ExchangeDeclare, ExchangeDelete, ExchangeBind, ExchangeUnbind};
+ghost use Rattle.amqp_typed.specs.Exchange.{declare_call, delete_call, bind_call, unbind_call, declare_ref_call, delete_ref_call, bind_ref_call, unbind_ref_call};
 
 use crate::args::{
-    bare_method, bit, bit_at, eight, five, is_kind, method_of, own_args, short_str, short_str_at,
-    table, table_at, three,
+    bit, bit_at, eight, five, is_kind, method_of, own_args, short_str, short_str_at, table,
+    table_at, three,
 };
+use crate::bare::Bare;
+use crate::bare_kinds::{ExchangeBindOk, ExchangeDeclareOk, ExchangeDeleteOk, ExchangeUnbindOk};
 use amqp_method::{Arg, Kind, Method, OutOfMemory};
 use amqp_value::{ShortStr, Table};
 use std::alloc::Global;
@@ -97,7 +99,7 @@ impl Declare {
 }
 
 /// [`Declare`], lent by a method.
-#[derive(Clone, Copy, Debug)]
+#[derive(Clone, Copy)]
 pub struct DeclareRef<'a> {
     pub exchange: &'a ShortStr,
     pub type_name: &'a ShortStr,
@@ -132,40 +134,7 @@ impl<'a> DeclareRef<'a> {
 }
 
 /// Confirms that the exchange exists. `exchange.declare-ok`, class 40, method 11.
-#[derive(Clone, Copy, PartialEq, Eq, Debug)]
-pub struct DeclareOk;
-
-impl DeclareOk {
-    /// The method, which takes no memory.
-    pub fn into_method(self, alloc: Global) -> Result<Method, OutOfMemory>
-        ensures { IsOkAnd result (λ m. method_view m ≡ declare_ok_call self) }
-    {
-        Ok(bare_method(alloc, Kind::ExchangeDeclareOk))
-    }
-
-    /// What the method says, or the method as it was if it is another.
-    pub fn from_method(method: Method) -> Result<DeclareOk, Method>
-        ensures args { IfOk result (λ m. declare_ok_call m ≡ method_view method) }
-        ensures when { IsOk result ↔ ((method_view method).kind ≡ ExchangeDeclareOk) }
-        ensures same { IfErr result (λ m. method_view m ≡ method_view method) }
-    {
-        match DeclareOk::from_ref(&method) {
-            Some(declare_ok) => Ok(declare_ok),
-            None => Err(method),
-        }
-    }
-
-    /// What the method says, if it is this one.
-    pub fn from_ref(method: &Method) -> Option<DeclareOk>
-        ensures args { IfSome result (λ m. declare_ok_call m ≡ method_view method.now) }
-        ensures when { IsSome result ↔ ((method_view method.now).kind ≡ ExchangeDeclareOk) }
-    {
-        if is_kind(method, Kind::ExchangeDeclareOk) {
-            return Some(DeclareOk);
-        }
-        None
-    }
-}
+pub type DeclareOk = Bare<ExchangeDeclareOk>;
 
 /// Deletes an exchange. `exchange.delete`, class 40, method 20.
 #[derive(Debug, Drop, PartialEq, Eq)]
@@ -222,7 +191,7 @@ impl Delete {
 }
 
 /// [`Delete`], lent by a method.
-#[derive(Clone, Copy, Debug)]
+#[derive(Clone, Copy)]
 pub struct DeleteRef<'a> {
     pub exchange: &'a ShortStr,
     pub if_unused: bool,
@@ -247,40 +216,7 @@ impl<'a> DeleteRef<'a> {
 }
 
 /// Confirms that the exchange is deleted. `exchange.delete-ok`, class 40, method 21.
-#[derive(Clone, Copy, PartialEq, Eq, Debug)]
-pub struct DeleteOk;
-
-impl DeleteOk {
-    /// The method, which takes no memory.
-    pub fn into_method(self, alloc: Global) -> Result<Method, OutOfMemory>
-        ensures { IsOkAnd result (λ m. method_view m ≡ delete_ok_call self) }
-    {
-        Ok(bare_method(alloc, Kind::ExchangeDeleteOk))
-    }
-
-    /// What the method says, or the method as it was if it is another.
-    pub fn from_method(method: Method) -> Result<DeleteOk, Method>
-        ensures args { IfOk result (λ m. delete_ok_call m ≡ method_view method) }
-        ensures when { IsOk result ↔ ((method_view method).kind ≡ ExchangeDeleteOk) }
-        ensures same { IfErr result (λ m. method_view m ≡ method_view method) }
-    {
-        match DeleteOk::from_ref(&method) {
-            Some(delete_ok) => Ok(delete_ok),
-            None => Err(method),
-        }
-    }
-
-    /// What the method says, if it is this one.
-    pub fn from_ref(method: &Method) -> Option<DeleteOk>
-        ensures args { IfSome result (λ m. delete_ok_call m ≡ method_view method.now) }
-        ensures when { IsSome result ↔ ((method_view method.now).kind ≡ ExchangeDeleteOk) }
-    {
-        if is_kind(method, Kind::ExchangeDeleteOk) {
-            return Some(DeleteOk);
-        }
-        None
-    }
-}
+pub type DeleteOk = Bare<ExchangeDeleteOk>;
 
 /// Binds an exchange to an exchange. `exchange.bind`, class 40, method 30.
 #[derive(Debug, Drop, PartialEq, Eq)]
@@ -352,7 +288,7 @@ impl Bind {
 }
 
 /// [`Bind`], lent by a method.
-#[derive(Clone, Copy, Debug)]
+#[derive(Clone, Copy)]
 pub struct BindRef<'a> {
     pub destination: &'a ShortStr,
     pub source: &'a ShortStr,
@@ -381,40 +317,7 @@ impl<'a> BindRef<'a> {
 }
 
 /// Confirms the binding. `exchange.bind-ok`, class 40, method 31.
-#[derive(Clone, Copy, PartialEq, Eq, Debug)]
-pub struct BindOk;
-
-impl BindOk {
-    /// The method, which takes no memory.
-    pub fn into_method(self, alloc: Global) -> Result<Method, OutOfMemory>
-        ensures { IsOkAnd result (λ m. method_view m ≡ bind_ok_call self) }
-    {
-        Ok(bare_method(alloc, Kind::ExchangeBindOk))
-    }
-
-    /// What the method says, or the method as it was if it is another.
-    pub fn from_method(method: Method) -> Result<BindOk, Method>
-        ensures args { IfOk result (λ m. bind_ok_call m ≡ method_view method) }
-        ensures when { IsOk result ↔ ((method_view method).kind ≡ ExchangeBindOk) }
-        ensures same { IfErr result (λ m. method_view m ≡ method_view method) }
-    {
-        match BindOk::from_ref(&method) {
-            Some(bind_ok) => Ok(bind_ok),
-            None => Err(method),
-        }
-    }
-
-    /// What the method says, if it is this one.
-    pub fn from_ref(method: &Method) -> Option<BindOk>
-        ensures args { IfSome result (λ m. bind_ok_call m ≡ method_view method.now) }
-        ensures when { IsSome result ↔ ((method_view method.now).kind ≡ ExchangeBindOk) }
-    {
-        if is_kind(method, Kind::ExchangeBindOk) {
-            return Some(BindOk);
-        }
-        None
-    }
-}
+pub type BindOk = Bare<ExchangeBindOk>;
 
 /// Unbinds an exchange from an exchange. `exchange.unbind`, class 40, method 40.
 #[derive(Debug, Drop, PartialEq, Eq)]
@@ -486,7 +389,7 @@ impl Unbind {
 }
 
 /// [`Unbind`], lent by a method.
-#[derive(Clone, Copy, Debug)]
+#[derive(Clone, Copy)]
 pub struct UnbindRef<'a> {
     pub destination: &'a ShortStr,
     pub source: &'a ShortStr,
@@ -515,37 +418,4 @@ impl<'a> UnbindRef<'a> {
 }
 
 /// Confirms that the binding is gone. `exchange.unbind-ok`, class 40, method 51.
-#[derive(Clone, Copy, PartialEq, Eq, Debug)]
-pub struct UnbindOk;
-
-impl UnbindOk {
-    /// The method, which takes no memory.
-    pub fn into_method(self, alloc: Global) -> Result<Method, OutOfMemory>
-        ensures { IsOkAnd result (λ m. method_view m ≡ unbind_ok_call self) }
-    {
-        Ok(bare_method(alloc, Kind::ExchangeUnbindOk))
-    }
-
-    /// What the method says, or the method as it was if it is another.
-    pub fn from_method(method: Method) -> Result<UnbindOk, Method>
-        ensures args { IfOk result (λ m. unbind_ok_call m ≡ method_view method) }
-        ensures when { IsOk result ↔ ((method_view method).kind ≡ ExchangeUnbindOk) }
-        ensures same { IfErr result (λ m. method_view m ≡ method_view method) }
-    {
-        match UnbindOk::from_ref(&method) {
-            Some(unbind_ok) => Ok(unbind_ok),
-            None => Err(method),
-        }
-    }
-
-    /// What the method says, if it is this one.
-    pub fn from_ref(method: &Method) -> Option<UnbindOk>
-        ensures args { IfSome result (λ m. unbind_ok_call m ≡ method_view method.now) }
-        ensures when { IsSome result ↔ ((method_view method.now).kind ≡ ExchangeUnbindOk) }
-    {
-        if is_kind(method, Kind::ExchangeUnbindOk) {
-            return Some(UnbindOk);
-        }
-        None
-    }
-}
+pub type UnbindOk = Bare<ExchangeUnbindOk>;

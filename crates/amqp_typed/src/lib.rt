@@ -3,11 +3,12 @@
 //!
 //! - `new` takes the fields that have no default. The defaults: a bit is false, but that a flow's `active` is given; a table
 //!   is empty; a close's `class_id` and `method_id`, and `prefetch_size`, are 0; a start's version is 0-9. Other numbers
-//!   and all strings are given. A method without fields is made by its name alone, as [`tx::Select`].
+//!   and all strings are given.
 //! - `into_method` makes the [`Method`](amqp_method::Method) with these arguments, in the order of the table.
 //! - `from_method` takes a method apart, without a copy, or gives back one of another kind.
 //! - `basic::DeliverRef` and its like are lent by a method, and take no memory. A struct of numbers and bits alone, as
 //!   [`basic::Ack`], is read by its `from_ref`.
+//! - The methods without arguments are one struct, [`Bare`], with a type for each kind: [`tx::Select`] is one of these.
 //! - [`AnyMethod`] is a method of any kind, for a `match` over all of them.
 //! - The four methods that a content follows have `message`, which makes the message with its properties and its body.
 //!
@@ -16,6 +17,8 @@
 
 mod any_method;
 mod args;
+mod bare;
+mod bare_kinds;
 pub mod basic;
 pub mod channel;
 pub mod confirm;
@@ -26,3 +29,4 @@ pub mod queue;
 pub mod tx;
 
 pub use crate::any_method::AnyMethod;
+pub use crate::bare::{Bare, BareKind};

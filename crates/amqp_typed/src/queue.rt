@@ -1,16 +1,18 @@
 //! The methods of the class queue (`amqp0-9-1.xml`, class 50).
 // Written by `tools/typed_methods.py` from the table of methods in `docs/PROTOCOL.md`: change those and run it again.
-ghost use Rattle.std.specs.Prelude.{◌≡◌, ◌↔◌, IfOk, IfErr, IfSome, IsOk, IsOkAnd, IsSome, false, ◌∷◌, []};
+ghost use Rattle.std.specs.Prelude.{◌≡◌, ◌↔◌, IfOk, IfErr, IfSome, IsOk, IsSome, false, ◌∷◌, []};
 ghost use Rattle.amqp_value.specs.Values.{no_pairs};
 ghost use Rattle.amqp_method.specs.Arguments.{call, bit, long, short_string, table};
 ghost use Rattle.amqp_method.specs.MethodView.{method_view};
-ghost use Rattle.amqp_method.specs.declared.kinds.Kind.TheVariants.{QueueDeclare, QueueDeclareOk, QueueBind, QueueBindOk, QueueUnbind, QueueUnbindOk, QueuePurge, QueuePurgeOk, QueueDelete, QueueDeleteOk};
-ghost use Rattle.amqp_typed.specs.Queue.{declare_call, declare_ok_call, bind_call, bind_ok_call, unbind_call, unbind_ok_call, purge_call, purge_ok_call, delete_call, delete_ok_call, declare_ref_call, declare_ok_ref_call, bind_ref_call, unbind_ref_call, purge_ref_call, delete_ref_call};
+ghost use Rattle.amqp_method.specs.declared.kinds.Kind.TheVariants.{QueueDeclare, QueueDeclareOk, QueueBind, QueueUnbind, QueuePurge, QueuePurgeOk, QueueDelete, QueueDeleteOk};
+ghost use Rattle.amqp_typed.specs.Queue.{declare_call, declare_ok_call, bind_call, unbind_call, purge_call, purge_ok_call, delete_call, delete_ok_call, declare_ref_call, declare_ok_ref_call, bind_ref_call, unbind_ref_call, purge_ref_call, delete_ref_call};
 
 use crate::args::{
-    bare_method, bit, bit_at, five, four, is_kind, long, long_at, method_of, own_args, seven,
-    short_str, short_str_at, table, table_at, three, two,
+    bit, bit_at, five, four, is_kind, long, long_at, method_of, own_args, seven, short_str,
+    short_str_at, table, table_at, three, two,
 };
+use crate::bare::Bare;
+use crate::bare_kinds::{QueueBindOk, QueueUnbindOk};
 use amqp_method::{Arg, Kind, Method, OutOfMemory};
 use amqp_value::{ShortStr, Table};
 use std::alloc::Global;
@@ -91,7 +93,7 @@ impl Declare {
 }
 
 /// [`Declare`], lent by a method.
-#[derive(Clone, Copy, Debug)]
+#[derive(Clone, Copy)]
 pub struct DeclareRef<'a> {
     pub queue: &'a ShortStr,
     pub passive: bool,
@@ -177,7 +179,7 @@ impl DeclareOk {
 }
 
 /// [`DeclareOk`], lent by a method.
-#[derive(Clone, Copy, Debug)]
+#[derive(Clone, Copy)]
 pub struct DeclareOkRef<'a> {
     pub queue: &'a ShortStr,
     pub message_count: u32,
@@ -264,7 +266,7 @@ impl Bind {
 }
 
 /// [`Bind`], lent by a method.
-#[derive(Clone, Copy, Debug)]
+#[derive(Clone, Copy)]
 pub struct BindRef<'a> {
     pub queue: &'a ShortStr,
     pub exchange: &'a ShortStr,
@@ -293,40 +295,7 @@ impl<'a> BindRef<'a> {
 }
 
 /// Confirms the binding. `queue.bind-ok`, class 50, method 21.
-#[derive(Clone, Copy, PartialEq, Eq, Debug)]
-pub struct BindOk;
-
-impl BindOk {
-    /// The method, which takes no memory.
-    pub fn into_method(self, alloc: Global) -> Result<Method, OutOfMemory>
-        ensures { IsOkAnd result (λ m. method_view m ≡ bind_ok_call self) }
-    {
-        Ok(bare_method(alloc, Kind::QueueBindOk))
-    }
-
-    /// What the method says, or the method as it was if it is another.
-    pub fn from_method(method: Method) -> Result<BindOk, Method>
-        ensures args { IfOk result (λ m. bind_ok_call m ≡ method_view method) }
-        ensures when { IsOk result ↔ ((method_view method).kind ≡ QueueBindOk) }
-        ensures same { IfErr result (λ m. method_view m ≡ method_view method) }
-    {
-        match BindOk::from_ref(&method) {
-            Some(bind_ok) => Ok(bind_ok),
-            None => Err(method),
-        }
-    }
-
-    /// What the method says, if it is this one.
-    pub fn from_ref(method: &Method) -> Option<BindOk>
-        ensures args { IfSome result (λ m. bind_ok_call m ≡ method_view method.now) }
-        ensures when { IsSome result ↔ ((method_view method.now).kind ≡ QueueBindOk) }
-    {
-        if is_kind(method, Kind::QueueBindOk) {
-            return Some(BindOk);
-        }
-        None
-    }
-}
+pub type BindOk = Bare<QueueBindOk>;
 
 /// Unbinds a queue from an exchange. `queue.unbind`, class 50, method 50.
 #[derive(Debug, Drop, PartialEq, Eq)]
@@ -386,7 +355,7 @@ impl Unbind {
 }
 
 /// [`Unbind`], lent by a method.
-#[derive(Clone, Copy, Debug)]
+#[derive(Clone, Copy)]
 pub struct UnbindRef<'a> {
     pub queue: &'a ShortStr,
     pub exchange: &'a ShortStr,
@@ -413,40 +382,7 @@ impl<'a> UnbindRef<'a> {
 }
 
 /// Confirms that the binding is gone. `queue.unbind-ok`, class 50, method 51.
-#[derive(Clone, Copy, PartialEq, Eq, Debug)]
-pub struct UnbindOk;
-
-impl UnbindOk {
-    /// The method, which takes no memory.
-    pub fn into_method(self, alloc: Global) -> Result<Method, OutOfMemory>
-        ensures { IsOkAnd result (λ m. method_view m ≡ unbind_ok_call self) }
-    {
-        Ok(bare_method(alloc, Kind::QueueUnbindOk))
-    }
-
-    /// What the method says, or the method as it was if it is another.
-    pub fn from_method(method: Method) -> Result<UnbindOk, Method>
-        ensures args { IfOk result (λ m. unbind_ok_call m ≡ method_view method) }
-        ensures when { IsOk result ↔ ((method_view method).kind ≡ QueueUnbindOk) }
-        ensures same { IfErr result (λ m. method_view m ≡ method_view method) }
-    {
-        match UnbindOk::from_ref(&method) {
-            Some(unbind_ok) => Ok(unbind_ok),
-            None => Err(method),
-        }
-    }
-
-    /// What the method says, if it is this one.
-    pub fn from_ref(method: &Method) -> Option<UnbindOk>
-        ensures args { IfSome result (λ m. unbind_ok_call m ≡ method_view method.now) }
-        ensures when { IsSome result ↔ ((method_view method.now).kind ≡ QueueUnbindOk) }
-    {
-        if is_kind(method, Kind::QueueUnbindOk) {
-            return Some(UnbindOk);
-        }
-        None
-    }
-}
+pub type UnbindOk = Bare<QueueUnbindOk>;
 
 /// Removes the messages of a queue that await no acknowledgement. `queue.purge`, class 50, method 30.
 #[derive(Debug, Drop, PartialEq, Eq)]
@@ -494,7 +430,7 @@ impl Purge {
 }
 
 /// [`Purge`], lent by a method.
-#[derive(Clone, Copy, Debug)]
+#[derive(Clone, Copy)]
 pub struct PurgeRef<'a> {
     pub queue: &'a ShortStr,
     pub no_wait: bool,
@@ -623,7 +559,7 @@ impl Delete {
 }
 
 /// [`Delete`], lent by a method.
-#[derive(Clone, Copy, Debug)]
+#[derive(Clone, Copy)]
 pub struct DeleteRef<'a> {
     pub queue: &'a ShortStr,
     pub if_unused: bool,

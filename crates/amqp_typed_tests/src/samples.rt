@@ -1,6 +1,7 @@
 //! Each method: its octets, written from the table of methods, and its struct as `Debug` prints it, field by field.
 //!
-//! The numbers, strings and tables are those of the tests of `amqp_method`. A short string prints in quotes, a long one as its octets.
+//! The numbers, strings and tables are those of the tests of `amqp_method`. A short string prints in quotes, a long one as its octets,
+//! and a method without arguments as its name.
 
 /// The octets in hexadecimal, and the text.
 pub type Sample = (&'static str, &'static str);
@@ -34,29 +35,29 @@ pub static CONNECTION: [Sample; 12] = [
         "000a002801610000",
         "ConnectionOpen(Open { virtual_host: \"a\" })",
     ),
-    ("000a002900", "ConnectionOpenOk(OpenOk)"),
+    ("000a002900", "ConnectionOpenOk(connection.open-ok)"),
     (
         "000a0032f1f0026262f1f2f1f3",
         "ConnectionClose(Close { reply_code: 61936, reply_text: \"bb\", class_id: 61938, method_id: 61939 })",
     ),
-    ("000a0033", "ConnectionCloseOk(CloseOk)"),
+    ("000a0033", "ConnectionCloseOk(connection.close-ok)"),
     (
         "000a003c0161",
         "ConnectionBlocked(Blocked { reason: \"a\" })",
     ),
-    ("000a003d", "ConnectionUnblocked(Unblocked)"),
+    ("000a003d", "ConnectionUnblocked(connection.unblocked)"),
 ];
 
 pub static CHANNEL: [Sample; 6] = [
-    ("0014000a00", "ChannelOpen(Open)"),
-    ("0014000b00000000", "ChannelOpenOk(OpenOk)"),
+    ("0014000a00", "ChannelOpen(channel.open)"),
+    ("0014000b00000000", "ChannelOpenOk(channel.open-ok)"),
     ("0014001401", "ChannelFlow(Flow { active: true })"),
     ("0014001501", "ChannelFlowOk(FlowOk { active: true })"),
     (
         "00140028f1f0026262f1f2f1f3",
         "ChannelClose(Close { reply_code: 61936, reply_text: \"bb\", class_id: 61938, method_id: 61939 })",
     ),
-    ("00140029", "ChannelCloseOk(CloseOk)"),
+    ("00140029", "ChannelCloseOk(channel.close-ok)"),
 ];
 
 pub static EXCHANGE: [Sample; 8] = [
@@ -64,22 +65,22 @@ pub static EXCHANGE: [Sample; 8] = [
         "0028000a000001610262620d00000004016b7401",
         "ExchangeDeclare(Declare { exchange: \"a\", type_name: \"bb\", passive: true, durable: false, auto_delete: true, internal: true, no_wait: false, arguments: Table { pairs: [(\"k\", Boolean(true))] } })",
     ),
-    ("0028000b", "ExchangeDeclareOk(DeclareOk)"),
+    ("0028000b", "ExchangeDeclareOk(exchange.declare-ok)"),
     (
         "002800140000016101",
         "ExchangeDelete(Delete { exchange: \"a\", if_unused: true, no_wait: false })",
     ),
-    ("00280015", "ExchangeDeleteOk(DeleteOk)"),
+    ("00280015", "ExchangeDeleteOk(exchange.delete-ok)"),
     (
         "0028001e0000016102626201630100000004016b7401",
         "ExchangeBind(Bind { destination: \"a\", source: \"bb\", routing_key: \"c\", no_wait: true, arguments: Table { pairs: [(\"k\", Boolean(true))] } })",
     ),
-    ("0028001f", "ExchangeBindOk(BindOk)"),
+    ("0028001f", "ExchangeBindOk(exchange.bind-ok)"),
     (
         "002800280000016102626201630100000004016b7401",
         "ExchangeUnbind(Unbind { destination: \"a\", source: \"bb\", routing_key: \"c\", no_wait: true, arguments: Table { pairs: [(\"k\", Boolean(true))] } })",
     ),
-    ("00280033", "ExchangeUnbindOk(UnbindOk)"),
+    ("00280033", "ExchangeUnbindOk(exchange.unbind-ok)"),
 ];
 
 pub static QUEUE: [Sample; 10] = [
@@ -95,12 +96,12 @@ pub static QUEUE: [Sample; 10] = [
         "003200140000016102626201630100000004016b7401",
         "QueueBind(Bind { queue: \"a\", exchange: \"bb\", routing_key: \"c\", no_wait: true, arguments: Table { pairs: [(\"k\", Boolean(true))] } })",
     ),
-    ("00320015", "QueueBindOk(BindOk)"),
+    ("00320015", "QueueBindOk(queue.bind-ok)"),
     (
         "0032003200000161026262016300000004016b7401",
         "QueueUnbind(Unbind { queue: \"a\", exchange: \"bb\", routing_key: \"c\", arguments: Table { pairs: [(\"k\", Boolean(true))] } })",
     ),
-    ("00320033", "QueueUnbindOk(UnbindOk)"),
+    ("00320033", "QueueUnbindOk(queue.unbind-ok)"),
     (
         "0032001e0000016101",
         "QueuePurge(Purge { queue: \"a\", no_wait: true })",
@@ -124,7 +125,7 @@ pub static BASIC: [Sample; 18] = [
         "003c000af1f2f3f0f1f101",
         "BasicQos(Qos { prefetch_size: 4059231216, prefetch_count: 61937, global: true })",
     ),
-    ("003c000b", "BasicQosOk(QosOk)"),
+    ("003c000b", "BasicQosOk(basic.qos-ok)"),
     (
         "003c0014000001610262620d00000004016b7401",
         "BasicConsume(Consume { queue: \"a\", consumer_tag: \"bb\", no_local: true, no_ack: false, exclusive: true, no_wait: true, arguments: Table { pairs: [(\"k\", Boolean(true))] } })",
@@ -161,7 +162,7 @@ pub static BASIC: [Sample; 18] = [
         "003c0047f1f2f3f4f5f6f7f0010163026464f1f2f3f4",
         "BasicGetOk(GetOk { delivery_tag: 17434265340928784368, redelivered: true, exchange: \"c\", routing_key: \"dd\", message_count: 4059231220 })",
     ),
-    ("003c004800", "BasicGetEmpty(GetEmpty)"),
+    ("003c004800", "BasicGetEmpty(basic.get-empty)"),
     (
         "003c0050f1f2f3f4f5f6f7f001",
         "BasicAck(Ack { delivery_tag: 17434265340928784368, multiple: true })",
@@ -175,7 +176,7 @@ pub static BASIC: [Sample; 18] = [
         "BasicRecoverAsync(RecoverAsync { requeue: true })",
     ),
     ("003c006e01", "BasicRecover(Recover { requeue: true })"),
-    ("003c006f", "BasicRecoverOk(RecoverOk)"),
+    ("003c006f", "BasicRecoverOk(basic.recover-ok)"),
     (
         "003c0078f1f2f3f4f5f6f7f001",
         "BasicNack(Nack { delivery_tag: 17434265340928784368, multiple: true, requeue: false })",
@@ -183,15 +184,15 @@ pub static BASIC: [Sample; 18] = [
 ];
 
 pub static TX: [Sample; 6] = [
-    ("005a000a", "TxSelect(Select)"),
-    ("005a000b", "TxSelectOk(SelectOk)"),
-    ("005a0014", "TxCommit(Commit)"),
-    ("005a0015", "TxCommitOk(CommitOk)"),
-    ("005a001e", "TxRollback(Rollback)"),
-    ("005a001f", "TxRollbackOk(RollbackOk)"),
+    ("005a000a", "TxSelect(tx.select)"),
+    ("005a000b", "TxSelectOk(tx.select-ok)"),
+    ("005a0014", "TxCommit(tx.commit)"),
+    ("005a0015", "TxCommitOk(tx.commit-ok)"),
+    ("005a001e", "TxRollback(tx.rollback)"),
+    ("005a001f", "TxRollbackOk(tx.rollback-ok)"),
 ];
 
 pub static CONFIRM: [Sample; 2] = [
     ("0055000a01", "ConfirmSelect(Select { no_wait: true })"),
-    ("0055000b", "ConfirmSelectOk(SelectOk)"),
+    ("0055000b", "ConfirmSelectOk(confirm.select-ok)"),
 ];
