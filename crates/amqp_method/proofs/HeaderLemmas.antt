@@ -146,7 +146,7 @@ properties_at-takes (kind ∷ kinds) flags end octets x own fits e =
     (takes_next (has_flag (length kinds + 2) flags) kind kinds flags end octets b.0 d.0.0 d.0.1 own.0 fits refl b.1
     (λ after_fits. properties_at-takes kinds flags end b.0.1 d.0 own.1 after_fits d.1))
 
-test_ok : {A : Type 0} (b : Bool) (x : Result A MethodFault) (e : MethodFault) (y : A) → cond b x (Err e) ≡ Ok y → (b ≡ true) × (x ≡ Ok y)
+pub test_ok : {A : Type 0} (b : Bool) (x : Result A MethodFault) (e : MethodFault) (y : A) → cond b x (Err e) ≡ Ok y → (b ≡ true) × (x ≡ Ok y)
 test_ok true x e y h = (refl, h)
 test_ok false x e y h = absurd cc
 

@@ -1,11 +1,14 @@
 pub mod ArgsLemmas
+pub mod CheckLemmas
 pub mod CompleteLemmas
 pub mod FieldFaults
 pub mod FieldLemmas
 pub mod FitLemmas
 pub mod FittingLemmas
+pub mod HeaderChecks
 pub mod HeaderFaults
 pub mod HeaderLemmas
+pub mod HeaderRefs
 pub mod KindLemmas
 pub mod LengthLemmas
 pub mod MethodFaults
@@ -15,6 +18,7 @@ pub mod PlainLemmas
 pub mod PresentLemmas
 pub mod PropertyKinds
 pub mod ReadingLemmas
+pub mod RefLemmas
 pub mod RunLemmas
 pub mod TableFaults
 pub mod TextLemmas

@@ -71,7 +71,7 @@ method_at-again octets c s =
     ∙ rw (← s.args.args_are) refl in
     rw (class, id, kind_with-own c.kind, args) refl
 
-ok_not_err : (c : Call) (e : MethodFault) → Ok c ≡ Err e → ⊥
+pub ok_not_err : (c : Call) (e : MethodFault) → Ok c ≡ Err e → ⊥
 ok_not_err c e h = cc
 
 -- ---- as clauses of a call that gives what reading gives

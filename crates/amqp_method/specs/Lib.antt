@@ -5,11 +5,17 @@ pub mod Arguments
 pub mod Encoding
 pub mod Faults
 pub mod Reading
+pub mod Checking
 pub mod Views
 pub mod BitsView
 pub mod MethodView
+pub mod ArgRefView
+pub mod MethodRefs
+pub mod MethodRefView
+pub mod HeaderRefView
 pub mod Properties
 pub mod HeaderReading
+pub mod HeaderChecking
 pub mod FirstFault
 pub mod HeaderView
 pub mod HeaderParts

@@ -24,12 +24,21 @@ abbrev pub Gives : {X Y : Type 0} → (X → Y) → Result X MethodFault → Res
 Gives view (Ok x) read = read ≡ Ok (view x)
 Gives view (Err e) read = Fails e read
 
+-- What a call returned that takes no memory, seen by view, is what reading gives.
+abbrev pub Equals : {X Y : Type 0} → (X → Y) → Result X MethodFault → Result Y MethodFault → Type 0
+Equals view (Ok x) read = read ≡ Ok (view x)
+Equals view (Err e) read = read ≡ Err e
+
 -- what is read from the prefix, and the octets after it
 abbrev pub Read : Type 0 → Type 0
 Read X = Result (X × List ℕ) MethodFault
 
 abbrev pub Reader : Type 0 → Type 0
 Reader X = ℕ → List ℕ → Read X
+
+-- the octets after what is read
+abbrev pub rest_of : {X : Type 0} → Read X → Result (List ℕ) MethodFault
+rest_of read = read >>= λ x. Ok x.1
 
 -- the fault of a field that begins with the first of the octets, and has more octets than these
 abbrev pub ends_at : ℕ → List ℕ → MethodFault

@@ -14,23 +14,15 @@ ghost use Rattle.amqp_method.specs.Writing.{PresentFitting};
 ghost use Rattle.amqp_method.specs.declared.fields.FieldKind.TheVariants as kinds;
 
 use crate::faults::{MethodFault, MethodFaultKind};
+use crate::field_octets::{read_end, read_long_long, read_octet, read_short};
+use crate::header_checker::LATER_FLAGS;
+use crate::header_start::{BASIC, START_LENGTH, read_start};
 use crate::headers::{Header, Properties};
 use crate::properties::{append_present, flags_word, lent_properties};
-use crate::reading::{
-    read_end, read_field_table, read_long_long, read_octet, read_short, read_short_string,
-};
+use crate::reading::{read_field_table, read_short_string};
 use amqp_value::{ShortStr, Table};
 use byteorder::{BigEndian, ByteOrder};
 use std::alloc::Global;
-
-/// The class of each content header, basic (section 4.2.6.1).
-const BASIC: u16 = 60;
-
-/// How many octets stand before the properties: class, weight, body size and flags.
-const FRONT_LENGTH: usize = 14;
-
-/// The flags of the properties from the sixth on are those below this one.
-const LATER_FLAGS: u16 = 2048;
 
 /// What says which properties are there, and where the payload ends.
 #[derive(Clone, Copy)]
@@ -269,30 +261,14 @@ pub fn read_header_into(
     ensures exact { Gives (λ done. header_view header.new) result (header_at octets.now) }
     ensures early { (e : MethodFault) → fault_of_start octets.now ≡ Some e → result ≡ Err e }
 {
-    let end = octets.len();
-    let (class, after) = read_short(octets, end)?;
-    if class != BASIC {
-        return Err(MethodFault {
-            at: 0,
-            kind: MethodFaultKind::UnknownMethod,
-        });
-    }
-    let (weight, after) = read_short(after, end)?;
-    if weight != 0 {
-        return Err(MethodFault {
-            at: 2,
-            kind: MethodFaultKind::BadWeight,
-        });
-    }
-    let (body_size, after) = read_long_long(after, end)?;
-    let (flags, after) = read_short(after, end)?;
-    if flags % 4 != 0 {
-        return Err(MethodFault {
-            at: 12,
-            kind: MethodFaultKind::BadFlags,
-        });
-    }
-    Flagged { alloc, flags, end }.header(body_size, after, header)
+    let start = read_start(octets)?;
+    let (_, properties) = octets.split_at(START_LENGTH);
+    let flagged = Flagged {
+        alloc,
+        flags: start.flags,
+        end: octets.len(),
+    };
+    flagged.header(start.body_size, properties, header)
 }
 
 /// Appends the header's payload: the class id 60, the weight 0, the size of the body, the flags, and the properties that
@@ -329,10 +305,10 @@ fn append_header(header: &Header, out: &mut Vec<u8>) -> Result<(), MethodFault>
 }
 
 /// The octets of a header before its properties.
-fn prefix_octets(body_size: u64, flags: u16) -> [u8; FRONT_LENGTH]
+fn prefix_octets(body_size: u64, flags: u16) -> [u8; START_LENGTH]
     ensures { result ≡ plain_start body_size flags }
 {
-    let mut prefix = [0; FRONT_LENGTH];
+    let mut prefix = [0; START_LENGTH];
     BigEndian::write_u16(&mut prefix, BASIC);
     BigEndian::write_u64(&mut prefix[4..], body_size);
     BigEndian::write_u16(&mut prefix[12..], flags);

@@ -10,12 +10,19 @@
 //! the first field that can't be read, with its place, and `Reading` and `HeaderReading` reading as functions of octets.
 #![tactic(auto)]
 
+mod arg_ref;
+mod args_ref;
 mod bit_run;
+mod checker;
 mod contents;
 mod display;
 mod faults;
+mod field_octets;
 mod fields;
+mod header_checker;
 mod header_octets;
+mod header_ref;
+mod header_start;
 mod headers;
 mod kind_word;
 mod kinds;
@@ -24,8 +31,10 @@ mod lengths;
 mod maybe_boxed;
 mod messages;
 mod method_octets;
+mod method_ref;
 mod methods;
 mod places;
+mod places_ref;
 mod properties;
 mod reading;
 mod requests;
@@ -33,10 +42,15 @@ mod table;
 mod texts;
 mod writing;
 
+pub use crate::arg_ref::ArgRef;
+pub use crate::args_ref::ArgsRef;
+pub use crate::checker::check_method;
 pub use crate::contents::{Carrier, Content};
 pub use crate::faults::{MethodFault, MethodFaultKind, OutOfMemory};
 pub use crate::fields::{Arg, Field, FieldKind};
+pub use crate::header_checker::check_header;
 pub use crate::header_octets::{read_header, read_header_into, write_header};
+pub use crate::header_ref::HeaderRef;
 pub use crate::headers::{Header, Properties};
 pub use crate::kinds::{Kind, schema, sends};
 pub use crate::laws::{
@@ -45,5 +59,6 @@ pub use crate::laws::{
 };
 pub use crate::messages::Message;
 pub use crate::method_octets::{read_method, write_method};
+pub use crate::method_ref::MethodRef;
 pub use crate::methods::{Method, Misfit, fits};
 pub use crate::texts::{header_text, method_text};

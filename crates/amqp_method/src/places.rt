@@ -94,7 +94,7 @@ impl Arg {
 }
 
 /// The place of the field with a name: how many fields before it aren't reserved.
-fn place_of(fields: &[Field], name: &str) -> Option<usize>
+pub(crate) fn place_of(fields: &[Field], name: &str) -> Option<usize>
     ensures { result ≡ place_named 0 (map field_view fields.now) name.now }
 {
     let mut place = 0;

@@ -1,7 +1,9 @@
 //! The properties of a content header, in order: their names, and writing them to octets.
-ghost use Rattle.std.specs.Prelude.{◌≡◌, ◌<◌, ◌≤◌, ◌⊎◌, ◌++◌, ℕ, List, length, map, take, get_or, OnOk, OnErr, IfErr, Err};
+ghost use Rattle.std.specs.Prelude.{◌≡◌, ◌+◌, ◌<◌, ◌≤◌, ◌⊎◌, ◌++◌, ℕ, List, length, map, take, get_or, OnOk, OnErr, IfErr, Err};
 ghost use Rattle.amqp_method.specs.Arguments.{octet as octet_argument, long_long as long_long_argument, short_string};
 ghost use Rattle.amqp_method.specs.Faults.{out_of_memory, too_long};
+ghost use Rattle.amqp_method.specs.HeaderChecking.{kind_at};
+ghost use Rattle.amqp_method.specs.HeaderReading.{has_flag};
 ghost use Rattle.amqp_method.specs.HeaderView.{present, table_argument, properties_view};
 ghost use Rattle.amqp_method.specs.Lent.{value_view, lent_view, lent_views};
 ghost use Rattle.amqp_method.specs.Plain.{plain_argument, plain_property, plain_present, CountFits, CountOfPropertyFits, CountsPresentFit};
@@ -10,6 +12,7 @@ ghost use Rattle.amqp_method.specs.Texts.{property_names};
 ghost use Rattle.amqp_method.specs.Writing.{Fitting, PropertyFitting, PresentFitting};
 
 use crate::faults::MethodFault;
+use crate::fields::FieldKind;
 use crate::headers::Properties;
 use crate::writing::{append_long_long, append_octet, append_short_string, append_table};
 use amqp_value::{ShortStr, Table};
@@ -17,30 +20,116 @@ use amqp_value::{ShortStr, Table};
 /// How many properties there are.
 pub(crate) const PROPERTIES: usize = 14;
 
-/// The names of the properties, in the order of their flags.
-static PROPERTY_NAMES: [&str; PROPERTIES] = [
-    "content-type",
-    "content-encoding",
-    "headers",
-    "delivery-mode",
-    "priority",
-    "correlation-id",
-    "reply-to",
-    "expiration",
-    "message-id",
-    "timestamp",
-    "type",
-    "user-id",
-    "app-id",
-    "cluster-id",
+/// A property: its name in `amqp0-9-1.xml`, the bit of the flags that says whether it is there, and its kind.
+#[derive(Clone, Copy)]
+pub(crate) struct Property {
+    pub(crate) name: &'static str,
+    pub(crate) flag: u32,
+    pub(crate) kind: FieldKind,
+}
+
+impl Property {
+    /// Whether its flag is set.
+    #[inline(always)]
+    pub(crate) fn is_flagged(&self, flags: u16) -> bool
+        requires { self.now.flag < 16 }
+        ensures { result ≡ has_flag self.now.flag flags }
+    {
+        (flags >> self.flag) % 2 == 1
+    }
+}
+
+/// The properties, in the order of their flags.
+static PROPERTY_ROWS: [Property; PROPERTIES] = [
+    Property {
+        name: "content-type",
+        flag: 15,
+        kind: FieldKind::ShortStr,
+    },
+    Property {
+        name: "content-encoding",
+        flag: 14,
+        kind: FieldKind::ShortStr,
+    },
+    Property {
+        name: "headers",
+        flag: 13,
+        kind: FieldKind::Table,
+    },
+    Property {
+        name: "delivery-mode",
+        flag: 12,
+        kind: FieldKind::Octet,
+    },
+    Property {
+        name: "priority",
+        flag: 11,
+        kind: FieldKind::Octet,
+    },
+    Property {
+        name: "correlation-id",
+        flag: 10,
+        kind: FieldKind::ShortStr,
+    },
+    Property {
+        name: "reply-to",
+        flag: 9,
+        kind: FieldKind::ShortStr,
+    },
+    Property {
+        name: "expiration",
+        flag: 8,
+        kind: FieldKind::ShortStr,
+    },
+    Property {
+        name: "message-id",
+        flag: 7,
+        kind: FieldKind::ShortStr,
+    },
+    Property {
+        name: "timestamp",
+        flag: 6,
+        kind: FieldKind::LongLong,
+    },
+    Property {
+        name: "type",
+        flag: 5,
+        kind: FieldKind::ShortStr,
+    },
+    Property {
+        name: "user-id",
+        flag: 4,
+        kind: FieldKind::ShortStr,
+    },
+    Property {
+        name: "app-id",
+        flag: 3,
+        kind: FieldKind::ShortStr,
+    },
+    Property {
+        name: "cluster-id",
+        flag: 2,
+        kind: FieldKind::ShortStr,
+    },
 ];
 
-/// The name of the property at a place, in the order of the flags.
-pub(crate) fn property_name(index: usize) -> &'static str
-    requires { index < 14 }
-    ensures { (default : List ℕ) → result.now ≡ get_or property_names index default }
+/// The property at a place, in the order of the flags.
+#[inline(always)]
+pub(crate) fn property_at(place: usize) -> &'static Property
+    requires { place < 14 }
+    ensures name { (default : List ℕ) → result.now.name.now ≡ get_or property_names place default }
+    ensures flag { result.now.flag + place ≡ 15 }
+    ensures kind { result.now.kind ≡ kind_at place }
 {
-    PROPERTY_NAMES[index]
+    &PROPERTY_ROWS[place]
+}
+
+/// The name of the property at a place.
+pub(crate) fn property_name(place: usize) -> &'static str
+    requires { place < 14 }
+    ensures { (default : List ℕ) → result.now ≡ get_or property_names place default }
+{
+    property_at(place).name
 }
 
 /// The value of a property, lent.

@@ -4,98 +4,24 @@ ghost use Rattle.byteorder.specs.Endian.{big_number};
 ghost use Rattle.amqp_method.specs.EarlyFaults.{fault_of_ids};
 ghost use Rattle.amqp_method.specs.Arguments.{bit, call, keep as keeping};
 ghost use Rattle.amqp_method.specs.Faults.{in_table, out_of_memory};
-ghost use Rattle.amqp_method.specs.Reading.{Gives, Bits as RunOfBits, no_bits, ends_at, number_at, short_string_at, long_string_at, field_table_at, bit_at, taken_at, args_at, nothing_after, method_at};
+ghost use Rattle.amqp_method.specs.Reading.{Gives, no_bits, ends_at, number_at, short_string_at, long_string_at, field_table_at, bit_at, taken_at, args_at, nothing_after, method_at};
 ghost use Rattle.amqp_method.specs.Rows.{field_view};
 ghost use Rattle.amqp_method.specs.Views.{arg_view, args_view};
 ghost use Rattle.amqp_value.specs.Tables.{table_view};
 ghost use Rattle.amqp_method.specs.BitsView.{bits_view};
 
 use crate::faults::{MethodFault, MethodFaultKind};
+use crate::field_octets::{
+    Bits, fault_in_table, read_bit, read_end, read_long, read_long_long, read_long_octets,
+    read_octet, read_short, read_short_octets,
+};
 use crate::fields::{Arg, Field, FieldKind};
 use crate::kinds::Kind;
 use crate::table::row_for;
-use amqp_value::{ShortStr, Table, ValueFault, ValueFaultKind, read_table};
-use byteorder::{BigEndian, ByteOrder};
+use amqp_value::{ShortStr, Table, read_table};
 use std::alloc::Global;
 
-/// The fault of a field that begins with the first of these octets, which end at `end`, and has more than these.
-fn ends_here(octets: &[u8], end: usize) -> MethodFault
-    requires { length octets.now ≤ end }
-    ensures { result ≡ ends_at end octets.now }
-{
-    MethodFault {
-        at: end - octets.len(),
-        kind: MethodFaultKind::Value(ValueFaultKind::Ends),
-    }
-}
-
-/// Nothing: a fault where octets are left.
-pub(crate) fn read_end(octets: &[u8], end: usize) -> Result<(), MethodFault>
-    requires { length octets.now ≤ end }
-    ensures { Gives (λ x. x) result (nothing_after end octets.now) }
-{
-    if !octets.is_empty() {
-        return Err(MethodFault {
-            at: end - octets.len(),
-            kind: MethodFaultKind::Trailing,
-        });
-    }
-    Ok(())
-}
-
-/// A number of one octet, and the octets after it.
-pub(crate) fn read_octet(octets: &[u8], end: usize) -> Result<(u8, &[u8]), MethodFault>
-    requires { length octets.now ≤ end }
-    ensures read { Gives (λ x. (x.0, x.1.now)) result (number_at 1 end octets.now) }
-    ensures within { IfOk result (λ x. length x.1.now ≤ length octets.now) }
-{
-    let Some((octet, after)) = octets.split_first() else {
-        return Err(ends_here(octets, end));
-    };
-    Ok((*octet, after))
-}
-
-/// A number of two octets, and the octets after it.
-pub(crate) fn read_short(octets: &[u8], end: usize) -> Result<(u16, &[u8]), MethodFault>
-    requires { length octets.now ≤ end }
-    ensures read { Gives (λ x. (x.0, x.1.now)) result (number_at 2 end octets.now) }
-    ensures within { IfOk result (λ x. length x.1.now ≤ length octets.now) }
-    ensures number { IfOk result (λ x. (2 ≤ length octets.now) × (x.0 ≡ big_number 2 octets.now) × (x.1.now ≡ drop 2 octets.now)) }
-    ensures ends { IfErr result (λ e. (length octets.now < 2) × (e ≡ ends_at end octets.now)) }
-{
-    if octets.len() < 2 {
-        return Err(ends_here(octets, end));
-    }
-    Ok((BigEndian::read_u16(octets), &octets[2..]))
-}
-
-/// A number of four octets, and the octets after it.
-pub(crate) fn read_long(octets: &[u8], end: usize) -> Result<(u32, &[u8]), MethodFault>
-    requires { length octets.now ≤ end }
-    ensures read { Gives (λ x. (x.0, x.1.now)) result (number_at 4 end octets.now) }
-    ensures within { IfOk result (λ x. length x.1.now ≤ length octets.now) }
-{
-    if octets.len() < 4 {
-        return Err(ends_here(octets, end));
-    }
-    Ok((BigEndian::read_u32(octets), &octets[4..]))
-}
-
-/// A number of eight octets, and the octets after it.
-pub(crate) fn read_long_long(octets: &[u8], end: usize) -> Result<(u64, &[u8]), MethodFault>
-    requires { length octets.now ≤ end }
-    ensures read { Gives (λ x. (x.0, x.1.now)) result (number_at 8 end octets.now) }
-    ensures within { IfOk result (λ x. length x.1.now ≤ length octets.now) }
-    ensures number { IfOk result (λ x. (8 ≤ length octets.now) × (x.1.now ≡ drop 8 octets.now)) }
-    ensures ends { IfErr result (λ e. (length octets.now < 8) × (e ≡ ends_at end octets.now)) }
-{
-    if octets.len() < 8 {
-        return Err(ends_here(octets, end));
-    }
-    Ok((BigEndian::read_u64(octets), &octets[8..]))
-}
-
-/// A short string: a length octet and that many octets, and the octets after it.
+/// A short string, and the octets after it.
 pub(crate) fn read_short_string(
     alloc: Global,
     octets: &[u8],
@@ -105,21 +31,14 @@ pub(crate) fn read_short_string(
     ensures read { Gives (λ x. (x.0, x.1.now)) result (short_string_at end octets.now) }
     ensures within { IfOk result (λ x. length x.1.now ≤ length octets.now) }
 {
-    let Some((length, after)) = octets.split_first() else {
-        return Err(ends_here(octets, end));
-    };
-    let length = *length as usize;
-    if after.len() < length {
-        return Err(ends_here(octets, end));
-    }
-    let (text, after) = after.split_at(length);
+    let (text, after) = read_short_octets(octets, end)?;
     let Ok(text) = ShortStr::new(alloc, text) else {
         return Err(MethodFault::NO_MEMORY);
     };
     Ok((text, after))
 }
 
-/// A long string: a length of four octets and that many octets, and the octets after it.
+/// A long string, and the octets after it.
 fn read_long_string(
     alloc: Global,
     octets: &[u8],
@@ -129,30 +48,8 @@ fn read_long_string(
     ensures read { Gives (λ x. (x.0.items, x.1.now)) result (long_string_at end octets.now) }
     ensures within { IfOk result (λ x. length x.1.now ≤ length octets.now) }
 {
-    if octets.len() < 4 {
-        return Err(ends_here(octets, end));
-    }
-    let (length, after) = octets.split_at(4);
-    let length = BigEndian::read_u32(length) as usize;
-    if after.len() < length {
-        return Err(ends_here(octets, end));
-    }
-    let (text, after) = after.split_at(length);
+    let (text, after) = read_long_octets(octets, end)?;
     Ok((Vec::from_slice(alloc, text)?, after))
-}
-
-/// The fault of a table that begins at a place.
-fn fault_in_table(place: usize, fault: ValueFault) -> MethodFault
-    requires { place + fault.at < 2 ^ 64 }
-    ensures { result ≡ in_table place fault }
-{
-    match fault.kind {
-        ValueFaultKind::OutOfMemory => MethodFault::NO_MEMORY,
-        kind => MethodFault {
-            at: place + fault.at,
-            kind: MethodFaultKind::Value(kind),
-        },
-    }
 }
 
 /// A field table, and the octets after it.
@@ -169,46 +66,6 @@ pub(crate) fn read_field_table(
         Ok((table, length)) => Ok((table, &octets[length..])),
         Err(fault) => Err(fault_in_table(end - octets.len(), fault)),
     }
-}
-
-/// The bits of an octet that are still to be read.
-#[derive(Clone, Copy)]
-struct Bits {
-    /// how many
-    left: u8,
-    /// the octet without those that were read
-    packed: u8,
-}
-
-impl Bits {
-    const NONE: Bits = Bits { left: 0, packed: 0 };
-}
-
-/// The next bit of a run, in a new octet where none is left of the last one, and the octets after it.
-#[inline(always)]
-fn read_bit<'a>(
-    bits: &mut Bits,
-    octets: &'a [u8],
-    end: usize,
-) -> Result<(bool, &'a [u8]), MethodFault>
-    requires { length octets.now ≤ end }
-    ensures read { Gives (λ x. ((bit x.0, bits_view bits.new), x.1.now)) result (bit_at bits.old.left bits.old.packed end octets.now) }
-    ensures within { IfOk result (λ x. length x.1.now ≤ length octets.now) }
-{
-    if bits.left == 0 {
-        let (packed, after) = read_octet(octets, end)?;
-        *bits = Bits {
-            left: 7,
-            packed: packed / 2,
-        };
-        return Ok((packed % 2 == 1, after));
-    }
-    let holds = bits.packed % 2 == 1;
-    *bits = Bits {
-        left: bits.left - 1,
-        packed: bits.packed / 2,
-    };
-    Ok((holds, octets))
 }
 
 /// Appends an argument, unless its field is reserved.

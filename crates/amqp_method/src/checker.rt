@@ -1,0 +1,142 @@
+//! Checking methods: the faults of reading, without what is read.
+ghost use Rattle.std.specs.Prelude.{◌≡◌, ◌≤◌, List, length, map, Some, IfOk, IfErr, Ok, Err};
+ghost use Rattle.amqp_method.specs.Arguments.{Argument, Call, call};
+ghost use Rattle.amqp_method.specs.Encoding.{EncodesMethod};
+ghost use Rattle.amqp_method.specs.FirstFault.{FirstFaultOfMethod};
+ghost use Rattle.amqp_method.specs.Checking.{kind_read, past_bit as bit_past, past_field as field_past, past_fields as fields_past};
+ghost use Rattle.amqp_method.specs.Reading.{Equals, call_at, method_at};
+ghost use Rattle.amqp_method.specs.Rows.{field_view};
+
+use crate::faults::{MethodFault, MethodFaultKind};
+use crate::field_octets::{
+    past_table, read_end, read_long, read_long_long, read_long_octets, read_octet, read_short,
+    read_short_octets,
+};
+use crate::fields::{Field, FieldKind};
+use crate::kinds::Kind;
+use crate::table::row_for;
+
+/// The octets after a bit, where so many are left of the octet before it, and how many are left then.
+#[inline(always)]
+fn past_bit(left: u8, octets: &[u8], end: usize) -> Result<(u8, &[u8]), MethodFault>
+    requires { length octets.now ≤ end }
+    ensures read { Equals (λ x. (x.0, x.1.now)) result (bit_past left end octets.now) }
+    ensures within { IfOk result (λ x. length x.1.now ≤ length octets.now) }
+{
+    if left > 0 {
+        return Ok((left - 1, octets));
+    }
+    let (_, after) = read_octet(octets, end)?;
+    Ok((7, after))
+}
+
+/// The octets after a field, and how many bits are left then of the octet before them.
+#[inline(always)]
+#[tactic(auto, unfolding(crate::specs::Checking::past_field))]
+pub(crate) fn past_field(
+    kind: FieldKind,
+    left: u8,
+    octets: &[u8],
+    end: usize,
+) -> Result<(u8, &[u8]), MethodFault>
+    requires { length octets.now ≤ end }
+    ensures read { Equals (λ x. (x.0, x.1.now)) result (field_past kind left end octets.now) }
+    ensures within { IfOk result (λ x. length x.1.now ≤ length octets.now) }
+{
+    match kind {
+        FieldKind::Bit => past_bit(left, octets, end),
+        FieldKind::Octet => {
+            let (_, after) = read_octet(octets, end)?;
+            Ok((0, after))
+        }
+        FieldKind::Short => {
+            let (_, after) = read_short(octets, end)?;
+            Ok((0, after))
+        }
+        FieldKind::Long => {
+            let (_, after) = read_long(octets, end)?;
+            Ok((0, after))
+        }
+        FieldKind::LongLong => {
+            let (_, after) = read_long_long(octets, end)?;
+            Ok((0, after))
+        }
+        FieldKind::ShortStr => {
+            let (_, after) = read_short_octets(octets, end)?;
+            Ok((0, after))
+        }
+        FieldKind::LongStr => {
+            let (_, after) = read_long_octets(octets, end)?;
+            Ok((0, after))
+        }
+        FieldKind::Table => Ok((0, past_table(octets, end)?)),
+    }
+}
+
+/// The octets after these fields.
+#[inline(always)]
+#[tactic(auto, unfolding(crate::specs::Checking::past_fields))]
+fn past_fields<'a>(fields: &[Field], octets: &'a [u8], end: usize) -> Result<&'a [u8], MethodFault>
+    requires { length octets.now ≤ end }
+    ensures read { Equals (λ after. after.now) result (fields_past (map field_view fields.now) 0 end octets.now) }
+    ensures within { IfOk result (λ after. length after.now ≤ length octets.now) }
+{
+    let mut left = 0;
+    let mut rest = octets;
+    for field in fields {
+        let (more, after) = past_field(field.kind, left, rest, end)?;
+        left = more;
+        rest = after;
+    }
+    Ok(rest)
+}
+
+/// Checks the arguments of a method of a kind, and that nothing stands after them.
+#[inline(always)]
+fn check_args(kind: Kind, octets: &[u8], end: usize) -> Result<(), MethodFault>
+    requires { length octets.now ≤ end }
+    ensures { Equals (λ done. kind) result (kind_read (call_at end octets.now (Some kind))) }
+{
+    let after = past_fields(row_for(kind).fields, octets, end)?;
+    read_end(after, end)
+}
+
+/// Checks that a payload encodes a method, and of which kind.
+///
+/// What [`read_method`](crate::read_method) reads is what passes, and the faults are the same; but nothing is kept, and no memory taken.
+pub fn check_method(payload: &[u8]) -> Result<Kind, MethodFault>
+    // What passes is encoded so.
+    ensures found { IfOk result (λ kind. (args : List Argument) × EncodesMethod (call kind args) payload.now) }
+
+    // What is encoded so passes.
+    ensures only { (c : Call) → EncodesMethod c payload.now → result ≡ Ok c.kind }
+
+    // A fault comes where the octets encode no method.
+    ensures refused { IfErr result (λ e. (c : Call) → EncodesMethod c payload.now → ⊥) }
+
+    // It is the fault of the first field that can't be read, and that one is reported.
+    ensures fault { IfErr result (λ e. FirstFaultOfMethod payload.now e) }
+    ensures told { (e : MethodFault) → FirstFaultOfMethod payload.now e → result ≡ Err e }
+
+    // What is read, as a function of the octets.
+    ensures exact { result ≡ kind_read (method_at payload.now) }
+{
+    exact_kind(payload)
+}
+
+#[tactic(auto, unfolding(crate::specs::Reading::method_at))]
+fn exact_kind(payload: &[u8]) -> Result<Kind, MethodFault>
+    ensures { result ≡ kind_read (method_at payload.now) }
+{
+    let end = payload.len();
+    let (class, after) = read_short(payload, end)?;
+    let (id, after) = read_short(after, end)?;
+    let Some(kind) = Kind::from_ids(class, id) else {
+        return Err(MethodFault {
+            at: 0,
+            kind: MethodFaultKind::UnknownMethod,
+        });
+    };
+    check_args(kind, after, end)?;
+    Ok(kind)
+}

@@ -1,0 +1,102 @@
+//! A method that lies in its payload.
+ghost use Rattle.std.specs.Prelude.{◌≡◌, Ok};
+ghost use Rattle.amqp_method.specs.Checking.{kind_read, AreBelow256};
+ghost use Rattle.amqp_method.specs.Reading.{method_at};
+
+use crate::args_ref::ArgsRef;
+use crate::checker::check_method;
+use crate::faults::{MethodFault, OutOfMemory};
+use crate::kinds::{Kind, schema, sends};
+use crate::method_octets::read_method;
+use crate::methods::Method;
+use std::alloc::Global;
+
+/// How many octets stand before the arguments: the class id and the method id.
+const IDS_LENGTH: usize = 4;
+
+/// A method as it lies in its payload, which is known to encode it. Beside it stands [`Method`], which owns its arguments.
+#[derive(Clone, Copy)]
+pub struct MethodRef<'a> {
+    kind: Kind,
+    payload: &'a [u8],
+    ghost below: { AreBelow256 payload.now },
+    pub ghost reads: { kind_read (method_at payload.now) ≡ Ok kind },
+}
+
+impl<'a> MethodRef<'a> {
+    ghost use Rattle.std.specs.Prelude.{◌≡◌, IfOk, IfErr, Ok, Err, List};
+    ghost use Rattle.amqp_method.specs.Arguments.{Call, call, Fits};
+    ghost use Rattle.amqp_method.specs.Encoding.{EncodesMethod};
+    ghost use Rattle.amqp_method.specs.FirstFault.{FirstFaultOfMethod};
+    ghost use Rattle.amqp_method.specs.Kinds.{class_of, has_content as content_follows, sends as is_sent};
+    ghost use Rattle.amqp_method.specs.MethodRefs.{args_left};
+    ghost use Rattle.amqp_method.specs.MethodRefView.{lent_call, lent_payload};
+    ghost use Rattle.amqp_method.specs.MethodView.{method_view};
+    ghost use Rattle.amqp_method.specs.Reading.{Equals, method_at};
+
+    /// The method that a payload encodes. The faults are those of [`read_method`](crate::read_method), and no memory is taken.
+    pub fn new(payload: &'a [u8]) -> Result<MethodRef<'a>, MethodFault>
+        ensures exact { Equals lent_call result (method_at payload.now) }
+        ensures payload { IfOk result (λ m. lent_payload m ≡ payload.now) }
+        ensures only { (c : Call) → EncodesMethod c payload.now → IfOk result (λ m. lent_call m ≡ c) }
+        ensures fault { IfErr result (λ e. FirstFaultOfMethod payload.now e) }
+    {
+        let kind = check_method(payload)?;
+        Ok(MethodRef { kind, payload })
+    }
+
+    /// The payload, whole: the class id, the method id and the arguments.
+    pub fn payload(self) -> &'a [u8]
+        ensures payload { result.now ≡ lent_payload self.entry }
+        ensures encodes { EncodesMethod (lent_call self.entry) result.now }
+        ensures read { method_at result.now ≡ Ok (lent_call self.entry) }
+    {
+        self.payload
+    }
+
+    pub fn kind(self) -> Kind
+        ensures { result ≡ (lent_call self.entry).kind }
+    {
+        self.kind
+    }
+
+    /// The class id.
+    pub fn class_id(self) -> u16
+        ensures { result ≡ class_of (lent_call self.entry).kind }
+    {
+        self.kind.class_id()
+    }
+
+    /// Whether a content header and a content body follow.
+    pub fn has_content(self) -> bool
+        ensures { result ≡ content_follows (lent_call self.entry).kind }
+    {
+        self.kind.has_content()
+    }
+
+    /// Whether the client sends the method, or the server.
+    pub fn is_sent_by(self, client: bool) -> bool
+        ensures { result ≡ is_sent client (lent_call self.entry).kind }
+    {
+        sends(client, self.kind)
+    }
+
+    /// The arguments, from the first on.
+    pub fn args(self) -> ArgsRef<'a>
+        ensures args { args_left result ≡ (lent_call self.entry).args }
+        ensures fit { Fits (lent_call self.entry) }
+    {
+        let (_, octets) = self.payload.split_at(IDS_LENGTH);
+        ArgsRef::new(schema(self.kind), octets, self.payload.len())
+    }
+
+    /// The same method with arguments of its own, as [`read_method`](crate::read_method) reads it.
+    pub fn to_owned(self, alloc: Global) -> Result<Method, OutOfMemory>
+        ensures { IfOk result (λ m. method_view m ≡ lent_call self.entry) }
+    {
+        let Ok(method) = read_method(alloc, self.payload) else {
+            return Err(OutOfMemory);
+        };
+        Ok(method)
+    }
+}
