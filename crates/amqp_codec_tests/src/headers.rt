@@ -3,3 +3,4 @@
 mod layouts;
 mod messages;
 mod properties;
+mod views;

@@ -8,3 +8,4 @@ mod layouts;
 mod memory;
 mod quotes;
 mod samples;
+mod views;

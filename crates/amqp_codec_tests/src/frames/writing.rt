@@ -1,5 +1,8 @@
 //! Frames that are written from where their payload lies, and payloads that are written straight into the output.
-use amqp_frame::{FrameKind, FrameRef, begin_frame, finish_frame, write_frame_ref};
+use amqp_frame::{
+    FrameKind, FrameRef, HEADER_LENGTH, HEARTBEAT, OVERHEAD, begin_frame, finish_frame,
+    write_frame_ref,
+};
 use std::test::Fail;
 
 /// What stood in the output, and then the frame: type, channel, size, payload and end.
@@ -25,5 +28,36 @@ fn a_frame_is_begun_and_finished(rt: HostRuntime) -> Result<(), Fail> {
     out.extend_from_slice(b"hi")?;
     finish_frame(start, &mut out)?;
     assert_eq!(rt; out.as_slice(), AFTER_ONE);
+    Ok(())
+}
+
+#[test]
+fn the_same_frame_on_another_channel(rt: HostRuntime) -> Result<(), Fail> {
+    let frame = FrameRef {
+        kind: FrameKind::Body,
+        channel: 5,
+        payload: b"hi",
+    };
+    let mut out = Vec::from_slice(rt.alloc(), b"\xff")?;
+    write_frame_ref(frame.on_channel(0x0102), &mut out)?;
+    assert_eq!(rt; out.as_slice(), AFTER_ONE);
+    Ok(())
+}
+
+#[test]
+fn a_heartbeat_is_a_frame_without_payload(rt: HostRuntime) -> Result<(), Fail> {
+    let frame = FrameRef {
+        kind: FrameKind::Heartbeat,
+        channel: 0,
+        payload: b"",
+    };
+    let mut out = Vec::new(rt.alloc());
+    write_frame_ref(frame, &mut out)?;
+    assert_eq!(rt; out.as_slice(), HEARTBEAT.as_slice());
+    assert_eq!(rt;
+        out.as_slice(),
+        b"\x08\x00\x00\x00\x00\x00\x00\xce".as_slice()
+    );
+    assert_eq!(rt; (HEADER_LENGTH, OVERHEAD), (7, 8));
     Ok(())
 }

@@ -1,8 +1,8 @@
 //! Content headers as the standard lays them out, read, written and printed.
 use crate::octets::{joined, octets};
 use amqp_method::{
-    Header, MethodFault, MethodFaultKind, Properties, header_text, read_header, read_header_into,
-    write_header,
+    Header, HeaderRef, MethodFault, MethodFaultKind, Properties, check_header, header_text,
+    read_header, read_header_into, write_header,
 };
 use amqp_value::ValueFaultKind;
 use std::alloc::Global;
@@ -79,6 +79,8 @@ static BROKEN_HEADERS: [(&[u8], MethodFault); 6] = [
 fn faults_of_headers(rt: HostRuntime) {
     for (octets, fault) in BROKEN_HEADERS {
         assert_eq!(rt; read_header(rt.alloc(), octets).err(), Some(fault));
+        assert_eq!(rt; check_header(octets), Err(fault));
+        assert_eq!(rt; HeaderRef::new(octets).err(), Some(fault));
     }
 }
 

@@ -6,7 +6,7 @@ use std::process::Abort;
 use std::test::Fail;
 
 /// The text of the property of that bit: `pa` for bit 15, `pb` for bit 14, and so on.
-fn text_of(bit: u8) -> [u8; 2] {
+pub(crate) fn text_of(bit: u8) -> [u8; 2] {
     [b'p', b'a'.wrapping_add(15u8.wrapping_sub(bit))]
 }
 
@@ -86,7 +86,7 @@ fn has_bit(properties: &Properties, bit: u8) -> bool {
 }
 
 /// The bit, the flags with it and the octets of the value.
-static ALONE: [(u8, &str); 14] = [
+pub(crate) static ALONE: [(u8, &str); 14] = [
     (15, "8000027061"),
     (14, "4000027062"),
     (13, "200000000004016b7401"),

@@ -1,6 +1,9 @@
 //! Methods as the standard lays them out, read, written and printed.
 use crate::showing::assert_text;
-use amqp_method::{Method, MethodFault, MethodFaultKind, method_text, read_method, write_method};
+use amqp_method::{
+    Method, MethodFault, MethodFaultKind, MethodRef, check_method, method_text, read_method,
+    write_method,
+};
 use amqp_value::ValueFaultKind;
 use std::alloc::Global;
 use std::process::Abort;
@@ -168,6 +171,8 @@ static BROKEN_METHODS: [(&[u8], MethodFault); 6] = [
 fn faults_of_methods(rt: HostRuntime) {
     for (octets, fault) in BROKEN_METHODS.iter().copied() {
         assert_eq!(rt; read_method(rt.alloc(), octets).err(), Some(fault));
+        assert_eq!(rt; check_method(octets), Err(fault));
+        assert_eq!(rt; MethodRef::new(octets).err(), Some(fault));
     }
 }
 

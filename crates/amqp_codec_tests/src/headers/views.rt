@@ -1,0 +1,94 @@
+//! Content headers as they lie in their octets: each property alone, and all.
+use crate::headers::properties::{ALONE, text_of};
+use amqp_method::{HeaderRef, check_header, read_header};
+use std::alloc::Global;
+use std::process::Abort;
+use std::test::Fail;
+
+/// The size of each body here.
+const SIZE: u64 = 0xf1f2_f3f4_f5f6_f7f8;
+
+/// All properties, with the values that they have alone: the flags, and each value.
+const ALL: &str = "fffc02706102706200000004016b7401f4f5027066027067027068027069\
+f1f2f3f4f5f6f7f802706b02706c02706d02706e";
+
+fn is_text(text: Option<&[u8]>, bit: u8) -> bool {
+    text == Some(text_of(bit).as_slice())
+}
+
+fn has_table(header: HeaderRef) -> bool {
+    match header.headers() {
+        Some(table) => table.octets() == b"\x00\x00\x00\x04\x01kt\x01".as_slice(),
+        None => false,
+    }
+}
+
+/// Whether the property of that bit is there with the value that it has alone.
+fn has_bit(header: HeaderRef, bit: u8) -> bool {
+    match bit {
+        15 => is_text(header.content_type(), 15),
+        14 => is_text(header.content_encoding(), 14),
+        13 => has_table(header),
+        12 => header.delivery_mode() == Some(0xf4),
+        11 => header.priority() == Some(0xf5),
+        10 => is_text(header.correlation_id(), 10),
+        9 => is_text(header.reply_to(), 9),
+        8 => is_text(header.expiration(), 8),
+        7 => is_text(header.message_id(), 7),
+        6 => header.timestamp() == Some(0xf1f2_f3f4_f5f6_f7f8),
+        5 => is_text(header.type_name(), 5),
+        4 => is_text(header.user_id(), 4),
+        3 => is_text(header.app_id(), 3),
+        2 => is_text(header.cluster_id(), 2),
+        _ => false,
+    }
+}
+
+/// The octets are a header's, and owned it is the one that they are read as.
+fn assert_owned(rt: &impl Abort, alloc: Global, header: HeaderRef) -> Result<(), Fail> {
+    assert_eq!(rt; check_header(header.payload()), Ok(SIZE));
+    assert_eq!(rt; header.body_size(), SIZE);
+    assert!(rt; header.to_owned(alloc)? == read_header(alloc, header.payload())?);
+    Ok(())
+}
+
+#[test]
+fn each_property_is_seen_alone(rt: HostRuntime) -> Result<(), Fail> {
+    for (bit, rest) in ALONE {
+        let digits = format!(in rt.alloc(); "003c0000f1f2f3f4f5f6f7f8{rest}")?;
+        let octets = hex::decode(rt.alloc(), digits.as_str())?;
+        let header = HeaderRef::new(&octets)?;
+        assert_owned(&rt, rt.alloc(), header)?;
+        assert_eq!(rt; header.flags(), 1 << u32::from(bit), "for {bit}");
+        for (other, _) in ALONE {
+            assert_eq!(rt; has_bit(header, other), other == bit, "{other} of {bit}");
+        }
+    }
+    Ok(())
+}
+
+#[test]
+fn all_properties_are_seen(rt: HostRuntime) -> Result<(), Fail> {
+    let digits = format!(in rt.alloc(); "003c0000f1f2f3f4f5f6f7f8{ALL}")?;
+    let octets = hex::decode(rt.alloc(), digits.as_str())?;
+    let header = HeaderRef::new(&octets)?;
+    assert_owned(&rt, rt.alloc(), header)?;
+    assert_eq!(rt; header.flags(), 0xfffc);
+    for (bit, _) in ALONE {
+        assert!(rt; has_bit(header, bit), "for {bit}");
+    }
+    Ok(())
+}
+
+#[test]
+fn a_header_without_properties(rt: HostRuntime) -> Result<(), Fail> {
+    let digits = "003c0000f1f2f3f4f5f6f7f80000";
+    let octets = hex::decode(rt.alloc(), digits)?;
+    let header = HeaderRef::new(&octets)?;
+    assert_owned(&rt, rt.alloc(), header)?;
+    assert_eq!(rt; header.flags(), 0);
+    for (bit, _) in ALONE {
+        assert!(rt; !has_bit(header, bit), "for {bit}");
+    }
+    Ok(())
+}
