@@ -1,5 +1,6 @@
 //! Methods.
 
+mod codes;
 mod facts;
 mod faults;
 mod kinds;

@@ -32,6 +32,8 @@ pub mod Laws
 pub mod EarlyFaults
 pub mod Lengths
 pub mod Places
+pub mod Replies
+pub mod Ids
 pub mod Requests
 pub mod Sorts
 pub mod Texts

@@ -5,6 +5,9 @@
 //! header payload is the class id 60, the weight 0, the size of the body in 64 bits, the flags in 16, and the properties
 //! whose flags are set. Numbers are big-endian.
 //!
+//! [`read_method`] and [`read_header`] make values that own what they hold. [`MethodRef`] and [`HeaderRef`] see the same in
+//! the payload, where it lies, and take no memory; [`check_method`] and [`check_header`] only look for a fault.
+//!
 //! The definitions of `specs/` say what the functions are proved to do: `Methods` is the table of the methods, `Encoding`
 //! and `Properties` have which octets encode a method and a header, `Plain` the one encoding that is written, `FirstFault`
 //! the first field that can't be read, with its place, and `Reading` and `HeaderReading` reading as functions of octets.
@@ -24,6 +27,7 @@ mod header_octets;
 mod header_ref;
 mod header_start;
 mod headers;
+mod ids;
 mod kind_word;
 mod kinds;
 mod laws;
@@ -37,6 +41,7 @@ mod places;
 mod places_ref;
 mod properties;
 mod reading;
+pub mod reply;
 mod requests;
 mod table;
 mod texts;
@@ -52,6 +57,7 @@ pub use crate::header_checker::check_header;
 pub use crate::header_octets::{read_header, read_header_into, write_header};
 pub use crate::header_ref::HeaderRef;
 pub use crate::headers::{Header, Properties};
+pub use crate::ids::peek_kind;
 pub use crate::kinds::{Kind, schema, sends};
 pub use crate::laws::{
     content_kinds, distinct_ids, each_is_sent, encoded_is_read, one_header, one_method,

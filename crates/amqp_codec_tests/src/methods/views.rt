@@ -2,7 +2,7 @@
 use crate::methods::samples::{
     BASIC, CHANNEL, CONNECTION, EXCHANGE, Given, QUEUE, Sample, TABLE, TX_AND_CONFIRM,
 };
-use amqp_method::{ArgRef, Kind, MethodRef, check_method, read_method};
+use amqp_method::{ArgRef, Kind, MethodRef, check_method, peek_kind, read_method};
 use std::alloc::Global;
 use std::process::Abort;
 use std::test::Fail;
@@ -78,6 +78,7 @@ fn assert_viewed(
 ) -> Result<(), Fail> {
     let payload = hex::decode(alloc, octets)?;
     assert_eq!(rt; check_method(&payload), Ok(kind));
+    assert_eq!(rt; peek_kind(&payload), Some(kind));
     let method = MethodRef::new(&payload)?;
     assert_eq!(rt; method.kind(), kind);
     assert_eq!(rt; method.payload(), payload.as_slice());
@@ -126,4 +127,15 @@ fn arguments_by_name_and_by_kind(rt: HostRuntime) -> Result<(), Fail> {
     assert!(rt; !publish.is_sent_by(false));
     assert_eq!(rt; publish.class_id(), 60);
     Ok(())
+}
+
+#[test]
+fn a_kind_is_seen_in_four_octets(rt: HostRuntime) {
+    assert_eq!(rt; peek_kind(b"\x00\x3c\x00\x28"), Some(Kind::BasicPublish));
+    assert_eq!(rt;
+        peek_kind(b"\x00\x3c\x00\x28\xff"),
+        Some(Kind::BasicPublish)
+    );
+    assert_eq!(rt; peek_kind(b"\x00\x3c\x00"), None);
+    assert_eq!(rt; peek_kind(b"\x00\x3c\x00\x29"), None);
 }
