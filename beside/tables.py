@@ -230,8 +230,10 @@ def properties():
     functions = {"short-string": "text", "table": "table", "octet": "octet", "long-long": "long_long"}
     order = re.findall(r"(\w+)\(&?properties\.(\w+)\)", lent)
     compare("properties", [(functions[row[3]], row[2]) for row in rows], order, "properties.rt")
-    names = text_of("crates/amqp_method/src/properties.rt").split("static PROPERTY_NAMES")[1].split("= [")[1].split("];")[0]
-    compare("properties", [row[1] for row in rows], re.findall(r'"([^"]+)"', names), "properties.rt")
+    table = text_of("crates/amqp_method/src/properties.rt").split("static PROPERTY_ROWS")[1].split("\n];")[0]
+    entries = re.findall(r'name: "([^"]+)",\s*flag: (\d+),\s*kind: FieldKind::(\w+),', table)
+    found = [(flag, name, FIELD_KINDS[kind]) for name, flag, kind in entries]
+    compare("properties", [(row[0], row[1], row[3]) for row in rows], found, "the table in properties.rt")
     specs = text_of("crates/amqp_method/specs/Properties.antt").split("property_rows =")[1].split("[]")[0]
     defined = [(name, FIELD_KINDS[kind]) for kind, name in re.findall(r'property (\w+) \(codes "([^"]+)"\)', specs)]
     compare("properties", [(row[1], row[3]) for row in rows], defined, "the definition")
@@ -289,6 +291,22 @@ def closes():
     compare("closes", documented("| Code | Name | Text |", 8), found, "the definition")
 
 
+def reply_codes():
+    """The reply codes: the rows of the code's constants, of its names and of its hard errors, and those of the definition."""
+    rows = documented("| Code | Name | Hard |", 19)
+    code = text_of("crates/amqp_method/src/reply.rt")
+    numbers = dict(re.findall(r"^pub const (\w+): u16 = (\d+);$", code, re.M))
+    names = re.findall(r'^        (\w+) => Some\("([^"]+)"\),$', code, re.M)
+    hard = set(re.findall(r"^\s+(?:\| )?([A-Z_]+)$", code.split("pub fn is_hard")[1], re.M))
+    found = [(numbers[constant], name, "yes" if constant in hard else "") for constant, name in names]
+    compare("reply codes", rows, found, "the code")
+    compare("reply codes", sorted(row[0] for row in rows), sorted(numbers.values()), "the code's constants")
+    specs = text_of("crates/amqp_method/specs/Replies.antt")
+    found = re.findall(r'^    (reply|hard_error) (\d+) \(codes "([^"]+)"\) ∷', specs, re.M)
+    found = [(number, name, "yes" if kind == "hard_error" else "") for kind, number, name in found]
+    compare("reply codes", rows, found, "the definition")
+
+
 def frames():
     code = text_of("crates/amqp_frame/src/frames.rt")
     specs = text_of("crates/amqp_frame/specs/Frame.antt")
@@ -334,7 +352,7 @@ def typed_methods():
         differences.append("typed methods: " + (run.stdout.strip() or run.stderr.strip()).replace("\n", "; "))
 
 
-for part in (frames, constants, methods, typed_methods, tags, properties, faults, refusals, closes):
+for part in (frames, constants, methods, typed_methods, tags, properties, faults, refusals, closes, reply_codes):
     try:
         part()
     except (OSError, ValueError, KeyError, IndexError, TypeError) as error:
