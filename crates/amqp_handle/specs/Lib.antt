@@ -1,0 +1,4 @@
+pub mod Lending
+pub mod Opening
+pub mod Slots
+pub mod Statuses

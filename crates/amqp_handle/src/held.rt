@@ -1,0 +1,8 @@
+//! What a handle holds.
+use amqp_frame::Splitter;
+
+/// What a handle holds while it is open.
+#[derive(Drop)]
+pub enum Held {
+    Splitter(Splitter),
+}

@@ -1,0 +1,13 @@
+//! Handles: values of this library that a C program holds.
+//!
+//! C keeps a [`Slot`], which is a pointer and a flag, and hands it back with each call. What stands behind the pointer is a
+//! [`Held`]: one type for every kind of handle, so that a handle of another kind is refused and not misread.
+#![tactic(auto)]
+
+mod faults;
+mod held;
+mod slot;
+
+pub use crate::faults::HandleFault;
+pub use crate::held::Held;
+pub use crate::slot::Slot;
