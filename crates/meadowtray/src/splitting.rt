@@ -1,0 +1,136 @@
+//! A splitter behind a handle.
+ghost use Rattle.std.specs.Prelude.{◌≡◌, length, Some};
+ghost use Rattle.std.specs.Borrow.{sem};
+ghost use Rattle.amqp_handle.specs.declared.held.Held.TheVariants as held;
+ghost use Rattle.meadowtray.specs.Lending.{FollowsSplitter, IsSplitter, LeavesSlot};
+ghost use Rattle.meadowtray.specs.Splitters.{answer_of, AnswersOf, FeedsSplitter, OfSplitter, OpensSplitter, SetsLimit};
+
+use crate::handles::status;
+use amqp_frame::{FedRef, FrameFault, Splitter};
+use amqp_handle::{HandleFault, Held, Slot};
+use std::alloc::Global;
+
+/// The status of a splitter's fault is this and the fault's number.
+const FRAME_FAULTS: u32 = 100;
+
+/// A frame without a payload has so many octets.
+const LEAST_LIMIT: u32 = 8;
+
+/// What a piece gave, as it crosses to C.
+///
+/// With status 0, `taken` says how many octets were taken, and `kind` is the frame's type octet, or 0 where no frame was
+/// finished; the channel and the payload are the frame's. After a fault, `at` is its place in the stream.
+#[repr(C)]
+pub struct FedFrame<'a> {
+    pub taken: usize,
+    pub at: u64,
+    pub payload: &'a [u8],
+    pub channel: u16,
+    pub kind: u8,
+}
+
+/// Puts an answer where C reads it. The result is the status.
+fn told<'a>(answer: Result<FedRef<'a>, FrameFault>, out: &mut FedFrame<'a>) -> u32
+    ensures { answer_of result out.new ≡ answer.entry }
+{
+    match answer {
+        Ok(fed) => {
+            out.taken = fed.taken;
+            match fed.frame {
+                Some(frame) => {
+                    out.kind = frame.kind.octet();
+                    out.channel = frame.channel;
+                    out.payload = frame.payload;
+                }
+                None => out.kind = 0,
+            }
+            0
+        }
+        Err(fault) => {
+            out.at = fault.at;
+            FRAME_FAULTS + fault.kind.number() as u32
+        }
+    }
+}
+
+/// Opens a handle with a splitter at the beginning of a stream. The limit counts all octets of a frame, and is 8 at least.
+#[unsafe(no_mangle)]
+pub extern "C" fn proved_splitter_open(slot: &mut Slot, alloc: Global, limit: u32) -> u32
+    ensures { OpensSplitter slot.old.value limit result slot.new.value }
+{
+    if limit < LEAST_LIMIT {
+        return HandleFault::Limit.number();
+    }
+    status(slot.open(alloc, Held::Splitter(Splitter::new(alloc, limit))))
+}
+
+/// The splitter of an open handle that holds one.
+fn splitter<'a>(slot: &'a mut Slot) -> &'a mut Splitter
+    requires { IsSplitter slot.old.value }
+    ensures value { slot.old.value ≡ Some (held.Splitter result.now) }
+    ensures* follows { sem 𝓛 (FollowsSplitter slot.entry result) }
+{
+    match slot.held() {
+        Held::Splitter(splitter) => splitter,
+    }
+}
+
+/// What the splitter of a handle answers to a piece.
+fn fed<'a>(slot: &'a mut Slot, piece: &'a [u8]) -> Result<FedRef<'a>, FrameFault>
+    requires { IsSplitter slot.old.value }
+    ensures answers { AnswersOf slot.old.value piece.now result }
+    ensures* after { sem 𝓛 (LeavesSlot slot.entry piece.now result) }
+{
+    splitter(slot).feed_ref(piece)
+}
+
+/// Feeds the splitter of a handle, as `Splitter::feed_ref` does, and puts what it gave into `out`.
+#[unsafe(no_mangle)]
+pub extern "C" fn proved_splitter_feed<'a>(
+    slot: &'a mut Slot,
+    piece: &'a [u8],
+    out: &mut FedFrame<'a>,
+) -> u32
+    ensures { FeedsSplitter slot.old.value piece.now result out.new }
+{
+    if !slot.is_open() {
+        return HandleFault::NotOpen.number();
+    }
+    told(fed(slot, piece), out)
+}
+
+/// How many octets were taken of a frame that isn't whole yet.
+#[unsafe(no_mangle)]
+pub extern "C" fn proved_splitter_pending(slot: &mut Slot, out: &mut usize) -> u32
+    ensures pending { OfSplitter slot.old.value (λ s. (result ≡ 0) × (out.new ≡ length s.pending)) result }
+    ensures same { slot.new.value ≡ slot.old.value }
+{
+    if !slot.is_open() {
+        return HandleFault::NotOpen.number();
+    }
+    match slot.held() {
+        Held::Splitter(splitter) => {
+            *out = splitter.pending();
+            0
+        }
+    }
+}
+
+/// Changes the limit, between two frames.
+#[unsafe(no_mangle)]
+pub extern "C" fn proved_splitter_set_limit(slot: &mut Slot, limit: u32) -> u32
+    ensures { SetsLimit slot.old.value limit result slot.new.value }
+{
+    if !slot.is_open() {
+        return HandleFault::NotOpen.number();
+    }
+    match slot.held() {
+        Held::Splitter(splitter) => {
+            if limit < LEAST_LIMIT || splitter.pending() > 0 {
+                return HandleFault::Limit.number();
+            }
+            splitter.set_limit(limit);
+            0
+        }
+    }
+}
