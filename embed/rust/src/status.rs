@@ -1,0 +1,47 @@
+//! What a call answers when something is wrong.
+use crate::sys;
+use std::ffi::CStr;
+use std::fmt;
+
+/// The number of what is wrong. `meadowtray.h` has their names, in ranges by what they concern.
+#[derive(Clone, Copy, PartialEq, Eq, Hash)]
+pub struct Status(u32);
+
+impl Status {
+    pub const OUT_OF_MEMORY: Status = Status(4);
+    pub const LIMIT: Status = Status(5);
+    pub const FRAME_UNKNOWN_TYPE: Status = Status(101);
+    pub const FRAME_TOO_LARGE: Status = Status(102);
+    pub const FRAME_BAD_END: Status = Status(103);
+    pub const FRAME_OUT_OF_MEMORY: Status = Status(104);
+    pub const FRAME_FAILED: Status = Status(105);
+
+    /// Nothing is wrong, or this is.
+    pub(crate) fn check(status: u32) -> Result<(), Status> {
+        match status {
+            0 => Ok(()),
+            number => Err(Status(number)),
+        }
+    }
+
+    /// The number, as C sees it.
+    pub fn number(self) -> u32 {
+        self.0
+    }
+}
+
+impl fmt::Display for Status {
+    fn fmt(&self, f: &mut fmt::Formatter<'_>) -> fmt::Result {
+        // SAFETY: the text is never null, ends with a null octet, and stays for ever.
+        let text = unsafe { CStr::from_ptr(sys::mt_status_text(self.0)) };
+        f.write_str(&text.to_string_lossy())
+    }
+}
+
+impl fmt::Debug for Status {
+    fn fmt(&self, f: &mut fmt::Formatter<'_>) -> fmt::Result {
+        write!(f, "Status({}: {self})", self.0)
+    }
+}
+
+impl std::error::Error for Status {}
