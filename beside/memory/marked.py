@@ -1,6 +1,7 @@
-"""Runs the tests that mark their calls (`crates/amqp_codec_tests/src/*/memory.rt`) with the allocator's requests counted, and compares
-each part between two marks with what the call is to take: how many requests, and of how many octets in all."""
+"""Runs the tests of a crate that mark their calls (`..::memory::..`) with the allocator's requests counted, and compares each part
+between two marks with what the call is to take: how many requests, and of how many octets in all."""
 
+import pathlib
 import subprocess
 import sys
 import tempfile
@@ -14,8 +15,8 @@ SHORT_STRING = WORD + 23 + 1
 VALUE = WORD + SHORT_STRING
 PAIR = SHORT_STRING + VALUE
 ARGUMENT = WORD + SHORT_STRING
-# test, and for each part its number, its requests, their octets in all, and why
-WANTED = (
+# of a crate: test, and for each part its number, its requests, their octets in all, and why
+CODEC = (
     ("frames::memory::frames_in_place_take_none", (
         (1, 0, 0, "a frame that lies whole in the piece is lent from it"),
         (2, 1, 60_000, "`feed` copies the payload, in one request"),
@@ -30,14 +31,14 @@ WANTED = (
     )),
     ("values::memory::tables_take_what_they_have", (
         (10, 0, 0, "an outer count that is greater than what is there is refused before anything is taken"),
-        (11, 1, PAIR, "room for the pair is made, and none for a string that isn't there"),
-        (12, 1, PAIR, "nor for an array"),
-        (13, 1, PAIR, "nor for a table inside"),
+        (11, 0, 0, "so is a string's that passes the table"),
+        (12, 0, 0, "and an array's"),
+        (13, 0, 0, "and that of a table inside"),
         (14, 0, 0, "a table of no pairs takes none"),
         (15, 1, PAIR, "a table of one pair takes one"),
         (16, 4, (3 + 6 + 12 + 9) * PAIR, "27 octets look like three pairs of 12; as they are nine, the room is doubled twice, and what is left over given back"),
         (17, 5, 2 * PAIR + 2 * VALUE + VALUE + VALUE + PAIR, "17 octets look like two pairs, 10 like two values of eight, five like one; there is one of each, and the array inside has none"),
-        (18, 2, 2 * PAIR + 2 * VALUE, "the same, up to the array whose count is greater than what is there"),
+        (18, 0, 0, "where the inner array's count is greater than what is there, nothing is taken either"),
         (19, 2, 3 * PAIR + PAIR, "30 octets look like three pairs, and are one; a string of 23 octets lies in its value"),
         (20, 3, 3 * PAIR + 24 + PAIR, "one of 24 takes a request of its own"),
         (21, 3, 3 * PAIR + 24 + PAIR, "and so does a byte array"),
@@ -51,6 +52,21 @@ WANTED = (
         (36, 0, 0, "an unknown method is refused before anything is taken"),
     )),
 )
+
+# part 40 is an operation with its arguments by place, and part 41 the same by name
+TYPED = (
+    ("memory::declaring_a_queue", ((40, 2, 568, "the arguments and the table's pairs"), (41, 2, 568, "the same"))),
+    ("memory::publishing", ((40, 2, 165, "the arguments and the body"), (41, 2, 165, "the same"))),
+    ("memory::consuming", ((40, 1, 280, "the arguments"), (41, 1, 280, "the same"))),
+    ("memory::acknowledging", ((40, 1, 80, "the arguments"), (41, 1, 80, "the same"))),
+    ("memory::rejecting", ((40, 1, 120, "the arguments"), (41, 1, 120, "the same"))),
+    ("memory::limiting", ((40, 1, 120, "the arguments"), (41, 1, 120, "the same"))),
+    ("memory::reading_a_return", ((40, 0, 0, "what came is only looked at"), (41, 0, 0, "the same"))),
+    ("memory::reading_a_confirm", ((40, 0, 0, "what came is only looked at"), (41, 0, 0, "the same"))),
+    ("memory::closing_a_channel", ((40, 1, 160, "the arguments"), (41, 1, 160, "the same"))),
+    ("memory::forwarding", ((40, 2, 165, "the arguments and the body"), (41, 2, 165, "the same"))),
+)
+WANTED = {"amqp_codec_tests": CODEC, "amqp_typed_tests": TYPED}
 
 
 def counted(test):
@@ -66,7 +82,7 @@ def counted(test):
 
 
 differences = []
-for test, parts in WANTED:
+for test, parts in WANTED[pathlib.Path(PROGRAM).name.removesuffix("_tests")]:
     found = {number: counts for number, *counts in counted(test)}
     for number, requests, octets, why in parts:
         counts = found.pop(number, "nothing")
