@@ -54,17 +54,18 @@ CODEC = (
 )
 
 # part 40 is an operation with its arguments by place, and part 41 the same by name
+# by the table of methods: so many arguments, a table's first room of four pairs, a body of five octets
 TYPED = (
-    ("memory::declaring_a_queue", ((40, 2, 568, "the arguments and the table's pairs"), (41, 2, 568, "the same"))),
-    ("memory::publishing", ((40, 2, 165, "the arguments and the body"), (41, 2, 165, "the same"))),
-    ("memory::consuming", ((40, 1, 280, "the arguments"), (41, 1, 280, "the same"))),
-    ("memory::acknowledging", ((40, 1, 80, "the arguments"), (41, 1, 80, "the same"))),
-    ("memory::rejecting", ((40, 1, 120, "the arguments"), (41, 1, 120, "the same"))),
-    ("memory::limiting", ((40, 1, 120, "the arguments"), (41, 1, 120, "the same"))),
+    ("memory::declaring_a_queue", ((40, 2, 7 * ARGUMENT + 4 * PAIR, "the arguments and the table's pairs"), (41, 2, 7 * ARGUMENT + 4 * PAIR, "the same"))),
+    ("memory::publishing", ((40, 2, 4 * ARGUMENT + 5, "the arguments and the body"), (41, 2, 4 * ARGUMENT + 5, "the same"))),
+    ("memory::consuming", ((40, 1, 7 * ARGUMENT, "the arguments"), (41, 1, 7 * ARGUMENT, "the same"))),
+    ("memory::acknowledging", ((40, 1, 2 * ARGUMENT, "the arguments"), (41, 1, 2 * ARGUMENT, "the same"))),
+    ("memory::rejecting", ((40, 1, 3 * ARGUMENT, "the arguments"), (41, 1, 3 * ARGUMENT, "the same"))),
+    ("memory::limiting", ((40, 1, 3 * ARGUMENT, "the arguments"), (41, 1, 3 * ARGUMENT, "the same"))),
     ("memory::reading_a_return", ((40, 0, 0, "what came is only looked at"), (41, 0, 0, "the same"))),
     ("memory::reading_a_confirm", ((40, 0, 0, "what came is only looked at"), (41, 0, 0, "the same"))),
-    ("memory::closing_a_channel", ((40, 1, 160, "the arguments"), (41, 1, 160, "the same"))),
-    ("memory::forwarding", ((40, 2, 165, "the arguments and the body"), (41, 2, 165, "the same"))),
+    ("memory::closing_a_channel", ((40, 1, 4 * ARGUMENT, "the arguments"), (41, 1, 4 * ARGUMENT, "the same"))),
+    ("memory::forwarding", ((40, 2, 4 * ARGUMENT + 5, "the arguments and the body"), (41, 2, 4 * ARGUMENT + 5, "the same"))),
 )
 WANTED = {"amqp_codec_tests": CODEC, "amqp_typed_tests": TYPED}
 
