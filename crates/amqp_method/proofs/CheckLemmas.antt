@@ -7,7 +7,7 @@ use Rattle.amqp_value.specs.Reading.{◌>>=◌, table_at}
 use Rattle.amqp_value.specs.Values.{Pairs}
 use Rattle.amqp_value.specs.declared.fault.ValueFault.{ValueFault}
 use Rattle.amqp_method.specs.Faults.{in_table}
-use Rattle.amqp_method.specs.Arguments.{Argument, bit, octet, short, long, long_long, short_string, long_string, table, Call, call, keep}
+use Rattle.amqp_method.specs.Arguments.{Argument, octet, short, long, long_long, short_string, long_string, table, Call, call, keep}
 use Rattle.amqp_method.specs.Checking.{kind_read, past_bit, past_field, past_fields}
 use Rattle.amqp_value.proofs.Numbers.{IsBytes}
 use Rattle.amqp_method.specs.Encoding.{EncodesMethod}

@@ -1,5 +1,5 @@
 -- Checking a content header finds what reading it finds.
-use Rattle.std.proofs.Common.{◌≡◌, ℕ, zero, suc, ◌+◌, ◌-◌, ◌<◌, ◌≤◌, List, [], ◌∷◌, length, drop, get_or, Bool, true, false, Option, Some, Ok, Err, Result, refl, sym, ap, ◌∙◌, drop-cons, add-one, arith}
+use Rattle.std.proofs.Common.{◌≡◌, ℕ, ◌+◌, ◌-◌, ◌<◌, List, [], ◌∷◌, length, drop, true, false, Option, Some, Ok, Err, Result, refl, sym, ap, ◌∙◌, drop-cons, add-one, arith}
 use Rattle.std.specs.Prelude.{IfOk, IfErr}
 use Rattle.std.proofs.lemmas.List.{length-drop}
 use Rattle.amqp_value.specs.Reading.{◌>>=◌}
@@ -8,9 +8,9 @@ use Rattle.amqp_method.specs.Arguments.{Argument}
 use Rattle.amqp_method.specs.Checking.{past_field}
 use Rattle.amqp_method.specs.FirstFault.{FirstFaultOfHeader}
 use Rattle.amqp_method.specs.HeaderChecking.{kind_at, size_read, Starts}
-use Rattle.amqp_method.specs.HeaderReading.{has_flag, optional_at, properties_at, with_properties_at, header_at}
+use Rattle.amqp_method.specs.HeaderReading.{has_flag, optional_at, properties_at, header_at}
 use Rattle.amqp_method.specs.Properties.{ContentHeader, header, EncodesHeader, property_kinds}
-use Rattle.amqp_method.specs.Reading.{Read, Bits, Equals, no_bits, field_at, nothing_after, rest_of, whole}
+use Rattle.amqp_method.specs.Reading.{Read, Bits, no_bits, field_at, nothing_after, rest_of, whole}
 use Rattle.amqp_method.specs.declared.faults.MethodFault.{MethodFault}
 use Rattle.amqp_method.specs.declared.fields.FieldKind.{FieldKind}
 use Rattle.amqp_method.specs.declared.fields.FieldKind.TheVariants.{Octet}

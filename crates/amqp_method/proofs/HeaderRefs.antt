@@ -1,5 +1,5 @@
 -- Views of content headers: the properties of octets that are known to be read.
-use Rattle.std.proofs.Common.{◌≡◌, ℕ, zero, suc, ◌+◌, ◌-◌, ◌%◌, ◌^◌, ◌==◌, ◌<◌, ◌≤◌, List, [], ◌∷◌, length, drop, Bool, true, false, Option, Some, None, Result, Ok, Err, refl, sym, ap, subst, ◌∙◌, arith}
+use Rattle.std.proofs.Common.{◌≡◌, ℕ, zero, suc, ◌+◌, ◌-◌, ◌%◌, ◌^◌, ◌==◌, ◌<◌, ◌≤◌, List, [], ◌∷◌, length, drop, true, false, Option, Some, None, Result, Ok, Err, refl, sym, ap, subst, ◌∙◌, arith}
 use Rattle.std.specs.Prelude.{IsOk, IsTrue, is_ok, MatchOption}
 use Rattle.std.proofs.Math.Nat.{mod-eq_of_lt}
 use Rattle.std.proofs.lemmas.Bool.{eqb-true}
@@ -17,7 +17,7 @@ use Rattle.amqp_method.specs.HeaderRefView.{properties_read, property_at, proper
 use Rattle.amqp_method.specs.ArgRefView.{arg_ref_view}
 use Rattle.amqp_method.specs.declared.arg_ref.ArgRef.{ArgRef}
 use Rattle.amqp_method.specs.Properties.{ContentHeader, header, EncodesHeader, property_kinds, flags_of}
-use Rattle.amqp_method.specs.Reading.{Read, Bits, no_bits, number_at, after_table, ends_run, field_at, whole}
+use Rattle.amqp_method.specs.Reading.{Read, Bits, no_bits, number_at, after_table, ends_run, field_at}
 use Rattle.amqp_value.specs.Whole.{BeginsTable}
 use Rattle.amqp_method.specs.declared.faults.MethodFault.{MethodFault}
 use Rattle.amqp_method.specs.declared.fields.FieldKind.{FieldKind}

@@ -17,6 +17,7 @@ pub mod PlaceLemmas
 pub mod PlainLemmas
 pub mod PresentLemmas
 pub mod PropertyKinds
+pub mod PropertySteps
 pub mod ReadingLemmas
 pub mod RefLemmas
 pub mod RunLemmas

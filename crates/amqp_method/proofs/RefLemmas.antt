@@ -1,5 +1,5 @@
 -- Views of methods: what is read of octets that are known to be read.
-use Rattle.std.proofs.Common.{◌≡◌, ℕ, suc, ◌+◌, ◌<◌, ◌≤◌, List, [], ◌∷◌, length, map, drop, Bool, true, false, ltb, Option, Some, None, Result, Ok, Err, refl, sym, ap, subst, ◌∙◌, arith}
+use Rattle.std.proofs.Common.{◌≡◌, ℕ, suc, ◌≤◌, List, [], ◌∷◌, length, map, drop, Bool, ltb, Option, Some, None, Result, Ok, Err, refl, sym, ap, subst, ◌∙◌, arith}
 use Rattle.std.specs.Prelude.{IsOk, IsTrue, is_ok}
 use Rattle.std.proofs.lemmas.Bool.{ltb-false}
 use Rattle.std.proofs.lemmas.List.{drop-drop, length-drop}
@@ -18,7 +18,7 @@ use Rattle.amqp_method.specs.MethodRefs.{values_read}
 use Rattle.amqp_method.specs.MethodRefView.{args_read}
 use Rattle.amqp_method.specs.Methods.{FieldRow}
 use Rattle.amqp_method.specs.Places.{argument_at}
-use Rattle.amqp_method.specs.Reading.{Read, Bits, no_bits, number_at, after_table, ends_run, field_at, args_at, whole, call_at, method_at}
+use Rattle.amqp_method.specs.Reading.{Read, Bits, no_bits, number_at, after_table, ends_run, field_at, args_at, call_at, method_at}
 use Rattle.amqp_method.specs.Rows.{field_view}
 use Rattle.amqp_method.specs.declared.faults.MethodFault.{MethodFault}
 use Rattle.amqp_method.specs.declared.fields.Field.{Field}

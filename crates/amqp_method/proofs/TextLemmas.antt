@@ -24,7 +24,7 @@ field_step fields i d args others done all h left before =
 abbrev text_from : List (List ℕ) → List (Option Lent) → ℕ → List ℕ
 text_from names properties i = properties_text (drop i names) (lent_views (drop i properties))
 
-names_here : (names : List (List ℕ)) (i : ℕ) (d : List ℕ) → i < length names → drop i names ≡ get_or names i d ∷ drop (i + 1) names
+pub names_here : (names : List (List ℕ)) (i : ℕ) (d : List ℕ) → i < length names → drop i names ≡ get_or names i d ∷ drop (i + 1) names
 names_here names i d h = rw (add-one, drop-cons names i d) refl
 
 lent_here : (properties : List (Option Lent)) (i : ℕ) (d : Option Lent) → i < length properties
@@ -45,7 +45,7 @@ text_here names properties i name p named lent name_is at =
     ∙ ap (λ (q : Option Lent). property_text (get_or names i []) (lent_view q)) at in
     here ∙ ap (λ (o : List ℕ). o ++ others) (sym same)
 
-none_left : (names : List (List ℕ)) → properties_text names [] ≡ []
+pub none_left : (names : List (List ℕ)) → properties_text names [] ≡ []
 none_left [] = refl
 none_left (name ∷ names) = refl
 

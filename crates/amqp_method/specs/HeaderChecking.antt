@@ -1,5 +1,5 @@
 -- Checking a content header: what is read of it is not kept, only where its properties end.
-use Rattle.std.specs.Prelude.{◌≡◌, ℕ, ◌-◌, ◌≤◌, ◌<◌, ◌%◌, List, length, drop, get_or, Result, Ok, Err}
+use Rattle.std.specs.Prelude.{◌≡◌, ℕ, ◌≤◌, ◌%◌, List, length, drop, get_or, Result, Ok, Err}
 use Rattle.amqp_method.specs.HeaderReading.{with_properties_at, header_at}
 use Rattle.amqp_method.specs.Properties.{ContentHeader, property_kinds}
 use Rattle.amqp_method.specs.declared.faults.MethodFault.{MethodFault}

@@ -1,3 +1,5 @@
+pub mod Same
+pub mod Equality
 pub mod Methods
 pub mod Kinds
 pub mod Rows

@@ -1,5 +1,5 @@
 -- The arguments of a method that lies in its payload.
-use Rattle.std.specs.Prelude.{◌≡◌, ◌<◌, List, [], ◌∷◌, length, map, Bool, Option, Some, None, Result, Ok, Err}
+use Rattle.std.specs.Prelude.{◌≡◌, ◌<◌, List, [], ◌∷◌, length, map, Bool, Option, Some, None, Ok, Err}
 use Rattle.amqp_method.specs.ArgRefView.{arg_ref_view}
 use Rattle.amqp_method.specs.Arguments.{Argument, keep}
 use Rattle.amqp_method.specs.BitsView.{bits_view}
@@ -7,7 +7,6 @@ use Rattle.amqp_method.specs.Reading.{Read, args_at}
 use Rattle.amqp_method.specs.Rows.{field_view}
 use Rattle.amqp_method.specs.declared.arg_ref.ArgRef.{ArgRef}
 use Rattle.amqp_method.specs.declared.args_ref.ArgsRef.{ArgsRef}
-use Rattle.amqp_method.specs.declared.faults.MethodFault.{MethodFault}
 
 -- what is read, of octets that are read without a fault
 abbrev pub values_read : Read (List Argument) → List Argument

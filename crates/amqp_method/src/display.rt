@@ -20,7 +20,7 @@ use crate::properties::{Lent, lent_properties, property_name};
 use amqp_value::{write_hexadecimal, write_quoted};
 use std::fmt;
 
-fn write_bit<W: fmt::Write>(f: &mut fmt::Formatter<W>, holds: bool) -> fmt::Result
+pub(crate) fn write_bit<W: fmt::Write>(f: &mut fmt::Formatter<W>, holds: bool) -> fmt::Result
     ensures { WritesOnOk W.write_str_gives f.old result (bit_text holds) f.new }
 {
     f.write_str(if holds { "1" } else { "0" })

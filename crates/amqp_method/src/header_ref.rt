@@ -111,7 +111,7 @@ impl<'a> HeaderRef<'a> {
     }
 
     /// The property at a place, if it is there.
-    fn at(self, place: usize) -> Option<ArgRef<'a>>
+    pub(crate) fn at(self, place: usize) -> Option<ArgRef<'a>>
         requires { place < 14 }
         ensures { MatchOption result (at_place place (lent_header self.entry).properties ≡ None)
             (λ value. at_place place (lent_header self.entry).properties ≡ Some (arg_ref_view value)) }

@@ -48,6 +48,65 @@ impl<'a> MethodRef<'a> {
         self.arg_at(place_of(schema(self.kind()), name)?)
     }
 
+    /// The bit that is the argument for the field with this name, if one is.
+    pub fn bit(self, name: &str) -> Option<bool>
+        ensures { result ≡ found bit_of (argument_named name.now (lent_call self.entry)) }
+    {
+        self.arg(name)?.as_bit()
+    }
+
+    /// The number of eight bits that is the argument for the field with this name, if one is.
+    pub fn octet(self, name: &str) -> Option<u8>
+        ensures { result ≡ found octet_of (argument_named name.now (lent_call self.entry)) }
+    {
+        self.arg(name)?.as_octet()
+    }
+
+    /// The number of 16 bits that is the argument for the field with this name, if one is.
+    pub fn short(self, name: &str) -> Option<u16>
+        ensures { result ≡ found short_of (argument_named name.now (lent_call self.entry)) }
+    {
+        self.arg(name)?.as_short()
+    }
+
+    /// The number of 32 bits that is the argument for the field with this name, if one is.
+    pub fn long(self, name: &str) -> Option<u32>
+        ensures { result ≡ found long_of (argument_named name.now (lent_call self.entry)) }
+    {
+        self.arg(name)?.as_long()
+    }
+
+    /// The number of 64 bits that is the argument for the field with this name, if one is.
+    pub fn long_long(self, name: &str) -> Option<u64>
+        ensures { result ≡ found long_long_of (argument_named name.now (lent_call self.entry)) }
+    {
+        self.arg(name)?.as_long_long()
+    }
+
+    /// The short string that is the argument for the field with this name, if one is.
+    pub fn short_str(self, name: &str) -> Option<&'a [u8]>
+        ensures { MatchOption result (found short_string_of (argument_named name.now (lent_call self.entry)) ≡ None)
+            (λ text. found short_string_of (argument_named name.now (lent_call self.entry)) ≡ Some text.now) }
+    {
+        self.arg(name)?.as_short_str()
+    }
+
+    /// The octets of the long string that is the argument for the field with this name, if one is.
+    pub fn long_str(self, name: &str) -> Option<&'a [u8]>
+        ensures { MatchOption result (found long_string_of (argument_named name.now (lent_call self.entry)) ≡ None)
+            (λ text. found long_string_of (argument_named name.now (lent_call self.entry)) ≡ Some text.now) }
+    {
+        self.arg(name)?.as_long_str()
+    }
+
+    /// The table that is the argument for the field with this name, if one is.
+    pub fn table(self, name: &str) -> Option<TableRef<'a>>
+        ensures { MatchOption result (found table_of (argument_named name.now (lent_call self.entry)) ≡ None)
+            (λ table. found table_of (argument_named name.now (lent_call self.entry)) ≡ Some (table_ref_view table)) }
+    {
+        self.arg(name)?.as_table()
+    }
+
     /// The bit at a place, if a bit stands there.
     pub fn bit_at(self, place: usize) -> Option<bool>
         ensures found { result ≡ found bit_of (argument_at place (lent_call self.entry).args) }

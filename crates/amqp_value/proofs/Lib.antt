@@ -10,6 +10,8 @@ pub mod OnlyTold
 pub mod Owning
 pub mod PairLemmas
 pub mod Places
+pub mod RefTexts
+pub mod Sameness
 pub mod Skipping
 pub mod Sound
 pub mod TableLaws

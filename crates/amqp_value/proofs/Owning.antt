@@ -70,7 +70,7 @@ pub all-pairs : (octets : List ℕ) (kept total : List (List ℕ × Datum)) → 
 all-pairs octets kept total none so_far = sym (append-nil kept) ∙ ap (λ xs. kept ++ xs) (sym (no-pairs octets none)) ∙ so_far
 
 -- what is above 0 is not 0
-positive : (n : ℕ) → 0 < n → (n == 0) ≡ false
+pub positive : (n : ℕ) → 0 < n → (n == 0) ≡ false
 positive n above = elim (cases_Bool (n == 0)) [ inl none ↦ absurd (omega (arith, eqb-true n 0 none)) | inr some ↦ some ]
 
 -- a table has pairs where octets stand after its count

@@ -1,4 +1,6 @@
+pub mod Same
 pub mod Checking
+pub mod Equality
 pub mod Faults
 pub mod Fields
 pub mod FirstFault

@@ -62,7 +62,7 @@ fn check_value(octets: &[u8], end: usize, levels: usize) -> Result<&[u8], ValueF
 
 /// Checks the values of an array, whose octets these are.
 #[cycle(check)]
-fn check_items(body: &[u8], end: usize, levels: usize) -> Result<(), ValueFault>
+pub fn check_items(body: &[u8], end: usize, levels: usize) -> Result<(), ValueFault>
     requires { length body.now ≤ end }
     ensures { fault_in result ≡ fault_in (elements (value_at levels) end body.now) }
 {

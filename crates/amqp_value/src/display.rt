@@ -74,39 +74,55 @@ pub fn write_quoted<W: fmt::Write>(f: &mut fmt::Formatter<W>, octets: &[u8]) -> 
     f.write_str("\"")
 }
 
-fn write_string<W: fmt::Write>(f: &mut fmt::Formatter<W>, octets: &[u8]) -> fmt::Result
+pub(crate) fn write_string<W: fmt::Write>(f: &mut fmt::Formatter<W>, octets: &[u8]) -> fmt::Result
     ensures { WritesOnOk W.write_str_gives f.old result (codes "S:" ++ quoted octets.now) f.new }
 {
     f.write_str("S:")?;
     write_quoted(f, octets)
 }
 
-fn write_truth<W: fmt::Write>(f: &mut fmt::Formatter<W>, holds: bool) -> fmt::Result
+pub(crate) fn write_truth<W: fmt::Write>(f: &mut fmt::Formatter<W>, holds: bool) -> fmt::Result
     ensures { WritesOnOk W.write_str_gives f.old result (truth_text holds) f.new }
 {
     f.write_str(if holds { "t:1" } else { "t:0" })
 }
 
-fn write_signed<W: fmt::Write>(f: &mut fmt::Formatter<W>, tag: &str, number: i64) -> fmt::Result
+pub(crate) fn write_signed<W: fmt::Write>(
+    f: &mut fmt::Formatter<W>,
+    tag: &str,
+    number: i64,
+) -> fmt::Result
     ensures { WritesOnOk W.write_str_gives f.old result (tag.now ++ signed_decimal number) f.new }
 {
     write!(f, "{tag}{number}")
 }
 
-fn write_unsigned<W: fmt::Write>(f: &mut fmt::Formatter<W>, tag: &str, number: u64) -> fmt::Result
+pub(crate) fn write_unsigned<W: fmt::Write>(
+    f: &mut fmt::Formatter<W>,
+    tag: &str,
+    number: u64,
+) -> fmt::Result
     ensures { WritesOnOk W.write_str_gives f.old result (tag.now ++ decimal number) f.new }
 {
     write!(f, "{tag}{number}")
 }
 
-fn write_decimal<W: fmt::Write>(f: &mut fmt::Formatter<W>, scale: u8, number: u32) -> fmt::Result
+pub(crate) fn write_decimal<W: fmt::Write>(
+    f: &mut fmt::Formatter<W>,
+    scale: u8,
+    number: u32,
+) -> fmt::Result
     ensures { WritesOnOk W.write_str_gives f.old result (codes "D:" ++ (decimal scale ++ (codes ":" ++ decimal number))) f.new }
 {
     write!(f, "D:{scale}:{number}")
 }
 
 /// A tag and octets in hexadecimal.
-fn write_octets<W: fmt::Write>(f: &mut fmt::Formatter<W>, tag: &str, octets: &[u8]) -> fmt::Result
+pub(crate) fn write_octets<W: fmt::Write>(
+    f: &mut fmt::Formatter<W>,
+    tag: &str,
+    octets: &[u8],
+) -> fmt::Result
     ensures { WritesOnOk W.write_str_gives f.old result (tag.now ++ hexadecimal octets.now) f.new }
 {
     f.write_str(tag)?;
@@ -121,10 +137,10 @@ fn write_comma<W: fmt::Write>(f: &mut fmt::Formatter<W>, index: usize) -> fmt::R
 }
 
 /// A quoted name and the equals sign.
-fn write_name<W: fmt::Write>(f: &mut fmt::Formatter<W>, name: &ShortStr) -> fmt::Result
+pub(crate) fn write_name<W: fmt::Write>(f: &mut fmt::Formatter<W>, name: &[u8]) -> fmt::Result
     ensures { WritesOnOk W.write_str_gives f.old result (quoted name.now ++ codes "=") f.new }
 {
-    write_quoted(f, name.as_bytes())?;
+    write_quoted(f, name)?;
     f.write_str("=")
 }
 
@@ -201,7 +217,7 @@ fn write_pairs<W: fmt::Write>(f: &mut fmt::Formatter<W>, pairs: &[(ShortStr, Val
 {
     for (index, pair) in pairs.iter().enumerate() {
         write_comma(f, index)?;
-        write_name(f, &pair.0)?;
+        write_name(f, pair.0.as_bytes())?;
         write_value(f, &pair.1)?;
     }
     Ok(())

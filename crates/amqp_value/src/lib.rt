@@ -5,6 +5,7 @@
 mod array_ref;
 mod check;
 mod display;
+mod display_ref;
 mod fault;
 mod fields;
 mod from;
@@ -16,6 +17,7 @@ mod own;
 mod pairs_ref;
 mod queries;
 mod read;
+mod same;
 mod short_str;
 mod split;
 mod table_ref;

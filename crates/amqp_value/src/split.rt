@@ -2,9 +2,9 @@
 
 ghost use Rattle.std.specs.Prelude.{◌≡◌, ◌≤◌, ◌<◌, ◌+◌, ◌∷◌, length, take, Ok};
 ghost use Rattle.amqp_value.specs.Lent.{value_ref_view, octets_inside};
-ghost use Rattle.amqp_value.specs.Reading.{name_at, counted, value_at, width_of, scalar_of};
+ghost use Rattle.amqp_value.specs.Reading.{name_at, counted, named, value_at, width_of, scalar_of};
 ghost use Rattle.amqp_value.specs.Values.{scalar, pairs_of, table_depth};
-ghost use Rattle.amqp_value.specs.Whole.{pairs_encoded, table_encoded, ArePairs, IsTable, BeginsName, BeginsCounted, BeginsValue, Tagged};
+ghost use Rattle.amqp_value.specs.Whole.{pairs_encoded, table_encoded, ArePairs, IsTable, BeginsName, BeginsCounted, BeginsPair, BeginsValue, Tagged};
 
 use crate::array_ref::ArrayRef;
 use crate::table_ref::TableRef;
@@ -133,4 +133,16 @@ pub fn split_value(octets: &[u8]) -> (ValueRef<'_>, &[u8])
             (ValueRef::Table(table), &rest[table.octets().len()..])
         }
     }
+}
+
+/// The name with its value that octets begin with, and the octets after them.
+#[inline(always)]
+pub fn split_pair(octets: &[u8]) -> (&[u8], ValueRef<'_>, &[u8])
+    requires { BeginsPair octets.now }
+    ensures read { named (value_at 31) 0 octets.now ≡ Ok ((result.0.now, value_ref_view result.1), result.2.now) }
+    ensures inside { octets_inside result.1 < length octets.now }
+{
+    let (name, field) = split_name(octets);
+    let (value, after) = split_value(field);
+    (name, value, after)
 }

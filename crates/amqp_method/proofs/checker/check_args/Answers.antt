@@ -1,4 +1,3 @@
-use Rattle.std.proofs.Common.{sym, ap, ◌∙◌}
 use Rattle.std.proofs.lemmas.Result.{err_from_is_err_and}
 use Rattle.amqp_method.proofs.CheckLemmas.{args_checked, args_refused}
 use Rattle.amqp_method.proofs.checker.check_args.Goals as goal

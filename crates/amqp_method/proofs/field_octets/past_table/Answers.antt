@@ -1,5 +1,5 @@
 use Rattle.std.proofs.Common.{◌≤◌, length, arith}
-use Rattle.amqp_method.proofs.CheckLemmas.{table_measured, table_faulty, table_is_faulty}
+use Rattle.amqp_method.proofs.CheckLemmas.{table_measured, table_is_faulty}
 use Rattle.amqp_method.proofs.TableFaults.{table_fault-within}
 use Rattle.amqp_method.proofs.field_octets.past_table.Goals as goal
 

@@ -1,4 +1,4 @@
-use Rattle.std.proofs.Common.{◌≡◌, ◌≤◌, ◌<◌, ◌∷◌, length, map, ap, arith}
+use Rattle.std.proofs.Common.{◌≤◌, ◌<◌, length, map, ap, arith}
 use Rattle.amqp_method.specs.ArgRefView.{arg_ref_view}
 use Rattle.amqp_method.specs.BitsView.{bits_view}
 use Rattle.amqp_method.specs.Rows.{field_view}

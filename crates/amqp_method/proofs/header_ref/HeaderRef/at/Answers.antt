@@ -1,4 +1,4 @@
-use Rattle.std.proofs.Common.{◌≡◌, ◌+◌, ◌-◌, ◌<◌, ◌≤◌, ℕ, [], length, drop, Ok, subst, arith}
+use Rattle.std.proofs.Common.{◌≡◌, ◌<◌, ◌≤◌, ℕ, [], length, drop, Ok, subst, arith}
 use Rattle.amqp_method.specs.HeaderReading.{properties_at, header_at}
 use Rattle.amqp_method.specs.HeaderRefView.{properties_read, property_ref_view}
 use Rattle.amqp_method.specs.Properties.{property_kinds}
