@@ -135,6 +135,26 @@ pub(crate) fn is_between_frames(fault: Option<u64>, spent: bool, buffer: &Vec<u8
     spent || buffer.is_empty()
 }
 
+/// A buffer of at most so many octets keeps its room, used or not.
+pub(crate) const KEPT: usize = 16_384;
+
+/// After so many frames in a row that needed no buffer a larger one gives its room back.
+const UNUSED: u8 = 16;
+
+/// Empties a buffer that the frame of this piece does not need, and gives its room back where that has happened often
+/// enough. The answer is how often it has happened, counted anew from then.
+#[inline(never)]
+pub(crate) fn give_back(buffer: &mut Vec<u8>, unused: u8) -> u8
+    ensures { buffer.new.items ≡ [] }
+{
+    buffer.clear();
+    if unused < UNUSED {
+        return unused + 1;
+    }
+    buffer.shrink_to(0);
+    0
+}
+
 /// Empties a buffer whose octets are spent.
 #[inline]
 pub(crate) fn renew(buffer: &mut Vec<u8>, spent: bool)

@@ -6,7 +6,9 @@ ghost use Rattle.amqp_frame.specs.Splitter.{Completes, Waits, Faults, LacksMemor
 
 use crate::faults::{FrameFault, FrameFaultKind};
 use crate::frames::{FrameRef, OVERHEAD, RawFrame};
-use crate::judging::{Judgement, fault_across, fill, is_between_frames, judge, renew};
+use crate::judging::{
+    Judgement, KEPT, fault_across, fill, give_back, is_between_frames, judge, renew,
+};
 use std::alloc::Global;
 use std::marker::Model;
 
@@ -25,6 +27,9 @@ pub struct FedRef<'a> {
 }
 
 /// Splits a stream into its frames, piece by piece.
+///
+/// A frame that is cut is gathered in a buffer. A buffer of more than 16,384 octets is given back once sixteen frames in a row
+/// have lain whole in their pieces.
 #[derive(Drop)]
 pub struct Splitter {
     alloc: Global,
@@ -38,6 +43,8 @@ pub struct Splitter {
     /// the buffer's octets are pending no more: their frame was given, or a fault was told
     spent: bool,
     buffer: Vec<u8>,
+    /// how many frames in a row needed no buffer while it had more room than is kept
+    unused: u8,
 }
 
 impl Model for Splitter {
@@ -70,6 +77,7 @@ impl Splitter {
             taken_to_fault: 0,
             spent: false,
             buffer: Vec::new(alloc),
+            unused: 0,
         }
     }
 
@@ -134,6 +142,9 @@ impl Splitter {
                 Judgement::Whole(frame) => {
                     let taken = frame.payload.len() + OVERHEAD;
                     self.taken = self.taken.saturating_add(taken as u64);
+                    if self.buffer.capacity() > KEPT {
+                        self.unused = give_back(&mut self.buffer, self.unused);
+                    }
                     return Ok(FedRef {
                         taken,
                         frame: Some(frame),
@@ -168,6 +179,7 @@ impl Splitter {
         }
         renew(&mut self.buffer, self.spent);
         self.spent = false;
+        self.unused = 0;
         if piece.is_empty() {
             return Ok(FedRef {
                 taken: 0,
