@@ -4,12 +4,32 @@ use std::fmt::{Debug, Display};
 use std::process::Abort;
 use std::test::Fail;
 
+/// Both are the same. A call of this function is proved at a fraction of what the macro costs where it stands.
+pub(crate) fn assert_same<T: PartialEq + Debug + Drop>(rt: &impl Abort, value: T, wanted: T) {
+    assert_eq!(rt; value, wanted);
+}
+
+/// Both are the same, for the case of this name.
+pub(crate) fn assert_same_for<T: PartialEq + Debug + Drop, N: Debug + Drop>(
+    rt: &impl Abort,
+    value: T,
+    wanted: T,
+    name: N,
+) {
+    assert_eq!(rt; value, wanted, "for {name:?}");
+}
+
+/// It holds, for the case of this name.
+pub(crate) fn assert_for<N: Debug + Drop>(rt: &impl Abort, holds: bool, name: N) {
+    assert!(rt; holds, "for {name:?}");
+}
+
 pub(crate) fn assert_text(rt: &impl Abort, text: &str, wanted: &str) {
-    assert_eq!(rt; text, wanted);
+    assert_same(rt, text, wanted);
 }
 
 pub(crate) fn assert_number(rt: &impl Abort, number: u8, wanted: u8, name: &str) {
-    assert_eq!(rt; number, wanted, "for {name}");
+    assert_same_for(rt, number, wanted, name);
 }
 
 pub(crate) fn assert_shown(

@@ -3,6 +3,7 @@
 ghost use Rattle.std.specs.Prelude.{◌≤◌, ◌≡◌, length, vec_len, IfOk};
 
 use crate::octets::octets;
+use crate::showing::{assert_for, assert_same};
 use amqp_frame::{FrameFault, FrameFaultKind, FrameKind, RawFrame, Splitter, write_frame};
 use std::alloc::Global;
 use std::process::Abort;
@@ -25,9 +26,9 @@ fn body_frame(rt: &impl Abort, alloc: Global, size: u32) -> Result<Vec<u8>, Fail
     write_frame(&frame, &mut out)?;
     let [first, second, third, fourth] = size.to_be_bytes();
     let header = [3, 0xff, 0xff, first, second, third, fourth];
-    assert_eq!(rt; out.len(), size as usize + 8);
-    assert_eq!(rt; &out[..7], header.as_slice());
-    assert_eq!(rt; out.last().copied(), Some(0xce));
+    assert_same(rt, out.len(), size as usize + 8);
+    assert_same(rt, &out[..7], header.as_slice());
+    assert_same(rt, out.last().copied(), Some(0xce));
     Ok(out)
 }
 
@@ -43,12 +44,12 @@ fn fed_in_pieces(
     let mut splitter = Splitter::new(alloc, LIMIT);
     let mut taken = 0;
     for piece in octets.chunks(size) {
-        assert_eq!(rt; splitter.pending(), taken);
+        assert_same(rt, splitter.pending(), taken);
         let fed = splitter.feed(piece)?;
-        assert_eq!(rt; fed.taken, piece.len());
+        assert_same(rt, fed.taken, piece.len());
         taken = taken.wrapping_add(fed.taken);
         if let Some(frame) = fed.frame {
-            assert_eq!(rt; taken, octets.len());
+            assert_same(rt, taken, octets.len());
             return Ok(frame);
         }
     }
@@ -57,10 +58,10 @@ fn fed_in_pieces(
 
 /// A frame that was fed in pieces of that size is a body frame with this payload.
 fn assert_split(rt: &impl Abort, frame: &RawFrame, payload: &[u8], piece: usize) {
-    assert_eq!(rt; frame.kind, FrameKind::Body);
-    assert_eq!(rt; frame.channel, 65535);
+    assert_same(rt, frame.kind, FrameKind::Body);
+    assert_same(rt, frame.channel, 65535);
     let size = payload.len();
-    assert!(rt; frame.payload.as_slice() == payload, "{size} by {piece}");
+    assert_for(rt, frame.payload.as_slice() == payload, (size, piece));
 }
 
 fn assert_size(rt: &impl Abort, alloc: Global, size: u32) -> Result<(), Fail> {
@@ -100,21 +101,22 @@ fn faults_come_after_many_pending_octets(rt: HostRuntime) -> Result<(), Fail> {
     let mut splitter = Splitter::new(rt.alloc(), LIMIT);
     for piece in [&octets[..last], &[]] {
         let fed = splitter.feed(piece)?;
-        assert_eq!(rt; fed.taken, piece.len());
+        assert_same(&rt, fed.taken, piece.len());
         assert!(rt; fed.frame.is_none());
-        assert_eq!(rt; splitter.pending(), 70_007);
+        assert_same(&rt, splitter.pending(), 70_007);
     }
     let kind = FrameFaultKind::BadEnd;
     let fault = splitter.feed(&octets[last..]).err();
-    assert_eq!(rt; fault, Some(FrameFault { at: 70_007, kind }));
+    assert_same(&rt, fault, Some(FrameFault { at: 70_007, kind }));
 
     let mut splitter = Splitter::new(rt.alloc(), LIMIT);
-    assert_eq!(rt; splitter.feed(&[3, 0, 0, 0xff, 0xff, 0xff])?.taken, 6);
-    assert_eq!(rt; splitter.feed(&[])?.taken, 0);
+    assert_same(&rt, splitter.feed(&[3, 0, 0, 0xff, 0xff, 0xff])?.taken, 6);
+    assert_same(&rt, splitter.feed(&[])?.taken, 0);
     let kind = FrameFaultKind::TooLarge;
-    assert_eq!(rt;
+    assert_same(
+        &rt,
         splitter.feed(&[0xff]).err(),
-        Some(FrameFault { at: 6, kind })
+        Some(FrameFault { at: 6, kind }),
     );
     Ok(())
 }
@@ -131,17 +133,19 @@ fn a_thousand_frames_in_one_piece(rt: HostRuntime) -> Result<(), Fail> {
     let mut rest = octets.as_slice();
     for _ in 0..1000 {
         let fed = splitter.feed(rest)?;
-        assert_eq!(rt; fed.taken, 13);
-        assert_eq!(rt;
+        assert_same(&rt, fed.taken, 13);
+        assert_same(
+            &rt,
             fed.frame.ok_or("no frame")?.payload.as_slice(),
-            [0, 20, 0, 10, 0].as_slice()
+            [0, 20, 0, 10, 0].as_slice(),
         );
         rest = rest.get(13..).ok_or("no rest")?;
     }
     let kind = FrameFaultKind::UnknownType;
-    assert_eq!(rt;
+    assert_same(
+        &rt,
         splitter.feed(rest).err(),
-        Some(FrameFault { at: 13_000, kind })
+        Some(FrameFault { at: 13_000, kind }),
     );
     Ok(())
 }

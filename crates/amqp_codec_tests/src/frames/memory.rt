@@ -1,6 +1,7 @@
 //! What calls ask of the allocator. By themselves these tests compare answers; where requests are counted between the marks
 //! (`beside/memory/count.c`, preloaded), they show which call takes how much.
 use crate::marking::mark;
+use crate::showing::assert_same;
 use amqp_frame::{FrameKind, FrameRef, RawFrame, Splitter, write_frame};
 use std::alloc::Global;
 use std::process::Abort;
@@ -24,13 +25,13 @@ fn frames_in_place_take_none(rt: HostRuntime) -> Result<(), Fail> {
     let taken = fed.taken;
     let size = fed.frame.map(|frame| frame.payload.len());
     mark(&rt, rt.alloc(), 0)?;
-    assert_eq!(rt; taken, 60_008);
-    assert_eq!(rt; size, Some(60_000));
+    assert_same(&rt, taken, 60_008);
+    assert_same(&rt, size, Some(60_000));
 
     mark(&rt, rt.alloc(), 2)?;
     let fed = splitter.feed(&octets)?;
     mark(&rt, rt.alloc(), 0)?;
-    assert_eq!(rt; fed.taken, 60_008);
+    assert_same(&rt, fed.taken, 60_008);
     Ok(())
 }
 
@@ -41,8 +42,8 @@ fn announced_octets_take_none(rt: HostRuntime) -> Result<(), Fail> {
     mark(&rt, rt.alloc(), 3)?;
     let fed = splitter.feed(&begun)?;
     mark(&rt, rt.alloc(), 0)?;
-    assert_eq!(rt; fed.taken, 16);
-    assert_eq!(rt; splitter.pending(), 16);
+    assert_same(&rt, fed.taken, 16);
+    assert_same(&rt, splitter.pending(), 16);
     Ok(())
 }
 
@@ -57,18 +58,18 @@ fn frames_take_what_they_have(rt: HostRuntime) -> Result<(), Fail> {
     mark(&rt, rt.alloc(), 4)?;
     let frame: RawFrame = lent.to_raw(rt.alloc())?;
     mark(&rt, rt.alloc(), 0)?;
-    assert_eq!(rt; frame.payload.len(), 50_000);
+    assert_same(&rt, frame.payload.len(), 50_000);
 
     let mut out = Vec::new(rt.alloc());
     mark(&rt, rt.alloc(), 5)?;
     write_frame(&frame, &mut out)?;
     mark(&rt, rt.alloc(), 0)?;
-    assert_eq!(rt; out.len(), 50_008);
+    assert_same(&rt, out.len(), 50_008);
 
     out.clear();
     mark(&rt, rt.alloc(), 6)?;
     write_frame(&frame, &mut out)?;
     mark(&rt, rt.alloc(), 0)?;
-    assert_eq!(rt; out.len(), 50_008);
+    assert_same(&rt, out.len(), 50_008);
     Ok(())
 }

@@ -1,7 +1,7 @@
 //! Frames of known octets, each call with ample memory.
 ghost use Rattle.std.specs.Prelude.{◌≤◌};
 
-use crate::showing::assert_shown;
+use crate::showing::{assert_same, assert_shown};
 use amqp_frame::{
     Fed, FrameFault, FrameFaultKind, FrameKind, FrameRef, RawFrame, Splitter, write_frame,
 };
@@ -24,16 +24,16 @@ fn open_frame(alloc: Global) -> Result<RawFrame, Fail> {
 fn a_frame_is_written(rt: HostRuntime) -> Result<(), Fail> {
     let frame = open_frame(rt.alloc())?;
     let mut out = vec![in rt.alloc(); 7u8]?;
-    assert_eq!(rt; frame.payload.len(), 5);
+    assert_same(&rt, frame.payload.len(), 5);
     write_frame(&frame, &mut out)?;
-    assert_eq!(rt; out[0], 7);
-    assert_eq!(rt; out[1..].to_vec(rt.alloc())?, OPEN.to_vec(rt.alloc())?);
+    assert_same(&rt, out[0], 7);
+    assert_same(&rt, out[1..].to_vec(rt.alloc())?, OPEN.to_vec(rt.alloc())?);
     Ok(())
 }
 
 fn assert_open(rt: &impl Abort, alloc: Global, frame: &RawFrame) -> Result<(), Fail> {
     let open = open_frame(alloc)?;
-    assert_eq!(rt; *frame, open);
+    assert_same(rt, frame, &open);
     Ok(())
 }
 
@@ -45,10 +45,10 @@ fn assert_octet_fed(
     place: usize,
     octet: u8,
 ) -> Result<(), Fail> {
-    assert_eq!(rt; splitter.pending(), place);
+    assert_same(rt, splitter.pending(), place);
     let fed = splitter.feed(&[octet])?;
-    assert_eq!(rt; fed.taken, 1);
-    assert_eq!(rt; fed.frame.is_some(), place == 12);
+    assert_same(rt, fed.taken, 1);
+    assert_same(rt, fed.frame.is_some(), place == 12);
     match &fed.frame {
         Some(frame) => assert_open(rt, alloc, frame),
         None => Ok(()),
@@ -61,7 +61,7 @@ fn a_frame_comes_with_its_last_octet(rt: HostRuntime) -> Result<(), Fail> {
     for (place, octet) in OPEN.iter().enumerate() {
         assert_octet_fed(&rt, rt.alloc(), &mut splitter, place, *octet)?;
     }
-    assert_eq!(rt; splitter.pending(), 0);
+    assert_same(&rt, splitter.pending(), 0);
     Ok(())
 }
 
@@ -74,7 +74,7 @@ fn assert_open_lent(
     taken: usize,
 ) -> Result<(), Fail> {
     let fed = splitter.feed_ref(octets)?;
-    assert_eq!(rt; fed.taken, taken);
+    assert_same(rt, fed.taken, taken);
     let frame = fed.frame.ok_or("no frame")?;
     assert_open(rt, alloc, &frame.to_raw(alloc)?)
 }
@@ -86,7 +86,7 @@ fn assert_open_fed(
     octets: &[u8],
 ) -> Result<(), Fail> {
     let fed = splitter.feed(octets)?;
-    assert_eq!(rt; fed.taken, 13);
+    assert_same(rt, fed.taken, 13);
     assert_open(rt, alloc, fed.frame.as_ref().ok_or("no frame")?)
 }
 
@@ -95,8 +95,8 @@ fn assert_kept(rt: &impl Abort, splitter: &mut Splitter, octets: &[u8]) -> Resul
         taken: 4,
         frame: None,
     };
-    assert_eq!(rt; splitter.feed(octets)?, none);
-    assert_eq!(rt; splitter.pending(), 4);
+    assert_same(rt, splitter.feed(octets)?, none);
+    assert_same(rt, splitter.pending(), 4);
     Ok(())
 }
 
@@ -119,12 +119,12 @@ fn an_empty_piece_gives_nothing(rt: HostRuntime) -> Result<(), Fail> {
         taken: 0,
         frame: None,
     };
-    assert_eq!(rt; splitter.feed(&[])?, nothing);
+    assert_same(&rt, splitter.feed(&[])?, nothing);
     let heartbeat = [8, 0, 0, 0, 0, 0, 0, 0xce];
     let fed = splitter.feed_ref(&heartbeat)?;
     let frame = fed.frame.ok_or("no frame")?;
-    assert_eq!(rt; frame.kind, FrameKind::Heartbeat);
-    assert_eq!(rt; frame.payload.len(), 0);
+    assert_same(&rt, frame.kind, FrameKind::Heartbeat);
+    assert_same(&rt, frame.payload.len(), 0);
     Ok(())
 }
 
@@ -147,9 +147,9 @@ fn assert_fault(
 ) {
     assert!(rt; limit >= 8);
     let (first, second) = fault_of(alloc, limit, octets);
-    assert_eq!(rt; first, Some(FrameFault { at, kind }));
+    assert_same(rt, first, Some(FrameFault { at, kind }));
     let failed = FrameFaultKind::Failed;
-    assert_eq!(rt; second, Some(FrameFault { at, kind: failed }));
+    assert_same(rt, second, Some(FrameFault { at, kind: failed }));
 }
 
 #[test]
@@ -169,7 +169,7 @@ fn a_limit_changes_between_frames(rt: HostRuntime) -> Result<(), Fail> {
     let mut splitter = Splitter::new(rt.alloc(), 8);
     splitter.set_limit(13);
     let fed = splitter.feed(&OPEN)?;
-    assert_eq!(rt; fed.frame, Some(open_frame(rt.alloc())?));
+    assert_same(&rt, fed.frame, Some(open_frame(rt.alloc())?));
     Ok(())
 }
 
@@ -184,15 +184,15 @@ static KINDS: [(FrameKind, u8, &str); 4] = [
 #[test]
 fn kinds_and_faults_are_printed(rt: HostRuntime) -> Result<(), Fail> {
     for (kind, octet, name) in KINDS.iter().copied() {
-        assert_eq!(rt; kind.octet(), octet);
-        assert_eq!(rt; FrameKind::from_octet(octet), Some(kind));
+        assert_same(&rt, kind.octet(), octet);
+        assert_same(&rt, FrameKind::from_octet(octet), Some(kind));
         assert_shown(&rt, rt.alloc(), &kind, name)?;
     }
     let fault = FrameFault {
         at: 6,
         kind: FrameFaultKind::TooLarge,
     };
-    assert_eq!(rt; fault.kind.number(), 2);
+    assert_same(&rt, fault.kind.number(), 2);
     assert_shown(
         &rt,
         rt.alloc(),

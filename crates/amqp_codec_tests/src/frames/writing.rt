@@ -1,4 +1,5 @@
 //! Frames that are written from where their payload lies, and payloads that are written straight into the output.
+use crate::showing::assert_same;
 use amqp_frame::{
     FrameKind, FrameRef, HEADER_LENGTH, HEARTBEAT, OVERHEAD, begin_frame, finish_frame,
     write_frame_ref,
@@ -17,7 +18,7 @@ fn a_lent_frame_is_written(rt: HostRuntime) -> Result<(), Fail> {
     };
     let mut out = Vec::from_slice(rt.alloc(), b"\xff")?;
     write_frame_ref(frame, &mut out)?;
-    assert_eq!(rt; out.as_slice(), AFTER_ONE);
+    assert_same(&rt, out.as_slice(), AFTER_ONE);
     Ok(())
 }
 
@@ -27,7 +28,7 @@ fn a_frame_is_begun_and_finished(rt: HostRuntime) -> Result<(), Fail> {
     let start = begin_frame(FrameKind::Body, 0x0102, &mut out)?;
     out.extend_from_slice(b"hi")?;
     finish_frame(start, &mut out)?;
-    assert_eq!(rt; out.as_slice(), AFTER_ONE);
+    assert_same(&rt, out.as_slice(), AFTER_ONE);
     Ok(())
 }
 
@@ -40,7 +41,7 @@ fn the_same_frame_on_another_channel(rt: HostRuntime) -> Result<(), Fail> {
     };
     let mut out = Vec::from_slice(rt.alloc(), b"\xff")?;
     write_frame_ref(frame.on_channel(0x0102), &mut out)?;
-    assert_eq!(rt; out.as_slice(), AFTER_ONE);
+    assert_same(&rt, out.as_slice(), AFTER_ONE);
     Ok(())
 }
 
@@ -53,11 +54,12 @@ fn a_heartbeat_is_a_frame_without_payload(rt: HostRuntime) -> Result<(), Fail> {
     };
     let mut out = Vec::new(rt.alloc());
     write_frame_ref(frame, &mut out)?;
-    assert_eq!(rt; out.as_slice(), HEARTBEAT.as_slice());
-    assert_eq!(rt;
+    assert_same(&rt, out.as_slice(), HEARTBEAT.as_slice());
+    assert_same(
+        &rt,
         out.as_slice(),
-        b"\x08\x00\x00\x00\x00\x00\x00\xce".as_slice()
+        b"\x08\x00\x00\x00\x00\x00\x00\xce".as_slice(),
     );
-    assert_eq!(rt; (HEADER_LENGTH, OVERHEAD), (7, 8));
+    assert_same(&rt, (HEADER_LENGTH, OVERHEAD), (7, 8));
     Ok(())
 }

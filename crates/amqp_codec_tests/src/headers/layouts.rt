@@ -1,5 +1,6 @@
 //! Content headers as the standard lays them out, read, written and printed.
 use crate::octets::{joined, octets};
+use crate::showing::assert_same;
 use amqp_method::{
     Header, HeaderRef, MethodFault, MethodFaultKind, Properties, check_header, header_text,
     read_header, read_header_into, write_header,
@@ -10,7 +11,7 @@ use std::process::Abort;
 use std::test::Fail;
 
 fn assert_text(rt: &impl Abort, alloc: Global, header: &Header, text: &str) -> Result<(), Fail> {
-    assert_eq!(rt; header_text(alloc, header)?.as_str(), text);
+    assert_same(rt, header_text(alloc, header)?.as_str(), text);
     Ok(())
 }
 
@@ -78,9 +79,9 @@ static BROKEN_HEADERS: [(&[u8], MethodFault); 6] = [
 #[test]
 fn faults_of_headers(rt: HostRuntime) {
     for (octets, fault) in BROKEN_HEADERS {
-        assert_eq!(rt; read_header(rt.alloc(), octets).err(), Some(fault));
-        assert_eq!(rt; check_header(octets), Err(fault));
-        assert_eq!(rt; HeaderRef::new(octets).err(), Some(fault));
+        assert_same(&rt, read_header(rt.alloc(), octets).err(), Some(fault));
+        assert_same(&rt, check_header(octets), Err(fault));
+        assert_same(&rt, HeaderRef::new(octets).err(), Some(fault));
     }
 }
 
@@ -218,7 +219,7 @@ static HEADERS: [(&[u8], &str); 16] = [
 /// A header has that text, and so has its display.
 fn assert_shown(rt: &impl Abort, alloc: Global, header: &Header, text: &str) -> Result<(), Fail> {
     assert_text(rt, alloc, header, text)?;
-    assert_eq!(rt; format!(in alloc; "{header}")?.as_str(), text);
+    assert_same(rt, format!(in alloc; "{header}")?.as_str(), text);
     Ok(())
 }
 
@@ -231,8 +232,8 @@ fn assert_properties_shown(
 ) -> Result<(), Fail> {
     let shown = format!(in alloc; "{properties}")?;
     match text.split_once("size=7 ") {
-        Some((_, wanted)) => assert_eq!(rt; shown.as_str(), wanted),
-        None => assert_eq!(rt; shown.as_str(), ""),
+        Some((_, wanted)) => assert_same(rt, shown.as_str(), wanted),
+        None => assert_same(rt, shown.as_str(), ""),
     }
     Ok(())
 }
@@ -344,7 +345,7 @@ fn long_header(alloc: Global) -> Result<Vec<u8>, Fail> {
 }
 
 fn assert_long(rt: &impl Abort, alloc: Global, header: &Header, octets: &[u8]) -> Result<(), Fail> {
-    assert_eq!(rt; header.body_size, 1_000_000);
+    assert_same(rt, header.body_size, 1_000_000);
     assert_written(rt, alloc, header, octets)?;
     assert_copied(rt, alloc, header, octets)
 }

@@ -1,5 +1,6 @@
 //! Messages, plain and with content: copied, and gathered in a box.
 use crate::octets::{joined, octets};
+use crate::showing::assert_same;
 use amqp_method::{Carrier, Content, Message, Method, Properties, read_method, write_method};
 use std::alloc::Global;
 use std::process::Abort;
@@ -13,7 +14,7 @@ fn assert_method(
 ) -> Result<(), Fail> {
     let mut written = Vec::new(alloc);
     write_method(method, &mut written)?;
-    assert_eq!(rt; written.as_slice(), octets);
+    assert_same(rt, written.as_slice(), octets);
     Ok(())
 }
 

@@ -1,4 +1,5 @@
 //! Each property by the name of its field: written alone to known octets, and read from them into that field.
+use crate::showing::{assert_same, assert_same_for};
 use amqp_method::{Header, Properties, read_header, write_header};
 use amqp_value::{ShortStr, Table, Value};
 use std::alloc::Global;
@@ -112,7 +113,7 @@ fn assert_octets(
     let mut octets = Vec::new(alloc);
     write_header(header, &mut octets)?;
     let digits = hex::encode(alloc, octets.as_slice())?;
-    assert_eq!(rt; digits.as_str(), wanted);
+    assert_same(rt, digits.as_str(), wanted);
     Ok(())
 }
 
@@ -127,11 +128,7 @@ fn assert_written(rt: &impl Abort, alloc: Global, bit: u8, wanted: &str) -> Resu
 
 fn assert_has_alone(rt: &impl Abort, properties: &Properties, bit: u8) {
     for (other, _) in ALONE {
-        assert_eq!(rt;
-            has_bit(properties, other),
-            other == bit,
-            "{other} of {bit}"
-        );
+        assert_same_for(rt, has_bit(properties, other), other == bit, (other, bit));
     }
 }
 
@@ -143,7 +140,7 @@ fn assert_copied(rt: &impl Abort, properties: &Properties, bit: u8) -> Result<()
 }
 
 fn assert_alone(rt: &impl Abort, header: &Header, bit: u8) -> Result<(), Fail> {
-    assert_eq!(rt; header.body_size, 0xf1f2_f3f4_f5f6_f7f8);
+    assert_same(rt, header.body_size, 0xf1f2_f3f4_f5f6_f7f8);
     assert_has_alone(rt, &header.properties, bit);
     assert_copied(rt, &header.properties, bit)
 }

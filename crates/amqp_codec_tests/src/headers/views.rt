@@ -1,5 +1,6 @@
 //! Content headers as they lie in their octets: each property alone, and all.
 use crate::headers::properties::{ALONE, text_of};
+use crate::showing::{assert_for, assert_printed, assert_same, assert_same_for};
 use amqp_method::{HeaderRef, check_header, read_header};
 use std::alloc::Global;
 use std::process::Abort;
@@ -11,6 +12,13 @@ const SIZE: u64 = 0xf1f2_f3f4_f5f6_f7f8;
 /// All properties, with the values that they have alone: the flags, and each value.
 const ALL: &str = "fffc02706102706200000004016b7401f4f5027066027067027068027069\
 f1f2f3f4f5f6f7f802706b02706c02706d02706e";
+
+/// The text of that header.
+const ALL_TEXT: &str =
+    "header size=17434265340928784376 content-type=\"pa\" content-encoding=\"pb\" \
+headers={\"k\"=t:1} delivery-mode=244 priority=245 correlation-id=\"pf\" reply-to=\"pg\" \
+expiration=\"ph\" message-id=\"pi\" timestamp=17434265340928784376 type=\"pk\" user-id=\"pl\" \
+app-id=\"pm\" cluster-id=\"pn\"";
 
 fn is_text(text: Option<&[u8]>, bit: u8) -> bool {
     text == Some(text_of(bit).as_slice())
@@ -46,8 +54,8 @@ fn has_bit(header: HeaderRef, bit: u8) -> bool {
 
 /// The octets are a header's, and owned it is the one that they are read as.
 fn assert_owned(rt: &impl Abort, alloc: Global, header: HeaderRef) -> Result<(), Fail> {
-    assert_eq!(rt; check_header(header.payload()), Ok(SIZE));
-    assert_eq!(rt; header.body_size(), SIZE);
+    assert_same(rt, check_header(header.payload()), Ok(SIZE));
+    assert_same(rt, header.body_size(), SIZE);
     assert!(rt; header.to_owned(alloc)? == read_header(alloc, header.payload())?);
     Ok(())
 }
@@ -59,14 +67,26 @@ fn each_property_is_seen_alone(rt: HostRuntime) -> Result<(), Fail> {
         let octets = hex::decode(rt.alloc(), digits.as_str())?;
         let header = HeaderRef::new(&octets)?;
         assert_owned(&rt, rt.alloc(), header)?;
-        assert_eq!(rt;
-            header.flags(),
-            1u16.wrapping_shl(u32::from(bit)),
-            "for {bit}"
-        );
+        assert_same_for(&rt, header.flags(), 1u16.wrapping_shl(u32::from(bit)), bit);
         for (other, _) in ALONE {
-            assert_eq!(rt; has_bit(header, other), other == bit, "{other} of {bit}");
+            assert_same_for(&rt, has_bit(header, other), other == bit, (other, bit));
         }
+    }
+    Ok(())
+}
+
+#[test]
+fn lent_headers_compared(rt: HostRuntime) -> Result<(), Fail> {
+    let digits = format!(in rt.alloc(); "003c0000f1f2f3f4f5f6f7f8{ALL}")?;
+    let octets = hex::decode(rt.alloc(), digits.as_str())?;
+    let header = HeaderRef::new(&octets)?;
+    for (bit, rest) in ALONE {
+        let digits = format!(in rt.alloc(); "003c0000f1f2f3f4f5f6f7f8{rest}")?;
+        let octets = hex::decode(rt.alloc(), digits.as_str())?;
+        let alone = HeaderRef::new(&octets)?;
+        assert_for(&rt, alone == alone, bit);
+        assert_for(&rt, alone != header, bit);
+        assert_for(&rt, header != alone, bit);
     }
     Ok(())
 }
@@ -77,11 +97,11 @@ fn all_properties_are_seen(rt: HostRuntime) -> Result<(), Fail> {
     let octets = hex::decode(rt.alloc(), digits.as_str())?;
     let header = HeaderRef::new(&octets)?;
     assert_owned(&rt, rt.alloc(), header)?;
-    assert_eq!(rt; header.flags(), 0xfffc);
+    assert_same(&rt, header.flags(), 0xfffc);
     for (bit, _) in ALONE {
-        assert!(rt; has_bit(header, bit), "for {bit}");
+        assert_for(&rt, has_bit(header, bit), bit);
     }
-    Ok(())
+    assert_printed(&rt, rt.alloc(), &header, ALL_TEXT, ALL_TEXT)
 }
 
 #[test]
@@ -90,9 +110,9 @@ fn a_header_without_properties(rt: HostRuntime) -> Result<(), Fail> {
     let octets = hex::decode(rt.alloc(), digits)?;
     let header = HeaderRef::new(&octets)?;
     assert_owned(&rt, rt.alloc(), header)?;
-    assert_eq!(rt; header.flags(), 0);
+    assert_same(&rt, header.flags(), 0);
     for (bit, _) in ALONE {
-        assert!(rt; !has_bit(header, bit), "for {bit}");
+        assert_for(&rt, !has_bit(header, bit), bit);
     }
     Ok(())
 }

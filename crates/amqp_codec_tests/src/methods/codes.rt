@@ -1,4 +1,5 @@
 //! The reply codes of the standard, with their names, and which are of hard errors.
+use crate::showing::{assert_for, assert_same, assert_same_for};
 use amqp_method::reply::{is_hard, reply_name};
 
 /// Code, name, and whether it is of a hard error.
@@ -27,11 +28,11 @@ static CODES: [(u16, &str, bool); 19] = [
 #[test]
 fn reply_codes_have_names(rt: HostRuntime) {
     for (code, name, hard) in CODES {
-        assert_eq!(rt; reply_name(code), Some(name));
-        assert_eq!(rt; is_hard(code), hard, "for {code}");
+        assert_same(&rt, reply_name(code), Some(name));
+        assert_same_for(&rt, is_hard(code), hard, code);
     }
     for code in [0, 199, 310, 407, 500, 542, 65535] {
-        assert_eq!(rt; reply_name(code), None);
-        assert!(rt; !is_hard(code), "for {code}");
+        assert_same(&rt, reply_name(code), None);
+        assert_for(&rt, !is_hard(code), code);
     }
 }

@@ -1,5 +1,6 @@
 //! What the standard and RabbitMQ's additions say of each method, row by row: its ids, its name, who sends it, whether
 //! content follows, and the request that it answers.
+use crate::showing::assert_same_for;
 use amqp_method::{Kind, sends};
 use std::fmt::Debug;
 use std::process::Abort;
@@ -95,7 +96,7 @@ static TX_AND_CONFIRM: [Facts; 8] = facts! {
 };
 
 fn assert_is<T: Copy + PartialEq + Debug>(rt: &impl Abort, found: T, wanted: T, name: &str) {
-    assert_eq!(rt; found, wanted, "for {name}");
+    assert_same_for(rt, found, wanted, name);
 }
 
 fn assert_facts(rt: &impl Abort, rows: &[Facts]) {
@@ -134,6 +135,6 @@ static OTHER_IDS: [(u16, u16); 8] = [
 #[test]
 fn other_ids_are_no_kind(rt: HostRuntime) {
     for (class, id) in OTHER_IDS.iter().copied() {
-        assert_eq!(rt; Kind::from_ids(class, id), None, "for {class} {id}");
+        assert_same_for(&rt, Kind::from_ids(class, id), None, (class, id));
     }
 }

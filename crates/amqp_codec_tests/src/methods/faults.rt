@@ -1,5 +1,5 @@
 //! The number and the text of every fault of a method or a header, and how a kind of field prints for debugging.
-use crate::showing::{assert_debug, assert_number, assert_printed, assert_shown};
+use crate::showing::{assert_debug, assert_number, assert_printed, assert_same, assert_shown};
 use amqp_method::{FieldKind, MethodFault, MethodFaultKind, OutOfMemory};
 use amqp_value::ValueFaultKind;
 use std::alloc::Global;
@@ -46,7 +46,11 @@ fn assert_kinds(rt: &impl Abort, alloc: Global) -> Result<(), Fail> {
 #[test]
 fn faults_of_methods(rt: HostRuntime) -> Result<(), Fail> {
     assert_kinds(&rt, rt.alloc())?;
-    assert_eq!(rt; MethodFaultKind::Value(ValueFaultKind::TooDeep).number(), 2);
+    assert_same(
+        &rt,
+        MethodFaultKind::Value(ValueFaultKind::TooDeep).number(),
+        2,
+    );
     let fault = MethodFault {
         at: 70_000,
         kind: MethodFaultKind::Trailing,

@@ -2,7 +2,7 @@
 use crate::methods::samples::{
     BASIC, CHANNEL, CONNECTION, EXCHANGE, Given, QUEUE, Sample, TABLE, TX_AND_CONFIRM,
 };
-use crate::showing::assert_text;
+use crate::showing::{assert_for, assert_same, assert_same_for, assert_text};
 use amqp_method::{Arg, Kind, Method, fits, method_text, read_method, write_method};
 use amqp_value::{ShortStr, Table, Value, write_table};
 use std::alloc::Global;
@@ -93,7 +93,7 @@ fn assert_made(
     text: &str,
 ) -> Result<(), Fail> {
     let args = made_all(alloc, given)?;
-    assert!(rt; fits(kind, &args), "for {text}");
+    assert_for(rt, fits(kind, &args), text);
     let method = Method::new(kind, args);
     assert_written(rt, alloc, &method, octets, text)
 }
@@ -105,9 +105,9 @@ fn assert_args(
     given: &[Given],
     octets: &str,
 ) -> Result<(), Fail> {
-    assert_eq!(rt; args.len(), given.len(), "for {octets}");
+    assert_same_for(rt, args.len(), given.len(), octets);
     for (arg, wanted) in args.iter().zip(given.iter()) {
-        assert!(rt; is_given(alloc, arg, *wanted)?, "{wanted:?} in {octets}");
+        assert_for(rt, is_given(alloc, arg, *wanted)?, (wanted, octets));
     }
     Ok(())
 }
@@ -121,7 +121,7 @@ fn assert_copied(
     octets: &str,
 ) -> Result<(), Fail> {
     let copy = method.copy()?;
-    assert_eq!(rt; copy.kind(), method.kind());
+    assert_same(rt, copy.kind(), method.kind());
     assert_args(rt, alloc, copy.args(), given, octets)
 }
 
@@ -134,7 +134,7 @@ fn assert_read(
     octets: &str,
 ) -> Result<(), Fail> {
     let read = read_method(alloc, hex::decode(alloc, octets)?.as_slice())?;
-    assert_eq!(rt; read.kind(), kind);
+    assert_same(rt, read.kind(), kind);
     assert_args(rt, alloc, read.args(), given, octets)?;
     assert_copied(rt, alloc, &read, given, octets)
 }

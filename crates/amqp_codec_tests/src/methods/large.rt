@@ -1,6 +1,7 @@
 //! A method with an argument that is long, with ample memory, and the answers whole. A body that gives up with "out of memory" where
 //! memory is at hand is proved; it is here that it is seen.
 use crate::octets::{joined, octets};
+use crate::showing::assert_same;
 use amqp_method::{Arg, Kind, Method, fits, method_text, read_method, write_method};
 use std::alloc::Global;
 use std::process::Abort;
@@ -16,7 +17,7 @@ fn assert_method(
     octets: &[u8],
     text: usize,
 ) -> Result<(), Fail> {
-    assert_eq!(rt; method_text(method)?.len(), text);
+    assert_same(rt, method_text(method)?.len(), text);
     let mut written = Vec::new(alloc);
     write_method(method, &mut written)?;
     assert!(rt; written.as_slice() == octets);

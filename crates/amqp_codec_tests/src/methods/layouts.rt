@@ -1,5 +1,5 @@
 //! Methods as the standard lays them out, read, written and printed.
-use crate::showing::assert_text;
+use crate::showing::{assert_same, assert_text};
 use amqp_method::{
     Method, MethodFault, MethodFaultKind, MethodRef, check_method, method_text, read_method,
     write_method,
@@ -170,9 +170,9 @@ static BROKEN_METHODS: [(&[u8], MethodFault); 6] = [
 #[test]
 fn faults_of_methods(rt: HostRuntime) {
     for (octets, fault) in BROKEN_METHODS.iter().copied() {
-        assert_eq!(rt; read_method(rt.alloc(), octets).err(), Some(fault));
-        assert_eq!(rt; check_method(octets), Err(fault));
-        assert_eq!(rt; MethodRef::new(octets).err(), Some(fault));
+        assert_same(&rt, read_method(rt.alloc(), octets).err(), Some(fault));
+        assert_same(&rt, check_method(octets), Err(fault));
+        assert_same(&rt, MethodRef::new(octets).err(), Some(fault));
     }
 }
 
@@ -184,7 +184,7 @@ fn assert_written(
 ) -> Result<(), Fail> {
     let mut out = Vec::new(alloc);
     write_method(method, &mut out)?;
-    assert_eq!(rt; out.as_slice(), octets);
+    assert_same(rt, out.as_slice(), octets);
     Ok(())
 }
 

@@ -1,6 +1,7 @@
 //! What calls ask of the allocator. By themselves these tests compare answers; where requests are counted between the marks
 //! (`beside/memory/count.c`, preloaded), they show which call takes how much.
 use crate::marking::mark;
+use crate::showing::{assert_same, assert_same_for};
 use amqp_method::{Method, read_method, write_method};
 use std::alloc::Global;
 use std::process::Abort;
@@ -18,7 +19,7 @@ fn write_between(
     mark(rt, alloc, part)?;
     write_method(method, &mut out)?;
     mark(rt, alloc, 0)?;
-    assert_eq!(rt; out.as_slice(), octets);
+    assert_same(rt, out.as_slice(), octets);
     Ok(())
 }
 
@@ -52,10 +53,11 @@ static METHODS: [(u8, &str, Option<usize>); 4] = [
 #[test]
 fn methods_take_what_they_have(rt: HostRuntime) -> Result<(), Fail> {
     for (part, digits, args) in METHODS.iter().copied() {
-        assert_eq!(rt;
+        assert_same_for(
+            &rt,
             method_between(&rt, rt.alloc(), part, digits)?,
             args,
-            "for {digits}"
+            digits,
         );
     }
     Ok(())

@@ -2,6 +2,7 @@
 use crate::methods::samples::{
     BASIC, CHANNEL, CONNECTION, EXCHANGE, Given, QUEUE, Sample, TABLE, TX_AND_CONFIRM,
 };
+use crate::showing::{assert_for, assert_printed, assert_same, assert_same_for};
 use amqp_method::{ArgRef, Kind, MethodRef, check_method, peek_kind, read_method};
 use std::alloc::Global;
 use std::process::Abort;
@@ -41,9 +42,9 @@ fn assert_placed(
 ) -> Result<(), Fail> {
     for (place, wanted) in given.iter().enumerate() {
         let arg = method.arg_at(place);
-        assert!(rt; is_there(alloc, arg, *wanted)?, "{wanted:?} in {octets}");
+        assert_for(rt, is_there(alloc, arg, *wanted)?, (wanted, octets));
     }
-    assert!(rt; method.arg_at(given.len()).is_none(), "more in {octets}");
+    assert_for(rt, method.arg_at(given.len()).is_none(), octets);
     Ok(())
 }
 
@@ -59,13 +60,13 @@ fn assert_ordered(
     for wanted in given {
         match left.next_arg() {
             Some((arg, after)) => {
-                assert!(rt; is_given(alloc, arg, *wanted)?, "{wanted:?} in {octets}");
+                assert_for(rt, is_given(alloc, arg, *wanted)?, (wanted, octets));
                 left = after;
             }
-            None => assert!(rt; false, "no {wanted:?} in {octets}"),
+            None => assert_for(rt, false, (wanted, octets)),
         }
     }
-    assert!(rt; left.next_arg().is_none(), "more in {octets}");
+    assert_for(rt, left.next_arg().is_none(), octets);
     Ok(())
 }
 
@@ -75,24 +76,26 @@ fn assert_viewed(
     kind: Kind,
     given: &[Given],
     octets: &str,
+    text: &str,
 ) -> Result<(), Fail> {
     let payload = hex::decode(alloc, octets)?;
-    assert_eq!(rt; check_method(&payload), Ok(kind));
-    assert_eq!(rt; peek_kind(&payload), Some(kind));
+    assert_same(rt, check_method(&payload), Ok(kind));
+    assert_same(rt, peek_kind(&payload), Some(kind));
     let method = MethodRef::new(&payload)?;
-    assert_eq!(rt; method.kind(), kind);
-    assert_eq!(rt; method.payload(), payload.as_slice());
+    assert_same(rt, method.kind(), kind);
+    assert_same(rt, method.payload(), payload.as_slice());
     assert_placed(rt, alloc, method, given, octets)?;
     assert_ordered(rt, alloc, method, given, octets)?;
     let owned = read_method(alloc, &payload)?;
-    assert_eq!(rt; method.is_request(), owned.is_request(), "for {octets}");
-    assert!(rt; method.to_owned(alloc)? == owned, "for {octets}");
+    assert_same_for(rt, method.is_request(), owned.is_request(), octets);
+    assert_for(rt, method.to_owned(alloc)? == owned, octets);
+    assert_printed(rt, alloc, &method, text, text)?;
     Ok(())
 }
 
 fn assert_samples(rt: &impl Abort, alloc: Global, samples: &[Sample]) -> Result<(), Fail> {
-    for (kind, given, octets, _) in samples.iter().copied() {
-        assert_viewed(rt, alloc, kind, given, octets)?;
+    for (kind, given, octets, text) in samples.iter().copied() {
+        assert_viewed(rt, alloc, kind, given, octets, text)?;
     }
     Ok(())
 }
@@ -113,29 +116,67 @@ const PUBLISH: &[u8] = b"\x00\x3c\x00\x28\x00\x00\x02ab\x03cde\x01";
 #[test]
 fn arguments_by_name_and_by_kind(rt: HostRuntime) -> Result<(), Fail> {
     let publish = MethodRef::new(PUBLISH)?;
-    assert_eq!(rt; publish.short_str_at(0), Some(b"ab".as_slice()));
-    assert_eq!(rt; publish.short_str_at(1), Some(b"cde".as_slice()));
-    assert_eq!(rt; publish.short_at(0), None);
-    assert_eq!(rt; publish.bit_at(2), Some(true));
-    assert_eq!(rt; publish.bit_at(3), Some(false));
-    assert_eq!(rt; publish.bit_at(4), None);
+    assert_same(&rt, publish.short_str_at(0), Some(b"ab".as_slice()));
+    assert_same(&rt, publish.short_str_at(1), Some(b"cde".as_slice()));
+    assert_same(&rt, publish.short_at(0), None);
+    assert_same(&rt, publish.bit_at(2), Some(true));
+    assert_same(&rt, publish.bit_at(3), Some(false));
+    assert_same(&rt, publish.bit_at(4), None);
+    assert_same(
+        &rt,
+        publish.short_str("routing-key"),
+        Some(b"cde".as_slice()),
+    );
+    assert_same(&rt, publish.bit("mandatory"), Some(true));
+    assert_same(&rt, publish.bit("immediate"), Some(false));
+    assert_same(&rt, publish.bit("routing-key"), None);
+    assert_same(&rt, publish.short("reserved-1"), None);
     let key = publish.arg("routing-key");
     assert!(rt; is_there(rt.alloc(), key, Given::Text("cde"))?);
     assert!(rt; publish.arg("reserved-1").is_none());
     assert!(rt; publish.has_content());
     assert!(rt; publish.is_sent_by(true));
     assert!(rt; !publish.is_sent_by(false));
-    assert_eq!(rt; publish.class_id(), 60);
+    assert_same(&rt, publish.class_id(), 60);
+    Ok(())
+}
+
+/// Methods beside [`PUBLISH`], and whether they are the same. A reserved field may hold anything, and so may the bits
+/// that are free.
+static BESIDE: [(&[u8], bool); 5] = [
+    (b"\x00\x3c\x00\x28\x00\x00\x02ab\x03cde\x01", true),
+    (b"\x00\x3c\x00\x28\xff\xff\x02ab\x03cde\xfd", true),
+    (b"\x00\x3c\x00\x28\x00\x00\x02ab\x03cde\x03", false),
+    (b"\x00\x3c\x00\x28\x00\x00\x02ab\x03cdf\x01", false),
+    (
+        b"\x00\x3c\x00\x47\x00\x00\x00\x00\x00\x00\x00\x01\x00\x02ab\x03cde\x00\x00\x00\x00",
+        false,
+    ),
+];
+
+#[test]
+fn lent_methods_compared(rt: HostRuntime) -> Result<(), Fail> {
+    let publish = MethodRef::new(PUBLISH)?;
+    for (payload, same) in BESIDE.iter().copied() {
+        let other = MethodRef::new(payload)?;
+        assert_same_for(&rt, publish == other, same, other);
+        assert_same_for(&rt, other == publish, same, other);
+    }
     Ok(())
 }
 
 #[test]
 fn a_kind_is_seen_in_four_octets(rt: HostRuntime) {
-    assert_eq!(rt; peek_kind(b"\x00\x3c\x00\x28"), Some(Kind::BasicPublish));
-    assert_eq!(rt;
-        peek_kind(b"\x00\x3c\x00\x28\xff"),
-        Some(Kind::BasicPublish)
+    assert_same(
+        &rt,
+        peek_kind(b"\x00\x3c\x00\x28"),
+        Some(Kind::BasicPublish),
     );
-    assert_eq!(rt; peek_kind(b"\x00\x3c\x00"), None);
-    assert_eq!(rt; peek_kind(b"\x00\x3c\x00\x29"), None);
+    assert_same(
+        &rt,
+        peek_kind(b"\x00\x3c\x00\x28\xff"),
+        Some(Kind::BasicPublish),
+    );
+    assert_same(&rt, peek_kind(b"\x00\x3c\x00"), None);
+    assert_same(&rt, peek_kind(b"\x00\x3c\x00\x29"), None);
 }

@@ -1,5 +1,5 @@
 //! The pairs of a table: set, removed, and taken over.
-use crate::showing::assert_text;
+use crate::showing::{assert_same, assert_text};
 use amqp_value::ValueFaultKind::TooDeep;
 use amqp_value::{ShortStr, Table, Value, ValueFault, table_text};
 use std::alloc::Global;
@@ -41,7 +41,7 @@ fn pairs_taken_over(rt: HostRuntime) -> Result<(), Fail> {
 fn a_value_set_where_the_name_stands(rt: HostRuntime) -> Result<(), Fail> {
     let mut table = table(rt.alloc(), &rt)?;
     let held = table.set(name(rt.alloc(), b"a")?, Value::Void)?;
-    assert_eq!(rt; held, Some(Value::LongInt(1)));
+    assert_same(&rt, held, Some(Value::LongInt(1)));
     assert_table(&rt, &table, "{\"a\"=V,\"a\"=I:2,\"b\"=I:3}")
 }
 
@@ -49,16 +49,16 @@ fn a_value_set_where_the_name_stands(rt: HostRuntime) -> Result<(), Fail> {
 fn a_value_set_under_a_new_name(rt: HostRuntime) -> Result<(), Fail> {
     let mut table = table(rt.alloc(), &rt)?;
     let held = table.set(name(rt.alloc(), b"c")?, Value::Void)?;
-    assert_eq!(rt; held, None);
+    assert_same(&rt, held, None);
     assert_table(&rt, &table, "{\"a\"=I:1,\"a\"=I:2,\"b\"=I:3,\"c\"=V}")
 }
 
 #[test]
 fn the_first_pair_of_a_name_removed(rt: HostRuntime) -> Result<(), Fail> {
     let mut table = table(rt.alloc(), &rt)?;
-    assert_eq!(rt; table.remove(b"a"), Some(Value::LongInt(1)));
+    assert_same(&rt, table.remove(b"a"), Some(Value::LongInt(1)));
     assert_table(&rt, &table, "{\"a\"=I:2,\"b\"=I:3}")?;
-    assert_eq!(rt; table.remove(b"z"), None);
+    assert_same(&rt, table.remove(b"z"), None);
     assert_table(&rt, &table, "{\"a\"=I:2,\"b\"=I:3}")
 }
 
@@ -75,14 +75,15 @@ fn arrays(alloc: Global, levels: u32) -> Result<Value, Fail> {
 fn no_value_is_set_too_deep(rt: HostRuntime) -> Result<(), Fail> {
     let mut table = table(rt.alloc(), &rt)?;
     let held = table.set(name(rt.alloc(), b"b")?, arrays(rt.alloc(), 31)?)?;
-    assert_eq!(rt; held, Some(Value::LongInt(3)));
+    assert_same(&rt, held, Some(Value::LongInt(3)));
     let refused = table.set(name(rt.alloc(), b"a")?, arrays(rt.alloc(), 32)?);
-    assert_eq!(rt;
+    assert_same(
+        &rt,
         refused.err(),
         Some(ValueFault {
             at: 0,
-            kind: TooDeep
-        })
+            kind: TooDeep,
+        }),
     );
     assert!(rt; table.get(b"a") == Some(&Value::LongInt(1)));
     Ok(())
@@ -92,9 +93,10 @@ fn no_value_is_set_too_deep(rt: HostRuntime) -> Result<(), Fail> {
 fn pairs_that_nest_too_deep_are_given_back(rt: HostRuntime) -> Result<(), Fail> {
     let mut deep = Vec::new(rt.alloc());
     deep.push((name(rt.alloc(), b"a")?, arrays(rt.alloc(), 32)?))?;
-    assert_eq!(rt;
+    assert_same(
+        &rt,
         Table::from_pairs(deep).err().map(|pairs| pairs.len()),
-        Some(1)
+        Some(1),
     );
     Ok(())
 }

@@ -1,6 +1,7 @@
 //! Values and tables that are large in each of their dimensions, with ample memory, and the answers whole. A body that gives up with
 //! "out of memory" where memory is at hand is proved; it is here that it is seen.
 use crate::octets::{joined, octets};
+use crate::showing::assert_same;
 use crate::values::tables::written;
 use amqp_value::{ShortStr, Table, Value, read_table, table_text, text_of};
 use std::alloc::Global;
@@ -17,7 +18,7 @@ fn assert_table(
     octets: &[u8],
     text: usize,
 ) -> Result<(), Fail> {
-    assert_eq!(rt; table_text(table)?.len(), text);
+    assert_same(rt, table_text(table)?.len(), text);
     assert!(rt; written(alloc, table)?.as_slice() == octets);
     Ok(())
 }
@@ -45,7 +46,7 @@ fn long_value(alloc: Global, tag: u8) -> Result<Vec<u8>, Fail> {
 fn assert_long(rt: &impl Abort, alloc: Global, tag: u8, text: usize) -> Result<(), Fail> {
     let whole = long_value(alloc, tag)?;
     let (table, read) = read_table(alloc, &whole)?;
-    assert_eq!(rt; read, whole.len());
+    assert_same(rt, read, whole.len());
     assert_copied(rt, alloc, &table, &whole, text)
 }
 
@@ -78,14 +79,14 @@ fn ten_thousand_names(alloc: Global) -> Result<Table, Fail> {
 
 fn assert_numbers(rt: &impl Abort, alloc: Global) -> Result<(), Fail> {
     let copy = ten_thousand_numbers(alloc)?.copy()?;
-    assert_eq!(rt; text_of(alloc, &copy)?.len(), 80_002);
+    assert_same(rt, text_of(alloc, &copy)?.len(), 80_002);
     Ok(())
 }
 
 fn assert_names(rt: &impl Abort, alloc: Global) -> Result<(), Fail> {
     let copy = ten_thousand_names(alloc)?.copy()?;
-    assert_eq!(rt; copy.pairs().len(), 10_000);
-    assert_eq!(rt; written(alloc, &copy)?.len(), 2_570_004);
+    assert_same(rt, copy.pairs().len(), 10_000);
+    assert_same(rt, written(alloc, &copy)?.len(), 2_570_004);
     Ok(())
 }
 

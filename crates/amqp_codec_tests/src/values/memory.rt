@@ -1,6 +1,7 @@
 //! What calls ask of the allocator. By themselves these tests compare answers; where requests are counted between the marks
 //! (`beside/memory/count.c`, preloaded), they show which call takes how much.
 use crate::marking::mark;
+use crate::showing::assert_same_for;
 use amqp_value::{Table, Value, ValueFault, ValueFaultKind, read_table};
 use std::alloc::Global;
 use std::process::Abort;
@@ -59,10 +60,11 @@ static TABLES: [(u8, &str, Option<usize>); 12] = [
 #[test]
 fn tables_take_what_they_have(rt: HostRuntime) -> Result<(), Fail> {
     for (part, digits, pairs) in TABLES.iter().copied() {
-        assert_eq!(rt;
+        assert_same_for(
+            &rt,
             read_between(&rt, rt.alloc(), part, digits)?,
             pairs,
-            "for {digits}"
+            digits,
         );
     }
     Ok(())

@@ -1,5 +1,5 @@
 //! Tables: read, written and printed, their faults, their depth and their size.
-use crate::showing::assert_text;
+use crate::showing::{assert_same, assert_text};
 use amqp_value::ValueFaultKind::{self, Ends, PassesItsEnd, TooDeep, TooLong, UnknownTag};
 use amqp_value::{
     ShortStr, Table, Value, ValueFault, read_table, table_text, text_of, write_table,
@@ -20,7 +20,7 @@ pub(crate) fn written(alloc: Global, table: &Table) -> Result<Vec<u8>, Fail> {
 }
 
 fn assert_fault(rt: &impl Abort, told: Option<ValueFault>, at: usize, kind: ValueFaultKind) {
-    assert_eq!(rt; told, Some(ValueFault { at, kind }));
+    assert_same(rt, told, Some(ValueFault { at, kind }));
 }
 
 fn assert_printed(
@@ -130,8 +130,8 @@ fn the_first_fault(rt: HostRuntime) -> Result<(), Fail> {
 /// The octets are those of a table of so many pairs, and no octet is left.
 fn assert_read(rt: &impl Abort, alloc: Global, octets: &[u8], pairs: usize) -> Result<(), Fail> {
     let (table, length) = read_table(alloc, octets)?;
-    assert_eq!(rt; length, octets.len());
-    assert_eq!(rt; table.pairs().len(), pairs);
+    assert_same(rt, length, octets.len());
+    assert_same(rt, table.pairs().len(), pairs);
     Ok(())
 }
 
@@ -174,7 +174,7 @@ fn assert_refused(
 ) -> Result<(), Fail> {
     let name = ShortStr::new(alloc, b"b")?;
     assert_fault(rt, table.push(name, value).err(), 0, TooDeep);
-    assert_eq!(rt; table.pairs().len(), 1);
+    assert_same(rt, table.pairs().len(), 1);
     Ok(())
 }
 
@@ -218,8 +218,8 @@ fn assert_copied(rt: &impl Abort, alloc: Global, table: &Table) -> Result<(), Fa
     let copied = table.copy()?;
     let again = written(alloc, &copied)?;
     let octets = written(alloc, table)?;
-    assert_eq!(rt; octets.as_slice(), again.as_slice());
-    assert_eq!(rt; octets.len(), 4 + 5 + 3 + 258);
+    assert_same(rt, octets.as_slice(), again.as_slice());
+    assert_same(rt, octets.len(), 4 + 5 + 3 + 258);
     Ok(())
 }
 
@@ -234,7 +234,7 @@ fn a_table_is_made_and_copied(rt: HostRuntime) -> Result<(), Fail> {
 #[test]
 fn a_name_has_at_most_255_octets(rt: HostRuntime) -> Result<(), Fail> {
     let name = ShortStr::new(rt.alloc(), &[0xff; 255])?;
-    assert_eq!(rt; name.as_bytes().len(), 255);
+    assert_same(&rt, name.as_bytes().len(), 255);
     assert_fault(&rt, ShortStr::new(rt.alloc(), &[0; 256]).err(), 0, TooLong);
     Ok(())
 }
@@ -258,8 +258,8 @@ fn assert_again(
     pairs: usize,
 ) -> Result<(), Fail> {
     let (table, length) = read_table(alloc, octets)?;
-    assert_eq!(rt; length, count);
-    assert_eq!(rt; table.pairs().len(), pairs);
+    assert_same(rt, length, count);
+    assert_same(rt, table.pairs().len(), pairs);
     assert_written(rt, alloc, &table, octets)
 }
 

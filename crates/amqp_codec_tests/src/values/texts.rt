@@ -1,5 +1,6 @@
 //! Strings on both sides of the lengths at which they are kept otherwise: two words, what lies in place, what a length octet says.
 use crate::octets::{joined, octets};
+use crate::showing::assert_same;
 use crate::values::tables::written;
 use amqp_value::{Octets, Table, Value, read_table};
 use std::alloc::Global;
@@ -12,8 +13,8 @@ static LENGTHS: [usize; 11] = [0, 1, 8, 15, 16, 17, 22, 23, 24, 255, 256];
 fn assert_kept(rt: &impl Abort, alloc: Global, text: &[u8]) -> Result<(), Fail> {
     let kept = Octets::new(alloc, text)?;
     assert!(rt; kept.as_bytes() == text);
-    assert_eq!(rt; kept.len(), text.len());
-    assert_eq!(rt; kept.is_empty(), text.is_empty());
+    assert_same(rt, kept.len(), text.len());
+    assert_same(rt, kept.is_empty(), text.is_empty());
     let allocated = Octets::from(Vec::from_slice(alloc, text)?);
     assert!(rt; allocated == kept);
     assert!(rt; allocated.copy()? == kept.copy()?);
@@ -56,7 +57,7 @@ fn text_in(value: Option<&Value>) -> Option<&[u8]> {
 }
 
 fn assert_texts(rt: &impl Abort, table: &Table, text: &[u8]) {
-    assert_eq!(rt; table.len(), 2);
+    assert_same(rt, table.len(), 2);
     assert!(rt; text_in(table.get(b"a")) == Some(text));
     assert!(rt; text_in(table.get(b"b")) == Some(text));
 }
@@ -64,7 +65,7 @@ fn assert_texts(rt: &impl Abort, table: &Table, text: &[u8]) {
 fn assert_read(rt: &impl Abort, alloc: Global, tag: u8, text: &[u8]) -> Result<(), Fail> {
     let whole = table_of(alloc, tag, text)?;
     let (table, read) = read_table(alloc, &whole)?;
-    assert_eq!(rt; read, whole.len());
+    assert_same(rt, read, whole.len());
     assert_texts(rt, &table, text);
     assert!(rt; written(alloc, &table)? == whole);
     Ok(())

@@ -1,6 +1,6 @@
 //! Values: each variant made and read, and every octet in quotes.
 use crate::octets::{QUOTED, every_octet};
-use crate::showing::assert_text;
+use crate::showing::{assert_for, assert_same, assert_text};
 use crate::values::tables::{push, written};
 use amqp_value::{Octets, ShortStr, Table, Value, read_table, table_text, text_of};
 use std::alloc::Global;
@@ -121,13 +121,13 @@ const EVERY_VARIANT: &str = "\
 
 fn assert_variant(rt: &impl Abort, name: &ShortStr, value: &Value) -> Result<(), Fail> {
     let letter = *name.as_bytes().first().ok_or("a name")?;
-    assert!(rt; is_of_tag(letter, value), "for {letter}");
-    assert!(rt; is_of_tag(letter, &value.copy()?), "for a copy of {letter}");
+    assert_for(rt, is_of_tag(letter, value), letter);
+    assert_for(rt, is_of_tag(letter, &value.copy()?), letter);
     Ok(())
 }
 
 fn assert_each_variant(rt: &impl Abort, table: &Table) -> Result<(), Fail> {
-    assert_eq!(rt; table.pairs().len(), 19);
+    assert_same(rt, table.pairs().len(), 19);
     for (name, value) in table.pairs() {
         assert_variant(rt, name, value)?;
     }
@@ -137,7 +137,7 @@ fn assert_each_variant(rt: &impl Abort, table: &Table) -> Result<(), Fail> {
 fn assert_every_variant_read(rt: &impl Abort, alloc: Global) -> Result<(), Fail> {
     let octets = hex::decode(alloc, EVERY_VARIANT)?;
     let (table, length) = read_table(alloc, &octets)?;
-    assert_eq!(rt; length, 160);
+    assert_same(rt, length, 160);
     assert_each_variant(rt, &table)
 }
 

@@ -1,5 +1,5 @@
 //! Views: tables, arrays and values where they lie in octets, and the check before them.
-use crate::showing::assert_text;
+use crate::showing::{assert_printed, assert_same, assert_same_for, assert_text};
 use amqp_value::ValueFaultKind::{self, Ends, PassesItsEnd, TooDeep, UnknownTag};
 use amqp_value::{TableRef, ValueFault, ValueRef, check_table, read_table, table_text, text_of};
 use std::alloc::Global;
@@ -50,10 +50,10 @@ fn assert_number(
     value: ValueRef<'_>,
     number: i64,
 ) -> Result<(), Fail> {
-    assert_eq!(rt; value.as_i64(), Some(number));
-    assert_eq!(rt; value.to_owned(alloc)?.as_i64(), Some(number));
-    assert_eq!(rt; value.as_u64(), u64::try_from(number).ok());
-    assert_eq!(rt; value.as_bool(), None);
+    assert_same(rt, value.as_i64(), Some(number));
+    assert_same(rt, value.to_owned(alloc)?.as_i64(), Some(number));
+    assert_same(rt, value.as_u64(), u64::try_from(number).ok());
+    assert_same(rt, value.as_bool(), None);
     assert!(rt; value.as_bytes().is_none());
     Ok(())
 }
@@ -74,12 +74,13 @@ fn other_values_where_they_lie(rt: HostRuntime) -> Result<(), Fail> {
     let table = TableRef::new(&octets)?;
     for (name, text) in OTHERS.iter().copied() {
         let value = get(&rt, table, name);
-        assert_eq!(rt; value.as_i64(), None);
+        assert_same(&rt, value.as_i64(), None);
         assert_text(
             &rt,
             text_of(rt.alloc(), &value.to_owned(rt.alloc())?)?.as_str(),
             text,
         );
+        assert_printed(&rt, rt.alloc(), &value, text, text)?;
     }
     Ok(())
 }
@@ -99,7 +100,7 @@ fn pairs_in_their_order(rt: HostRuntime) -> Result<(), Fail> {
 fn what_lent_values_hold(rt: HostRuntime) -> Result<(), Fail> {
     let octets = hex::decode(rt.alloc(), EVERY_TAG)?;
     let table = TableRef::new(&octets)?;
-    assert_eq!(rt; get(&rt, table, b"t").as_bool(), Some(true));
+    assert_same(&rt, get(&rt, table, b"t").as_bool(), Some(true));
     assert!(rt; get(&rt, table, b"S").as_bytes() == Some(b"hi"));
     assert!(rt; get(&rt, table, b"x").as_bytes() == Some(b"\x00"));
     assert!(rt; get(&rt, table, b"S").as_array().is_none());
@@ -117,8 +118,12 @@ fn values_of_a_lent_array(rt: HostRuntime) -> Result<(), Fail> {
         panic!(rt; "no array");
     };
     let mut values = array.iter();
-    assert_eq!(rt; values.next().and_then(|value| value.as_bool()), Some(true));
-    assert_eq!(rt; values.next().and_then(|value| value.as_i64()), Some(5));
+    assert_same(
+        &rt,
+        values.next().and_then(|value| value.as_bool()),
+        Some(true),
+    );
+    assert_same(&rt, values.next().and_then(|value| value.as_i64()), Some(5));
     assert!(rt; values.next().is_none());
     Ok(())
 }
@@ -130,8 +135,8 @@ const REPEATED: &str = "0000001c016149000000010161490000000201624600000007016346
 fn the_first_pair_of_a_name(rt: HostRuntime) -> Result<(), Fail> {
     let octets = hex::decode(rt.alloc(), REPEATED)?;
     let table = TableRef::new(&octets)?;
-    assert_eq!(rt; table.octets().len(), 32);
-    assert_eq!(rt; get(&rt, table, b"a").as_i64(), Some(1));
+    assert_same(&rt, table.octets().len(), 32);
+    assert_same(&rt, get(&rt, table, b"a").as_i64(), Some(1));
     let Some(inner) = get(&rt, table, b"b")
         .get(b"c")
         .and_then(|value| value.as_table())
@@ -144,15 +149,39 @@ fn the_first_pair_of_a_name(rt: HostRuntime) -> Result<(), Fail> {
     Ok(())
 }
 
+/// Its text.
+const REPEATED_TEXT: &str = "{\"a\"=I:1,\"a\"=I:2,\"b\"=F{\"c\"=F{}}}";
+
 #[test]
 fn a_lent_table_made_owned(rt: HostRuntime) -> Result<(), Fail> {
     let octets = hex::decode(rt.alloc(), REPEATED)?;
-    let table = TableRef::new(&octets)?.to_owned(rt.alloc())?;
-    assert_text(
-        &rt,
-        table_text(&table)?.as_str(),
-        "{\"a\"=I:1,\"a\"=I:2,\"b\"=F{\"c\"=F{}}}",
-    );
+    let lent = TableRef::new(&octets)?;
+    let table = lent.to_owned(rt.alloc())?;
+    assert_text(&rt, table_text(&table)?.as_str(), REPEATED_TEXT);
+    assert_printed(&rt, rt.alloc(), &lent, REPEATED_TEXT, REPEATED_TEXT)
+}
+
+/// Tables beside `{"a"=t:1,"b"=A[b:5]}`, and whether they are the same. A truth value that holds is any octet but 0.
+static BESIDE: [(&str, bool); 7] = [
+    ("0000000d01617401016241000000026205", true),
+    ("0000000d016174ff016241000000026205", true),
+    ("0000000d01617400016241000000026205", false),
+    ("0000000d01617401016241000000024205", false),
+    ("0000000d01617401016341000000026205", false),
+    ("0000000f016174010162410000000462056205", false),
+    ("0000000401617401", false),
+];
+
+#[test]
+fn lent_tables_compared(rt: HostRuntime) -> Result<(), Fail> {
+    let octets = hex::decode(rt.alloc(), "0000000d01617401016241000000026205")?;
+    let table = TableRef::new(&octets)?;
+    for (digits, same) in BESIDE.iter().copied() {
+        let others = hex::decode(rt.alloc(), digits)?;
+        let other = TableRef::new(&others)?;
+        assert_same_for(&rt, table == other, same, digits);
+        assert_same_for(&rt, other == table, same, digits);
+    }
     Ok(())
 }
 
@@ -175,9 +204,9 @@ static BROKEN_TABLES: [(&str, ValueFaultKind, usize); 12] = [
 /// The check, the view and the owned reader report the same.
 fn assert_broken(rt: &impl Abort, alloc: Global, octets: &[u8], kind: ValueFaultKind, at: usize) {
     let fault = Some(ValueFault { kind, at });
-    assert_eq!(rt; check_table(octets).err(), fault);
-    assert_eq!(rt; TableRef::new(octets).err(), fault);
-    assert_eq!(rt; read_table(alloc, octets).err(), fault);
+    assert_same(rt, check_table(octets).err(), fault);
+    assert_same(rt, TableRef::new(octets).err(), fault);
+    assert_same(rt, read_table(alloc, octets).err(), fault);
 }
 
 #[test]
@@ -192,8 +221,8 @@ fn the_first_fault_of_a_check(rt: HostRuntime) -> Result<(), Fail> {
 #[test]
 fn a_check_stops_at_the_end_of_the_table(rt: HostRuntime) -> Result<(), Fail> {
     let octets = hex::decode(rt.alloc(), "0000000401617401ce")?;
-    assert_eq!(rt; check_table(&octets).ok(), Some(8));
-    assert_eq!(rt; TableRef::new(&octets)?.octets().len(), 8);
+    assert_same(&rt, check_table(&octets).ok(), Some(8));
+    assert_same(&rt, TableRef::new(&octets)?.octets().len(), 8);
     Ok(())
 }
 
@@ -214,7 +243,7 @@ fn arrays(alloc: Global, levels: u32) -> Result<Vec<u8>, Fail> {
 #[test]
 fn a_check_goes_thirty_two_levels_deep(rt: HostRuntime) -> Result<(), Fail> {
     let deepest = arrays(rt.alloc(), 31)?;
-    assert_eq!(rt; check_table(&deepest).ok(), Some(161));
+    assert_same(&rt, check_table(&deepest).ok(), Some(161));
     let deeper = arrays(rt.alloc(), 32)?;
     assert_broken(&rt, rt.alloc(), &deeper, TooDeep, 161);
     Ok(())
