@@ -680,28 +680,61 @@ def any_file(all_methods):
     lines.append(f"use crate::{{{', '.join(sorted(CLASSES))}}};")
     lines += use_lines("amqp_method", ["Kind", "Method", "OutOfMemory"])
     lines.append("use std::alloc::Global;")
+    lines.append("use std::fmt;")
     lines.append("")
     lines.append("/// A method of any kind. The variants have the names of [`Kind`]'s.")
-    lines.append("#[derive(Debug, Drop)]")
+    lines.append("#[derive(Drop)]")
     lines.append("pub enum AnyMethod {")
     lines += [f"    {method.kind}({method.class_name}::{method.name})," for method in all_methods]
     lines += ["}", ""]
     for name in CLASSES:
-        lines += any_of_class(name, [method for method in all_methods if method.class_name == name])
-    lines += ["impl AnyMethod {", "    /// What a method says.", "    pub fn from_method(method: Method) -> AnyMethod"]
+        of_class = [method for method in all_methods if method.class_name == name]
+        lines += any_of_class(name, of_class) + method_of_class(name, of_class)
+    lines += ["impl AnyMethod {", "    pub fn kind(&self) -> Kind"]
+    lines.append(clause("", "result ≡ (any_call self.now).kind"))
+    lines += ["    {", "        match self {"]
+    for method in all_methods:
+        lines += arm(f"AnyMethod::{method.kind}(_)", f"Kind::{method.kind}", "            ")
+    lines += ["        }", "    }", ""]
+    lines += ["    /// What a method says.", "    pub fn from_method(method: Method) -> AnyMethod"]
     lines.append(clause("", "any_call result ≡ method_view method"))
-    lines += ["    {", "        match method.kind().class_id() {"]
-    numbers = {method.class_name: method.class_id for method in all_methods}
-    lines += [f"            {numbers[name]} => any_{name}(method)," for name in CLASSES[:-1]]
-    lines += [f"            _ => any_{CLASSES[-1]}(method),", "        }", "    }", ""]
+    lines += by_class("method.kind()", lambda name: f"any_{name}(method)", all_methods) + [""]
     lines.append("    /// The method with these arguments.")
     lines.append("    pub fn into_method(self, alloc: Global) -> Result<Method, OutOfMemory>")
     lines.append(clause("", "IfOk result (λ m. method_view m ≡ any_call self)"))
-    lines += ["    {", "        match self {"]
-    for method in all_methods:
-        lines += arm(f"AnyMethod::{method.kind}(method)", "method.into_method(alloc)", "            ")
-    lines += ["        }", "    }", "}"]
+    lines += by_class("self.kind()", lambda name: f"{name}_method(self, alloc)", all_methods)
+    lines += ["}", ""]
+    lines += debug_of_any(all_methods)
     return "\n".join(lines) + "\n"
+
+
+def by_class(kind, call, all_methods):
+    """A body that calls the function of the class."""
+    numbers = {method.class_name: method.class_id for method in all_methods}
+    lines = ["    {", f"        match {kind}.class_id() {{"]
+    lines += [f"            {numbers[name]} => {call(name)}," for name in CLASSES[:-1]]
+    return lines + [f"            _ => {call(CLASSES[-1])},", "        }", "    }"]
+
+
+def method_of_class(name, of_class):
+    lines = [f"/// The method of the class {name} with these arguments."]
+    lines.append(f"fn {name}_method(method: AnyMethod, alloc: Global) -> Result<Method, OutOfMemory>")
+    lines.append(f"    requires {{ (row (any_call method).kind).class ≡ {of_class[0].class_id} }}")
+    lines.append(clause("", "IfOk result (λ m. method_view m ≡ any_call method)", "    "))
+    lines += ["{", "    match method {"]
+    for method in of_class:
+        lines += arm(f"AnyMethod::{method.kind}(method)", "method.into_method(alloc)", "        ")
+    return lines + ["        _ => unreachable!(),", "    }", "}", ""]
+
+
+def debug_of_any(all_methods):
+    lines = ["fn write_struct<W: fmt::Write>(f: &mut fmt::Formatter<W>, method: &AnyMethod) -> fmt::Result {", "    match method {"]
+    for method in all_methods:
+        lines += arm(f"AnyMethod::{method.kind}(method)", "fmt::Debug::fmt(method, f)", "        ")
+    lines += ["    }", "}", "", "/// Prints the kind, and in parentheses what the struct prints.", "impl fmt::Debug for AnyMethod {"]
+    lines.append("    fn fmt<W: fmt::Write>(&self, f: &mut fmt::Formatter<W>) -> fmt::Result {")
+    lines += ["        let kind = self.kind();", '        write!(f, "{kind:?}(")?;', "        write_struct(f, self)?;"]
+    return lines + ['        f.write_str(")")', "    }", "}"]
 
 
 def any_of_class(name, of_class):

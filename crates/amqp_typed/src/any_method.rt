@@ -8,9 +8,10 @@ ghost use Rattle.amqp_typed.specs.AnyMethod.{any_call};
 use crate::{basic, channel, confirm, connection, exchange, queue, tx};
 use amqp_method::{Kind, Method, OutOfMemory};
 use std::alloc::Global;
+use std::fmt;
 
 /// A method of any kind. The variants have the names of [`Kind`]'s.
-#[derive(Debug, Drop)]
+#[derive(Drop)]
 pub enum AnyMethod {
     ConnectionStart(connection::Start),
     ConnectionStartOk(connection::StartOk),
@@ -122,6 +123,28 @@ fn any_connection(method: Method) -> AnyMethod
     }
 }
 
+/// The method of the class connection with these arguments.
+fn connection_method(method: AnyMethod, alloc: Global) -> Result<Method, OutOfMemory>
+    requires { (row (any_call method).kind).class ≡ 10 }
+    ensures { IfOk result (λ m. method_view m ≡ any_call method) }
+{
+    match method {
+        AnyMethod::ConnectionStart(method) => method.into_method(alloc),
+        AnyMethod::ConnectionStartOk(method) => method.into_method(alloc),
+        AnyMethod::ConnectionSecure(method) => method.into_method(alloc),
+        AnyMethod::ConnectionSecureOk(method) => method.into_method(alloc),
+        AnyMethod::ConnectionTune(method) => method.into_method(alloc),
+        AnyMethod::ConnectionTuneOk(method) => method.into_method(alloc),
+        AnyMethod::ConnectionOpen(method) => method.into_method(alloc),
+        AnyMethod::ConnectionOpenOk(method) => method.into_method(alloc),
+        AnyMethod::ConnectionClose(method) => method.into_method(alloc),
+        AnyMethod::ConnectionCloseOk(method) => method.into_method(alloc),
+        AnyMethod::ConnectionBlocked(method) => method.into_method(alloc),
+        AnyMethod::ConnectionUnblocked(method) => method.into_method(alloc),
+        _ => unreachable!(),
+    }
+}
+
 /// What a method of the class channel says.
 fn any_channel(method: Method) -> AnyMethod
     requires { (row (method_view method).kind).class ≡ 20 }
@@ -140,6 +163,22 @@ fn any_channel(method: Method) -> AnyMethod
         Kind::ChannelCloseOk => {
             AnyMethod::ChannelCloseOk(channel::CloseOk::from_method(method).unwrap())
         }
+        _ => unreachable!(),
+    }
+}
+
+/// The method of the class channel with these arguments.
+fn channel_method(method: AnyMethod, alloc: Global) -> Result<Method, OutOfMemory>
+    requires { (row (any_call method).kind).class ≡ 20 }
+    ensures { IfOk result (λ m. method_view m ≡ any_call method) }
+{
+    match method {
+        AnyMethod::ChannelOpen(method) => method.into_method(alloc),
+        AnyMethod::ChannelOpenOk(method) => method.into_method(alloc),
+        AnyMethod::ChannelFlow(method) => method.into_method(alloc),
+        AnyMethod::ChannelFlowOk(method) => method.into_method(alloc),
+        AnyMethod::ChannelClose(method) => method.into_method(alloc),
+        AnyMethod::ChannelCloseOk(method) => method.into_method(alloc),
         _ => unreachable!(),
     }
 }
@@ -176,6 +215,24 @@ fn any_exchange(method: Method) -> AnyMethod
     }
 }
 
+/// The method of the class exchange with these arguments.
+fn exchange_method(method: AnyMethod, alloc: Global) -> Result<Method, OutOfMemory>
+    requires { (row (any_call method).kind).class ≡ 40 }
+    ensures { IfOk result (λ m. method_view m ≡ any_call method) }
+{
+    match method {
+        AnyMethod::ExchangeDeclare(method) => method.into_method(alloc),
+        AnyMethod::ExchangeDeclareOk(method) => method.into_method(alloc),
+        AnyMethod::ExchangeDelete(method) => method.into_method(alloc),
+        AnyMethod::ExchangeDeleteOk(method) => method.into_method(alloc),
+        AnyMethod::ExchangeBind(method) => method.into_method(alloc),
+        AnyMethod::ExchangeBindOk(method) => method.into_method(alloc),
+        AnyMethod::ExchangeUnbind(method) => method.into_method(alloc),
+        AnyMethod::ExchangeUnbindOk(method) => method.into_method(alloc),
+        _ => unreachable!(),
+    }
+}
+
 /// What a method of the class queue says.
 fn any_queue(method: Method) -> AnyMethod
     requires { (row (method_view method).kind).class ≡ 50 }
@@ -198,6 +255,26 @@ fn any_queue(method: Method) -> AnyMethod
         Kind::QueueDeleteOk => {
             AnyMethod::QueueDeleteOk(queue::DeleteOk::from_method(method).unwrap())
         }
+        _ => unreachable!(),
+    }
+}
+
+/// The method of the class queue with these arguments.
+fn queue_method(method: AnyMethod, alloc: Global) -> Result<Method, OutOfMemory>
+    requires { (row (any_call method).kind).class ≡ 50 }
+    ensures { IfOk result (λ m. method_view m ≡ any_call method) }
+{
+    match method {
+        AnyMethod::QueueDeclare(method) => method.into_method(alloc),
+        AnyMethod::QueueDeclareOk(method) => method.into_method(alloc),
+        AnyMethod::QueueBind(method) => method.into_method(alloc),
+        AnyMethod::QueueBindOk(method) => method.into_method(alloc),
+        AnyMethod::QueueUnbind(method) => method.into_method(alloc),
+        AnyMethod::QueueUnbindOk(method) => method.into_method(alloc),
+        AnyMethod::QueuePurge(method) => method.into_method(alloc),
+        AnyMethod::QueuePurgeOk(method) => method.into_method(alloc),
+        AnyMethod::QueueDelete(method) => method.into_method(alloc),
+        AnyMethod::QueueDeleteOk(method) => method.into_method(alloc),
         _ => unreachable!(),
     }
 }
@@ -240,6 +317,34 @@ fn any_basic(method: Method) -> AnyMethod
     }
 }
 
+/// The method of the class basic with these arguments.
+fn basic_method(method: AnyMethod, alloc: Global) -> Result<Method, OutOfMemory>
+    requires { (row (any_call method).kind).class ≡ 60 }
+    ensures { IfOk result (λ m. method_view m ≡ any_call method) }
+{
+    match method {
+        AnyMethod::BasicQos(method) => method.into_method(alloc),
+        AnyMethod::BasicQosOk(method) => method.into_method(alloc),
+        AnyMethod::BasicConsume(method) => method.into_method(alloc),
+        AnyMethod::BasicConsumeOk(method) => method.into_method(alloc),
+        AnyMethod::BasicCancel(method) => method.into_method(alloc),
+        AnyMethod::BasicCancelOk(method) => method.into_method(alloc),
+        AnyMethod::BasicPublish(method) => method.into_method(alloc),
+        AnyMethod::BasicReturn(method) => method.into_method(alloc),
+        AnyMethod::BasicDeliver(method) => method.into_method(alloc),
+        AnyMethod::BasicGet(method) => method.into_method(alloc),
+        AnyMethod::BasicGetOk(method) => method.into_method(alloc),
+        AnyMethod::BasicGetEmpty(method) => method.into_method(alloc),
+        AnyMethod::BasicAck(method) => method.into_method(alloc),
+        AnyMethod::BasicReject(method) => method.into_method(alloc),
+        AnyMethod::BasicRecoverAsync(method) => method.into_method(alloc),
+        AnyMethod::BasicRecover(method) => method.into_method(alloc),
+        AnyMethod::BasicRecoverOk(method) => method.into_method(alloc),
+        AnyMethod::BasicNack(method) => method.into_method(alloc),
+        _ => unreachable!(),
+    }
+}
+
 /// What a method of the class tx says.
 fn any_tx(method: Method) -> AnyMethod
     requires { (row (method_view method).kind).class ≡ 90 }
@@ -252,6 +357,22 @@ fn any_tx(method: Method) -> AnyMethod
         Kind::TxCommitOk => AnyMethod::TxCommitOk(tx::CommitOk::from_method(method).unwrap()),
         Kind::TxRollback => AnyMethod::TxRollback(tx::Rollback::from_method(method).unwrap()),
         Kind::TxRollbackOk => AnyMethod::TxRollbackOk(tx::RollbackOk::from_method(method).unwrap()),
+        _ => unreachable!(),
+    }
+}
+
+/// The method of the class tx with these arguments.
+fn tx_method(method: AnyMethod, alloc: Global) -> Result<Method, OutOfMemory>
+    requires { (row (any_call method).kind).class ≡ 90 }
+    ensures { IfOk result (λ m. method_view m ≡ any_call method) }
+{
+    match method {
+        AnyMethod::TxSelect(method) => method.into_method(alloc),
+        AnyMethod::TxSelectOk(method) => method.into_method(alloc),
+        AnyMethod::TxCommit(method) => method.into_method(alloc),
+        AnyMethod::TxCommitOk(method) => method.into_method(alloc),
+        AnyMethod::TxRollback(method) => method.into_method(alloc),
+        AnyMethod::TxRollbackOk(method) => method.into_method(alloc),
         _ => unreachable!(),
     }
 }
@@ -272,7 +393,88 @@ fn any_confirm(method: Method) -> AnyMethod
     }
 }
 
+/// The method of the class confirm with these arguments.
+fn confirm_method(method: AnyMethod, alloc: Global) -> Result<Method, OutOfMemory>
+    requires { (row (any_call method).kind).class ≡ 85 }
+    ensures { IfOk result (λ m. method_view m ≡ any_call method) }
+{
+    match method {
+        AnyMethod::ConfirmSelect(method) => method.into_method(alloc),
+        AnyMethod::ConfirmSelectOk(method) => method.into_method(alloc),
+        _ => unreachable!(),
+    }
+}
+
 impl AnyMethod {
+    pub fn kind(&self) -> Kind
+        ensures { result ≡ (any_call self.now).kind }
+    {
+        match self {
+            AnyMethod::ConnectionStart(_) => Kind::ConnectionStart,
+            AnyMethod::ConnectionStartOk(_) => Kind::ConnectionStartOk,
+            AnyMethod::ConnectionSecure(_) => Kind::ConnectionSecure,
+            AnyMethod::ConnectionSecureOk(_) => Kind::ConnectionSecureOk,
+            AnyMethod::ConnectionTune(_) => Kind::ConnectionTune,
+            AnyMethod::ConnectionTuneOk(_) => Kind::ConnectionTuneOk,
+            AnyMethod::ConnectionOpen(_) => Kind::ConnectionOpen,
+            AnyMethod::ConnectionOpenOk(_) => Kind::ConnectionOpenOk,
+            AnyMethod::ConnectionClose(_) => Kind::ConnectionClose,
+            AnyMethod::ConnectionCloseOk(_) => Kind::ConnectionCloseOk,
+            AnyMethod::ConnectionBlocked(_) => Kind::ConnectionBlocked,
+            AnyMethod::ConnectionUnblocked(_) => Kind::ConnectionUnblocked,
+            AnyMethod::ChannelOpen(_) => Kind::ChannelOpen,
+            AnyMethod::ChannelOpenOk(_) => Kind::ChannelOpenOk,
+            AnyMethod::ChannelFlow(_) => Kind::ChannelFlow,
+            AnyMethod::ChannelFlowOk(_) => Kind::ChannelFlowOk,
+            AnyMethod::ChannelClose(_) => Kind::ChannelClose,
+            AnyMethod::ChannelCloseOk(_) => Kind::ChannelCloseOk,
+            AnyMethod::ExchangeDeclare(_) => Kind::ExchangeDeclare,
+            AnyMethod::ExchangeDeclareOk(_) => Kind::ExchangeDeclareOk,
+            AnyMethod::ExchangeDelete(_) => Kind::ExchangeDelete,
+            AnyMethod::ExchangeDeleteOk(_) => Kind::ExchangeDeleteOk,
+            AnyMethod::ExchangeBind(_) => Kind::ExchangeBind,
+            AnyMethod::ExchangeBindOk(_) => Kind::ExchangeBindOk,
+            AnyMethod::ExchangeUnbind(_) => Kind::ExchangeUnbind,
+            AnyMethod::ExchangeUnbindOk(_) => Kind::ExchangeUnbindOk,
+            AnyMethod::QueueDeclare(_) => Kind::QueueDeclare,
+            AnyMethod::QueueDeclareOk(_) => Kind::QueueDeclareOk,
+            AnyMethod::QueueBind(_) => Kind::QueueBind,
+            AnyMethod::QueueBindOk(_) => Kind::QueueBindOk,
+            AnyMethod::QueueUnbind(_) => Kind::QueueUnbind,
+            AnyMethod::QueueUnbindOk(_) => Kind::QueueUnbindOk,
+            AnyMethod::QueuePurge(_) => Kind::QueuePurge,
+            AnyMethod::QueuePurgeOk(_) => Kind::QueuePurgeOk,
+            AnyMethod::QueueDelete(_) => Kind::QueueDelete,
+            AnyMethod::QueueDeleteOk(_) => Kind::QueueDeleteOk,
+            AnyMethod::BasicQos(_) => Kind::BasicQos,
+            AnyMethod::BasicQosOk(_) => Kind::BasicQosOk,
+            AnyMethod::BasicConsume(_) => Kind::BasicConsume,
+            AnyMethod::BasicConsumeOk(_) => Kind::BasicConsumeOk,
+            AnyMethod::BasicCancel(_) => Kind::BasicCancel,
+            AnyMethod::BasicCancelOk(_) => Kind::BasicCancelOk,
+            AnyMethod::BasicPublish(_) => Kind::BasicPublish,
+            AnyMethod::BasicReturn(_) => Kind::BasicReturn,
+            AnyMethod::BasicDeliver(_) => Kind::BasicDeliver,
+            AnyMethod::BasicGet(_) => Kind::BasicGet,
+            AnyMethod::BasicGetOk(_) => Kind::BasicGetOk,
+            AnyMethod::BasicGetEmpty(_) => Kind::BasicGetEmpty,
+            AnyMethod::BasicAck(_) => Kind::BasicAck,
+            AnyMethod::BasicReject(_) => Kind::BasicReject,
+            AnyMethod::BasicRecoverAsync(_) => Kind::BasicRecoverAsync,
+            AnyMethod::BasicRecover(_) => Kind::BasicRecover,
+            AnyMethod::BasicRecoverOk(_) => Kind::BasicRecoverOk,
+            AnyMethod::BasicNack(_) => Kind::BasicNack,
+            AnyMethod::TxSelect(_) => Kind::TxSelect,
+            AnyMethod::TxSelectOk(_) => Kind::TxSelectOk,
+            AnyMethod::TxCommit(_) => Kind::TxCommit,
+            AnyMethod::TxCommitOk(_) => Kind::TxCommitOk,
+            AnyMethod::TxRollback(_) => Kind::TxRollback,
+            AnyMethod::TxRollbackOk(_) => Kind::TxRollbackOk,
+            AnyMethod::ConfirmSelect(_) => Kind::ConfirmSelect,
+            AnyMethod::ConfirmSelectOk(_) => Kind::ConfirmSelectOk,
+        }
+    }
+
     /// What a method says.
     pub fn from_method(method: Method) -> AnyMethod
         ensures { any_call result ≡ method_view method }
@@ -292,69 +494,91 @@ impl AnyMethod {
     pub fn into_method(self, alloc: Global) -> Result<Method, OutOfMemory>
         ensures { IfOk result (λ m. method_view m ≡ any_call self) }
     {
-        match self {
-            AnyMethod::ConnectionStart(method) => method.into_method(alloc),
-            AnyMethod::ConnectionStartOk(method) => method.into_method(alloc),
-            AnyMethod::ConnectionSecure(method) => method.into_method(alloc),
-            AnyMethod::ConnectionSecureOk(method) => method.into_method(alloc),
-            AnyMethod::ConnectionTune(method) => method.into_method(alloc),
-            AnyMethod::ConnectionTuneOk(method) => method.into_method(alloc),
-            AnyMethod::ConnectionOpen(method) => method.into_method(alloc),
-            AnyMethod::ConnectionOpenOk(method) => method.into_method(alloc),
-            AnyMethod::ConnectionClose(method) => method.into_method(alloc),
-            AnyMethod::ConnectionCloseOk(method) => method.into_method(alloc),
-            AnyMethod::ConnectionBlocked(method) => method.into_method(alloc),
-            AnyMethod::ConnectionUnblocked(method) => method.into_method(alloc),
-            AnyMethod::ChannelOpen(method) => method.into_method(alloc),
-            AnyMethod::ChannelOpenOk(method) => method.into_method(alloc),
-            AnyMethod::ChannelFlow(method) => method.into_method(alloc),
-            AnyMethod::ChannelFlowOk(method) => method.into_method(alloc),
-            AnyMethod::ChannelClose(method) => method.into_method(alloc),
-            AnyMethod::ChannelCloseOk(method) => method.into_method(alloc),
-            AnyMethod::ExchangeDeclare(method) => method.into_method(alloc),
-            AnyMethod::ExchangeDeclareOk(method) => method.into_method(alloc),
-            AnyMethod::ExchangeDelete(method) => method.into_method(alloc),
-            AnyMethod::ExchangeDeleteOk(method) => method.into_method(alloc),
-            AnyMethod::ExchangeBind(method) => method.into_method(alloc),
-            AnyMethod::ExchangeBindOk(method) => method.into_method(alloc),
-            AnyMethod::ExchangeUnbind(method) => method.into_method(alloc),
-            AnyMethod::ExchangeUnbindOk(method) => method.into_method(alloc),
-            AnyMethod::QueueDeclare(method) => method.into_method(alloc),
-            AnyMethod::QueueDeclareOk(method) => method.into_method(alloc),
-            AnyMethod::QueueBind(method) => method.into_method(alloc),
-            AnyMethod::QueueBindOk(method) => method.into_method(alloc),
-            AnyMethod::QueueUnbind(method) => method.into_method(alloc),
-            AnyMethod::QueueUnbindOk(method) => method.into_method(alloc),
-            AnyMethod::QueuePurge(method) => method.into_method(alloc),
-            AnyMethod::QueuePurgeOk(method) => method.into_method(alloc),
-            AnyMethod::QueueDelete(method) => method.into_method(alloc),
-            AnyMethod::QueueDeleteOk(method) => method.into_method(alloc),
-            AnyMethod::BasicQos(method) => method.into_method(alloc),
-            AnyMethod::BasicQosOk(method) => method.into_method(alloc),
-            AnyMethod::BasicConsume(method) => method.into_method(alloc),
-            AnyMethod::BasicConsumeOk(method) => method.into_method(alloc),
-            AnyMethod::BasicCancel(method) => method.into_method(alloc),
-            AnyMethod::BasicCancelOk(method) => method.into_method(alloc),
-            AnyMethod::BasicPublish(method) => method.into_method(alloc),
-            AnyMethod::BasicReturn(method) => method.into_method(alloc),
-            AnyMethod::BasicDeliver(method) => method.into_method(alloc),
-            AnyMethod::BasicGet(method) => method.into_method(alloc),
-            AnyMethod::BasicGetOk(method) => method.into_method(alloc),
-            AnyMethod::BasicGetEmpty(method) => method.into_method(alloc),
-            AnyMethod::BasicAck(method) => method.into_method(alloc),
-            AnyMethod::BasicReject(method) => method.into_method(alloc),
-            AnyMethod::BasicRecoverAsync(method) => method.into_method(alloc),
-            AnyMethod::BasicRecover(method) => method.into_method(alloc),
-            AnyMethod::BasicRecoverOk(method) => method.into_method(alloc),
-            AnyMethod::BasicNack(method) => method.into_method(alloc),
-            AnyMethod::TxSelect(method) => method.into_method(alloc),
-            AnyMethod::TxSelectOk(method) => method.into_method(alloc),
-            AnyMethod::TxCommit(method) => method.into_method(alloc),
-            AnyMethod::TxCommitOk(method) => method.into_method(alloc),
-            AnyMethod::TxRollback(method) => method.into_method(alloc),
-            AnyMethod::TxRollbackOk(method) => method.into_method(alloc),
-            AnyMethod::ConfirmSelect(method) => method.into_method(alloc),
-            AnyMethod::ConfirmSelectOk(method) => method.into_method(alloc),
+        match self.kind().class_id() {
+            10 => connection_method(self, alloc),
+            20 => channel_method(self, alloc),
+            40 => exchange_method(self, alloc),
+            50 => queue_method(self, alloc),
+            60 => basic_method(self, alloc),
+            90 => tx_method(self, alloc),
+            _ => confirm_method(self, alloc),
         }
+    }
+}
+
+fn write_struct<W: fmt::Write>(f: &mut fmt::Formatter<W>, method: &AnyMethod) -> fmt::Result {
+    match method {
+        AnyMethod::ConnectionStart(method) => fmt::Debug::fmt(method, f),
+        AnyMethod::ConnectionStartOk(method) => fmt::Debug::fmt(method, f),
+        AnyMethod::ConnectionSecure(method) => fmt::Debug::fmt(method, f),
+        AnyMethod::ConnectionSecureOk(method) => fmt::Debug::fmt(method, f),
+        AnyMethod::ConnectionTune(method) => fmt::Debug::fmt(method, f),
+        AnyMethod::ConnectionTuneOk(method) => fmt::Debug::fmt(method, f),
+        AnyMethod::ConnectionOpen(method) => fmt::Debug::fmt(method, f),
+        AnyMethod::ConnectionOpenOk(method) => fmt::Debug::fmt(method, f),
+        AnyMethod::ConnectionClose(method) => fmt::Debug::fmt(method, f),
+        AnyMethod::ConnectionCloseOk(method) => fmt::Debug::fmt(method, f),
+        AnyMethod::ConnectionBlocked(method) => fmt::Debug::fmt(method, f),
+        AnyMethod::ConnectionUnblocked(method) => fmt::Debug::fmt(method, f),
+        AnyMethod::ChannelOpen(method) => fmt::Debug::fmt(method, f),
+        AnyMethod::ChannelOpenOk(method) => fmt::Debug::fmt(method, f),
+        AnyMethod::ChannelFlow(method) => fmt::Debug::fmt(method, f),
+        AnyMethod::ChannelFlowOk(method) => fmt::Debug::fmt(method, f),
+        AnyMethod::ChannelClose(method) => fmt::Debug::fmt(method, f),
+        AnyMethod::ChannelCloseOk(method) => fmt::Debug::fmt(method, f),
+        AnyMethod::ExchangeDeclare(method) => fmt::Debug::fmt(method, f),
+        AnyMethod::ExchangeDeclareOk(method) => fmt::Debug::fmt(method, f),
+        AnyMethod::ExchangeDelete(method) => fmt::Debug::fmt(method, f),
+        AnyMethod::ExchangeDeleteOk(method) => fmt::Debug::fmt(method, f),
+        AnyMethod::ExchangeBind(method) => fmt::Debug::fmt(method, f),
+        AnyMethod::ExchangeBindOk(method) => fmt::Debug::fmt(method, f),
+        AnyMethod::ExchangeUnbind(method) => fmt::Debug::fmt(method, f),
+        AnyMethod::ExchangeUnbindOk(method) => fmt::Debug::fmt(method, f),
+        AnyMethod::QueueDeclare(method) => fmt::Debug::fmt(method, f),
+        AnyMethod::QueueDeclareOk(method) => fmt::Debug::fmt(method, f),
+        AnyMethod::QueueBind(method) => fmt::Debug::fmt(method, f),
+        AnyMethod::QueueBindOk(method) => fmt::Debug::fmt(method, f),
+        AnyMethod::QueueUnbind(method) => fmt::Debug::fmt(method, f),
+        AnyMethod::QueueUnbindOk(method) => fmt::Debug::fmt(method, f),
+        AnyMethod::QueuePurge(method) => fmt::Debug::fmt(method, f),
+        AnyMethod::QueuePurgeOk(method) => fmt::Debug::fmt(method, f),
+        AnyMethod::QueueDelete(method) => fmt::Debug::fmt(method, f),
+        AnyMethod::QueueDeleteOk(method) => fmt::Debug::fmt(method, f),
+        AnyMethod::BasicQos(method) => fmt::Debug::fmt(method, f),
+        AnyMethod::BasicQosOk(method) => fmt::Debug::fmt(method, f),
+        AnyMethod::BasicConsume(method) => fmt::Debug::fmt(method, f),
+        AnyMethod::BasicConsumeOk(method) => fmt::Debug::fmt(method, f),
+        AnyMethod::BasicCancel(method) => fmt::Debug::fmt(method, f),
+        AnyMethod::BasicCancelOk(method) => fmt::Debug::fmt(method, f),
+        AnyMethod::BasicPublish(method) => fmt::Debug::fmt(method, f),
+        AnyMethod::BasicReturn(method) => fmt::Debug::fmt(method, f),
+        AnyMethod::BasicDeliver(method) => fmt::Debug::fmt(method, f),
+        AnyMethod::BasicGet(method) => fmt::Debug::fmt(method, f),
+        AnyMethod::BasicGetOk(method) => fmt::Debug::fmt(method, f),
+        AnyMethod::BasicGetEmpty(method) => fmt::Debug::fmt(method, f),
+        AnyMethod::BasicAck(method) => fmt::Debug::fmt(method, f),
+        AnyMethod::BasicReject(method) => fmt::Debug::fmt(method, f),
+        AnyMethod::BasicRecoverAsync(method) => fmt::Debug::fmt(method, f),
+        AnyMethod::BasicRecover(method) => fmt::Debug::fmt(method, f),
+        AnyMethod::BasicRecoverOk(method) => fmt::Debug::fmt(method, f),
+        AnyMethod::BasicNack(method) => fmt::Debug::fmt(method, f),
+        AnyMethod::TxSelect(method) => fmt::Debug::fmt(method, f),
+        AnyMethod::TxSelectOk(method) => fmt::Debug::fmt(method, f),
+        AnyMethod::TxCommit(method) => fmt::Debug::fmt(method, f),
+        AnyMethod::TxCommitOk(method) => fmt::Debug::fmt(method, f),
+        AnyMethod::TxRollback(method) => fmt::Debug::fmt(method, f),
+        AnyMethod::TxRollbackOk(method) => fmt::Debug::fmt(method, f),
+        AnyMethod::ConfirmSelect(method) => fmt::Debug::fmt(method, f),
+        AnyMethod::ConfirmSelectOk(method) => fmt::Debug::fmt(method, f),
+    }
+}
+
+/// Prints the kind, and in parentheses what the struct prints.
+impl fmt::Debug for AnyMethod {
+    fn fmt<W: fmt::Write>(&self, f: &mut fmt::Formatter<W>) -> fmt::Result {
+        let kind = self.kind();
+        write!(f, "{kind:?}(")?;
+        write_struct(f, self)?;
+        f.write_str(")")
     }
 }

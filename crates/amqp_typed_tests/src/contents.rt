@@ -1,9 +1,8 @@
 //! Messages: a method that a content follows, with the content.
-use crate::showing::{assert_written, text};
+use crate::showing::{assert_message, text};
 use amqp_method::{Message, Properties};
 use amqp_typed::{basic, delivery_mode};
 use std::alloc::Global;
-use std::process::Abort;
 use std::test::Fail;
 
 fn persistent() -> Properties {
@@ -12,59 +11,73 @@ fn persistent() -> Properties {
     properties
 }
 
-/// The message has this method, the properties of [`persistent`], and the body `hi`.
-fn assert_message(
-    rt: &impl Abort,
-    alloc: Global,
-    message: &Message,
-    octets: &str,
-) -> Result<(), Fail> {
-    let (properties, body) = message.content_parts().ok_or("no content")?;
-    assert!(rt; properties.delivery_mode == Some(2));
-    assert!(rt; body == b"hi".as_slice());
-    assert_written(rt, alloc, message.method(), octets)
+fn publish(alloc: Global) -> Result<Message, Fail> {
+    let publish = basic::Publish::new(text(alloc, "a")?, text(alloc, "bb")?);
+    let body = Vec::from_slice(alloc, b"hi")?;
+    Ok(publish.message(alloc, persistent(), body)?)
+}
+
+fn returned(alloc: Global) -> Result<Message, Fail> {
+    let reason = text(alloc, "bb")?;
+    let returned = basic::Return::new(312, reason, text(alloc, "c")?, text(alloc, "dd")?);
+    let body = Vec::from_slice(alloc, b"hi")?;
+    Ok(returned.message(alloc, persistent(), body)?)
+}
+
+fn delivery(alloc: Global) -> Result<Message, Fail> {
+    let tag = text(alloc, "a")?;
+    let deliver = basic::Deliver::new(tag, 7, text(alloc, "c")?, text(alloc, "dd")?);
+    let body = Vec::from_slice(alloc, b"hi")?;
+    Ok(deliver.message(alloc, persistent(), body)?)
+}
+
+fn got(alloc: Global) -> Result<Message, Fail> {
+    let got = basic::GetOk::new(7, text(alloc, "c")?, text(alloc, "dd")?, 9);
+    let body = Vec::from_slice(alloc, b"hi")?;
+    Ok(got.message(alloc, persistent(), body)?)
 }
 
 #[test]
 fn a_publish(rt: HostRuntime) -> Result<(), Fail> {
-    let alloc = rt.alloc();
-    let publish = basic::Publish::new(text(alloc, "a")?, text(alloc, "bb")?);
-    let message = publish.message(alloc, persistent(), Vec::from_slice(alloc, b"hi")?)?;
-    assert_message(&rt, alloc, &message, "003c00280000016102626200")
+    let octets = "003c00280000016102626200";
+    assert_message(
+        &rt,
+        rt.alloc(),
+        publish(rt.alloc())?,
+        Some(2),
+        b"hi",
+        octets,
+    )
 }
 
 #[test]
 fn a_return(rt: HostRuntime) -> Result<(), Fail> {
-    let alloc = rt.alloc();
-    let reason = text(alloc, "bb")?;
-    let returned = basic::Return::new(312, reason, text(alloc, "c")?, text(alloc, "dd")?);
-    let message = returned.message(alloc, persistent(), Vec::from_slice(alloc, b"hi")?)?;
-    assert_message(&rt, alloc, &message, "003c003201380262620163026464")
+    let octets = "003c003201380262620163026464";
+    assert_message(
+        &rt,
+        rt.alloc(),
+        returned(rt.alloc())?,
+        Some(2),
+        b"hi",
+        octets,
+    )
 }
 
 #[test]
 fn a_delivery(rt: HostRuntime) -> Result<(), Fail> {
-    let alloc = rt.alloc();
-    let tag = text(alloc, "a")?;
-    let deliver = basic::Deliver::new(tag, 7, text(alloc, "c")?, text(alloc, "dd")?);
-    let message = deliver.message(alloc, persistent(), Vec::from_slice(alloc, b"hi")?)?;
+    let octets = "003c003c01610000000000000007000163026464";
     assert_message(
         &rt,
-        alloc,
-        &message,
-        "003c003c01610000000000000007000163026464",
+        rt.alloc(),
+        delivery(rt.alloc())?,
+        Some(2),
+        b"hi",
+        octets,
     )
 }
 
 #[test]
 fn a_message_that_was_asked_for(rt: HostRuntime) -> Result<(), Fail> {
-    let alloc = rt.alloc();
-    let got = basic::GetOk::new(7, text(alloc, "c")?, text(alloc, "dd")?, 9);
-    let message = got.message(alloc, persistent(), Vec::from_slice(alloc, b"hi")?)?;
-    assert_message(
-        &rt,
-        alloc,
-        &message,
-        "003c0047000000000000000700016302646400000009",
-    )
+    let octets = "003c0047000000000000000700016302646400000009";
+    assert_message(&rt, rt.alloc(), got(rt.alloc())?, Some(2), b"hi", octets)
 }

@@ -1,8 +1,8 @@
-//! What ten operations ask of the allocator, with arguments by place and by name. By themselves these tests compare what is made;
-//! where requests are counted between the marks (`beside/memory/count.c`, preloaded), they show how much each way takes. Part 40
-//! is an operation by place, and part 41 the same by name.
+//! What ten operations ask of the allocator, with arguments by place and by name. By themselves these tests compare what
+//! is made; where requests are counted between the marks (`beside/memory/count.c`, preloaded), they show how much each
+//! way takes. Part 40 is an operation by place, and part 41 the same by name.
 use crate::marking::mark;
-use crate::showing::assert_written;
+use crate::showing::{assert_message, assert_method};
 use crate::{by_name, by_place};
 use amqp_method::{Message, Method, read_method};
 use std::alloc::Global;
@@ -19,159 +19,179 @@ const CONFIRM: &[u8] = b"\x00\x3c\x00\x50\x00\x00\x00\x00\x00\x00\x00\x07\x01";
 
 const DELIVER: &[u8] = b"\x00\x3c\x00\x3c\x02c1\x00\x00\x00\x00\x00\x00\x00\x03\x00\x00\x06orders";
 
-/// Both methods have these octets.
-fn assert_both(
+/// What an operation makes, between the marks of a part.
+fn made<T: Drop, F: Fn(Global) -> Result<T, Fail>>(
     rt: &impl Abort,
     alloc: Global,
-    placed: &Method,
-    named: &Method,
-    octets: &str,
-) -> Result<(), Fail> {
-    assert_written(rt, alloc, placed, octets)?;
-    assert_written(rt, alloc, named, octets)
+    part: u8,
+    make: F,
+) -> Result<T, Fail>
+    requires { F.IsAlwaysCallable make }
+{
+    mark(rt, alloc, part)?;
+    let made = make(alloc)?;
+    mark(rt, alloc, 0)?;
+    Ok(made)
 }
 
-/// The message has a method of these octets, and the body `hello`.
-fn assert_message(
+/// What an operation makes of a method that came, between the marks of a part.
+fn made_of<T: Drop, F: Fn(Global, Method) -> Result<T, Fail>>(
     rt: &impl Abort,
     alloc: Global,
-    message: &Message,
-    octets: &str,
-) -> Result<(), Fail> {
-    let (_, body) = message.content_parts().ok_or("no content")?;
-    assert!(rt; body == b"hello".as_slice());
-    assert_written(rt, alloc, message.method(), octets)
+    part: u8,
+    octets: &[u8],
+    make: F,
+) -> Result<T, Fail>
+    requires { F.IsAlwaysCallable make }
+{
+    let method = read_method(alloc, octets)?;
+    mark(rt, alloc, part)?;
+    let made = make(alloc, method)?;
+    mark(rt, alloc, 0)?;
+    Ok(made)
+}
+
+/// What an operation reads in a method that came, between the marks of a part.
+fn read_in<T: Copy, F: Fn(&Method) -> T>(
+    rt: &impl Abort,
+    alloc: Global,
+    part: u8,
+    octets: &[u8],
+    read: F,
+) -> Result<T, Fail>
+    requires { F.IsAlwaysCallable read }
+{
+    let method = read_method(alloc, octets)?;
+    mark(rt, alloc, part)?;
+    let found = read(&method);
+    mark(rt, alloc, 0)?;
+    Ok(found)
 }
 
 #[test]
 fn declaring_a_queue(rt: HostRuntime) -> Result<(), Fail> {
     let alloc = rt.alloc();
-    mark(&rt, alloc, BY_PLACE)?;
-    let placed = by_place::declare(alloc)?;
-    mark(&rt, alloc, BY_NAME)?;
-    let named = by_name::declare(alloc)?;
-    mark(&rt, alloc, 0)?;
-    assert_both(
+    let octets =
+        "0032000a0000066f726465727302000000250c782d6d61782d6c656e67746849000003e80d782d6d6573736167652d74746c490000ea60";
+    assert_method(
         &rt,
         alloc,
-        &placed,
-        &named,
-        "0032000a0000066f726465727302000000250c782d6d61782d6c656e67746849000003e80d782d6d6573736167652d74746c490000ea60",
+        made(&rt, alloc, BY_PLACE, by_place::declare)?,
+        octets,
+    )?;
+    assert_method(
+        &rt,
+        alloc,
+        made(&rt, alloc, BY_NAME, by_name::declare)?,
+        octets,
     )
 }
 
 #[test]
 fn consuming(rt: HostRuntime) -> Result<(), Fail> {
     let alloc = rt.alloc();
-    mark(&rt, alloc, BY_PLACE)?;
-    let placed = by_place::consume(alloc)?;
-    mark(&rt, alloc, BY_NAME)?;
-    let named = by_name::consume(alloc)?;
-    mark(&rt, alloc, 0)?;
-    assert_both(
+    let octets = "003c00140000066f72646572730263310400000000";
+    assert_method(
         &rt,
         alloc,
-        &placed,
-        &named,
-        "003c00140000066f72646572730263310400000000",
+        made(&rt, alloc, BY_PLACE, by_place::consume)?,
+        octets,
+    )?;
+    assert_method(
+        &rt,
+        alloc,
+        made(&rt, alloc, BY_NAME, by_name::consume)?,
+        octets,
     )
 }
 
 #[test]
 fn acknowledging(rt: HostRuntime) -> Result<(), Fail> {
     let alloc = rt.alloc();
-    mark(&rt, alloc, BY_PLACE)?;
-    let placed = by_place::ack(alloc)?;
-    mark(&rt, alloc, BY_NAME)?;
-    let named = by_name::ack(alloc)?;
-    mark(&rt, alloc, 0)?;
-    assert_both(&rt, alloc, &placed, &named, "003c0050000000000000000300")
+    let octets = "003c0050000000000000000300";
+    assert_method(
+        &rt,
+        alloc,
+        made(&rt, alloc, BY_PLACE, by_place::ack)?,
+        octets,
+    )?;
+    assert_method(&rt, alloc, made(&rt, alloc, BY_NAME, by_name::ack)?, octets)
 }
 
 #[test]
 fn rejecting(rt: HostRuntime) -> Result<(), Fail> {
     let alloc = rt.alloc();
-    mark(&rt, alloc, BY_PLACE)?;
-    let placed = by_place::nack(alloc)?;
-    mark(&rt, alloc, BY_NAME)?;
-    let named = by_name::nack(alloc)?;
-    mark(&rt, alloc, 0)?;
-    assert_both(&rt, alloc, &placed, &named, "003c0078000000000000000402")
+    let octets = "003c0078000000000000000402";
+    assert_method(
+        &rt,
+        alloc,
+        made(&rt, alloc, BY_PLACE, by_place::nack)?,
+        octets,
+    )?;
+    assert_method(
+        &rt,
+        alloc,
+        made(&rt, alloc, BY_NAME, by_name::nack)?,
+        octets,
+    )
 }
 
 #[test]
 fn limiting(rt: HostRuntime) -> Result<(), Fail> {
     let alloc = rt.alloc();
-    mark(&rt, alloc, BY_PLACE)?;
-    let placed = by_place::qos(alloc)?;
-    mark(&rt, alloc, BY_NAME)?;
-    let named = by_name::qos(alloc)?;
-    mark(&rt, alloc, 0)?;
-    assert_both(&rt, alloc, &placed, &named, "003c000a00000000006400")
+    let octets = "003c000a00000000006400";
+    assert_method(
+        &rt,
+        alloc,
+        made(&rt, alloc, BY_PLACE, by_place::qos)?,
+        octets,
+    )?;
+    assert_method(&rt, alloc, made(&rt, alloc, BY_NAME, by_name::qos)?, octets)
 }
 
 #[test]
 fn closing_a_channel(rt: HostRuntime) -> Result<(), Fail> {
     let alloc = rt.alloc();
-    mark(&rt, alloc, BY_PLACE)?;
-    let placed = by_place::close(alloc)?;
-    mark(&rt, alloc, BY_NAME)?;
-    let named = by_name::close(alloc)?;
-    mark(&rt, alloc, 0)?;
-    assert_both(
+    let octets = "001400280194094e4f545f464f554e44003c0028";
+    assert_method(
         &rt,
         alloc,
-        &placed,
-        &named,
-        "001400280194094e4f545f464f554e44003c0028",
+        made(&rt, alloc, BY_PLACE, by_place::close)?,
+        octets,
+    )?;
+    assert_method(
+        &rt,
+        alloc,
+        made(&rt, alloc, BY_NAME, by_name::close)?,
+        octets,
     )
 }
 
 #[test]
 fn publishing(rt: HostRuntime) -> Result<(), Fail> {
     let alloc = rt.alloc();
-    mark(&rt, alloc, BY_PLACE)?;
-    let placed = by_place::publish(alloc)?;
-    mark(&rt, alloc, BY_NAME)?;
-    let named = by_name::publish(alloc)?;
-    mark(&rt, alloc, 0)?;
-    assert_message(&rt, alloc, &placed, "003c0028000000066f726465727301")?;
-    assert_message(&rt, alloc, &named, "003c0028000000066f726465727301")
+    let octets = "003c0028000000066f726465727301";
+    let placed: Message = made(&rt, alloc, BY_PLACE, by_place::publish)?;
+    assert_message(&rt, alloc, placed, Some(2), b"hello", octets)?;
+    let named: Message = made(&rt, alloc, BY_NAME, by_name::publish)?;
+    assert_message(&rt, alloc, named, Some(2), b"hello", octets)
 }
 
 #[test]
 fn forwarding(rt: HostRuntime) -> Result<(), Fail> {
     let alloc = rt.alloc();
-    let first = read_method(alloc, DELIVER)?;
-    let second = read_method(alloc, DELIVER)?;
-    mark(&rt, alloc, BY_PLACE)?;
-    let placed = by_place::forward(alloc, first)?;
-    mark(&rt, alloc, BY_NAME)?;
-    let named = by_name::forward(alloc, second)?;
-    mark(&rt, alloc, 0)?;
-    assert_message(
-        &rt,
-        alloc,
-        &placed,
-        "003c0028000006636f70696573066f726465727300",
-    )?;
-    assert_message(
-        &rt,
-        alloc,
-        &named,
-        "003c0028000006636f70696573066f726465727300",
-    )
+    let octets = "003c0028000006636f70696573066f726465727300";
+    let placed: Message = made_of(&rt, alloc, BY_PLACE, DELIVER, by_place::forward)?;
+    assert_message(&rt, alloc, placed, None, b"hello", octets)?;
+    let named: Message = made_of(&rt, alloc, BY_NAME, DELIVER, by_name::forward)?;
+    assert_message(&rt, alloc, named, None, b"hello", octets)
 }
 
 #[test]
 fn reading_a_return(rt: HostRuntime) -> Result<(), Fail> {
     let alloc = rt.alloc();
-    let method = read_method(alloc, RETURN)?;
-    mark(&rt, alloc, BY_PLACE)?;
-    let placed = by_place::returned(&method);
-    mark(&rt, alloc, BY_NAME)?;
-    let named = by_name::returned(&method);
-    mark(&rt, alloc, 0)?;
+    let placed = read_in(&rt, alloc, BY_PLACE, RETURN, by_place::returned)?;
+    let named = read_in(&rt, alloc, BY_NAME, RETURN, by_name::returned)?;
     assert!(rt; placed == Some((312, 7)) && named == Some((312, 7)));
     Ok(())
 }
@@ -179,12 +199,8 @@ fn reading_a_return(rt: HostRuntime) -> Result<(), Fail> {
 #[test]
 fn reading_a_confirm(rt: HostRuntime) -> Result<(), Fail> {
     let alloc = rt.alloc();
-    let method = read_method(alloc, CONFIRM)?;
-    mark(&rt, alloc, BY_PLACE)?;
-    let placed = by_place::confirmed(&method);
-    mark(&rt, alloc, BY_NAME)?;
-    let named = by_name::confirmed(&method);
-    mark(&rt, alloc, 0)?;
+    let placed = read_in(&rt, alloc, BY_PLACE, CONFIRM, by_place::confirmed)?;
+    let named = read_in(&rt, alloc, BY_NAME, CONFIRM, by_name::confirmed)?;
     assert!(rt; placed == Some((7, true)) && named == Some((7, true)));
     Ok(())
 }

@@ -1,6 +1,6 @@
 //! Each method read from its octets: into its struct, and back.
 use crate::samples::{BASIC, CHANNEL, CONFIRM, CONNECTION, EXCHANGE, QUEUE, Sample, TX};
-use crate::showing::{assert_text, assert_written};
+use crate::showing::{assert_method, assert_text};
 use amqp_method::{Method, read_method};
 use amqp_typed::AnyMethod;
 use std::alloc::Global;
@@ -23,8 +23,10 @@ fn assert_printed(
 
 fn assert_sample(rt: &impl Abort, alloc: Global, octets: &str, wanted: &str) -> Result<(), Fail> {
     let method = AnyMethod::from_method(read(alloc, octets)?);
-    assert_printed(rt, alloc, &method, wanted)?;
-    assert_written(rt, alloc, &method.into_method(alloc)?, octets)
+    let printed = assert_printed(rt, alloc, &method, wanted);
+    let back = method.into_method(alloc);
+    printed?;
+    assert_method(rt, alloc, back?, octets)
 }
 
 fn assert_samples(rt: &impl Abort, alloc: Global, samples: &[Sample]) -> Result<(), Fail> {
