@@ -27,3 +27,5 @@ mod sockets;
 mod steps;
 #[cfg(test)]
 mod streams;
+#[cfg(test)]
+mod turns;

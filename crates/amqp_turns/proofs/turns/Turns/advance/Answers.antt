@@ -1,0 +1,21 @@
+-- Each turn of the loop sends one message more, and the last none.
+use Rattle.std.proofs.Common.{arith}
+use Rattle.amqp_turns.specs.Sends.{none_sent}
+use Rattle.amqp_turns.proofs.SendLemmas.{advances_on}
+use Rattle.amqp_turns.proofs.turns.Turns.advance.Goals as goal
+
+pub loop-sent-init : goal.loop-sent-init
+loop-sent-init g c = record { advances = none_sent; count = omega arith }
+
+pub returns-in_err-send_next-clause-advances : goal.returns-in_err-send_next-clause-advances
+returns-in_err-send_next-clause-advances g c = advances_on _ _ _ c.loop-sent.invariant.advances c.send_next.ensures.advances
+
+pub loop-sent-preserved : goal.loop-sent-preserved
+loop-sent-preserved g c =
+    record {
+      advances = advances_on _ _ _ c.loop-sent.invariant.advances c.send_next.ensures.advances;
+      count = omega (arith, c.in_ok-send_next.ensures.one c.if-branch.true, c.loop-sent.invariant.count);
+    }
+
+pub returns-clause-advances : goal.returns-clause-advances
+returns-clause-advances g c = advances_on _ _ _ c.loop-sent.invariant.advances c.send_next.ensures.advances
