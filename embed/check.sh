@@ -1,6 +1,6 @@
 #!/bin/sh
-# Runs the tests of the library in C, C++, Rust and Python, under the sanitizers and valgrind where they are there, and says what
-# it left out. Run embed/build first.
+# Runs the tests of the library in C, C++, Rust and Python, under the sanitizers and valgrind where they are there,
+# and says what it left out. Run embed/build first.
 set -eu
 
 top=$(cd "$(dirname "$0")/.." && pwd)
@@ -14,7 +14,22 @@ strict="-Wall -Wextra -pedantic -Werror"
 say() { echo "embed/check.sh: $*"; }
 have() { command -v "$1" >/dev/null 2>&1; }
 
+# ends with what a test said
+failed() {
+	cat "$work/said"
+	say "$1: failed"
+	exit 1
+}
+
 [ -f "$made/libmeadowtray.a" ] || { say "there is no archive: run embed/build"; exit 1; }
+
+# What restates the tables of docs/PROTOCOL.md is what its script writes.
+if have python3; then
+	python3 -B "$top/tools/c_methods.py" --check || exit 1
+	say "tables of methods and properties: passed"
+else
+	say "left out the tables of methods and properties: there is no python3"
+fi
 
 # Only the names of the header are exported.
 for file in "$made/libmeadowtray.a" "$made/libmeadowtray.so"; do
@@ -40,7 +55,7 @@ tests() {
 	for source in "$c"/tests/*.c; do
 		name=$(basename "$source" .c)
 		"$@" -std=c11 $strict -I"$c" -o "$work/$name" "$source" "$made/libmeadowtray.a" -lpthread
-		$runner "$work/$name" >"$work/said" || { cat "$work/said"; say "$name, $label: failed"; exit 1; }
+		$runner "$work/$name" >"$work/said" || failed "$name, $label"
 	done
 	say "C, $label: passed"
 }
@@ -68,14 +83,14 @@ else
 	say "left out C++: there is no $cxx"
 fi
 if have cargo; then
-	(cd "$top/embed/rust" && MEADOWTRAY_LIB="$made" cargo test --offline --quiet >"$work/said" 2>&1) || { cat "$work/said"; say "Rust: failed"; exit 1; }
+	(cd "$top/embed/rust" && MEADOWTRAY_LIB="$made" cargo test --offline --quiet) >"$work/said" 2>&1 || failed Rust
 	say "Rust: passed"
 else
 	say "left out Rust: there is no cargo"
 fi
 if have python3; then
 	for source in "$top"/embed/python/test_*.py; do
-		MEADOWTRAY_LIB="$made" python3 -B "$source" >"$work/said" 2>&1 || { cat "$work/said"; say "Python: failed"; exit 1; }
+		MEADOWTRAY_LIB="$made" python3 -B "$source" >"$work/said" 2>&1 || failed Python
 	done
 	say "Python: passed"
 else

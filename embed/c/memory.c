@@ -42,3 +42,17 @@ void rattle_dealloc(void *block)
 {
 	memory.release(block);
 }
+
+/* The same for the C part of the library. */
+void *take_memory(size_t size);
+void give_memory(void *block);
+
+void *take_memory(size_t size)
+{
+	return memory.allocate(size);
+}
+
+void give_memory(void *block)
+{
+	memory.release(block);
+}

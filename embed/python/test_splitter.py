@@ -6,7 +6,8 @@ from meadowtray import Fault, Frame, FrameKind, Splitter
 
 
 def octets(frame):
-    return bytes([frame.kind]) + frame.channel.to_bytes(2, "big") + len(frame.payload).to_bytes(4, "big") + frame.payload + b"\xce"
+    head = bytes([frame.kind]) + frame.channel.to_bytes(2, "big") + len(frame.payload).to_bytes(4, "big")
+    return head + frame.payload + b"\xce"
 
 
 FRAMES = [
@@ -26,7 +27,12 @@ class SplitterTest(unittest.TestCase):
                 self.assertEqual([frame for piece in pieces for frame in splitter.feed(piece)], FRAMES)
 
     def test_faults(self):
-        rows = [(b"\4", 101, 0), (b"\1\0\1\xff\xff\xff\xff", 102, 6), (b"\x08\0\0\0\0\0\0\0", 103, 7), (octets(FRAMES[1]) + b"\x09", 101, 8)]
+        rows = [
+            (b"\4", 101, 0),
+            (b"\1\0\1\xff\xff\xff\xff", 102, 6),
+            (b"\x08\0\0\0\0\0\0\0", 103, 7),
+            (octets(FRAMES[1]) + b"\x09", 101, 8),
+        ]
         for piece, status, at in rows:
             with self.subTest(piece=piece), Splitter(4096) as splitter:
                 with self.assertRaises(Fault) as raised:

@@ -1,3 +1,11 @@
+pub mod CodecStatuses
 pub mod Handles
+pub mod Headers
 pub mod Lending
+pub mod Methods
 pub mod Splitters
+pub mod Tables
+pub mod Values
+pub mod Writing
+pub mod WritingHeaders
+pub mod WritingTables

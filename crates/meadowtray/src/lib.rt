@@ -1,8 +1,10 @@
 //! The library as C programs call it.
 //!
-//! Each function here takes a handle's slot, numbers and octets, and answers a status: 0, or the number of a fault. The
-//! functions that C programs see stand in `embed/c`; they refuse null pointers and call these.
+//! The functions for a handle take its slot, numbers and octets; those for octets alone, the codec, take no handle, and keep
+//! nothing. Each answers a status: 0, or the number of a fault. The functions that C programs see stand in `embed/c`; they
+//! refuse null pointers and call these.
 #![tactic(auto)]
 
+mod codec;
 mod handles;
 mod splitting;

@@ -7,13 +7,13 @@
 
 static unsigned long checked;
 
-#define CHECK(condition)                                                                                                       \
-	do {                                                                                                                   \
-		++checked;                                                                                                     \
-		if (!(condition)) {                                                                                            \
-			fprintf(stderr, "%s:%d: %s\n", __FILE__, __LINE__, #condition);                                        \
-			exit(1);                                                                                               \
-		}                                                                                                              \
+#define CHECK(condition)                                                                                             \
+	do {                                                                                                         \
+		++checked;                                                                                           \
+		if (!(condition)) {                                                                                  \
+			fprintf(stderr, "%s:%d: %s\n", __FILE__, __LINE__, #condition);                              \
+			exit(1);                                                                                     \
+		}                                                                                                    \
 	} while (0)
 
 #endif

@@ -33,7 +33,8 @@ static const struct {
 	uint8_t kind;
 	uint16_t channel;
 	size_t length;
-} EXPECTED[] = {{MT_METHOD, 1, 5}, {MT_HEARTBEAT, 0, 0}, {MT_BODY, 7, 300}, {MT_BODY, 65535, 0}, {MT_HEADER, 256, 14}};
+} EXPECTED[] = {
+	{MT_METHOD, 1, 5}, {MT_HEARTBEAT, 0, 0}, {MT_BODY, 7, 300}, {MT_BODY, 65535, 0}, {MT_HEADER, 256, 14}};
 
 enum { FRAMES = sizeof EXPECTED / sizeof EXPECTED[0] };
 
@@ -136,7 +137,8 @@ static void faults(void)
 		size_t count, taken, pending;
 
 		CHECK(mt_splitter_open(&splitter, 4096) == MT_OK);
-		CHECK(mt_splitter_feed_batch(&splitter, octets, ROWS[i].length, frames, 4, &count, &taken) == ROWS[i].status);
+		CHECK(mt_splitter_feed_batch(&splitter, octets, ROWS[i].length, frames, 4, &count, &taken) ==
+		      ROWS[i].status);
 		CHECK(count == ROWS[i].length / 9);
 		CHECK(frames[count].at == ROWS[i].at);
 		CHECK(mt_splitter_feed(&splitter, octets, ROWS[i].length, frames) == MT_FRAME_FAILED);

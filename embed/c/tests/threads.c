@@ -18,7 +18,8 @@ static void *work(void *number)
 		mt_frame frame;
 		size_t octet = (size_t)turn % sizeof HEARTBEAT;
 
-		if (mt_splitter_feed(&splitters[turn / 8 % 2], &HEARTBEAT[octet], 1, &frame) == MT_OK && frame.kind == MT_HEARTBEAT)
+		if (mt_splitter_feed(&splitters[turn / 8 % 2], &HEARTBEAT[octet], 1, &frame) == MT_OK &&
+		    frame.kind == MT_HEARTBEAT)
 			++*found;
 	}
 	for (int i = 0; i < 2; ++i)

@@ -1,12 +1,20 @@
-//! AMQP 0-9-1 on the wire: frames split from a stream.
+//! AMQP 0-9-1 on the wire: frames split from a stream, and the methods, content headers and tables that they carry.
 //!
-//! What stands behind these types is a library that is proved; this crate calls it through C. It touches no socket: octets are
-//! handed in as they came, and what they hold is lent.
+//! What stands behind these types is a library that is proved; this crate calls it through C. It touches no socket:
+//! octets are handed in as they came, and what they hold is lent.
 #![warn(missing_debug_implementations)]
 
+mod fault;
+mod header;
+mod method;
 mod splitter;
 mod status;
 pub mod sys;
+mod table;
 
+pub use fault::{Fault, Unwritten};
+pub use header::{write_header, Header};
+pub use method::{write_method, Field, Kind, Method};
 pub use splitter::{Fed, Frame, FrameFault, FrameKind, Splitter};
 pub use status::Status;
+pub use table::{write_table, Array, Table, Value};

@@ -58,7 +58,8 @@ pub struct Splitter {
     handle: sys::Handle,
 }
 
-// SAFETY: the handle's value may go to another thread: this is proved of it, and a `&mut` gives it to one call at a time.
+// SAFETY: the handle's value may go to another thread: this is proved of it, and a `&mut` gives it to one call at a
+// time.
 unsafe impl Send for Splitter {}
 
 impl Splitter {
@@ -85,15 +86,27 @@ impl Splitter {
         })
     }
 
-    /// Takes octets as [`Splitter::feed`] does, again and again, up to so many frames, and hands each of them on. The answer is
-    /// how many octets were taken. It stops after a frame that began in an earlier piece. At a fault the frames before it
-    /// were handed on.
-    pub fn feed_batch<const N: usize>(&mut self, piece: &[u8], mut each: impl FnMut(Frame<'_>)) -> Result<usize, FrameFault> {
+    /// Takes octets as [`Splitter::feed`] does, again and again, up to so many frames, and hands each of them on. The
+    /// answer is how many octets were taken. It stops after a frame that began in an earlier piece. At a fault the
+    /// frames before it were handed on.
+    pub fn feed_batch<const N: usize>(
+        &mut self,
+        piece: &[u8],
+        mut each: impl FnMut(Frame<'_>),
+    ) -> Result<usize, FrameFault> {
         let mut frames = [NO_FRAME; N];
         let (mut count, mut taken) = (0, 0);
         // SAFETY: there is room for so many frames, and it lies apart from the piece.
         let status = unsafe {
-            sys::mt_splitter_feed_batch(&mut self.handle, piece.as_ptr(), piece.len(), frames.as_mut_ptr(), N, &mut count, &mut taken)
+            sys::mt_splitter_feed_batch(
+                &mut self.handle,
+                piece.as_ptr(),
+                piece.len(),
+                frames.as_mut_ptr(),
+                N,
+                &mut count,
+                &mut taken,
+            )
         };
         for frame in &frames[..count] {
             // SAFETY: all are lent until the splitter is used again.

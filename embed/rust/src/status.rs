@@ -16,6 +16,19 @@ impl Status {
     pub const FRAME_OUT_OF_MEMORY: Status = Status(104);
     pub const FRAME_FAILED: Status = Status(105);
 
+    /// There is less room than what is to be put into it.
+    pub const NO_ROOM: Status = Status(7);
+    pub const MISFIT: Status = Status(9);
+    pub const UNKNOWN_METHOD: Status = Status(201);
+    pub const TRAILING: Status = Status(203);
+    pub const BAD_WEIGHT: Status = Status(204);
+    pub const BAD_FLAGS: Status = Status(205);
+    pub const VALUE_ENDS: Status = Status(301);
+    pub const VALUE_UNKNOWN_TAG: Status = Status(302);
+    pub const VALUE_PASSES_ITS_END: Status = Status(303);
+    pub const VALUE_TOO_DEEP: Status = Status(304);
+    pub const VALUE_TOO_LONG: Status = Status(306);
+
     /// Nothing is wrong, or this is.
     pub(crate) fn check(status: u32) -> Result<(), Status> {
         match status {

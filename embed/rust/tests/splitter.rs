@@ -23,7 +23,11 @@ fn expected() -> Vec<(FrameKind, u16, Vec<u8>)> {
 
 fn stream() -> Vec<u8> {
     let kinds = [1, 8, 3, 3];
-    expected().iter().zip(kinds).flat_map(|((_, channel, payload), kind)| frame(kind, *channel, payload)).collect()
+    expected()
+        .iter()
+        .zip(kinds)
+        .flat_map(|((_, channel, payload), kind)| frame(kind, *channel, payload))
+        .collect()
 }
 
 fn owned(frame: Frame<'_>) -> (FrameKind, u16, Vec<u8>) {
@@ -55,7 +59,9 @@ fn batches_of_any_pieces() {
         for piece in stream().chunks(size) {
             let mut rest = piece;
             while !rest.is_empty() {
-                let taken = splitter.feed_batch::<3>(rest, |frame| frames.push(owned(frame))).unwrap();
+                let taken = splitter
+                    .feed_batch::<3>(rest, |frame| frames.push(owned(frame)))
+                    .unwrap();
                 rest = &rest[taken..];
             }
         }
@@ -87,6 +93,8 @@ fn limits() {
 fn goes_to_another_thread() {
     let mut splitter = Splitter::new(4096).unwrap();
     splitter.feed(&HEARTBEAT[..3]).unwrap();
-    let found = std::thread::spawn(move || splitter.feed(&HEARTBEAT[3..]).unwrap().frame.map(owned)).join().unwrap();
+    let found = std::thread::spawn(move || splitter.feed(&HEARTBEAT[3..]).unwrap().frame.map(owned))
+        .join()
+        .unwrap();
     assert_eq!(found, Some((FrameKind::Heartbeat, 0, vec![])));
 }

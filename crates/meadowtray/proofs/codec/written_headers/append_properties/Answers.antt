@@ -1,0 +1,15 @@
+use Rattle.std.proofs.Common.{◌<◌, length, arith}
+use Rattle.meadowtray.proofs.WrittenHeaders.{appended_next, not_header}
+use Rattle.meadowtray.proofs.codec.written_headers.append_properties.Goals as goal
+
+pub returns-in-Err-clause-err : goal.returns-in-Err-clause-err
+returns-in-Err-clause-err c =
+    let here : c.loop-place.place < length c.args.values.now = omega (arith, c.loop-place-test.true, c.requires) in
+    rw (c.at.ensures) (not_header c.args.values.now c.loop-place.place _ c.kind_of.result c.in-Err.fault here c.kind_of.ensures c.in-Err.ensures.err)
+
+pub loop-place-preserved : goal.loop-place-preserved
+loop-place-preserved c =
+    let here : c.loop-place.place < length c.args.values.now = omega (arith, c.loop-place-test.true, c.requires) in (
+      omega (arith, c.loop-place-test.true),
+      appended_next c.args.values.now c.loop-place.place _ c.args.out.now.items c.loop-place.out.items c.append_property.new.out.items here c.loop-place.invariant.1 c.in_default.ensures.ok,
+    )

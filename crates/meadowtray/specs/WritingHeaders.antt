@@ -1,0 +1,53 @@
+-- What is told of a content header that is written.
+use Rattle.std.specs.Prelude.{◌≡◌, ◌≢◌, ◌||◌, ◌&&◌, ℕ, List, length, map, Bool, false, Option, Some, None, Result, Ok, Err, ◌⊎◌, nat_eq}
+use Rattle.amqp_value.specs.Reading.{table_at}
+use Rattle.amqp_method.specs.Arguments.{Argument}
+use Rattle.amqp_method.specs.HeaderChecking.{kind_at}
+use Rattle.amqp_method.specs.Plain.{plain_header}
+use Rattle.amqp_method.specs.Properties.{header}
+use Rattle.amqp_method.specs.declared.fields.FieldKind.{FieldKind}
+use Rattle.amqp_method.specs.declared.fields.FieldKind.TheVariants as kinds
+use Rattle.meadowtray.specs.Values.{argument_there}
+use Rattle.meadowtray.specs.Writing.{fits_field, At, Writes}
+use Rattle.meadowtray.specs.declared.codec.owned.ArgFault.{ArgFault}
+use Rattle.meadowtray.specs.declared.codec.owned.ArgFault.TheVariants as arg
+use Rattle.meadowtray.specs.declared.codec.values.Value.{Value}
+use Rattle.meadowtray.specs.declared.codec.writing.WriteFault.{WriteFault}
+use Rattle.meadowtray.specs.declared.codec.writing.WriteFault.TheVariants.{UnknownKind, Misfit, Inside, Room, TooLong, OutOfMemory}
+
+-- a value is none, or one for a property of this kind; no property is of another kind than these four
+abbrev pub fits_property : FieldKind → Value → Bool
+fits_property kinds.ShortStr v = nat_eq v.kind 0 || (nat_eq v.kind 6 && fits_field v)
+fits_property kinds.Table v = nat_eq v.kind 0 || (nat_eq v.kind 8 && fits_field v)
+fits_property kinds.Octet v = nat_eq v.kind 0 || (nat_eq v.kind 2 && fits_field v)
+fits_property kinds.LongLong v = nat_eq v.kind 0 || (nat_eq v.kind 5 && fits_field v)
+fits_property kinds.Bit v = nat_eq v.kind 0
+fits_property kinds.Short v = nat_eq v.kind 0
+fits_property kinds.Long v = nat_eq v.kind 0
+fits_property kinds.LongStr v = nat_eq v.kind 0
+
+-- the value isn't a property of this kind
+abbrev pub NotProperty : FieldKind → Value → ArgFault → Type 0
+NotProperty kind v arg.Misfit = fits_property kind v ≡ false
+NotProperty kind v (arg.Inside e) = (v.kind ≡ 8) × (table_at v.octets.now ≡ Err e)
+NotProperty kind v arg.OutOfMemory = Unit {0}
+
+-- there aren't fourteen values, or one of them is no property of the kind at its place
+abbrev pub NotHeader : List Value → WriteFault → Type 0
+NotHeader values UnknownKind = ⊥
+NotHeader values (Misfit place) =
+    ((place ≡ length values) × (length values ≢ 14)) ⊎ At place values (λ v. fits_property (kind_at place) v ≡ false)
+NotHeader values (Inside place e) = At place values (λ v. (v.kind ≡ 8) × (table_at v.octets.now ≡ Err e))
+NotHeader values Room = ⊥
+NotHeader values TooLong = ⊥
+NotHeader values OutOfMemory = Unit {0}
+
+-- a bit, for a property that is there
+abbrev pub bit_for : Option Argument → ℕ → ℕ
+bit_for None bit = 0
+bit_for (Some value) bit = bit
+
+-- the header of these properties is written
+abbrev pub WritesHeader : ℕ → List Value → List ℕ → Result ℕ WriteFault → List ℕ → Type 0
+WritesHeader size values old written new =
+    Writes (λ octets. octets ≡ plain_header (header size (map argument_there values))) ⊥ (NotHeader values) old written new
