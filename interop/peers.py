@@ -9,9 +9,12 @@ import sys
 import threading
 
 import amqp
+import amqp.exceptions
 import pika
+import pika.spec
 
 PROGRAM = shlex.split(os.environ["AMQP"])
+PROTOCOL = os.path.join(os.path.dirname(os.path.abspath(__file__)), "..", "docs", "PROTOCOL.md")
 PORT = int(sys.argv[1])
 BROKER = f"127.0.0.1:{PORT}"
 failed = 0
@@ -238,6 +241,22 @@ def with_tools():
     says("serve amqp-declare-queue", ([*shaken(), told, "fault end-of-input"], 1), (printed, status))
 
 
-for part in (to_the_broker, with_options, with_pika, with_py_amqp, with_tools):
+def codes_of_the_peers():
+    """The table of reply codes in docs/PROTOCOL.md, beside pika's names of them and py-amqp's levels of errors."""
+    with open(PROTOCOL, encoding="utf-8") as file:
+        lines = file.read().split("\n")
+    rows = [line.strip("| ").split("|") for line in lines[lines.index("| Code | Name | Hard |") + 2 :]]
+    rows = [[cell.strip() for cell in row] for row in rows[: [len(row) for row in rows].index(1)]]
+    names = {int(row[0]): row[1] for row in rows}
+    hard = {int(row[0]) for row in rows if row[2:] == ["yes"]}
+    theirs = {number: name for name, number in vars(pika.spec).items() if isinstance(number, int) and 200 <= number < 600}
+    theirs.pop(pika.spec.FRAME_END)
+    says("reply codes of pika", {number: name.lower().replace("_", "-") for number, name in theirs.items()}, names)
+    errors = {each.code: each for each in vars(amqp.exceptions).values() if isinstance(each, type) and getattr(each, "code", 0)}
+    closing = {code for code, error in errors.items() if issubclass(error, amqp.exceptions.ConnectionError)}
+    says("hard errors of py-amqp", closing, hard)
+
+
+for part in (codes_of_the_peers, to_the_broker, with_options, with_pika, with_py_amqp, with_tools):
     part()
 sys.exit(1 if failed else 0)
