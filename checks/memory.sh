@@ -8,12 +8,12 @@ cd "$(dirname "${BASH_SOURCE[0]}")/.." || exit 1
 
 place=$(mktemp -d) || exit 1
 trap 'rm -rf "$place"' EXIT
-gcc -O2 -shared -fPIC -o "$place/count.so" beside/memory/count.c -ldl || exit 1
+gcc -O2 -shared -fPIC -o "$place/count.so" checks/memory/count.c -ldl || exit 1
 
 for crate in amqp_codec_tests amqp_typed_tests; do
-    beside/built_tests $crate || exit 1
-    python3 beside/memory/marked.py crates/$crate/out/${crate}_tests "$place/count.so" || exit 1
+    checks/built_tests $crate || exit 1
+    python3 checks/memory/marked.py crates/$crate/out/${crate}_tests "$place/count.so" || exit 1
 done
-beside/built_program || exit 1
-python3 beside/memory/counted.py crates/amqp/out/amqp "$place/count.so" || exit 1
-python3 beside/memory/held.py crates/amqp/out/amqp
+checks/built_program || exit 1
+python3 checks/memory/counted.py crates/amqp/out/amqp "$place/count.so" || exit 1
+python3 checks/memory/held.py crates/amqp/out/amqp

@@ -1,6 +1,6 @@
 /* Counts what a program asks of malloc and realloc, in parts. A request of MARK + n octets, n from 1, begins the part n; a
    request of MARK ends it. What stands outside of those is part 0. At the end of a part, and of the run, a line
-   `part requests octets greatest` goes to the file descriptor 9. Preloaded by beside/memory.sh. */
+   `part requests octets greatest` goes to the file descriptor 9. Preloaded by checks/memory.sh. */
 #define _GNU_SOURCE
 #include <dlfcn.h>
 #include <stddef.h>

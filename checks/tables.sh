@@ -4,4 +4,4 @@
 # at once are seen here. The files of amqp_typed that restate the table of methods are those that their script writes.
 set -u
 cd "$(dirname "${BASH_SOURCE[0]}")/.." || exit 1
-python3 beside/tables.py
+python3 checks/tables.py

@@ -1,6 +1,6 @@
 /* Refuses one request for memory: the one of the number in the environment's REFUSED, counted from 1 over malloc and realloc.
    At the end of a run in which it wasn't reached nothing was refused, and the descriptor 9 gets no octet; else it gets one.
-   Preloaded by beside/runs.sh. */
+   Preloaded by checks/runs.sh. */
 #define _GNU_SOURCE
 #include <dlfcn.h>
 #include <errno.h>
