@@ -1,18 +1,12 @@
 #!/usr/bin/env bash
-# The benchmarks are still programs of these crates, in the layout of all code: each is built without proofs in a copy of the crates, and
-# ends at once, since it is given no word. What stands in `bench/` is seen by no other check.
+# The benchmarks are still programs of these crates, in the layout of all code: each is built without proofs in a copy of
+# the crates, and ends at once, since it is given no word. What stands in `bench/` is seen by no other check.
 set -u
-top=$(cd "$(dirname "${BASH_SOURCE[0]}")/.." && pwd) || exit 1
+cd "$(dirname "${BASH_SOURCE[0]}")/.." || exit 1
+. tools/gate.sh
+
 place=$(mktemp -d) || exit 1
 trap 'rm -rf "$place"' EXIT
-
-# Lays a benchmark out as a crate beside the copies of the others, as `bench/run` does.
-lay_out() {
-    local name=$1
-    cp -r "$top/bench/$name" "$place/crates/bench_$name"
-    find "$place/crates/bench_$name" -name '*.txt' | while read -r file; do mv "$file" "${file%.txt}"; done
-    echo "bench_$name: $(cat "$top/bench/$name/libraries")" >>"$place/crates.txt"
-}
 
 # Whether a benchmark builds, and is laid out as `rt fmt` does. What is wrong with it goes to its log.
 holds() {
@@ -26,15 +20,13 @@ holds() {
     diff -r "$place/$name.src" "$crate/src" >>"$place/$name.log" 2>&1
 }
 
-mkdir "$place/crates" || exit 1
-cp "$top/crates.txt" "$top/HANDLES" "$place" || exit 1
-tar -C "$top/crates" --exclude=out -cf - . | tar -C "$place/crates" -xf - || exit 1
 names=()
-for libraries in "$top"/bench/*/libraries; do
+for libraries in bench/*/libraries; do
     names+=("$(basename "$(dirname "$libraries")")")
 done
-for name in "${names[@]}"; do lay_out "$name"; done
-git -C "$place" init -q || exit 1
+mapfile -t crates < <(with_crates_below $(cat bench/*/libraries))
+copy_crates "$place" "${crates[@]}" || exit 1
+for name in "${names[@]}"; do copy_benchmark "$place" "$name" || exit 1; done
 
 failed=0
 for name in "${names[@]}"; do
