@@ -1,0 +1,5 @@
+#!/usr/bin/env bash
+# Each link of the docs leads to a file of the repository, and to a heading there if it names one.
+set -u
+cd "$(dirname "${BASH_SOURCE[0]}")/.." || exit 1
+python3 checks/links.py
