@@ -1,10 +1,12 @@
-"""Looks whether each link of the docs leads to a file of the repository, and to a heading there if it names one."""
+"""Looks whether each link of the docs leads to a file of the repository, and to a heading there if it names one, and
+whether each source file that they name is there."""
 
 import pathlib
 import re
 import sys
 
 LINK = re.compile(r"\]\(([^)\s]+)\)")
+SOURCE = re.compile(r"`([\w./]+\.(?:rt|antt|py|sh))`")
 
 
 def headings(page):
@@ -20,14 +22,17 @@ def leads_nowhere(page, link):
 
 
 def main():
-    pages = sorted(page for page in pathlib.Path(".").rglob("*.md") if "out" not in page.parts)
-    lost = [
-        f"{page}: {link} leads nowhere"
-        for page in pages
-        for link in LINK.findall(page.read_text(encoding="utf-8"))
-        if "://" not in link and leads_nowhere(page, link)
-    ]
-    print("\n".join(lost or [f"links of {len(pages)} pages: all lead somewhere"]))
+    files = [path for path in pathlib.Path(".").rglob("*") if not {"out", ".git"} & set(path.parts)]
+    pages = sorted(path for path in files if path.suffix == ".md")
+    # `src/kinds.rt` and `kinds.rt` name a file in any crate
+    ends = {"/".join(path.parts[at:]) for path in files for at in range(len(path.parts))}
+    lost = []
+    for page in pages:
+        text = page.read_text(encoding="utf-8")
+        links = [link for link in LINK.findall(text) if "://" not in link]
+        lost += [f"{page}: {link} leads nowhere" for link in links if leads_nowhere(page, link)]
+        lost += [f"{page}: there is no file {name}" for name in SOURCE.findall(text) if name not in ends]
+    print("\n".join(lost or [f"{len(pages)} pages: each link leads somewhere, each source named is there"]))
     return 1 if lost else 0
 
 
