@@ -1,6 +1,6 @@
 #!/usr/bin/env bash
-# The benchmarks are still programs of these crates, in the layout of all code: each is built without proofs in a copy of
-# the crates, and ends at once, since it is given no word. What stands in `bench/` is seen by no other check.
+# The benchmarks are still programs of these crates, in the layout of all code: each is built without proofs in a copy
+# of the crates, and ends at once, since it is given no word. What stands in `bench/` is seen by no other check.
 set -u
 cd "$(dirname "${BASH_SOURCE[0]}")/.." || exit 1
 . tools/gate.sh

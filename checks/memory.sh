@@ -1,8 +1,9 @@
 #!/usr/bin/env bash
 # What is asked of the allocator, counted: no contract speaks of how much memory is asked for. Of calls, between the
-# marks of the tests `..::memory::..` in `crates/amqp_codec_tests` and `crates/amqp_typed_tests`: exact numbers. Of the
-# program: an input that announces more than it has costs no more than one that has it, and a large one a small multiple
-# of its octets; what a server holds for contents that a peer begins and leaves is little more than their octets.
+# marks of the tests `..::memory::..` in `crates/amqp_codec_tests` and `crates/amqp_typed_tests`: exact numbers. Of
+# the program: an input that announces more than it has costs no more than one that has it, and a large one a small
+# multiple of its octets; what a server holds for contents that a peer begins and leaves is little more than their
+# octets.
 set -u
 cd "$(dirname "${BASH_SOURCE[0]}")/.." || exit 1
 

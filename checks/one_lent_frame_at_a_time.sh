@@ -1,7 +1,7 @@
 #!/usr/bin/env bash
-# A frame that `Splitter::feed_ref` lends keeps the splitter borrowed: a second call while the frame is held is refused by
-# the borrow check, and the same calls with the first frame given up before are not. A must-fail edit can't show this, since
-# it has to reach the prover.
+# A frame that `Splitter::feed_ref` lends keeps the splitter borrowed: a second call while the frame is held is
+# refused by the borrow check, and the same calls with the first frame given up before are not. A must-fail edit can't
+# show this, since it has to reach the prover.
 set -u
 cd "$(dirname "${BASH_SOURCE[0]}")/.." || exit 1
 

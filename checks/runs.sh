@@ -1,7 +1,7 @@
 #!/usr/bin/env bash
-# Whole runs of the built program: input, arguments, standard output, standard error and status, against texts that are
-# known, also with each request for memory refused in turn (runs.py, and refused.py of `show`); and so a session for whose events
-# there is no room (events.py), and tests of single calls (refused_calls.py).
+# Whole runs of the built program: input, arguments, standard output, standard error and status, against texts that
+# are known, also with each request for memory refused in turn (runs.py, and refused.py of `show`); and so a session
+# for whose events there is no room (events.py), and tests of single calls (refused_calls.py).
 set -u
 cd "$(dirname "${BASH_SOURCE[0]}")/.." || exit 1
 

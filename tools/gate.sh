@@ -1,5 +1,5 @@
-# Functions for scripts that have crates proved or built in a copy of them, so that nothing in the checkout changes. To be
-# sourced at the top of the checkout.
+# Functions for scripts that have crates proved or built in a copy of them, so that nothing in the checkout changes.
+# To be sourced at the top of the checkout.
 
 # Has rt ci run one check a processor, as far as there are 5 GB for each. By itself it reckons two to three times the
 # memory that these crates take, and so leaves processors idle (docs/GATE.md).
@@ -35,8 +35,8 @@ copy_crates() {
     git -C "$place" init -q
 }
 
-# copy_benchmark PLACE NAME: adds the benchmark in bench/NAME to such a repository, as the crate bench_NAME. The gate takes
-# no source outside a crate, so in bench/ each source has `.txt` after its name.
+# copy_benchmark PLACE NAME: adds the benchmark in bench/NAME to such a repository, as the crate bench_NAME. The gate
+# takes no source outside a crate, so in bench/ each source has `.txt` after its name.
 copy_benchmark() {
     local crate=$1/crates/bench_$2 part file
     mkdir "$crate" || return 1
@@ -47,8 +47,8 @@ copy_benchmark() {
     echo "bench_$2: $(cat "bench/$2/libraries")" >>"$1/crates.txt"
 }
 
-# prove PLACE: proves the crates of such a repository, builds its programs and tests, and runs them. What rt ci has passed
-# on this machine is not proved again, and crates that don't stand on one another are proved side by side.
+# prove PLACE: proves the crates of such a repository, builds its programs and tests, and runs them. What rt ci has
+# passed on this machine is not proved again, and crates that don't stand on one another are proved side by side.
 prove() {
     (use_processors && cd "$1" && rt ci)
 }
