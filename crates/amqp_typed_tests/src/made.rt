@@ -89,11 +89,11 @@ fn delivery(alloc: Global) -> Result<Method, Fail> {
 }
 
 fn is_delivery(deliver: basic::DeliverRef<'_>) -> bool {
-    deliver.consumer_tag.as_bytes() == b"a"
+    deliver.consumer_tag.as_bytes() == b"a".as_slice()
         && deliver.delivery_tag == 7
         && deliver.redelivered
-        && deliver.exchange.as_bytes() == b"bb"
-        && deliver.routing_key.as_bytes() == b"c"
+        && deliver.exchange.as_bytes() == b"bb".as_slice()
+        && deliver.routing_key.as_bytes() == b"c".as_slice()
 }
 
 fn lends_delivery(method: &Method) -> bool {
