@@ -108,11 +108,7 @@ fn encoded(alloc: Global, table: &Table) -> Result<Vec<u8>, WriteFault>
 
 /// Writes a table at the start of the room.
 #[tactic(auto, using(crate::proofs::WrittenTables::table_put, crate::proofs::WrittenTables::table_not, crate::proofs::WrittenTables::table_not_made))]
-fn write_into(
-    alloc: Global,
-    pairs: &[Pair<'_>],
-    room: &mut [u8],
-) -> Result<usize, WriteFault>
+fn write_into(alloc: Global, pairs: &[Pair<'_>], room: &mut [u8]) -> Result<usize, WriteFault>
     ensures { WritesTable pairs.now room.old result room.new }
 {
     match table_of(alloc, pairs) {
