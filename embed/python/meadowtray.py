@@ -368,7 +368,6 @@ def _written(write, *arguments):
     return room.raw[: told.length]
 
 
-
 def write_method(name, *fields):
     """The payload of a method. Each field is a pair of its kind, as MT_SHORT_STRING, and what it holds: of a table,
     its pairs."""

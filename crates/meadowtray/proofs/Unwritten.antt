@@ -1,5 +1,5 @@
 -- Why values aren't written.
-use Rattle.std.proofs.Common.{map, take, ◌++◌, Some, Result, Ok, Err, IfOk, IfErr, sym, ap, subst, ◌∙◌, ◌≡◌, ℕ, zero, suc, ◌<◌, List, [], ◌∷◌, length, get_or, drop, ◌+◌, false, refl, inl, arith, add-one, drop-cons}
+use Rattle.std.proofs.Common.{take, Result, Ok, Err, IfOk, IfErr, ap, subst, ◌∙◌, ◌≡◌, ℕ, zero, suc, ◌<◌, List, [], ◌∷◌, length, get_or, drop, ◌+◌, refl, inl, arith, add-one, drop-cons}
 use Rattle.amqp_method.specs.Arguments.{Argument, Call}
 use Rattle.amqp_method.specs.Plain.{plain_method}
 use Rattle.meadowtray.specs.Values.{all_there}

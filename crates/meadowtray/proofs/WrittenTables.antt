@@ -1,5 +1,5 @@
 -- Writing a table, pair by pair.
-use Rattle.std.proofs.Common.{◌≡◌, ℕ, zero, suc, ◌<◌, List, [], ◌∷◌, length, map, take, drop, get_or, Result, Ok, Err, IfOk, IfErr, refl, inl, arith}
+use Rattle.std.proofs.Common.{◌≡◌, ℕ, zero, suc, ◌<◌, List, [], ◌∷◌, length, take, drop, get_or, Result, Err, IfOk, IfErr, refl, inl, arith}
 use Rattle.amqp_value.specs.Plain.{plain_table}
 use Rattle.amqp_value.specs.Values.{Pairs}
 use Rattle.meadowtray.specs.Writing.{fault_of, NotMade}
@@ -9,7 +9,7 @@ use Rattle.meadowtray.specs.declared.codec.owned.ArgFault.TheVariants as arg
 use Rattle.meadowtray.specs.declared.codec.tables.Pair.{Pair}
 use Rattle.meadowtray.specs.declared.codec.writing.WriteFault.{WriteFault}
 use Rattle.meadowtray.specs.declared.codec.writing.WriteFault.TheVariants.{UnknownKind, Misfit, Inside, Room, TooLong, OutOfMemory}
-use Rattle.meadowtray.proofs.Unwritten.{not_made, put_writes}
+use Rattle.meadowtray.proofs.Unwritten.{put_writes}
 
 at_pair : (pairs : List Pair) (place : ℕ) (d : Pair) (P : Pair → Type 0) → place < length pairs → P (get_or pairs place d) → AtPair place pairs P
 at_pair [] place d P here p = absurd (omega (arith, here))
@@ -48,7 +48,7 @@ table_not_made pairs old table is UnknownKind not = absurd not
 table_not_made pairs old table is (Misfit place) not = absurd not
 table_not_made pairs old table is (Inside place e) not = absurd not
 table_not_made pairs old table is Room not = absurd not
-table_not_made pairs old table is TooLong not = (refl, table, is, not)
+table_not_made pairs old table is TooLong not = (refl, (table, is, not))
 table_not_made pairs old table is OutOfMemory not = refl
 
 pub table_not : (pairs : List Pair) (old : List ℕ) (fault : WriteFault) → NotTableOf pairs fault → WritesTable pairs old (Err fault) old

@@ -1,5 +1,5 @@
 -- What is told of a write, and which values can be written.
-use Rattle.std.specs.Prelude.{◌≡◌, ℕ, zero, suc, ◌+◌, ◌-◌, ◌/◌, ◌%◌, ◌<◌, ◌≤◌, List, [], ◌∷◌, length, map, take, drop, Bool, true, false, Option, Some, None, Result, Ok, Err, ◌⊎◌, if◌then◌else◌, nat_eq, nat_lt}
+use Rattle.std.specs.Prelude.{◌≡◌, ℕ, zero, suc, ◌+◌, ◌/◌, ◌%◌, ◌<◌, ◌≤◌, List, [], ◌∷◌, length, map, take, drop, Bool, true, false, Option, Some, None, Result, Ok, Err, ◌⊎◌, if◌then◌else◌, nat_eq, nat_lt}
 use Rattle.amqp_value.specs.Reading.{table_at}
 use Rattle.amqp_value.specs.Values.{Pairs}
 use Rattle.amqp_value.specs.declared.fault.ValueFault.{ValueFault}

@@ -1,5 +1,5 @@
 -- What is told of a table that is written, and which values can stand in it.
-use Rattle.std.specs.Prelude.{◌≡◌, ◌<◌, ◌≤◌, ◌||◌, ◌&&◌, ℕ, zero, suc, ℤ, pos, negsuc, List, [], ◌∷◌, length, map, Bool, true, false, Option, Some, Result, Ok, Err, ◌⊎◌, if◌then◌else◌, nat_eq, nat_lt, int_le}
+use Rattle.std.specs.Prelude.{◌≡◌, ◌<◌, ◌&&◌, ℕ, zero, suc, ℤ, pos, negsuc, List, [], ◌∷◌, length, map, Bool, true, false, Option, Some, Result, Err, ◌⊎◌, if◌then◌else◌, nat_eq, nat_lt, int_le}
 use Rattle.amqp_value.specs.Plain.{plain_table, CountsFit}
 use Rattle.amqp_value.specs.Reading.{elements, value_at, table_at}
 use Rattle.amqp_value.specs.Faults.{fault_at}

@@ -99,29 +99,29 @@ pub(crate) fn lend<'a>(value: &Value<'a>) -> Result<ValueRef<'a>, ArgFault>
     ensures ok { IfOk result (λ r. datum_there value.now ≡ Some (value_ref_view r)) }
     ensures err { IfErr result (λ e. NotDatum value.now e) }
 {
-    Ok(match value.kind {
-        b't' => ValueRef::Boolean(value.number != 0),
-        b'b' => ValueRef::ShortShortInt(narrow(value, -128, 127)? as i8),
-        b'B' => ValueRef::ShortShortUint(small(value, 255)? as u8),
-        b's' => ValueRef::ErrataShortInt(narrow(value, -32768, 32767)? as i16),
-        b'U' => ValueRef::ShortInt(narrow(value, -32768, 32767)? as i16),
-        b'u' => ValueRef::ShortUint(small(value, 65535)? as u16),
-        b'I' => ValueRef::LongInt(narrow(value, -2147483648, 2147483647)? as i32),
-        b'i' => ValueRef::LongUint(small(value, 4294967295)?),
-        b'l' => ValueRef::ErrataLongLongInt(value.number.cast_signed()),
-        b'L' => ValueRef::LongLongInt(value.number.cast_signed()),
-        b'f' => ValueRef::Float(four(small(value, 4294967295)?)),
-        b'd' => ValueRef::Double(eight(value.number)),
-        b'D' => ValueRef::Decimal {
+    match value.kind {
+        b't' => Ok(ValueRef::Boolean(value.number != 0)),
+        b'b' => Ok(ValueRef::ShortShortInt(narrow(value, -128, 127)? as i8)),
+        b'B' => Ok(ValueRef::ShortShortUint(small(value, 255)? as u8)),
+        b's' => Ok(ValueRef::ErrataShortInt(narrow(value, -32768, 32767)? as i16)),
+        b'U' => Ok(ValueRef::ShortInt(narrow(value, -32768, 32767)? as i16)),
+        b'u' => Ok(ValueRef::ShortUint(small(value, 65535)? as u16)),
+        b'I' => Ok(ValueRef::LongInt(narrow(value, -2147483648, 2147483647)? as i32)),
+        b'i' => Ok(ValueRef::LongUint(small(value, 4294967295)?)),
+        b'l' => Ok(ValueRef::ErrataLongLongInt(value.number.cast_signed())),
+        b'L' => Ok(ValueRef::LongLongInt(value.number.cast_signed())),
+        b'f' => Ok(ValueRef::Float(four(small(value, 4294967295)?))),
+        b'd' => Ok(ValueRef::Double(eight(value.number))),
+        b'D' => Ok(ValueRef::Decimal {
             scale: value.scale,
             number: small(value, 4294967295)?,
-        },
-        b'T' => ValueRef::Timestamp(value.number),
-        b'V' => ValueRef::Void,
-        b'S' => ValueRef::LongString(counted(value.octets)?),
-        b'x' => ValueRef::ByteArray(counted(value.octets)?),
-        b'A' => ValueRef::Array(array(value.octets)?),
-        b'F' => ValueRef::Table(table(value.octets)?),
-        _ => return Err(ArgFault::Misfit),
-    })
+        }),
+        b'T' => Ok(ValueRef::Timestamp(value.number)),
+        b'V' => Ok(ValueRef::Void),
+        b'S' => Ok(ValueRef::LongString(counted(value.octets)?)),
+        b'x' => Ok(ValueRef::ByteArray(counted(value.octets)?)),
+        b'A' => Ok(ValueRef::Array(array(value.octets)?)),
+        b'F' => Ok(ValueRef::Table(table(value.octets)?)),
+        _ => Err(ArgFault::Misfit),
+    }
 }

@@ -1,4 +1,4 @@
-use Rattle.std.proofs.Common.{◌≡◌, List, inr, sym, subst, ◌∙◌}
+use Rattle.std.proofs.Common.{List, inr, sym, subst, ◌∙◌}
 use Rattle.amqp_method.specs.Arguments.{Argument, call, Fits}
 use Rattle.amqp_method.specs.Views.{args_view}
 use Rattle.meadowtray.proofs.Unwritten.{same_there}
