@@ -5,7 +5,7 @@ use Rattle.std.specs.Borrow.{Bor}
 use Rattle.amqp_value.specs.Lent.{table_ref_view}
 use Rattle.amqp_value.specs.Values.{Pairs}
 use Rattle.amqp_value.specs.declared.table_ref.TableRef.{TableRef}
-use Rattle.amqp_method.specs.Arguments.{Argument, bit, octet, short, long, long_long, short_string, long_string, table, kind_of}
+use Rattle.amqp_method.specs.Arguments.{Argument, bit, octet, short, long, long_long, short_string, long_string, table}
 use Rattle.amqp_method.specs.HeaderChecking.{kind_at}
 use Rattle.amqp_method.specs.HeaderRefView.{property_at}
 use Rattle.amqp_method.specs.Places.{found, octet_of, long_long_of, short_string_of, table_of}
@@ -13,13 +13,9 @@ use Rattle.amqp_method.specs.Properties.{property_kinds, HaveKinds}
 use Rattle.amqp_method.specs.declared.fields.FieldKind.{FieldKind}
 use Rattle.amqp_method.specs.declared.fields.FieldKind.TheVariants.{Octet, LongLong, ShortStr, Table}
 use Rattle.meadowtray.specs.Headers.{long_long_there, octet_there, table_there, text_there}
+use Rattle.meadowtray.specs.WritingHeaders.{OfKind}
 
--- a property that is there is of this kind
-abbrev pub OfKind : Option Argument → FieldKind → Type 0
-OfKind None kind = Unit {0}
-OfKind (Some value) kind = kind_of value ≡ kind
-
-parted : (p : Option Argument) (properties : List (Option Argument)) (kind : FieldKind) (kinds : List FieldKind)
+pub parted : (p : Option Argument) (properties : List (Option Argument)) (kind : FieldKind) (kinds : List FieldKind)
     → HaveKinds (p ∷ properties) (kind ∷ kinds) → OfKind p kind × HaveKinds properties kinds
 parted None properties kind kinds h = (tt, h)
 parted (Some value) properties kind kinds h = h

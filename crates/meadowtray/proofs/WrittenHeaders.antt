@@ -1,21 +1,24 @@
 -- Writing a content header, property by property.
-use Rattle.std.proofs.Common.{◌≡◌, ℕ, zero, suc, ◌+◌, ◌-◌, add-one, drop-cons, length-drop, ◌*◌, ◌^◌, ◌<◌, ◌≤◌, List, [], ◌∷◌, ◌++◌, length, map, take, drop, get_or, Bool, true, false, Option, Some, None, Result, Ok, Err, IfOk, IfErr, refl, sym, ap, subst, ◌∙◌, inl, inr, arith}
+use Rattle.std.proofs.Common.{◌≡◌, ℕ, zero, suc, ◌+◌, ◌-◌, add-one, drop-cons, length-drop, ◌*◌, ◌^◌, ◌<◌, ◌≤◌, List, [], ◌∷◌, ◌++◌, length, map, take, drop, get_or, Option, Some, None, Result, Err, IfOk, IfErr, refl, sym, ap, subst, ◌∙◌, inr, arith}
 use Rattle.std.proofs.Math.Nat.{pow-suc}
 use Rattle.std.proofs.Math.Pow.{pow_mono}
+use Rattle.std.proofs.Math.Seq.{take-length}
 use Rattle.std.proofs.lemmas.List.{append-nil, append_assoc, length-map}
 use Rattle.amqp_method.specs.Arguments.{Argument}
 use Rattle.amqp_method.specs.HeaderChecking.{kind_at}
 use Rattle.amqp_method.specs.Plain.{plain_header, plain_property, plain_present}
-use Rattle.amqp_method.specs.Properties.{flags_of, header}
+use Rattle.amqp_method.specs.Properties.{flags_of, header, property_kinds, HaveKinds}
 use Rattle.amqp_method.specs.declared.fields.FieldKind.{FieldKind}
+use Rattle.amqp_method.specs.declared.fields.FieldKind.TheVariants.{Octet}
 use Rattle.meadowtray.specs.Values.{argument_there}
 use Rattle.meadowtray.specs.Writing.{fault_of}
-use Rattle.meadowtray.specs.WritingHeaders.{bit_for, NotHeader, NotProperty, WritesHeader}
+use Rattle.meadowtray.specs.WritingHeaders.{bit_for, IsHeader, NotHeader, NotProperty, OfKind, WritesHeader}
 use Rattle.meadowtray.specs.declared.codec.owned.ArgFault.{ArgFault}
 use Rattle.meadowtray.specs.declared.codec.owned.ArgFault.TheVariants as arg
 use Rattle.meadowtray.specs.declared.codec.values.Value.{Value}
 use Rattle.meadowtray.specs.declared.codec.writing.WriteFault.{WriteFault}
 use Rattle.meadowtray.specs.declared.codec.writing.WriteFault.TheVariants.{UnknownKind, Misfit, Inside, Room, TooLong, OutOfMemory}
+use Rattle.meadowtray.proofs.LentHeaders.{parted}
 use Rattle.meadowtray.proofs.Unwritten.{at_place, put_writes}
 
 -- the octets of one property more
@@ -35,6 +38,42 @@ appended_next values n d old before now here was more =
     let next : plain_present (map argument_there (take (n + 1) values)) ≡ plain_present (map argument_there (take n values)) ++ one = rw (add-one) (present_next values n d here) in
     more ∙ ap (λ (o : List ℕ). o ++ one) was ∙ append_assoc old (plain_present (map argument_there (take n values))) one ∙ ap (λ (o : List ℕ). old ++ o) (sym next)
 
+-- ---- the kinds
+
+joined : (p : Option Argument) (properties : List (Option Argument)) (kind : FieldKind) (kinds : List FieldKind) → OfKind p kind → HaveKinds properties kinds
+    → HaveKinds (p ∷ properties) (kind ∷ kinds)
+joined None properties kind kinds fit have = have
+joined (Some value) properties kind kinds fit have = (fit, have)
+
+kinds_longer : (values : List Value) (kinds : List FieldKind) (n : ℕ) (d : Value) → n < length values → n < length kinds
+    → HaveKinds (map argument_there (take n values)) (take n kinds) → OfKind (argument_there (get_or values n d)) (get_or kinds n Octet)
+    → HaveKinds (map argument_there (take (suc n) values)) (take (suc n) kinds)
+kinds_longer [] kinds n d here there have fit = absurd (omega (arith, here))
+kinds_longer (v ∷ values) [] n d here there have fit = absurd (omega (arith, there))
+kinds_longer (v ∷ values) (kind ∷ kinds) zero d here there have fit = joined (argument_there v) [] kind [] fit tt
+kinds_longer (v ∷ values) (kind ∷ kinds) (suc n) d here there have fit =
+    let first = parted (argument_there v) (map argument_there (take n values)) kind (take n kinds) have in
+    joined (argument_there v) (map argument_there (take (suc n) values)) kind (take (suc n) kinds) first.0
+    (kinds_longer values kinds n d (omega (arith, here)) (omega (arith, there)) first.1 fit)
+
+-- the properties up to a place, and the one there, are of their kinds
+pub kinds_next : (values : List Value) (n : ℕ) (d : Value) (kind : FieldKind) → n < length values → n < 14 → kind ≡ kind_at n
+    → HaveKinds (map argument_there (take n values)) (take n property_kinds) → OfKind (argument_there (get_or values n d)) kind
+    → HaveKinds (map argument_there (take (n + 1) values)) (take (n + 1) property_kinds)
+kinds_next values n d kind here within is have fit =
+    rw (add-one) (kinds_longer values property_kinds n d here within have (subst (λ (k : FieldKind). OfKind (argument_there (get_or values n d)) k) is fit))
+
+-- so are all of them
+pub all_kinds : (values : List Value) (n : ℕ) → length values ≡ 14 → n ≡ 14 → HaveKinds (map argument_there (take n values)) (take n property_kinds)
+    → HaveKinds (map argument_there values) property_kinds
+all_kinds values n long end have =
+    let all : take n values ≡ values = ap (λ (m : ℕ). take m values) (end ∙ sym long) ∙ take-length values in
+    let kinds : take n property_kinds ≡ property_kinds = ap (λ (m : ℕ). take m property_kinds) end in
+    subst (λ (ks : List FieldKind). HaveKinds (map argument_there values) ks) kinds
+    (subst (λ (vs : List Value). HaveKinds (map argument_there vs) (take n property_kinds)) all have)
+
+-- ---- the octets
+
 pub not_header : (values : List Value) (place : ℕ) (d : Value) (kind : FieldKind) (fault : ArgFault) → place < length values → kind ≡ kind_at place
     → NotProperty kind (get_or values place d) fault → NotHeader values (fault_of place fault)
 not_header values place d kind arg.Misfit here is not =
@@ -42,10 +81,11 @@ not_header values place d kind arg.Misfit here is not =
 not_header values place d kind (arg.Inside e) here is not = at_place values place d _ here not
 not_header values place d kind arg.OutOfMemory here is not = tt
 
-pub header_put : (size : ℕ) (values : List Value) (old octets : List ℕ) → octets ≡ plain_header (header size (map argument_there values))
+pub header_put : (size : ℕ) (values : List Value) (old octets : List ℕ) → HaveKinds (map argument_there values) property_kinds
+    → octets ≡ plain_header (header size (map argument_there values))
     → (put : Result ℕ WriteFault) (new : List ℕ) → IfOk put (λ n. (n ≡ length octets) × (take n new ≡ octets) × (drop n new ≡ drop n old))
     → IfErr put (λ e. (e ≡ Room) × (length old < length octets) × (new ≡ old)) → WritesHeader size values old put new
-header_put size values old octets is put new ok err = put_writes (λ o. o ≡ plain_header (header size (map argument_there values))) ⊥ (NotHeader values) old octets is put new ok err
+header_put size values old octets have is put new ok err = put_writes (IsHeader size values) ⊥ (NotHeader values) old octets (have, is) put new ok err
 
 pub header_not : (size : ℕ) (values : List Value) (old : List ℕ) (fault : WriteFault) → NotHeader values fault → WritesHeader size values old (Err fault) old
 header_not size values old UnknownKind not = absurd not

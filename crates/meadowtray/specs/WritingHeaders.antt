@@ -1,10 +1,10 @@
 -- What is told of a content header that is written.
-use Rattle.std.specs.Prelude.{◌≡◌, ◌≢◌, ◌||◌, ◌&&◌, ℕ, List, length, map, Bool, false, Option, Some, None, Result, Ok, Err, ◌⊎◌, nat_eq}
+use Rattle.std.specs.Prelude.{◌≡◌, ◌≢◌, ◌||◌, ◌&&◌, ℕ, List, length, map, Bool, false, Option, Some, None, Result, Err, ◌⊎◌, nat_eq}
 use Rattle.amqp_value.specs.Reading.{table_at}
-use Rattle.amqp_method.specs.Arguments.{Argument}
+use Rattle.amqp_method.specs.Arguments.{Argument, kind_of}
 use Rattle.amqp_method.specs.HeaderChecking.{kind_at}
 use Rattle.amqp_method.specs.Plain.{plain_header}
-use Rattle.amqp_method.specs.Properties.{header}
+use Rattle.amqp_method.specs.Properties.{header, property_kinds, HaveKinds}
 use Rattle.amqp_method.specs.declared.fields.FieldKind.{FieldKind}
 use Rattle.amqp_method.specs.declared.fields.FieldKind.TheVariants as kinds
 use Rattle.meadowtray.specs.Values.{argument_there}
@@ -14,6 +14,11 @@ use Rattle.meadowtray.specs.declared.codec.owned.ArgFault.TheVariants as arg
 use Rattle.meadowtray.specs.declared.codec.values.Value.{Value}
 use Rattle.meadowtray.specs.declared.codec.writing.WriteFault.{WriteFault}
 use Rattle.meadowtray.specs.declared.codec.writing.WriteFault.TheVariants.{UnknownKind, Misfit, Inside, Room, TooLong, OutOfMemory}
+
+-- a property that is there is of this kind
+abbrev pub OfKind : Option Argument → FieldKind → Type 0
+OfKind None kind = Unit {0}
+OfKind (Some value) kind = kind_of value ≡ kind
 
 -- a value is none, or one for a property of this kind; no property is of another kind than these four
 abbrev pub fits_property : FieldKind → Value → Bool
@@ -47,7 +52,11 @@ abbrev pub bit_for : Option Argument → ℕ → ℕ
 bit_for None bit = 0
 bit_for (Some value) bit = bit
 
+-- the octets are those of the header of these properties, each of the kind of its place
+abbrev pub IsHeader : ℕ → List Value → List ℕ → Type 0
+IsHeader size values octets =
+    HaveKinds (map argument_there values) property_kinds × (octets ≡ plain_header (header size (map argument_there values)))
+
 -- the header of these properties is written
 abbrev pub WritesHeader : ℕ → List Value → List ℕ → Result ℕ WriteFault → List ℕ → Type 0
-WritesHeader size values old written new =
-    Writes (λ octets. octets ≡ plain_header (header size (map argument_there values))) ⊥ (NotHeader values) old written new
+WritesHeader size values old written new = Writes (IsHeader size values) ⊥ (NotHeader values) old written new

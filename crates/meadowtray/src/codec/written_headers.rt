@@ -6,11 +6,11 @@ ghost use Rattle.amqp_value.specs.Whole.{table_encoded};
 ghost use Rattle.amqp_value.specs.Fields.{plain_short_string};
 ghost use Rattle.amqp_method.specs.HeaderChecking.{kind_at};
 ghost use Rattle.amqp_method.specs.Plain.{plain_header, plain_property, plain_present, plain_start};
-ghost use Rattle.amqp_method.specs.Properties.{flags_of, header};
+ghost use Rattle.amqp_method.specs.Properties.{flags_of, header, property_kinds, HaveKinds};
 ghost use Rattle.amqp_method.specs.declared.fields.FieldKind.{FieldKind};
 ghost use Rattle.meadowtray.specs.Values.{argument_there};
 ghost use Rattle.meadowtray.specs.Writing.{NotCounted, NotTable, ToldWrite};
-ghost use Rattle.meadowtray.specs.WritingHeaders.{bit_for, NotHeader, NotProperty, WritesHeader};
+ghost use Rattle.meadowtray.specs.WritingHeaders.{bit_for, NotHeader, NotProperty, OfKind, WritesHeader};
 ghost use Rattle.meadowtray.specs.declared.codec.owned.ArgFault.TheVariants as arg;
 ghost use Rattle.meadowtray.specs.declared.codec.writing.WriteFault.{WriteFault};
 ghost use Rattle.meadowtray.specs.declared.codec.writing.WriteFault.TheVariants.{OutOfMemory};
@@ -114,6 +114,7 @@ fn append_property(
     out: &mut Vec<u8>,
 ) -> Result<(), ArgFault>
     ensures ok { OnOk result (out.new.items ≡ out.old.items ++ plain_property (argument_there value.now)) }
+    ensures kind { OnOk result (OfKind (argument_there value.now) kind) }
     ensures err { IfErr result (λ e. NotProperty kind value.now e) }
 {
     if value.kind == NONE {
@@ -158,6 +159,7 @@ fn append_properties(
 ) -> Result<(), WriteFault>
     requires { length values.now ≡ 14 }
     ensures ok { OnOk result (out.new.items ≡ out.old.items ++ plain_present (map argument_there values.now)) }
+    ensures kinds { OnOk result (HaveKinds (map argument_there values.now) property_kinds) }
     ensures err { IfErr result (λ e. NotHeader values.now e) }
 {
     let mut place = 0;
@@ -200,6 +202,7 @@ fn flags(values: &[Value<'_>]) -> u16
 /// The payload of a content header.
 fn encoded(alloc: Global, body_size: u64, values: &[Value<'_>]) -> Result<Vec<u8>, WriteFault>
     ensures ok { IfOk result (λ octets. octets.items ≡ plain_header (header body_size (map argument_there values.now))) }
+    ensures kinds { IfOk result (λ octets. HaveKinds (map argument_there values.now) property_kinds) }
     ensures err { IfErr result (λ e. NotHeader values.now e) }
 {
     if values.len() != PROPERTIES {

@@ -1,5 +1,6 @@
-use Rattle.std.proofs.Common.{◌≡◌, ◌-◌, ◌≤◌, ◌++◌, length, map, take}
+use Rattle.std.proofs.Common.{◌≡◌, ◌-◌, ◌≤◌, ◌++◌, map, take}
 use Rattle.amqp_method.specs.Plain.{plain_present}
+use Rattle.amqp_method.specs.Properties.{property_kinds, HaveKinds}
 use Rattle.meadowtray.specs.Values.{argument_there}
 use Rattle.meadowtray.proofs.codec.written_headers.append_properties.Given as goal
 
@@ -7,6 +8,7 @@ abbrev pub invariant-loop-place : goal.invariant-loop-place
 invariant-loop-place l =
     (l.place ≤ 14)
     × (l.out.items ≡ l.initial.out.items ++ plain_present (map argument_there (take l.place l.values)))
+    × HaveKinds (map argument_there (take l.place l.values)) (take l.place property_kinds)
 
 abbrev pub decreases-loop-place : goal.decreases-loop-place
 decreases-loop-place l = 14 - l.place
