@@ -26,7 +26,7 @@ fn body_frame(rt: &impl Abort, alloc: Global, size: u32) -> Result<Vec<u8>, Fail
     write_frame(&frame, &mut out)?;
     let [first, second, third, fourth] = size.to_be_bytes();
     let header = [3, 0xff, 0xff, first, second, third, fourth];
-    assert_same(rt, out.len(), size as usize + 8);
+    assert_eq!(rt; out.len(), size as usize + 8);
     assert_same(rt, &out[..7], header.as_slice());
     assert_same(rt, out.last().copied(), Some(0xce));
     Ok(out)

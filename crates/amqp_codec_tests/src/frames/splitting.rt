@@ -24,7 +24,7 @@ fn open_frame(alloc: Global) -> Result<RawFrame, Fail> {
 fn a_frame_is_written(rt: HostRuntime) -> Result<(), Fail> {
     let frame = open_frame(rt.alloc())?;
     let mut out = vec![in rt.alloc(); 7u8]?;
-    assert_same(&rt, frame.payload.len(), 5);
+    assert_eq!(rt; frame.payload.len(), 5);
     write_frame(&frame, &mut out)?;
     assert_same(&rt, out[0], 7);
     assert_same(&rt, out[1..].to_vec(rt.alloc())?, OPEN.to_vec(rt.alloc())?);

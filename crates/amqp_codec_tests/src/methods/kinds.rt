@@ -93,7 +93,7 @@ fn assert_made(
     text: &str,
 ) -> Result<(), Fail> {
     let args = made_all(alloc, given)?;
-    assert_for(rt, fits(kind, &args), text);
+    assert!(rt; fits(kind, &args), "for {text}");
     let method = Method::new(kind, args);
     assert_written(rt, alloc, &method, octets, text)
 }
