@@ -1,7 +1,5 @@
 pub mod ArgumentLemmas
 pub mod VerdictLemmas
-pub mod PartLemmas
-pub mod HeaderLemmas
 pub mod UsedLemmas
 pub mod PlaceLemmas
 pub mod PutLemmas

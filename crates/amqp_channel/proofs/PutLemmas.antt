@@ -11,7 +11,7 @@ use Rattle.amqp_model.specs.Machine.{channel_after}
 use Rattle.amqp_model.specs.Methods.{Method, Properties}
 use Rattle.amqp_model.specs.Notes.{Role, Client, Server}
 use Rattle.amqp_model.specs.Readings.{Reading, Calls, HeaderOf, MalformedHeader, BodyOf}
-use Rattle.amqp_channel.proofs.PartLemmas.{IsPart}
+use Rattle.amqp_channel.specs.VerdictView.{IsPart}
 use Rattle.amqp_channel.specs.Messages.{message_by, message_of}
 use Rattle.amqp_channel.specs.Puts.{after_payloads}
 

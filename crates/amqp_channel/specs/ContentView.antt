@@ -1,4 +1,6 @@
 -- What the code's contents stand for in the model.
+use Rattle.std.specs.Global.{Global}
+use Rattle.std.specs.Prelude.{Box, Option, Some, None}
 use Rattle.amqp_method.specs.CarrierView.{carrier_view}
 use Rattle.amqp_method.specs.HeaderView.{properties_view}
 use Rattle.amqp_method.specs.declared.contents.Content.{Content}
@@ -6,3 +8,8 @@ use Rattle.amqp_model.specs.Contents as contents
 
 abbrev pub content_view : Content → contents.Content
 content_view content = record { method = carrier_view content.method; properties = properties_view content.header.properties; body = content.body.items }
+
+-- a content, if one is handed out
+abbrev pub content_there : Option (Box Content Global) → Option contents.Content
+content_there None = None
+content_there (Some content) = Some (content_view content.value)

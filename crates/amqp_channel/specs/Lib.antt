@@ -8,7 +8,7 @@ pub mod GatheringKept
 pub mod Closes
 pub mod Reasons
 pub mod EventView
-pub mod NewsView
+pub mod PartsView
 pub mod EventTexts
 pub mod StandingView
 pub mod LifeView
@@ -16,8 +16,10 @@ pub mod ChannelView
 pub mod StateView
 pub mod Used
 pub mod ChannelsView
+pub mod Leaving
+pub mod ProgressView
+pub mod ReadingView
 pub mod VerdictView
-pub mod Headings
 pub mod Unreads
 pub mod Reads
 pub mod Puts

@@ -1,16 +1,8 @@
--- What is read of a payload, in the words of the model.
-use Rattle.std.specs.Prelude.{Bool, true, false, Result, Ok, Err}
+-- What is read of the payload of a header, in the words of the model.
+use Rattle.std.specs.Prelude.{Bool, true, false}
 use Rattle.amqp_method.specs.HeaderView.{properties_view}
-use Rattle.amqp_method.specs.MethodView.{method_view}
 use Rattle.amqp_method.specs.declared.headers.Header.{Header}
-use Rattle.amqp_method.specs.declared.methods.Method.{Method}
-use Rattle.amqp_model.specs.Readings.{Reading, Calls, HeaderOf, MalformedHeader}
-use Rattle.amqp_channel.specs.Unreads.{unread_view}
-use Rattle.amqp_channel.specs.declared.verdict.Unread.{Unread}
-
-abbrev pub call_reading : Result Method Unread → Reading
-call_reading (Ok method) = Calls (method_view method)
-call_reading (Err unread) = unread_view unread
+use Rattle.amqp_model.specs.Readings.{Reading, HeaderOf, MalformedHeader}
 
 -- a header that was read, or the payload that is none
 abbrev pub header_seen : Bool → Header → Reading

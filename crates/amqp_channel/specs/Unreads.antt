@@ -1,8 +1,8 @@
 -- Methods that can't be read, in the words of the model.
 use Rattle.amqp_model.specs.Closes.{CloseCode, NotImplemented, SyntaxError}
 use Rattle.amqp_model.specs.Readings as model
-use Rattle.amqp_channel.specs.declared.verdict.Unread.{Unread}
-use Rattle.amqp_channel.specs.declared.verdict.Unread.TheVariants.{UnknownMethod, MalformedMethod}
+use Rattle.amqp_channel.specs.declared.reading.Unread.{Unread}
+use Rattle.amqp_channel.specs.declared.reading.Unread.TheVariants.{UnknownMethod, MalformedMethod}
 
 abbrev pub unread_view : Unread → model.Reading
 unread_view UnknownMethod = model.UnknownMethod

@@ -1,4 +1,4 @@
-//! What an end keeps of a channel, and what it does with the frames that it takes there.
+//! What an end keeps of a channel, what the rules say of a frame that comes there, and what the frame leaves.
 //!
 //! A channel's number is Free, then Opening at a client whose open-ok is due, then Open, then Closing at the end that
 //! put the close, and Free again:
@@ -6,40 +6,31 @@
 //!     Free --open put--> Opening --open-ok--> Open --close put--> Closing --close-ok--> Free
 //!     Free --open taken--> Open --close taken--> Free
 //!
-//! A method goes from hand to hand here, and each time that it is moved costs nanoseconds. So the way that most methods take, on a
-//! channel that is Open, is inlined, and the ways of the others stand apart.
-ghost use Rattle.std.specs.Prelude.{◌≡◌, ◌<◌, true, false, ℕ, List, [], None, Some, Ok, IfOk, OnOk, OnErr};
-ghost use Rattle.amqp_method.specs.MethodView.{method_view};
-ghost use Rattle.amqp_model.specs.Events.{Discarded, Proceeds};
+//! The rules only look. What a frame changes is done after, by what it tells.
+ghost use Rattle.std.specs.Prelude.{◌≡◌, ◌<◌, ◌≤◌, ◌==◌, true, false, ℕ, List, IfOk, IsOk, OnOk, OnErr};
+ghost use Rattle.amqp_method.specs.HeaderRefView.{lent_header};
+ghost use Rattle.amqp_method.specs.MethodRefView.{lent_call};
+ghost use Rattle.amqp_model.specs.Channels.{Closing, Free, Opening};
 ghost use Rattle.amqp_model.specs.Frame.{Frame};
-ghost use Rattle.amqp_model.specs.FrameVerdict.{as_lives};
-ghost use Rattle.amqp_model.specs.Methods.{header_at};
-ghost use Rattle.amqp_model.specs.Readings.{Calls, BodyOf, header_reading, kind_of};
-ghost use Rattle.amqp_model.specs.Verdict.{when_closing, when_free, when_opening};
-ghost use Rattle.amqp_channel.specs.ChannelView.{channel_view, IsFree, IsOpening, IsClosing, IsOpen};
+ghost use Rattle.amqp_model.specs.Readings.{BodyOf, Calls, HeaderOf, MalformedHeader, kind_of};
+ghost use Rattle.amqp_channel.specs.ChannelView.{channel_view, IsFree, IsOpen};
+ghost use Rattle.amqp_channel.specs.ContentView.{content_there};
 ghost use Rattle.amqp_channel.specs.LifeView.{IsOther};
+ghost use Rattle.amqp_channel.specs.ReadingView.{reading_view};
 ghost use Rattle.amqp_channel.specs.Roles.{role_of};
-ghost use Rattle.amqp_channel.specs.VerdictView.{verdict_view, open_verdict, Decides, LeavesAfter};
+ghost use Rattle.amqp_channel.specs.Unreads.{unread_view};
+ghost use Rattle.amqp_channel.specs.Used.{is_closing_at};
+ghost use Rattle.amqp_channel.specs.VerdictView.{goes_on, handed_out, left_by, told_on, whole_now, whole_of, Drops, Fits, FitsTold, IsDiscarded, IsPart, Rules, SentOnChannel};
 
-use crate::aligned::Aligned;
 use crate::codes::CloseCode;
-use crate::events::reason_of;
+use crate::gathering::Gathering;
 use crate::life::Life;
-use crate::news::News;
+use crate::reading::{Reading, Unread};
 use crate::side::Side;
-use crate::verdict::{Reply, Site, Verdict};
-use crate::words::is_of_connection;
-use amqp_method::{Kind, Message, Method, OutOfMemory};
+use crate::site::Site;
+use crate::verdict::{Reply, Told, Verdict};
+use amqp_method::{Content, HeaderRef, Kind, Message, MethodRef, OutOfMemory};
 use std::alloc::Global;
-
-/// A frame that is dropped, which is reported to the application.
-fn discards(site: Site, news: &mut Option<News>) -> Verdict
-    ensures verdict { verdict_view site.number news.new result ≡ Proceeds (Some (Discarded site.number)) [] }
-    ensures alone { result ≡ Verdict.Proceeds }
-{
-    News::Discarded(Aligned::new(site.number)).put_in(news);
-    Verdict::Proceeds
-}
 
 /// What is kept of a channel.
 #[derive(Drop)]
@@ -52,7 +43,6 @@ pub enum Channel {
 
 impl Channel {
     ghost use Rattle.amqp_model.specs.Asks.{is_free};
-    ghost use Rattle.amqp_channel.specs.Used.{is_closing_at};
     ghost use Rattle.amqp_model.specs.Closes.{close_as, flow_as, without_arguments};
     ghost use Rattle.amqp_model.specs.Histories.{PutHere};
     ghost use Rattle.amqp_model.specs.Machine.{channel_after};
@@ -70,237 +60,6 @@ impl Channel {
             Channel::Opening => false,
             Channel::Closing => false,
             Channel::Open(_) => false,
-        }
-    }
-
-    pub(crate) fn is_closing(&self) -> bool
-        ensures { result ≡ is_closing_at (channel_view self.now) }
-    {
-        match self {
-            Channel::Closing => true,
-            Channel::Free => false,
-            Channel::Opening => false,
-            Channel::Open(_) => false,
-        }
-    }
-
-    /// A method on a number whose close-ok is due.
-    #[inline(never)]
-    pub(crate) fn take_closing(
-        &mut self,
-        site: Site,
-        method: &Method,
-        news: &mut Option<News>,
-    ) -> Verdict
-        requires { IsClosing self.old }
-        ensures verdict { verdict_view site.number news.new result ≡ as_lives site.number (Calls (method_view method.now)) (when_closing (kind_of (Calls (method_view method.now)))) }
-        ensures after { (frame : Frame) → LeavesAfter (role_of site.side) site.number frame (Calls (method_view method.now)) (verdict_view site.number news.new result) (channel_view self.old) (channel_view self.new) }
-    {
-        match method.kind() {
-            Kind::ChannelClose => {
-                News::Quiet.put_in(news);
-                Verdict::Owes(Reply::CloseOk)
-            }
-            Kind::ChannelCloseOk => {
-                *self = Channel::Free;
-                News::ChannelClosed(None, Aligned::new(site.number)).put_in(news);
-                Verdict::Proceeds
-            }
-            _ => discards(site, news),
-        }
-    }
-
-    /// A method on a number that is free, which the other end may put.
-    #[inline(never)]
-    fn take_free(&mut self, site: Site, method: &Method, news: &mut Option<News>) -> Verdict
-        requires { IsFree self.old }
-        ensures verdict { verdict_view site.number news.new result ≡ as_lives site.number (Calls (method_view method.now)) (when_free (role_of site.side) (kind_of (Calls (method_view method.now)))) }
-        ensures after { (frame : Frame) → LeavesAfter (role_of site.side) site.number frame (Calls (method_view method.now)) (verdict_view site.number news.new result) (channel_view self.old) (channel_view self.new) }
-    {
-        match (site.side, method.kind()) {
-            (Side::Server, Kind::ChannelOpen) => {
-                *self = Channel::Open(Life::new());
-                News::Opened(Aligned::new(site.number)).put_in(news);
-                Verdict::Owes(Reply::OpenOk)
-            }
-            (Side::Server, Kind::ChannelOpenOk) | (Side::Client, Kind::ChannelOpen) => {
-                Verdict::Faults(CloseCode::CommandInvalid)
-            }
-            _ => Verdict::Faults(CloseCode::ChannelError),
-        }
-    }
-
-    /// A method on a number whose open-ok is due.
-    #[inline(never)]
-    fn take_opening(
-        &mut self,
-        site: Site,
-        method: &Method,
-        news: &mut Option<News>,
-    ) -> Result<Verdict, OutOfMemory>
-        requires { IsOpening self.old }
-        ensures verdict { IfOk result (λ v. verdict_view site.number news.new v ≡ as_lives site.number (Calls (method_view method.now)) (when_opening (role_of site.side) (kind_of (Calls (method_view method.now))))) }
-        ensures after { IfOk result (λ v. (frame : Frame) → LeavesAfter (role_of site.side) site.number frame (Calls (method_view method.now)) (verdict_view site.number news.new v) (channel_view self.old) (channel_view self.new)) }
-        ensures err { OnErr result (channel_view self.new ≡ channel_view self.old) }
-    {
-        match (site.side, method.kind()) {
-            (_, Kind::ChannelClose) => {
-                let reason = reason_of(method)?;
-                *self = Channel::Free;
-                News::ChannelClosed(Some(reason), Aligned::new(site.number)).put_in(news);
-                Ok(Verdict::Owes(Reply::CloseOk))
-            }
-            (Side::Client, Kind::ChannelOpenOk) => {
-                *self = Channel::Open(Life::new());
-                News::Opened(Aligned::new(site.number)).put_in(news);
-                Ok(Verdict::Proceeds)
-            }
-            (Side::Server, Kind::ChannelOpenOk) | (Side::Client, Kind::ChannelOpen) => {
-                Ok(Verdict::Faults(CloseCode::CommandInvalid))
-            }
-            _ => Ok(Verdict::Faults(CloseCode::ChannelError)),
-        }
-    }
-
-    /// The other end's close of a channel that is Open. It stands apart, since a life has one at most.
-    #[inline(never)]
-    fn take_close(
-        &mut self,
-        site: Site,
-        method: &Method,
-        news: &mut Option<News>,
-    ) -> Result<Verdict, OutOfMemory>
-        requires is_open { IsOpen self.old }
-        requires close { (method_view method.now).kind ≡ Kind.ChannelClose }
-        ensures verdict { IfOk result (λ v. verdict_view site.number news.new v ≡ open_verdict (role_of site.side) site.number (channel_view self.old) (method_view method.now)) }
-        ensures after { IfOk result (λ v. (frame : Frame) → LeavesAfter (role_of site.side) site.number frame (Calls (method_view method.now)) (verdict_view site.number news.new v) (channel_view self.old) (channel_view self.new)) }
-        ensures err { OnErr result (channel_view self.new ≡ channel_view self.old) }
-    {
-        let reason = reason_of(method)?;
-        *self = Channel::Free;
-        News::ChannelClosed(Some(reason), Aligned::new(site.number)).put_in(news);
-        Ok(Verdict::Owes(Reply::CloseOk))
-    }
-
-    /// A method on a channel that is Open. A close ends the life at any place; no other method stands inside a content.
-    #[inline(always)]
-    fn take_open(
-        &mut self,
-        alloc: Global,
-        site: Site,
-        method: Method,
-        news: &mut Option<News>,
-    ) -> Result<Verdict, OutOfMemory>
-        requires is_open { IsOpen self.old }
-        requires none { news.old ≡ None }
-        ensures verdict { IfOk result (λ v. verdict_view site.number news.new v ≡ open_verdict (role_of site.side) site.number (channel_view self.old) (method_view method)) }
-        ensures after { IfOk result (λ v. (frame : Frame) → LeavesAfter (role_of site.side) site.number frame (Calls (method_view method)) (verdict_view site.number news.new v) (channel_view self.old) (channel_view self.new)) }
-        ensures err { OnErr result (channel_view self.new ≡ channel_view self.old) }
-    {
-        if method.kind() == Kind::ChannelClose {
-            return self.take_close(site, &method, news);
-        }
-        match self {
-            Channel::Open(life) => life.take_method(alloc, site, method, news),
-            Channel::Free => unreachable!(),
-            Channel::Opening => unreachable!(),
-            Channel::Closing => unreachable!(),
-        }
-    }
-
-    /// A method of any kind.
-    #[inline(always)]
-    pub(crate) fn take_method(
-        &mut self,
-        alloc: Global,
-        site: Site,
-        method: Method,
-        news: &mut Option<News>,
-    ) -> Result<Verdict, OutOfMemory>
-        requires above { 0 < site.number }
-        requires none { news.old ≡ None }
-        ensures verdict { IfOk result (λ v. Decides site (channel_view self.old) (Calls (method_view method)) (verdict_view site.number news.new v)) }
-        ensures after { IfOk result (λ v. (frame : Frame) → LeavesAfter (role_of site.side) site.number frame (Calls (method_view method)) (verdict_view site.number news.new v) (channel_view self.old) (channel_view self.new)) }
-        ensures err { OnErr result (channel_view self.new ≡ channel_view self.old) }
-    {
-        if let Channel::Closing = self {
-            return Ok(self.take_closing(site, &method, news));
-        }
-        if is_of_connection(&method) || !site.side.takes(&method) {
-            return Ok(Verdict::Faults(CloseCode::CommandInvalid));
-        }
-        if site.channel_max < site.number {
-            return Ok(Verdict::Faults(CloseCode::ChannelError));
-        }
-        match self {
-            Channel::Free => Ok(self.take_free(site, &method, news)),
-            Channel::Opening => self.take_opening(site, &method, news),
-            Channel::Open(_) => self.take_open(alloc, site, method, news),
-            Channel::Closing => Ok(self.take_closing(site, &method, news)),
-        }
-    }
-
-    /// A content header. Where its body is too large, the channel is closed.
-    pub(crate) fn take_header(
-        &mut self,
-        alloc: Global,
-        site: Site,
-        payload: &[u8],
-        news: &mut Option<News>,
-    ) -> Result<Verdict, OutOfMemory>
-        requires above { 0 < site.number }
-        requires none { news.old ≡ None }
-        ensures verdict { IfOk result (λ v. Decides site (channel_view self.old) (header_reading (header_at payload.now)) (verdict_view site.number news.new v)) }
-        ensures after { IfOk result (λ v. (frame : Frame) → LeavesAfter (role_of site.side) site.number frame (header_reading (header_at payload.now)) (verdict_view site.number news.new v) (channel_view self.old) (channel_view self.new)) }
-        ensures err { OnErr result (channel_view self.new ≡ channel_view self.old) }
-        ensures dropped { is_closing_at (channel_view self.old) ≡ true → result ≡ Ok Verdict.Proceeds }
-    {
-        match self {
-            Channel::Closing => Ok(discards(site, news)),
-            Channel::Free => Ok(Verdict::Faults(CloseCode::ChannelError)),
-            Channel::Opening => Ok(Verdict::Faults(CloseCode::ChannelError)),
-            Channel::Open(life) => {
-                if site.channel_max < site.number {
-                    return Ok(Verdict::Faults(CloseCode::ChannelError));
-                }
-                let verdict = life.take_header(alloc, site, payload, news)?;
-                match verdict {
-                    Verdict::RefusesContent => {
-                        *self = Channel::Closing;
-                        Ok(Verdict::RefusesContent)
-                    }
-                    Verdict::Proceeds => Ok(Verdict::Proceeds),
-                    Verdict::Owes(reply) => Ok(Verdict::Owes(reply)),
-                    Verdict::Faults(code) => Ok(Verdict::Faults(code)),
-                }
-            }
-        }
-    }
-
-    /// A part of a body.
-    pub(crate) fn take_body(
-        &mut self,
-        site: Site,
-        octets: &[u8],
-        news: &mut Option<News>,
-    ) -> Result<Verdict, OutOfMemory>
-        requires above { 0 < site.number }
-        requires none { news.old ≡ None }
-        ensures verdict { IfOk result (λ v. Decides site (channel_view self.old) (BodyOf octets.now) (verdict_view site.number news.new v)) }
-        ensures after { IfOk result (λ v. (frame : Frame) → LeavesAfter (role_of site.side) site.number frame (BodyOf octets.now) (verdict_view site.number news.new v) (channel_view self.old) (channel_view self.new)) }
-        ensures err { OnErr result (channel_view self.new ≡ channel_view self.old) }
-        ensures dropped { is_closing_at (channel_view self.old) ≡ true → result ≡ Ok Verdict.Proceeds }
-    {
-        match self {
-            Channel::Closing => Ok(discards(site, news)),
-            Channel::Free => Ok(Verdict::Faults(CloseCode::ChannelError)),
-            Channel::Opening => Ok(Verdict::Faults(CloseCode::ChannelError)),
-            Channel::Open(life) => {
-                if site.channel_max < site.number {
-                    return Ok(Verdict::Faults(CloseCode::ChannelError));
-                }
-                life.take_body(site, octets, news)
-            }
         }
     }
 
@@ -350,6 +109,261 @@ impl Channel {
             Channel::Free => unreachable!(),
             Channel::Opening => unreachable!(),
             Channel::Closing => unreachable!(),
+        }
+    }
+}
+
+/// A method on a channel whose close-ok is due.
+fn judge_closing(site: Site, method: MethodRef<'_>) -> Verdict
+    ensures { Rules site Closing (Calls (lent_call method.entry)) result }
+{
+    match method.kind() {
+        Kind::ChannelClose => Verdict::Proceeds(Told::Quiet, Some(Reply::CloseOk)),
+        Kind::ChannelCloseOk => Verdict::Proceeds(Told::ClosedByUs, None),
+        _ => Verdict::Proceeds(Told::Discarded, None),
+    }
+}
+
+/// A method on a number that is free, which the other end may put.
+fn judge_free(site: Site, method: MethodRef<'_>) -> Verdict
+    requires sent { SentOnChannel site (lent_call method) }
+    ensures { Rules site Free (Calls (lent_call method.entry)) result }
+{
+    match (site.side, method.kind()) {
+        (Side::Server, Kind::ChannelOpen) => Verdict::Proceeds(Told::Opened, Some(Reply::OpenOk)),
+        (Side::Server, Kind::ChannelOpenOk) | (Side::Client, Kind::ChannelOpen) => {
+            Verdict::Faults(CloseCode::CommandInvalid)
+        }
+        _ => Verdict::Faults(CloseCode::ChannelError),
+    }
+}
+
+/// A method on a number whose open-ok is due.
+fn judge_opening(site: Site, method: MethodRef<'_>) -> Verdict
+    requires sent { SentOnChannel site (lent_call method) }
+    ensures { Rules site Opening (Calls (lent_call method.entry)) result }
+{
+    match (site.side, method.kind()) {
+        (_, Kind::ChannelClose) => Verdict::Proceeds(Told::ClosedByPeer, Some(Reply::CloseOk)),
+        (Side::Client, Kind::ChannelOpenOk) => Verdict::Proceeds(Told::Opened, None),
+        (Side::Server, Kind::ChannelOpenOk) | (Side::Client, Kind::ChannelOpen) => {
+            Verdict::Faults(CloseCode::CommandInvalid)
+        }
+        _ => Verdict::Faults(CloseCode::ChannelError),
+    }
+}
+
+impl Channel {
+    /// A method, by the state of the channel.
+    #[tactic(auto, using(crate::proofs::VerdictLemmas::state_rules))]
+    fn judge_state(&self, site: Site, method: MethodRef<'_>) -> Verdict
+        requires sent { SentOnChannel site (lent_call method) }
+        ensures { Rules site (channel_view self.now) (Calls (lent_call method.entry)) result }
+    {
+        match self {
+            Channel::Free => judge_free(site, method),
+            Channel::Opening => judge_opening(site, method),
+            Channel::Open(life) => life.judge_method(site, method),
+            Channel::Closing => judge_closing(site, method),
+        }
+    }
+
+    /// A method of any kind.
+    fn judge_method(&self, site: Site, method: MethodRef<'_>) -> Verdict
+        requires { 0 < site.number }
+        ensures { Rules site (channel_view self.now) (Calls (lent_call method.entry)) result }
+    {
+        if let Channel::Closing = self {
+            return judge_closing(site, method);
+        }
+        if method.class_id() == 10 || !site.side.may_take(method.kind()) {
+            return Verdict::Faults(CloseCode::CommandInvalid);
+        }
+        if site.channel_max < site.number {
+            return Verdict::Faults(CloseCode::ChannelError);
+        }
+        self.judge_state(site, method)
+    }
+
+    /// A method that can't be read.
+    fn judge_unread(&self, site: Site, unread: Unread) -> Verdict
+        requires { 0 < site.number }
+        ensures { Rules site (channel_view self.now) (unread_view unread) result }
+    {
+        match self {
+            Channel::Closing => Verdict::Proceeds(Told::Discarded, None),
+            Channel::Free | Channel::Opening | Channel::Open(_) => Verdict::Faults(unread.code()),
+        }
+    }
+
+    /// A content header.
+    fn judge_header(&self, site: Site, header: HeaderRef<'_>) -> Verdict
+        requires { 0 < site.number }
+        ensures rules { Rules site (channel_view self.now)
+            (HeaderOf (lent_header header.entry).body_size (lent_header header.entry).properties) result }
+        ensures drops { is_closing_at (channel_view self.now) ≡ true → Drops result }
+    {
+        match self {
+            Channel::Closing => Verdict::Proceeds(Told::Discarded, None),
+            Channel::Free => Verdict::Faults(CloseCode::ChannelError),
+            Channel::Opening => Verdict::Faults(CloseCode::ChannelError),
+            Channel::Open(life) => {
+                if site.channel_max < site.number {
+                    return Verdict::Faults(CloseCode::ChannelError);
+                }
+                life.judge_header(site, header)
+            }
+        }
+    }
+
+    /// A header that can't be read.
+    fn judge_malformed(&self, site: Site) -> Verdict
+        requires { 0 < site.number }
+        ensures rules { Rules site (channel_view self.now) MalformedHeader result }
+        ensures drops { is_closing_at (channel_view self.now) ≡ true → Drops result }
+    {
+        match self {
+            Channel::Closing => Verdict::Proceeds(Told::Discarded, None),
+            Channel::Free => Verdict::Faults(CloseCode::ChannelError),
+            Channel::Opening => Verdict::Faults(CloseCode::ChannelError),
+            Channel::Open(life) => {
+                if site.channel_max < site.number {
+                    return Verdict::Faults(CloseCode::ChannelError);
+                }
+                match &life.content {
+                    Gathering::HeaderDue(_) => Verdict::Faults(CloseCode::SyntaxError),
+                    Gathering::Nothing | Gathering::BodyDue(_) | Gathering::Deferred(_) => {
+                        Verdict::Faults(CloseCode::UnexpectedFrame)
+                    }
+                }
+            }
+        }
+    }
+
+    /// A part of a body.
+    fn judge_body(&self, site: Site, octets: &[u8]) -> Verdict
+        requires { 0 < site.number }
+        ensures rules { Rules site (channel_view self.now) (BodyOf octets.now) result }
+        ensures drops { is_closing_at (channel_view self.now) ≡ true → Drops result }
+    {
+        match self {
+            Channel::Closing => Verdict::Proceeds(Told::Discarded, None),
+            Channel::Free => Verdict::Faults(CloseCode::ChannelError),
+            Channel::Opening => Verdict::Faults(CloseCode::ChannelError),
+            Channel::Open(life) => {
+                if site.channel_max < site.number {
+                    return Verdict::Faults(CloseCode::ChannelError);
+                }
+                life.judge_body(site, octets)
+            }
+        }
+    }
+
+    /// What the rules say of a frame on this channel, on a connection that is Running.
+    pub(crate) fn judge(&self, site: Site, reading: Reading<'_>) -> Verdict
+        requires { 0 < site.number }
+        ensures rules { Rules site (channel_view self.now) (reading_view reading.entry) result }
+        // Where this end has closed the channel, a part of a content is dropped.
+        ensures drops { is_closing_at (channel_view self.now) ≡ true → IsPart (reading_view reading.entry) → Drops result }
+    {
+        match reading {
+            Reading::Method(method) => self.judge_method(site, method),
+            Reading::UnknownMethod => self.judge_unread(site, Unread::UnknownMethod),
+            Reading::MalformedMethod => self.judge_unread(site, Unread::MalformedMethod),
+            Reading::Header(header) => self.judge_header(site, header),
+            Reading::MalformedHeader => self.judge_malformed(site),
+            Reading::Body(octets) => self.judge_body(site, octets),
+            Reading::Heartbeat { .. } => Verdict::Faults(CloseCode::FrameError),
+        }
+    }
+}
+
+impl Channel {
+    /// What a frame leaves that neither opens nor ends a life: a channel that is not Open stays as it is.
+    #[tactic(auto, using(crate::proofs::VerdictLemmas::none_whole_of))]
+    fn apply_open(
+        &mut self,
+        alloc: Global,
+        side: Side,
+        reading: Reading<'_>,
+        told: Told,
+    ) -> Result<Option<Box<Content>>, OutOfMemory>
+        requires { FitsTold (channel_view self.old) (reading_view reading) told }
+        ensures content { IfOk result (λ content. content_there content
+            ≡ whole_of told (whole_now (channel_view self.old) (reading_view reading.entry))) }
+        ensures ok { OnOk result (channel_view self.new
+            ≡ goes_on (role_of side) (reading_view reading.entry) told (channel_view self.old)) }
+        ensures err { OnErr result (channel_view self.new ≡ channel_view self.old) }
+        ensures drops { IsDiscarded told → IsOk result }
+    {
+        match self {
+            Channel::Open(life) => life.apply(alloc, side, reading, told),
+            Channel::Free | Channel::Opening | Channel::Closing => Ok(None),
+        }
+    }
+
+    /// What a frame leaves of which this is told.
+    fn apply_told(
+        &mut self,
+        alloc: Global,
+        side: Side,
+        reading: Reading<'_>,
+        told: Told,
+    ) -> Result<Option<Box<Content>>, OutOfMemory>
+        requires { FitsTold (channel_view self.old) (reading_view reading) told }
+        ensures content { IfOk result (λ content. content_there content
+            ≡ whole_of told (whole_now (channel_view self.old) (reading_view reading.entry))) }
+        ensures ok { OnOk result (channel_view self.new
+            ≡ told_on (role_of side) (reading_view reading.entry) told (channel_view self.old)) }
+        ensures err { OnErr result (channel_view self.new ≡ channel_view self.old) }
+        ensures drops { IsDiscarded told → IsOk result }
+    {
+        match told {
+            Told::Opened => {
+                *self = Channel::Open(Life::new());
+                Ok(None)
+            }
+            Told::ClosedByPeer | Told::ClosedByUs => {
+                *self = Channel::Free;
+                Ok(None)
+            }
+            Told::Method
+            | Told::Begun
+            | Told::Headed
+            | Told::Continued
+            | Told::Completed
+            | Told::Flow(_)
+            | Told::FlowOk(_)
+            | Told::Discarded
+            | Told::Quiet => self.apply_open(alloc, side, reading, told),
+        }
+    }
+
+    /// Leaves the channel as a frame with this verdict does. What is answered is the content that the frame makes whole. Out of
+    /// memory, the channel stays as it was.
+    pub(crate) fn apply(
+        &mut self,
+        alloc: Global,
+        side: Side,
+        reading: Reading<'_>,
+        verdict: Verdict,
+    ) -> Result<Option<Box<Content>>, OutOfMemory>
+        requires { Fits (channel_view self.old) (reading_view reading) verdict }
+        ensures content { IfOk result (λ content. content_there content
+            ≡ handed_out (channel_view self.old) (reading_view reading.entry) verdict) }
+        ensures left { OnOk result (channel_view self.new
+            ≡ left_by (role_of side) (reading_view reading.entry) verdict (channel_view self.old)) }
+        ensures err { OnErr result (channel_view self.new ≡ channel_view self.old) }
+        // What is dropped takes no memory.
+        ensures drops { Drops verdict → IsOk result }
+    {
+        match verdict {
+            Verdict::Proceeds(told, _) => self.apply_told(alloc, side, reading, told),
+            Verdict::RefusesContent => {
+                *self = Channel::Closing;
+                Ok(None)
+            }
+            Verdict::Faults(_) => Ok(None),
         }
     }
 }

@@ -2,28 +2,25 @@
 //!
 //! A channel is kept from its open to its end, and none that is Free is kept: memory is bounded by the channels in use,
 //! whatever their numbers are.
-ghost use Rattle.std.specs.Prelude.{◌≡◌, ◌≢◌, ◌+◌, ◌<◌, ◌≤◌, true, false, not, ℕ, suc, Ok, IfOk, IfNone, IfSome, OnErr, OnOk, MatchOption, None};
-ghost use Rattle.amqp_method.specs.MethodView.{method_view};
+ghost use Rattle.std.specs.Prelude.{◌≡◌, ◌≢◌, ◌+◌, ◌<◌, ◌≤◌, true, false, not, ℕ, suc, IsOk, IfOk, IfNone, IfSome, OnErr, OnOk, MatchOption, None};
 ghost use Rattle.amqp_model.specs.Asks.{is_free, first_free};
 ghost use Rattle.amqp_model.specs.Channels.{Free};
-ghost use Rattle.amqp_model.specs.Frame.{Frame};
-ghost use Rattle.amqp_model.specs.Readings.{Calls, BodyOf, header_reading, kind_of};
-ghost use Rattle.amqp_model.specs.FrameVerdict.{as_lives};
-ghost use Rattle.amqp_model.specs.Methods.{header_at};
-ghost use Rattle.amqp_model.specs.Verdict.{when_closing};
 ghost use Rattle.amqp_channel.specs.ChannelView.{channel_view};
+ghost use Rattle.amqp_channel.specs.ContentView.{content_there};
 ghost use Rattle.amqp_channel.specs.Used.{is_closing_at, used_view, HoldsAt, KeepsEntriesAt, KeepsOthersAt, NoneElseFree, NoneFreeBelow, NoneKeptFree, WritesAt};
 ghost use Rattle.indexmap.specs.IndexMap.{index_map_len};
 ghost use Rattle.amqp_channel.specs.Roles.{role_of};
-ghost use Rattle.amqp_channel.specs.VerdictView.{verdict_view, Decides, LeavesAfter};
+ghost use Rattle.amqp_channel.specs.ReadingView.{reading_view};
+ghost use Rattle.amqp_channel.specs.VerdictView.{Drops, Fits, IsPart, Rules, handed_out, left_by};
 
 mod puts;
 
 use crate::channel::Channel;
-use crate::codes::CloseCode;
-use crate::news::News;
-use crate::verdict::{Site, Verdict};
-use amqp_method::{Method, OutOfMemory};
+use crate::reading::Reading;
+use crate::side::Side;
+use crate::site::Site;
+use crate::verdict::Verdict;
+use amqp_method::{Content, OutOfMemory};
 use indexmap::IndexMap;
 use std::alloc::Global;
 
@@ -109,17 +106,6 @@ impl Channels {
         self.used.get(&number)
     }
 
-    /// Whether this end has put a close of the channel.
-    pub fn is_closing(&self, number: u16) -> bool
-        requires { 0 < number }
-        ensures { result ≡ is_closing_at (channels_view self.now number) }
-    {
-        match self.used.get(&number) {
-            Some(channel) => channel.is_closing(),
-            None => false,
-        }
-    }
-
     /// Sets a channel that isn't Free.
     pub(crate) fn set(&mut self, number: u16, channel: Channel) -> Result<(), OutOfMemory>
         requires { 0 < number }
@@ -164,141 +150,79 @@ impl Channels {
         Some(place)
     }
 
-    /// A method that a channel takes. What it tells goes where the caller has room for it.
-    pub fn take_method(
+    /// What the rules say of a frame on a channel.
+    pub fn judge(&self, site: Site, reading: Reading<'_>) -> Verdict
+        requires { 0 < site.number }
+        ensures rules { Rules site (channels_view self.now site.number) (reading_view reading.entry) result }
+        // Where this end has closed the channel, a part of a content is dropped.
+        ensures drops { is_closing_at (channels_view self.now site.number) ≡ true → IsPart (reading_view reading.entry) → Drops result }
+    {
+        match self.place_of(site.number) {
+            Some(place) => self.used[place].judge(site, reading),
+            None => Channel::Free.judge(site, reading),
+        }
+    }
+
+    /// Leaves the channel of a frame as its verdict does. What is answered is the content that the frame makes whole. Out of
+    /// memory, the channel stays as it was.
+    pub fn apply(
         &mut self,
         alloc: Global,
-        site: Site,
-        method: Method,
-        news: &mut Option<News>,
-    ) -> Result<Verdict, OutOfMemory>
-        requires above { 0 < site.number }
-        requires none { news.old ≡ None }
-        ensures verdict { IfOk result (λ v. Decides site (channels_view self.old site.number) (Calls (method_view method)) (verdict_view site.number news.new v)) }
-        ensures after { IfOk result (λ v. (frame : Frame) → LeavesAfter (role_of site.side) site.number frame (Calls (method_view method)) (verdict_view site.number news.new v) (channels_view self.old site.number) (channels_view self.new site.number)) }
-        ensures others { OnlyAt site.number (channels_view self.old) (channels_view self.new) }
-        ensures err { OnErr result (channels_view self.new site.number ≡ channels_view self.old site.number) }
+        side: Side,
+        number: u16,
+        reading: Reading<'_>,
+        verdict: Verdict,
+    ) -> Result<Option<Box<Content>>, OutOfMemory>
+        requires above { 0 < number }
+        requires fits { Fits (channels_view self.old number) (reading_view reading) verdict }
+        ensures content { IfOk result (λ content. content_there content
+            ≡ handed_out (channels_view self.old number) (reading_view reading.entry) verdict) }
+        ensures left { OnOk result (channels_view self.new number
+            ≡ left_by (role_of side) (reading_view reading.entry) verdict (channels_view self.old number)) }
+        ensures others { OnlyAt number (channels_view self.old) (channels_view self.new) }
+        ensures err { OnErr result (channels_view self.new number ≡ channels_view self.old number) }
+        // What is dropped takes no memory.
+        ensures drops { is_closing_at (channels_view self.old number) ≡ true → Drops verdict → IsOk result }
     {
-        let number = site.number;
         match self.place_of(number) {
             Some(place) => {
                 self.last = place;
                 let channel = &mut self.used[place];
-                let verdict = channel.take_method(alloc, site, method, news)?;
+                let content = channel.apply(alloc, side, reading, verdict)?;
                 let over = channel.is_free();
                 self.low = tidy(&mut self.used, self.low, number, over);
-                Ok(verdict)
+                Ok(content)
             }
-            None => self.take_unused(alloc, site, method, news),
+            None => self.apply_unused(alloc, side, number, reading, verdict),
         }
     }
 
-    /// A method on a number that is not in use.
-    ///
-    /// It stands apart, since few methods come there: then all others have no room to clear for a channel to be.
+    /// The same on a number that is not in use. Few frames come there, so it stands apart.
     #[inline(never)]
-    fn take_unused(
+    fn apply_unused(
         &mut self,
         alloc: Global,
-        site: Site,
-        method: Method,
-        news: &mut Option<News>,
-    ) -> Result<Verdict, OutOfMemory>
-        requires above { 0 < site.number }
-        requires free { channels_view self.old site.number ≡ Free }
-        requires none { news.old ≡ None }
-        ensures verdict { IfOk result (λ v. Decides site (channels_view self.old site.number) (Calls (method_view method)) (verdict_view site.number news.new v)) }
-        ensures after { IfOk result (λ v. (frame : Frame) → LeavesAfter (role_of site.side) site.number frame (Calls (method_view method)) (verdict_view site.number news.new v) (channels_view self.old site.number) (channels_view self.new site.number)) }
-        ensures others { OnlyAt site.number (channels_view self.old) (channels_view self.new) }
-        ensures err { OnErr result (channels_view self.new site.number ≡ channels_view self.old site.number) }
+        side: Side,
+        number: u16,
+        reading: Reading<'_>,
+        verdict: Verdict,
+    ) -> Result<Option<Box<Content>>, OutOfMemory>
+        requires above { 0 < number }
+        requires free { channels_view self.old number ≡ Free }
+        requires fits { Fits (channels_view self.old number) (reading_view reading) verdict }
+        ensures content { IfOk result (λ content. content_there content
+            ≡ handed_out (channels_view self.old number) (reading_view reading.entry) verdict) }
+        ensures left { OnOk result (channels_view self.new number
+            ≡ left_by (role_of side) (reading_view reading.entry) verdict (channels_view self.old number)) }
+        ensures others { OnlyAt number (channels_view self.old) (channels_view self.new) }
+        ensures err { OnErr result (channels_view self.new number ≡ channels_view self.old number) }
+        // What is dropped takes no memory.
+        ensures drops { is_closing_at (channels_view self.old number) ≡ true → Drops verdict → IsOk result }
     {
         let mut channel = Channel::Free;
-        let verdict = channel.take_method(alloc, site, method, news)?;
-        self.set(site.number, channel)?;
-        Ok(verdict)
-    }
-
-    /// A content header that a channel takes.
-    pub fn take_header(
-        &mut self,
-        alloc: Global,
-        site: Site,
-        payload: &[u8],
-        news: &mut Option<News>,
-    ) -> Result<Verdict, OutOfMemory>
-        requires above { 0 < site.number }
-        requires none { news.old ≡ None }
-        ensures verdict { IfOk result (λ v. Decides site (channels_view self.old site.number) (header_reading (header_at payload.now)) (verdict_view site.number news.new v)) }
-        ensures after { IfOk result (λ v. (frame : Frame) → LeavesAfter (role_of site.side) site.number frame (header_reading (header_at payload.now)) (verdict_view site.number news.new v) (channels_view self.old site.number) (channels_view self.new site.number)) }
-        ensures others { OnlyAt site.number (channels_view self.old) (channels_view self.new) }
-        ensures err { OnErr result (channels_view self.new site.number ≡ channels_view self.old site.number) }
-        // Where this end has closed the channel, the frame is dropped, which takes no memory.
-        ensures dropped { is_closing_at (channels_view self.old site.number) ≡ true → result ≡ Ok Verdict.Proceeds }
-    {
-        let number = site.number;
-        match self.place_of(number) {
-            Some(place) => {
-                self.last = place;
-                let channel = &mut self.used[place];
-                let verdict = channel.take_header(alloc, site, payload, news)?;
-                let over = channel.is_free();
-                self.low = tidy(&mut self.used, self.low, number, over);
-                Ok(verdict)
-            }
-            None => Ok(Verdict::Faults(CloseCode::ChannelError)),
-        }
-    }
-
-    /// A part of a body that a channel takes.
-    pub fn take_body(
-        &mut self,
-        site: Site,
-        octets: &[u8],
-        news: &mut Option<News>,
-    ) -> Result<Verdict, OutOfMemory>
-        requires above { 0 < site.number }
-        requires none { news.old ≡ None }
-        ensures verdict { IfOk result (λ v. Decides site (channels_view self.old site.number) (BodyOf octets.now) (verdict_view site.number news.new v)) }
-        ensures after { IfOk result (λ v. (frame : Frame) → LeavesAfter (role_of site.side) site.number frame (BodyOf octets.now) (verdict_view site.number news.new v) (channels_view self.old site.number) (channels_view self.new site.number)) }
-        ensures others { OnlyAt site.number (channels_view self.old) (channels_view self.new) }
-        ensures err { OnErr result (channels_view self.new site.number ≡ channels_view self.old site.number) }
-        // Where this end has closed the channel, the frame is dropped, which takes no memory.
-        ensures dropped { is_closing_at (channels_view self.old site.number) ≡ true → result ≡ Ok Verdict.Proceeds }
-    {
-        let number = site.number;
-        match self.place_of(number) {
-            Some(place) => {
-                self.last = place;
-                let channel = &mut self.used[place];
-                let verdict = channel.take_body(site, octets, news)?;
-                let over = channel.is_free();
-                self.low = tidy(&mut self.used, self.low, number, over);
-                Ok(verdict)
-            }
-            None => Ok(Verdict::Faults(CloseCode::ChannelError)),
-        }
-    }
-
-    /// A method on a channel whose close-ok is due.
-    pub fn take_closing(&mut self, site: Site, method: &Method, news: &mut Option<News>) -> Verdict
-        requires above { 0 < site.number }
-        requires closing { is_closing_at (channels_view self.old site.number) ≡ true }
-        ensures verdict { verdict_view site.number news.new result ≡ as_lives site.number (Calls (method_view method.now)) (when_closing (kind_of (Calls (method_view method.now)))) }
-        ensures after { (frame : Frame) → LeavesAfter (role_of site.side) site.number frame (Calls (method_view method.now)) (verdict_view site.number news.new result) (channels_view self.old site.number) (channels_view self.new site.number) }
-        ensures others { OnlyAt site.number (channels_view self.old) (channels_view self.new) }
-    {
-        let number = site.number;
-        match self.place_of(number) {
-            Some(place) => {
-                self.last = place;
-                let channel = &mut self.used[place];
-                let verdict = channel.take_closing(site, method, news);
-                let over = channel.is_free();
-                self.low = tidy(&mut self.used, self.low, number, over);
-                verdict
-            }
-            None => unreachable!(),
-        }
+        let content = channel.apply(alloc, side, reading, verdict)?;
+        self.set(number, channel)?;
+        Ok(content)
     }
 
     /// Whether a channel is in use.

@@ -4,13 +4,15 @@ ghost use Rattle.amqp_method.specs.Arguments.{kind_of};
 ghost use Rattle.amqp_method.specs.Views.{arg_view, args_view};
 ghost use Rattle.amqp_method.specs.Places.{number_in, octets_in};
 ghost use Rattle.amqp_model.specs.Methods.{octets_at};
+ghost use Rattle.amqp_method.specs.MethodRefView.{lent_call};
 ghost use Rattle.amqp_method.specs.MethodView.{method_view};
 ghost use Rattle.amqp_model.specs.Events.{reason_in};
 ghost use Rattle.amqp_channel.specs.EventView.{event_view, reason_there};
 ghost use Rattle.amqp_channel.specs.Reasons.{reason_view, IsClose, AreOfClose, BeginsWithText};
 
-use amqp_method::{Arg, FieldKind, Kind, Message, Method, OutOfMemory};
+use amqp_method::{Arg, FieldKind, Kind, Message, Method, MethodRef, OutOfMemory};
 use amqp_value::ShortStr;
+use std::alloc::Global;
 
 /// What tune-ok settles.
 #[derive(Clone, Copy, PartialEq, Eq, Debug)]
@@ -104,6 +106,24 @@ impl Event {
     }
 }
 
+/// The reason in a close that lies in its payload.
+pub fn lent_reason(alloc: Global, method: MethodRef<'_>) -> Result<Reason, OutOfMemory>
+    requires { IsClose (lent_call method).kind }
+    ensures { IfOk result (λ r. reason_view r ≡ reason_in (lent_call method.entry)) }
+{
+    let method = method.to_owned(alloc)?;
+    reason_of(&method)
+}
+
+/// The reason in a connection.blocked that lies in its payload.
+pub fn lent_blocked_reason(alloc: Global, method: MethodRef<'_>) -> Result<ShortStr, OutOfMemory>
+    requires { (lent_call method).kind ≡ Kind.ConnectionBlocked }
+    ensures { IfOk result (λ text. text ≡ octets_at 0 (lent_call method.entry)) }
+{
+    let method = method.to_owned(alloc)?;
+    blocked_reason(&method)
+}
+
 /// The number that an argument of 16 bits is.
 fn held_short(arg: &Arg) -> u16
     requires { kind_of (arg_view arg.now) ≡ FieldKind.Short }
@@ -137,7 +157,7 @@ fn close_args(method: &Method) -> &[Arg]
 
 /// The reason in a close of a channel or of the connection.
 #[tactic(auto, using(crate::proofs::ArgumentLemmas::arguments))]
-pub fn reason_of(method: &Method) -> Result<Reason, OutOfMemory>
+fn reason_of(method: &Method) -> Result<Reason, OutOfMemory>
     requires { IsClose (method_view method.now).kind }
     ensures { IfOk result (λ r. reason_view r ≡ reason_in (method_view method.now)) }
 {
@@ -158,7 +178,7 @@ fn blocked_args(method: &Method) -> &[Arg]
 
 /// The reason in connection.blocked.
 #[tactic(auto, using(crate::proofs::ArgumentLemmas::arguments))]
-pub fn blocked_reason(method: &Method) -> Result<ShortStr, OutOfMemory>
+fn blocked_reason(method: &Method) -> Result<ShortStr, OutOfMemory>
     requires { (method_view method.now).kind ≡ Kind.ConnectionBlocked }
     ensures { IfOk result (λ text. text ≡ octets_at 0 (method_view method.now)) }
 {

@@ -1,16 +1,15 @@
 //! The content under way on a channel.
-ghost use Rattle.std.specs.Prelude.{◌≡◌, ◌+◌, ◌++◌, [], ℕ, IfOk, OnOk, OnErr};
+ghost use Rattle.std.specs.Prelude.{◌≡◌, ◌+◌, ◌++◌, Some, IfOk, OnOk, OnErr};
 ghost use Rattle.amqp_method.specs.CarrierView.{carrier_view};
-ghost use Rattle.amqp_method.specs.HeaderView.{properties_view};
-ghost use Rattle.amqp_model.specs.Contents.{Body as BodyPart};
 ghost use Rattle.amqp_model.specs.FrameVerdict.{is_gathering};
-ghost use Rattle.amqp_model.specs.Gathering.{Nothing, HeaderDue, BodyDue, step, remains};
+ghost use Rattle.amqp_model.specs.Gathering.{Nothing, HeaderDue};
 ghost use Rattle.amqp_model.specs.Methods.{header_at};
-ghost use Rattle.amqp_model.specs.Readings.{HeaderOf, header_reading};
+ghost use Rattle.amqp_model.specs.Readings.{BodyOf, header_reading};
+ghost use Rattle.amqp_channel.specs.ContentView.{content_view};
 ghost use Rattle.amqp_channel.specs.Filling.{filling_of};
 ghost use Rattle.amqp_channel.specs.GatheringKept.{IsBodyDue, IsKeptIn};
-ghost use Rattle.amqp_channel.specs.GatheringView.{gathering_view, step_view};
-ghost use Rattle.amqp_channel.specs.Headings.{header_verdict, heading_verdict, HeadingLeaves};
+ghost use Rattle.amqp_channel.specs.GatheringView.{gathering_view};
+ghost use Rattle.amqp_channel.specs.VerdictView.{continued_with, headed_with, whole_at, whole_with, IsHeadedBy, IsHeader, IsHeaderDue, IsWhole};
 
 use crate::deferred::{Deferred, is_deferred};
 use crate::read::read_content_header;
@@ -30,49 +29,15 @@ pub enum Gathering {
     Deferred(Box<Deferred>),
 }
 
-/// Why a part of a content can't come next.
-#[derive(Clone, Copy)]
-pub(crate) enum Misfit {
-    NothingBegun,
-    HeaderAwaited,
-    PastSize,
-}
-
-/// What a part of a content does to what is kept.
-#[derive(Drop)]
-pub(crate) enum Part {
-    /// More is due.
-    Kept,
-    /// The content is whole, and is kept no more.
-    Completed(Box<Content>),
-    /// The part is out of place, and nothing is kept any more.
-    Misfits(Misfit),
-}
-
-/// What a content header does to what is kept.
-#[derive(Drop)]
-pub(crate) enum Heading {
-    /// No header is due.
-    Misplaced,
-    /// It can't be read.
-    Malformed,
-    /// It says a body that is too large.
-    TooLarge,
-    /// Its body is due.
-    Kept,
-    /// Its body is empty, so the content is whole, and is kept no more.
-    Completed(Box<Content>),
-}
-
 /// How octets fill a body.
-enum Filling {
+pub(crate) enum Filling {
     Short,
     Full,
     Past,
 }
 
 /// How so many octets and so many more fill a body of a size.
-fn fill(size: u64, kept: usize, more: usize) -> Filling
+pub(crate) fn fill(size: u64, kept: usize, more: usize) -> Filling
     ensures { result ≡ filling_of size (kept + more) }
 {
     let kept = kept as u64;
@@ -97,137 +62,8 @@ impl Gathering {
         }
     }
 
-    /// Takes a content header, which says a body of up to so many octets. Being out of memory leaves what is kept as it was.
-    pub(crate) fn take_header(
-        &mut self,
-        alloc: Global,
-        payload: &[u8],
-        most: u64,
-    ) -> Result<Heading, OutOfMemory>
-        ensures verdict { IfOk result (λ heading. (number : ℕ) → heading_verdict number heading ≡ header_verdict number most (gathering_view self.old) (header_reading (header_at payload.now))) }
-        ensures left { IfOk result (λ heading. HeadingLeaves (header_reading (header_at payload.now)) (gathering_view self.old) (gathering_view self.new) heading) }
-        ensures err { OnErr result (gathering_view self.new ≡ gathering_view self.old) }
-    {
-        match mem::replace(self, Gathering::Nothing) {
-            Gathering::Nothing => Ok(Heading::Misplaced),
-            Gathering::BodyDue(_) => Ok(Heading::Misplaced),
-            Gathering::Deferred(_) => Ok(Heading::Misplaced),
-            Gathering::HeaderDue(content) => self.read_due(alloc, payload, most, content),
-        }
-    }
-
-    /// Reads the header of a content, where it is due. Out of memory, it is due still.
-    fn read_due(
-        &mut self,
-        alloc: Global,
-        payload: &[u8],
-        most: u64,
-        mut content: Box<Content>,
-    ) -> Result<Heading, OutOfMemory>
-        requires { gathering_view self.old ≡ Nothing }
-        ensures verdict { IfOk result (λ heading. (number : ℕ) → heading_verdict number heading ≡ header_verdict number most (HeaderDue (carrier_view content.value.method)) (header_reading (header_at payload.now))) }
-        ensures left { IfOk result (λ heading. HeadingLeaves (header_reading (header_at payload.now)) (HeaderDue (carrier_view content.value.method)) (gathering_view self.new) heading) }
-        ensures err { OnErr result (gathering_view self.new ≡ HeaderDue (carrier_view content.value.method)) }
-    {
-        let Ok(read) = read_content_header(alloc, payload, &mut content.header) else {
-            *self = Gathering::HeaderDue(content);
-            return Err(OutOfMemory);
-        };
-        if !read {
-            return Ok(Heading::Malformed);
-        }
-        let size = content.header.body_size;
-        if most < size {
-            return Ok(Heading::TooLarge);
-        }
-        // None of a body comes before its header. What was begun is empty anyway: to say so is less than to prove it.
-        content.body.clear();
-        if size == 0 {
-            return Ok(Heading::Completed(content));
-        }
-        if is_deferred(&content.header, payload.len()) {
-            return self.defer(alloc, payload, content);
-        }
-        *self = Gathering::BodyDue(content);
-        Ok(Heading::Kept)
-    }
-
-    /// Keeps the octets of a header that was read. Out of memory, it is due still.
-    fn defer(
-        &mut self,
-        alloc: Global,
-        payload: &[u8],
-        content: Box<Content>,
-    ) -> Result<Heading, OutOfMemory>
-        requires read { header_reading (header_at payload.now) ≡ HeaderOf content.value.header.body_size (properties_view content.value.header.properties) }
-        requires none { content.value.body.items ≡ [] }
-        ensures kept { IfOk result (λ heading. heading ≡ Heading.Kept) }
-        ensures left { OnOk result (gathering_view self.new ≡ BodyDue (carrier_view content.value.method) content.value.header.body_size (properties_view content.value.header.properties) []) }
-        ensures err { OnErr result (gathering_view self.new ≡ HeaderDue (carrier_view content.value.method)) }
-    {
-        match Deferred::new(alloc, payload, content) {
-            Ok(deferred) => {
-                *self = Gathering::Deferred(deferred);
-                Ok(Heading::Kept)
-            }
-            Err(content) => {
-                *self = Gathering::HeaderDue(content);
-                Err(OutOfMemory)
-            }
-        }
-    }
-
-    /// Takes a part of a body, and appends it to what is kept. Being out of memory leaves what is kept as it was.
-    pub(crate) fn take_body(&mut self, octets: &[u8]) -> Result<Part, OutOfMemory>
-        ensures step { IfOk result (λ part. step_view part self.new ≡ step (gathering_view self.old) (BodyPart octets.now)) }
-        ensures left { IfOk result (λ part. gathering_view self.new ≡ remains (step (gathering_view self.old) (BodyPart octets.now)) (BodyPart octets.now)) }
-        ensures err { OnErr result (gathering_view self.new ≡ gathering_view self.old) }
-    {
-        match self {
-            Gathering::Nothing => Ok(Part::Misfits(Misfit::NothingBegun)),
-            Gathering::HeaderDue(_) => {
-                *self = Gathering::Nothing;
-                Ok(Part::Misfits(Misfit::HeaderAwaited))
-            }
-            Gathering::BodyDue(content) => {
-                match fill(content.header.body_size, content.body.len(), octets.len()) {
-                    Filling::Past => {
-                        *self = Gathering::Nothing;
-                        Ok(Part::Misfits(Misfit::PastSize))
-                    }
-                    Filling::Short => {
-                        content.body.extend_from_slice(octets)?;
-                        Ok(Part::Kept)
-                    }
-                    Filling::Full => {
-                        append_last(&mut content.body, octets)?;
-                        Ok(Part::Completed(self.take_whole()))
-                    }
-                }
-            }
-            Gathering::Deferred(deferred) => {
-                match fill(deferred.size(), deferred.content.body.len(), octets.len()) {
-                    Filling::Past => {
-                        *self = Gathering::Nothing;
-                        Ok(Part::Misfits(Misfit::PastSize))
-                    }
-                    Filling::Short => {
-                        deferred.content.body.extend_from_slice(octets)?;
-                        Ok(Part::Kept)
-                    }
-                    Filling::Full => {
-                        let alloc = *deferred.content.body.allocator();
-                        deferred.read_header(alloc)?;
-                        append_last(&mut deferred.content.body, octets)?;
-                        Ok(Part::Completed(self.take_whole()))
-                    }
-                }
-            }
-        }
-    }
-
     /// The content whose body is all there. Nothing is kept any more.
-    fn take_whole(&mut self) -> Box<Content>
+    pub(crate) fn take_whole(&mut self) -> Box<Content>
         requires { IsBodyDue self.old }
         ensures whole { IsKeptIn self.old result }
         ensures left { gathering_view self.new ≡ Nothing }
@@ -242,7 +78,7 @@ impl Gathering {
 
 /// Appends the last part of a body. A body that one frame has whole is given as much memory as it has octets.
 #[inline(always)]
-fn append_last(body: &mut Vec<u8>, octets: &[u8]) -> Result<(), OutOfMemory>
+pub(crate) fn append_last(body: &mut Vec<u8>, octets: &[u8]) -> Result<(), OutOfMemory>
     ensures ok { OnOk result (body.new.items ≡ body.old.items ++ octets.now) }
     ensures err { OnErr result (body.new.items ≡ body.old.items) }
 {
@@ -252,4 +88,131 @@ fn append_last(body: &mut Vec<u8>, octets: &[u8]) -> Result<(), OutOfMemory>
         body.extend_from_slice(octets)?;
     }
     Ok(())
+}
+
+impl Gathering {
+    /// Keeps a part of a body, after which more is due. Out of memory, all is as it was.
+    pub(crate) fn append(&mut self, octets: &[u8]) -> Result<(), OutOfMemory>
+        ensures ok { OnOk result (gathering_view self.new ≡ continued_with (BodyOf octets.now) (gathering_view self.old)) }
+        ensures err { OnErr result (gathering_view self.new ≡ gathering_view self.old) }
+    {
+        match self {
+            Gathering::BodyDue(content) => content.body.extend_from_slice(octets)?,
+            Gathering::Deferred(deferred) => deferred.content.body.extend_from_slice(octets)?,
+            Gathering::Nothing | Gathering::HeaderDue(_) => {}
+        }
+        Ok(())
+    }
+
+    /// The content that a part of its body makes whole. Nothing is kept of it any more. Out of memory, all is as it was.
+    pub(crate) fn finish(&mut self, octets: &[u8]) -> Result<Box<Content>, OutOfMemory>
+        requires { IsWhole (whole_with (gathering_view self.old) octets.now) }
+        ensures whole { IfOk result (λ content. whole_with (gathering_view self.old) octets.now ≡ Some (content_view content.value)) }
+        ensures left { OnOk result (gathering_view self.new ≡ Nothing) }
+        ensures err { OnErr result (gathering_view self.new ≡ gathering_view self.old) }
+    {
+        match self {
+            Gathering::BodyDue(content) => append_last(&mut content.body, octets)?,
+            Gathering::Deferred(deferred) => {
+                let alloc = *deferred.content.body.allocator();
+                deferred.read_header(alloc)?;
+                append_last(&mut deferred.content.body, octets)?;
+            }
+            Gathering::Nothing | Gathering::HeaderDue(_) => unreachable!(),
+        }
+        Ok(self.take_whole())
+    }
+}
+
+impl Gathering {
+    /// Takes the header that is due, after which the body is due. Out of memory, the header is due still.
+    pub(crate) fn head(&mut self, alloc: Global, payload: &[u8]) -> Result<(), OutOfMemory>
+        requires due { IsHeaderDue (gathering_view self.old) }
+        requires header { IsHeader (header_reading (header_at payload.now)) }
+        ensures ok { OnOk result (gathering_view self.new ≡ headed_with (header_reading (header_at payload.now)) (gathering_view self.old)) }
+        ensures err { OnErr result (gathering_view self.new ≡ gathering_view self.old) }
+    {
+        match mem::replace(self, Gathering::Nothing) {
+            Gathering::HeaderDue(content) => self.read_header(alloc, payload, content),
+            Gathering::Nothing | Gathering::BodyDue(_) | Gathering::Deferred(_) => unreachable!(),
+        }
+    }
+
+    /// The content that its header makes whole, since its body is empty. Nothing is kept of it any more.
+    pub(crate) fn finish_header(
+        &mut self,
+        alloc: Global,
+        payload: &[u8],
+    ) -> Result<Box<Content>, OutOfMemory>
+        requires { IsWhole (whole_at (gathering_view self.old) (header_reading (header_at payload.now))) }
+        ensures whole { IfOk result (λ content. whole_at (gathering_view self.old) (header_reading (header_at payload.now)) ≡ Some (content_view content.value)) }
+        ensures left { OnOk result (gathering_view self.new ≡ Nothing) }
+        ensures err { OnErr result (gathering_view self.new ≡ gathering_view self.old) }
+    {
+        match mem::replace(self, Gathering::Nothing) {
+            Gathering::HeaderDue(mut content) => {
+                match read_content_header(alloc, payload, &mut content.header) {
+                    Ok(true) => {}
+                    Ok(false) => unreachable!(),
+                    Err(fault) => {
+                        *self = Gathering::HeaderDue(content);
+                        return Err(fault);
+                    }
+                }
+                content.body.clear();
+                Ok(content)
+            }
+            Gathering::Nothing | Gathering::BodyDue(_) | Gathering::Deferred(_) => unreachable!(),
+        }
+    }
+
+    /// Reads the header of a content where it is kept.
+    fn read_header(
+        &mut self,
+        alloc: Global,
+        payload: &[u8],
+        mut content: Box<Content>,
+    ) -> Result<(), OutOfMemory>
+        requires header { IsHeader (header_reading (header_at payload.now)) }
+        ensures ok { OnOk result (gathering_view self.new ≡ headed_with (header_reading (header_at payload.now)) (HeaderDue (carrier_view content.value.method))) }
+        ensures err { OnErr result (gathering_view self.new ≡ HeaderDue (carrier_view content.value.method)) }
+    {
+        match read_content_header(alloc, payload, &mut content.header) {
+            Ok(true) => {}
+            Ok(false) => unreachable!(),
+            Err(fault) => {
+                *self = Gathering::HeaderDue(content);
+                return Err(fault);
+            }
+        }
+        content.body.clear();
+        self.keep_headed(alloc, payload, content)
+    }
+
+    /// A content whose header was read: its body is due. A long header with a table is kept as its octets.
+    fn keep_headed(
+        &mut self,
+        alloc: Global,
+        payload: &[u8],
+        content: Box<Content>,
+    ) -> Result<(), OutOfMemory>
+        requires read { IsHeadedBy content.value (header_reading (header_at payload.now)) }
+        ensures ok { OnOk result (gathering_view self.new ≡ headed_with (header_reading (header_at payload.now)) (HeaderDue (carrier_view content.value.method))) }
+        ensures err { OnErr result (gathering_view self.new ≡ HeaderDue (carrier_view content.value.method)) }
+    {
+        if !is_deferred(&content.header, payload.len()) {
+            *self = Gathering::BodyDue(content);
+            return Ok(());
+        }
+        match Deferred::new(alloc, payload, content) {
+            Ok(deferred) => {
+                *self = Gathering::Deferred(deferred);
+                Ok(())
+            }
+            Err(content) => {
+                *self = Gathering::HeaderDue(content);
+                Err(OutOfMemory)
+            }
+        }
+    }
 }

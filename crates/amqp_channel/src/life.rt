@@ -1,39 +1,37 @@
-//! The life of a channel that is Open: what is kept of it, and what comes of the frames that belong to it.
-//!
-//! What it takes of methods is inlined, up to the channel, as there.
-ghost use Rattle.std.specs.Prelude.{◌≡◌, ◌≢◌, [], None, Some, IfOk, OnOk, OnErr};
+//! The life of a channel that is Open: what is kept of it, what the rules say of the frames that belong to it, and what these
+//! leave.
+ghost use Rattle.std.specs.Prelude.{◌≡◌, ◌≢◌, ◌<◌, ◌≤◌, true, ℕ, None, Some, IfOk, IsOk, OnOk, OnErr};
+ghost use Rattle.amqp_method.specs.HeaderRefView.{lent_header};
+ghost use Rattle.amqp_method.specs.MethodRefView.{lent_call};
 ghost use Rattle.amqp_method.specs.MethodView.{method_view};
 ghost use Rattle.amqp_model.specs.Channels.{Open, new_life};
-ghost use Rattle.amqp_model.specs.Contents.{Body as BodyPart};
-ghost use Rattle.amqp_model.specs.Events.{Proceeds, Told, Whole};
 ghost use Rattle.amqp_model.specs.Frame.{Frame};
-ghost use Rattle.amqp_model.specs.FrameVerdict.{after_part, on_matched};
-ghost use Rattle.amqp_model.specs.Gathering.{Completes, step};
+ghost use Rattle.amqp_model.specs.FrameVerdict.{on_message};
 ghost use Rattle.amqp_model.specs.Histories.{PutHere};
 ghost use Rattle.amqp_model.specs.Machine.{channel_after};
-ghost use Rattle.amqp_model.specs.Methods.{header_at};
+ghost use Rattle.amqp_model.specs.Methods.{carries_content as content_follows, header_at};
 ghost use Rattle.amqp_model.specs.Notes.{Client, Server};
-ghost use Rattle.amqp_model.specs.Readings.{Calls, BodyOf, header_reading, kind_of};
-ghost use Rattle.amqp_channel.specs.ContentView.{content_view};
-ghost use Rattle.amqp_channel.specs.GatheringView.{step_view};
+ghost use Rattle.amqp_model.specs.Readings as readings;
+ghost use Rattle.amqp_model.specs.Readings.{Calls, BodyOf, HeaderOf, header_reading, kind_of};
+ghost use Rattle.amqp_channel.specs.ContentView.{content_there, content_view};
 ghost use Rattle.amqp_channel.specs.LifeView.{life_view, IsIdle, IsOther};
-ghost use Rattle.amqp_channel.specs.Headings.{header_verdict, heading_step, heading_verdict, LeavesLife};
+ghost use Rattle.amqp_channel.specs.ReadingView.{reading_view};
 ghost use Rattle.amqp_channel.specs.Roles.{role_of};
-ghost use Rattle.amqp_channel.specs.VerdictView.{verdict_view, life_verdict, without_answered, LeavesAfter};
+ghost use Rattle.amqp_channel.specs.VerdictView.{asked_with, replies_in, told_in, verdict_view, whole_at, whole_of, whole_with, FitsTold, IsDiscarded, IsFlow, IsHeader, IsHeaderDue, IsWhole, MessageRules, Rules, RulesByState, TellsMessage};
 
-use crate::aligned::Aligned;
 use crate::codes::CloseCode;
-use crate::gathering::{Gathering, Heading, Misfit, Part};
-use crate::news::{Lone, News};
+use crate::gathering::{Filling, Gathering, fill};
+use crate::reading::Reading;
 use crate::side::Side;
+use crate::site::Site;
 use crate::standing::Standing;
-use crate::verdict::{Reply, Site, Verdict};
-use crate::words::{bit_at, carries_content};
-use amqp_method::{Carrier, Content, Kind, Method, OutOfMemory};
+use crate::verdict::{Reply, Told, Verdict};
+use crate::words::lent_bit_at;
+use amqp_method::{Carrier, Content, HeaderRef, Kind, Method, MethodRef, OutOfMemory};
 use std::alloc::Global;
 
 /// How many requests a server keeps on a channel.
-const MOST_REQUESTS: usize = 1024;
+pub(crate) const MOST_REQUESTS: usize = 1024;
 
 /// What stands beside the state of a channel that is Open.
 #[derive(Drop)]
@@ -52,77 +50,6 @@ impl Life {
         Life {
             content: Gathering::Nothing,
             standing: Standing::new(),
-        }
-    }
-
-    /// A method that doesn't close the channel.
-    #[inline(always)]
-    pub(crate) fn take_method(
-        &mut self,
-        alloc: Global,
-        site: Site,
-        method: Method,
-        news: &mut Option<News>,
-    ) -> Result<Verdict, OutOfMemory>
-        requires goes_on { (method_view method).kind ≢ Kind.ChannelClose }
-        requires none { news.old ≡ None }
-        ensures verdict { IfOk result (λ v. verdict_view site.number news.new v ≡ life_verdict (role_of site.side) site.number (life_view self.old) (method_view method)) }
-        ensures after { IfOk result (λ v. (frame : Frame) → LeavesAfter (role_of site.side) site.number frame (Calls (method_view method)) (verdict_view site.number news.new v) (Open (life_view self.old)) (Open (life_view self.new))) }
-        ensures err { OnErr result (life_view self.new ≡ life_view self.old) }
-    {
-        if self.content.is_under_way() {
-            return Ok(Verdict::Faults(CloseCode::UnexpectedFrame));
-        }
-        match method.kind() {
-            Kind::ChannelFlow => {
-                let active = bit_at(0, &method);
-                self.standing.pause(!active);
-                News::Flow(Aligned::new(site.number), active).put_in(news);
-                Ok(Verdict::Owes(Reply::flow_ok(active)))
-            }
-            Kind::ChannelFlowOk => {
-                if !self.standing.awaits_flow_ok() {
-                    return Ok(Verdict::Faults(CloseCode::CommandInvalid));
-                }
-                self.standing.await_flow_ok(false);
-                News::FlowOk(Aligned::new(site.number), bit_at(0, &method)).put_in(news);
-                Ok(Verdict::Proceeds)
-            }
-            Kind::ChannelOpen => Ok(Verdict::Faults(match site.side {
-                Side::Client => CloseCode::CommandInvalid,
-                Side::Server => CloseCode::ChannelError,
-            })),
-            Kind::ChannelOpenOk | Kind::ChannelCloseOk => {
-                Ok(Verdict::Faults(CloseCode::CommandInvalid))
-            }
-            _ => self.take_message(alloc, site, method, news),
-        }
-    }
-
-    /// A content is whole. A client's reply takes its request away.
-    fn complete(&mut self, site: Site, content: Box<Content>, news: &mut Option<News>) -> Verdict
-        ensures verdict { verdict_view site.number news.new result ≡ Proceeds (Some (Told site.number (Whole (content_view content.value)))) [] }
-        ensures after { life_view self.new ≡ without_answered (role_of site.side) (Completes (content_view content.value)) (life_view self.old) }
-    {
-        if site.side.is_client() && content.kind().is_reply() {
-            self.standing.answer_request();
-        }
-        News::Content(Aligned::new(site.number), content).put_in(news);
-        Verdict::Proceeds
-    }
-
-    /// What comes of a part of a body, of which the content under way says no more.
-    fn conclude(&mut self, site: Site, part: Part, news: &mut Option<News>) -> Verdict
-        requires { news.old ≡ None }
-        ensures verdict { verdict_view site.number news.new result ≡ after_part site.number (step_view part self.old.content) }
-        ensures after { life_view self.new ≡ without_answered (role_of site.side) (step_view part self.old.content) (life_view self.old) }
-    {
-        match part {
-            Part::Kept => Verdict::Proceeds,
-            Part::Completed(content) => self.complete(site, content, news),
-            Part::Misfits(Misfit::PastSize) => Verdict::Faults(CloseCode::FrameError),
-            Part::Misfits(Misfit::NothingBegun) => Verdict::Faults(CloseCode::UnexpectedFrame),
-            Part::Misfits(Misfit::HeaderAwaited) => Verdict::Faults(CloseCode::UnexpectedFrame),
         }
     }
 
@@ -152,143 +79,354 @@ impl Life {
         }
         Ok(())
     }
+}
 
-    /// A content header. Where its body is too large, the life ends, whatever is kept of it.
-    pub(crate) fn take_header(
-        &mut self,
-        alloc: Global,
-        site: Site,
-        payload: &[u8],
-        news: &mut Option<News>,
-    ) -> Result<Verdict, OutOfMemory>
-        requires { news.old ≡ None }
-        ensures verdict { IfOk result (λ v. verdict_view site.number news.new v ≡ header_verdict site.number site.max_body (life_view self.old).content (header_reading (header_at payload.now))) }
-        ensures after { IfOk result (λ v. (frame : Frame) → LeavesLife (role_of site.side) site.number frame (header_reading (header_at payload.now)) (verdict_view site.number news.new v) (life_view self.old) (life_view self.new)) }
-        ensures err { OnErr result (life_view self.new ≡ life_view self.old) }
-    {
-        let heading = self.content.take_header(alloc, payload, site.max_body)?;
-        Ok(self.head(site, heading, news))
+/// A message that may come: its method stands alone, or begins a content.
+fn tell_message(method: MethodRef<'_>) -> Verdict
+    ensures tells { TellsMessage (lent_call method.entry) result }
+    ensures verdict { (number : ℕ) → verdict_view number (Calls (lent_call method.entry)) None result ≡ on_message number (lent_call method.entry) }
+{
+    if method.has_content() {
+        return Verdict::Proceeds(Told::Begun, None);
     }
+    Verdict::Proceeds(Told::Method, None)
+}
 
-    /// What comes of a header, of which the content under way says no more.
-    fn head(&mut self, site: Site, heading: Heading, news: &mut Option<News>) -> Verdict
-        requires { news.old ≡ None }
-        ensures verdict { verdict_view site.number news.new result ≡ heading_verdict site.number heading }
-        ensures after { life_view self.new ≡ without_answered (role_of site.side) (heading_step heading (life_view self.old).content) (life_view self.old) }
+/// The payload of a header, which reads as the header.
+#[tactic(auto, unfolding(amqp_model::specs::Methods::header_at))]
+fn payload_of<'a>(header: HeaderRef<'a>) -> &'a [u8]
+    ensures { header_reading (header_at result.now)
+        ≡ HeaderOf (lent_header header.entry).body_size (lent_header header.entry).properties }
+{
+    header.payload()
+}
+
+impl Life {
+    /// What a client takes: a reply has to be to the request that waits.
+    fn judge_reply(&self, method: MethodRef<'_>) -> Verdict
+        ensures rules { MessageRules Client (life_view self.now) (lent_call method.entry) result }
+        ensures tells { TellsMessage (lent_call method.entry) result }
     {
-        match heading {
-            Heading::Kept => Verdict::Proceeds,
-            Heading::Completed(content) => self.complete(site, content, news),
-            Heading::TooLarge => Verdict::RefusesContent,
-            Heading::Malformed => Verdict::Faults(CloseCode::SyntaxError),
-            Heading::Misplaced => Verdict::Faults(CloseCode::UnexpectedFrame),
+        if method.kind().is_reply() && !self.standing.is_answered_by(method.kind()) {
+            return Verdict::Faults(CloseCode::CommandInvalid);
         }
+        tell_message(method)
     }
 
-    /// A part of a body.
-    pub(crate) fn take_body(
-        &mut self,
-        site: Site,
-        octets: &[u8],
-        news: &mut Option<News>,
-    ) -> Result<Verdict, OutOfMemory>
-        requires { news.old ≡ None }
-        ensures verdict { IfOk result (λ v. verdict_view site.number news.new v ≡ after_part site.number (step (life_view self.old).content (BodyPart octets.now))) }
-        ensures after { IfOk result (λ v. (frame : Frame) → LeavesAfter (role_of site.side) site.number frame (BodyOf octets.now) (verdict_view site.number news.new v) (Open (life_view self.old)) (Open (life_view self.new))) }
-        ensures err { OnErr result (life_view self.new ≡ life_view self.old) }
+    /// What a server takes: so many requests are kept, and no more.
+    fn judge_request(&self, method: MethodRef<'_>) -> Verdict
+        ensures rules { MessageRules Server (life_view self.now) (lent_call method.entry) result }
+        ensures tells { TellsMessage (lent_call method.entry) result }
     {
-        let part = self.content.take_body(octets)?;
-        Ok(self.conclude(site, part, news))
+        if self.standing.requests() >= MOST_REQUESTS && method.is_request() {
+            return Verdict::Faults(CloseCode::ResourceError);
+        }
+        tell_message(method)
     }
 
     /// A method that neither opens nor closes the channel nor asks for a flow or answers one, where no content is under
     /// way.
-    #[inline(always)]
-    fn take_message(
-        &mut self,
-        alloc: Global,
-        site: Site,
-        method: Method,
-        news: &mut Option<News>,
-    ) -> Result<Verdict, OutOfMemory>
-        requires idle { IsIdle self.old }
-        requires none { news.old ≡ None }
-        requires other { IsOther (kind_of (Calls (method_view method))) }
-        ensures verdict { IfOk result (λ v. verdict_view site.number news.new v ≡ on_matched (role_of site.side) site.number (life_view self.old).requests (method_view method)) }
-        ensures after { IfOk result (λ v. (frame : Frame) → LeavesAfter (role_of site.side) site.number frame (Calls (method_view method)) (verdict_view site.number news.new v) (Open (life_view self.old)) (Open (life_view self.new))) }
-        ensures err { OnErr result (life_view self.new ≡ life_view self.old) }
+    #[tactic(auto, using(crate::proofs::VerdictLemmas::message_rules))]
+    fn judge_message(&self, site: Site, method: MethodRef<'_>) -> Verdict
+        requires idle { IsIdle self.now }
+        requires other { IsOther (kind_of (Calls (lent_call method))) }
+        ensures { RulesByState site (Open (life_view self.now)) (lent_call method.entry) result }
     {
         match site.side {
-            Side::Client => self.take_reply(alloc, site, method, news),
-            Side::Server => self.take_request(alloc, site, method, news),
+            Side::Client => self.judge_reply(method),
+            Side::Server => self.judge_request(method),
         }
     }
 
-    /// What a client takes: a reply has to be to the request that waits.
-    #[inline(always)]
-    fn take_reply(
-        &mut self,
-        alloc: Global,
-        site: Site,
-        method: Method,
-        news: &mut Option<News>,
-    ) -> Result<Verdict, OutOfMemory>
-        requires idle { IsIdle self.old }
-        requires none { news.old ≡ None }
-        requires other { IsOther (kind_of (Calls (method_view method))) }
-        ensures verdict { IfOk result (λ v. verdict_view site.number news.new v ≡ on_matched Client site.number (life_view self.old).requests (method_view method)) }
-        ensures after { IfOk result (λ v. (frame : Frame) → LeavesAfter Client site.number frame (Calls (method_view method)) (verdict_view site.number news.new v) (Open (life_view self.old)) (Open (life_view self.new))) }
-        ensures err { OnErr result (life_view self.new ≡ life_view self.old) }
+    /// A method that doesn't close the channel, where no content is under way.
+    fn judge_idle(&self, site: Site, method: MethodRef<'_>) -> Verdict
+        requires idle { IsIdle self.now }
+        requires goes_on { (lent_call method).kind ≢ Kind.ChannelClose }
+        ensures { RulesByState site (Open (life_view self.now)) (lent_call method.entry) result }
     {
-        let replies = method.kind().is_reply();
-        if replies && !self.standing.is_answered_by(method.kind()) {
-            return Ok(Verdict::Faults(CloseCode::CommandInvalid));
-        }
-        if carries_content(&method) {
-            let content = Content::begun(alloc, Carrier::new(method))?;
-            self.content = Gathering::HeaderDue(content);
-            return Ok(Verdict::Proceeds);
-        }
-        if replies {
-            self.standing.answer_request();
-        }
-        News::Method(Aligned::new(site.number), Lone::new(method)).put_in(news);
-        Ok(Verdict::Proceeds)
-    }
-
-    /// What a server takes: so many requests are kept, and no more.
-    #[inline(always)]
-    fn take_request(
-        &mut self,
-        alloc: Global,
-        site: Site,
-        method: Method,
-        news: &mut Option<News>,
-    ) -> Result<Verdict, OutOfMemory>
-        requires idle { IsIdle self.old }
-        requires none { news.old ≡ None }
-        requires other { IsOther (kind_of (Calls (method_view method))) }
-        ensures verdict { IfOk result (λ v. verdict_view site.number news.new v ≡ on_matched Server site.number (life_view self.old).requests (method_view method)) }
-        ensures after { IfOk result (λ v. (frame : Frame) → LeavesAfter Server site.number frame (Calls (method_view method)) (verdict_view site.number news.new v) (Open (life_view self.old)) (Open (life_view self.new))) }
-        ensures err { OnErr result (life_view self.new ≡ life_view self.old) }
-    {
-        let asks = method.is_request();
-        if asks && self.standing.requests() >= MOST_REQUESTS {
-            return Ok(Verdict::Faults(CloseCode::ResourceError));
-        }
-        if carries_content(&method) {
-            let kind = method.kind();
-            let content = Content::begun(alloc, Carrier::new(method))?;
-            if asks {
-                self.standing.keep_request(alloc, kind)?;
+        match method.kind() {
+            Kind::ChannelFlow => {
+                let active = lent_bit_at(0, method);
+                Verdict::Proceeds(Told::Flow(active), Some(Reply::FlowOk(active)))
             }
-            self.content = Gathering::HeaderDue(content);
-            return Ok(Verdict::Proceeds);
+            Kind::ChannelFlowOk => {
+                if !self.standing.awaits_flow_ok() {
+                    return Verdict::Faults(CloseCode::CommandInvalid);
+                }
+                Verdict::Proceeds(Told::FlowOk(lent_bit_at(0, method)), None)
+            }
+            Kind::ChannelOpen => Verdict::Faults(match site.side {
+                Side::Client => CloseCode::CommandInvalid,
+                Side::Server => CloseCode::ChannelError,
+            }),
+            Kind::ChannelOpenOk | Kind::ChannelCloseOk => Verdict::Faults(
+                CloseCode::CommandInvalid,
+            ),
+            _ => self.judge_message(site, method),
         }
-        if asks {
+    }
+
+    /// A method on a channel that is Open. A close ends the life at any place; no other method stands inside a content.
+    pub(crate) fn judge_method(&self, site: Site, method: MethodRef<'_>) -> Verdict
+        ensures { RulesByState site (Open (life_view self.now)) (lent_call method.entry) result }
+    {
+        if method.kind() == Kind::ChannelClose {
+            return Verdict::Proceeds(Told::ClosedByPeer, Some(Reply::CloseOk));
+        }
+        if self.content.is_under_way() {
+            return Verdict::Faults(CloseCode::UnexpectedFrame);
+        }
+        self.judge_idle(site, method)
+    }
+
+    /// A header, where one may come.
+    pub(crate) fn judge_header(&self, site: Site, header: HeaderRef<'_>) -> Verdict
+        requires above { 0 < site.number }
+        requires within { site.number ≤ site.channel_max }
+        ensures { Rules site (Open (life_view self.now)) (HeaderOf (lent_header header.entry).body_size (lent_header header.entry).properties) result }
+    {
+        match &self.content {
+            Gathering::Nothing | Gathering::BodyDue(_) | Gathering::Deferred(_) => {
+                Verdict::Faults(CloseCode::UnexpectedFrame)
+            }
+            Gathering::HeaderDue(_) => {
+                if site.max_body < header.body_size() {
+                    Verdict::RefusesContent
+                } else if header.body_size() == 0 {
+                    Verdict::Proceeds(Told::Completed, None)
+                } else {
+                    Verdict::Proceeds(Told::Headed, None)
+                }
+            }
+        }
+    }
+
+    /// A part of a body, where one may come.
+    pub(crate) fn judge_body(&self, site: Site, octets: &[u8]) -> Verdict
+        requires above { 0 < site.number }
+        requires within { site.number ≤ site.channel_max }
+        ensures { Rules site (Open (life_view self.now)) (BodyOf octets.now) result }
+    {
+        let filling = match &self.content {
+            Gathering::Nothing | Gathering::HeaderDue(_) => {
+                return Verdict::Faults(CloseCode::UnexpectedFrame);
+            }
+            Gathering::BodyDue(content) => {
+                fill(content.header.body_size, content.body.len(), octets.len())
+            }
+            Gathering::Deferred(deferred) => {
+                fill(deferred.size(), deferred.content.body.len(), octets.len())
+            }
+        };
+        match filling {
+            Filling::Past => Verdict::Faults(CloseCode::FrameError),
+            Filling::Short => Verdict::Proceeds(Told::Continued, None),
+            Filling::Full => Verdict::Proceeds(Told::Completed, None),
+        }
+    }
+}
+
+impl Life {
+    /// A server keeps a request that it takes.
+    fn keep_asked(
+        &mut self,
+        alloc: Global,
+        side: Side,
+        method: MethodRef<'_>,
+    ) -> Result<(), OutOfMemory>
+        ensures ok { OnOk result (life_view self.new ≡ asked_with (role_of side) (Calls (lent_call method.entry)) (life_view self.old)) }
+        ensures err { OnErr result (life_view self.new ≡ life_view self.old) }
+    {
+        if !side.is_client() && method.is_request() {
             self.standing.keep_request(alloc, method.kind())?;
         }
-        News::Method(Aligned::new(site.number), Lone::new(method)).put_in(news);
-        Ok(Verdict::Proceeds)
+        Ok(())
+    }
+
+    /// A method without content: a client's reply takes its request away, and a server keeps a request.
+    fn apply_method(
+        &mut self,
+        alloc: Global,
+        side: Side,
+        method: MethodRef<'_>,
+    ) -> Result<(), OutOfMemory>
+        ensures ok { OnOk result (life_view self.new ≡ told_in (role_of side) (Calls (lent_call method.entry)) Told.Method (life_view self.old)) }
+        ensures err { OnErr result (life_view self.new ≡ life_view self.old) }
+    {
+        match side {
+            Side::Client => {
+                if method.kind().is_reply() {
+                    self.standing.answer_request();
+                }
+                Ok(())
+            }
+            Side::Server => self.keep_asked(alloc, side, method),
+        }
+    }
+
+    /// A method begins a content. Out of memory, none is begun.
+    fn begin(&mut self, alloc: Global, side: Side, method: MethodRef<'_>) -> Result<(), OutOfMemory>
+        requires { content_follows (lent_call method) ≡ true }
+        ensures ok { OnOk result (life_view self.new ≡ told_in (role_of side) (Calls (lent_call method.entry)) Told.Begun (life_view self.old)) }
+        ensures err { OnErr result (life_view self.new ≡ life_view self.old) }
+    {
+        let content = Content::begun(alloc, Carrier::new(method.to_owned(alloc)?))?;
+        self.keep_asked(alloc, side, method)?;
+        self.content = Gathering::HeaderDue(content);
+        Ok(())
+    }
+
+    /// A part of a body, after which more is due.
+    fn fill(&mut self, side: Side, octets: &[u8]) -> Result<(), OutOfMemory>
+        ensures ok { OnOk result (life_view self.new ≡ told_in (role_of side) (BodyOf octets.now) Told.Continued (life_view self.old)) }
+        ensures err { OnErr result (life_view self.new ≡ life_view self.old) }
+    {
+        self.content.append(octets)
+    }
+
+    /// A header, after which the body is due.
+    fn keep_header(&mut self, alloc: Global, side: Side, payload: &[u8]) -> Result<(), OutOfMemory>
+        requires due { IsHeaderDue (life_view self.old).content }
+        requires header { IsHeader (header_reading (header_at payload.now)) }
+        ensures ok { OnOk result (life_view self.new ≡ told_in (role_of side) (header_reading (header_at payload.now)) Told.Headed (life_view self.old)) }
+        ensures err { OnErr result (life_view self.new ≡ life_view self.old) }
+    {
+        self.content.head(alloc, payload)
+    }
+
+    /// The header of a content without a body, which is whole. A client's reply takes its request away.
+    fn finish_header(
+        &mut self,
+        alloc: Global,
+        side: Side,
+        payload: &[u8],
+    ) -> Result<Box<Content>, OutOfMemory>
+        requires { IsWhole (whole_at (life_view self.old).content (header_reading (header_at payload.now))) }
+        ensures whole { IfOk result (λ content. whole_at (life_view self.old).content (header_reading (header_at payload.now)) ≡ Some (content_view content.value)) }
+        ensures ok { OnOk result (life_view self.new ≡ told_in (role_of side) (header_reading (header_at payload.now)) Told.Completed (life_view self.old)) }
+        ensures err { OnErr result (life_view self.new ≡ life_view self.old) }
+    {
+        let replies = self.replies();
+        let content = self.content.finish_header(alloc, payload)?;
+        if side.is_client() && replies {
+            self.standing.answer_request();
+        }
+        Ok(content)
+    }
+
+    /// The last part of a body. A client's reply takes its request away.
+    fn finish(&mut self, side: Side, octets: &[u8]) -> Result<Box<Content>, OutOfMemory>
+        requires { IsWhole (whole_with (life_view self.old).content octets.now) }
+        ensures whole { IfOk result (λ content. whole_with (life_view self.old).content octets.now ≡ Some (content_view content.value)) }
+        ensures ok { OnOk result (life_view self.new ≡ told_in (role_of side) (BodyOf octets.now) Told.Completed (life_view self.old)) }
+        ensures err { OnErr result (life_view self.new ≡ life_view self.old) }
+    {
+        let replies = self.replies();
+        let content = self.content.finish(octets)?;
+        if side.is_client() && replies {
+            self.standing.answer_request();
+        }
+        Ok(content)
+    }
+
+    /// Whether the content under way is a reply.
+    fn replies(&self) -> bool
+        ensures { result ≡ replies_in (life_view self.now).content }
+    {
+        match &self.content {
+            Gathering::Nothing => false,
+            Gathering::HeaderDue(content) | Gathering::BodyDue(content) => content
+                .kind()
+                .is_reply(),
+            Gathering::Deferred(deferred) => deferred.content.kind().is_reply(),
+        }
+    }
+
+    /// A flow pauses the channel or lets it go on, and flow-ok answers this end's.
+    fn apply_flow(&mut self, side: Side, told: Told)
+        requires { IsFlow told }
+        ensures { (reading : readings.Reading) → life_view self.new ≡ told_in (role_of side) reading told (life_view self.old) }
+    {
+        match told {
+            Told::Flow(active) => self.standing.pause(!active),
+            Told::FlowOk(_) => self.standing.await_flow_ok(false),
+            _ => unreachable!(),
+        }
+    }
+}
+
+impl Life {
+    /// The frame that makes a content whole: the last part of its body, or its header.
+    fn finish_content(
+        &mut self,
+        alloc: Global,
+        side: Side,
+        reading: Reading<'_>,
+    ) -> Result<Box<Content>, OutOfMemory>
+        requires { IsWhole (whole_at (life_view self.old).content (reading_view reading)) }
+        ensures whole { IfOk result (λ content. whole_at (life_view self.old).content (reading_view reading.entry)
+            ≡ Some (content_view content.value)) }
+        ensures ok { OnOk result (life_view self.new
+            ≡ told_in (role_of side) (reading_view reading.entry) Told.Completed (life_view self.old)) }
+        ensures err { OnErr result (life_view self.new ≡ life_view self.old) }
+    {
+        match reading {
+            Reading::Body(octets) => self.finish(side, octets),
+            Reading::Header(header) => self.finish_header(alloc, side, payload_of(header)),
+            Reading::Method(_) => unreachable!(),
+            Reading::UnknownMethod => unreachable!(),
+            Reading::MalformedMethod => unreachable!(),
+            Reading::MalformedHeader => unreachable!(),
+            Reading::Heartbeat { .. } => unreachable!(),
+        }
+    }
+
+    /// A frame that neither opens nor ends the life. What is answered is the content that the frame makes whole.
+    pub(crate) fn apply(
+        &mut self,
+        alloc: Global,
+        side: Side,
+        reading: Reading<'_>,
+        told: Told,
+    ) -> Result<Option<Box<Content>>, OutOfMemory>
+        requires { FitsTold (Open (life_view self.old)) (reading_view reading) told }
+        ensures content { IfOk result (λ content. content_there content
+            ≡ whole_of told (whole_at (life_view self.old).content (reading_view reading.entry))) }
+        ensures ok { OnOk result (life_view self.new
+            ≡ told_in (role_of side) (reading_view reading.entry) told (life_view self.old)) }
+        ensures err { OnErr result (life_view self.new ≡ life_view self.old) }
+        ensures drops { IsDiscarded told → IsOk result }
+    {
+        match told {
+            Told::Method => {
+                let Reading::Method(method) = reading else {
+                    unreachable!()
+                };
+                self.apply_method(alloc, side, method)?;
+            }
+            Told::Begun => {
+                let Reading::Method(method) = reading else {
+                    unreachable!()
+                };
+                self.begin(alloc, side, method)?;
+            }
+            Told::Headed => {
+                let Reading::Header(header) = reading else {
+                    unreachable!()
+                };
+                self.keep_header(alloc, side, payload_of(header))?;
+            }
+            Told::Continued => {
+                let Reading::Body(octets) = reading else {
+                    unreachable!()
+                };
+                self.fill(side, octets)?;
+            }
+            Told::Completed => return Ok(Some(self.finish_content(alloc, side, reading)?)),
+            Told::Flow(_) | Told::FlowOk(_) => self.apply_flow(side, told),
+            Told::Opened | Told::ClosedByPeer | Told::ClosedByUs | Told::Discarded | Told::Quiet =>
+                {}
+        }
+        Ok(None)
     }
 }

@@ -1,10 +1,9 @@
 //! The two sides of a connection, and which methods each may put and take.
 ghost use Rattle.std.specs.Prelude.{◌≡◌};
-ghost use Rattle.amqp_method.specs.MethodView.{method_view};
 ghost use Rattle.amqp_model.specs.Notes.{is_client as is_client_role};
 ghost use Rattle.amqp_channel.specs.Roles.{role_of, sent_by, taken_by};
 
-use amqp_method::{Kind, Method, sends};
+use amqp_method::{Kind, sends};
 
 /// The sides of a connection, as values.
 #[derive(Clone, Copy, PartialEq, Eq, Debug)]
@@ -41,12 +40,5 @@ impl Side {
             Side::Client => sends(false, kind),
             Side::Server => sends(true, kind),
         }
-    }
-
-    /// Whether an end of this side may take this method.
-    pub fn takes(self, method: &Method) -> bool
-        ensures { result ≡ taken_by (role_of self) (method_view method.now).kind }
-    {
-        method.is_sent_by(!self.is_client())
     }
 }

@@ -1,5 +1,5 @@
 -- The account of a piece is what came of it: of a frame, of a rest, of octets that show a fault, and of the protocol header.
-use Rattle.std.proofs.Common.{◌≡◌, ◌≢◌, ◌+◌, ◌-◌, ◌^◌, ◌<◌, ◌≤◌, Bool, true, false, ℕ, suc, List, [], ◌++◌, length, take, Option, Some, None, Ok, Err, inl, inr, refl, ap, sym, ◌∙◌, subst, arith}
+use Rattle.std.proofs.Common.{◌≡◌, ◌≢◌, ◌+◌, ◌-◌, ◌^◌, ◌<◌, ◌≤◌, Bool, true, false, ℕ, suc, List, [], ◌++◌, length, take, Option, Some, None, Result, Ok, Err, inl, inr, refl, ap, sym, ◌∙◌, subst, arith}
 use Rattle.std.proofs.Math.Seq.{take-append-add, take-length}
 use Rattle.std.proofs.lemmas.Bool.{false≢true}
 use Rattle.std.proofs.lemmas.List.{length-take-le, take-take}
@@ -21,14 +21,13 @@ use Rattle.amqp_model.specs.Negotiation.{Config, frame_limit}
 use Rattle.amqp_model.specs.Notes.{Role, Client, Server}
 use Rattle.amqp_model.specs.OctetLaws.{OneIsSaid, IsWhole, TellsLast}
 use Rattle.amqp_model.specs.Pieces.{IsFedBy, SplitsFor, FeedFindsFault, with_taken, reads_frames}
-use Rattle.amqp_channel.specs.declared.news.News.{News}
-use Rattle.amqp_channel.specs.declared.news.News.TheVariants as news
-use Rattle.amqp_core.specs.AccountView.{Came, IsAccount, IsFresh, came_by, came_of_frame, note_there, puts_alone}
-use Rattle.amqp_core.specs.Answering.{Reports}
-use Rattle.amqp_core.specs.Hearing.{Hears, IsHeard}
-use Rattle.amqp_core.specs.NoteView.{item_kept}
+use Rattle.amqp_model.specs.Traces.{item_in_event}
+use Rattle.amqp_core.specs.AccountView.{Came, IsAccount, IsFresh, came_by, came_of_frame, item_in_outcome, note_there, puts_alone}
+use Rattle.amqp_core.specs.Answering.{answer_with, AnswersFrame, Reports, Tells as TellsEvent, ran_out}
+use Rattle.amqp_core.specs.Feeding.{IsFed, event_in, taken_with}
 use Rattle.amqp_core.specs.OwedView.{owed_view}
 use Rattle.amqp_core.specs.declared.account.Account.{Account}
+use Rattle.amqp_core.specs.declared.faults.CoreFault.{CoreFault}
 use Rattle.amqp_core.specs.declared.faults.CoreFault.TheVariants as core
 use Rattle.amqp_core.specs.declared.owed.Owed.{Owed}
 use Rattle.amqp_core.specs.declared.settings.Settings.{Settings}
@@ -222,7 +221,7 @@ abbrev event_or : Outcome → Option Event
 event_or (Finished event) = event
 event_or outcome = None
 
-nothing_finished : (outcome : Outcome) → Hears None outcome → outcome ≢ Finished (Some Quiet)
+nothing_finished : (outcome : Outcome) → TellsEvent None outcome → outcome ≢ Finished (Some Quiet)
 nothing_finished Unfinished says e = false≢true (sym (ap is_unfinished e))
 nothing_finished (Finished told) says e = let there : told ≡ Some Quiet = ap event_or e in none_is_some (sym there ∙ says)
 nothing_finished (Found fault) says e = absurd says
@@ -232,43 +231,60 @@ fault_finished outcome (inl says) e = false≢true (sym (ap is_found (sym says �
 fault_finished outcome (inr says) e = false≢true (sym (ap is_found (sym says ∙ e)))
 
 -- A part of the header came, or an octet that differs: no frame is taken, and nothing put.
-quiet_unfinished : (outcome : Outcome) → Hears (Some news.Quiet) outcome → outcome ≢ Unfinished
+quiet_unfinished : (outcome : Outcome) → TellsEvent (Some Quiet) outcome → outcome ≢ Unfinished
 quiet_unfinished Unfinished says e = none_is_some says
 quiet_unfinished (Finished told) says e = false≢true (ap is_unfinished e)
 quiet_unfinished (Found fault) says e = absurd says
 
-quiet_found : (outcome : Outcome) → Hears (Some news.Quiet) outcome → outcome ≢ Found WrongProtocolHeader
+quiet_found : (outcome : Outcome) → TellsEvent (Some Quiet) outcome → outcome ≢ Found WrongProtocolHeader
 quiet_found Unfinished says e = none_is_some says
 quiet_found (Finished told) says e = false≢true (ap is_found e)
 quiet_found (Found fault) says e = absurd says
 
-pub account_of_part : (role : Role) (config : Config role) (told : Option News) (old new : Endpoint) (piece : List ℕ) (count octets : ℕ) (came : Came)
-    → awaits_opening role old.end.phase ≡ true → told ≡ None → IsHeard (Ok count) told old (after_feed role config old piece) new → octets ≡ count → came ≡ puts_alone []
+pub account_of_part : (role : Role) (config : Config role) (event : Option Event) (old new : Endpoint) (piece : List ℕ) (count octets : ℕ) (came : Came)
+    → awaits_opening role old.end.phase ≡ true → event ≡ None → IsFed (Ok (record { octets = count; event = event })) old (after_feed role config old piece) new → octets ≡ count → came ≡ puts_alone []
     → IsAccount role config old piece (after_feed role config old piece) octets came
-account_of_part role config told old new piece count octets came awaits none fed octets_are came_is =
-    account_of_opening role config old piece (after_feed role config old piece) octets came awaits (octets_are ∙ fed.taken) (λ e. came_is) (λ e. absurd (nothing_finished (after_feed role config old piece).outcome (subst (λ n. Hears n (after_feed role config old piece).outcome) none fed.answer) e)) (λ e. came_is)
+account_of_part role config event old new piece count octets came awaits none fed octets_are came_is =
+    account_of_opening role config old piece (after_feed role config old piece) octets came awaits (octets_are ∙ fed.taken) (λ e. came_is)
+    (λ e. absurd (nothing_finished (after_feed role config old piece).outcome (subst (λ o. TellsEvent o (after_feed role config old piece).outcome) none fed.answer) e)) (λ e. came_is)
 
-pub account_of_other : (role : Role) (config : Config role) (told : Option News) (old new : Endpoint) (piece : List ℕ) (octets : ℕ) (came : Came)
-    → awaits_opening role old.end.phase ≡ true → IsHeard (Err core.Fatal) told old (after_feed role config old piece) new → octets ≡ (after_feed role config old piece).taken → came ≡ puts_alone []
+pub account_of_other : (role : Role) (config : Config role) (old new : Endpoint) (piece : List ℕ) (octets : ℕ) (came : Came)
+    → awaits_opening role old.end.phase ≡ true → IsFed (Err core.Fatal) old (after_feed role config old piece) new → octets ≡ (after_feed role config old piece).taken → came ≡ puts_alone []
     → IsAccount role config old piece (after_feed role config old piece) octets came
-account_of_other role config told old new piece octets came awaits fed octets_are came_is =
+account_of_other role config old new piece octets came awaits fed octets_are came_is =
     account_of_opening role config old piece (after_feed role config old piece) octets came awaits octets_are (λ e. came_is) (λ e. absurd (fault_finished (after_feed role config old piece).outcome fed.answer e)) (λ e. came_is)
 
 -- the same of an end that has put start
-pub account_of_whole : (role : Role) (config : Config role) (old new : Endpoint) (piece : List ℕ) (count octets : ℕ) (came : Came)
-    → awaits_opening role old.end.phase ≡ true → IsHeard (Ok count) (Some news.Quiet) old (after_feed role config old piece) new → octets ≡ count → came ≡ puts_alone (greeting role config)
+pub account_of_whole : (role : Role) (config : Config role) (event : Option Event) (old new : Endpoint) (piece : List ℕ) (count octets : ℕ) (came : Came)
+    → awaits_opening role old.end.phase ≡ true → event ≡ Some Quiet → IsFed (Ok (record { octets = count; event = event })) old (after_feed role config old piece) new → octets ≡ count → came ≡ puts_alone (greeting role config)
     → IsAccount role config old piece (after_feed role config old piece) octets came
-account_of_whole role config old new piece count octets came awaits fed octets_are came_is =
+account_of_whole role config event old new piece count octets came awaits quiet fed octets_are came_is =
+    let says = subst (λ o. TellsEvent o (after_feed role config old piece).outcome) quiet fed.answer in
     account_of_opening role config old piece (after_feed role config old piece) octets came awaits (octets_are ∙ fed.taken)
-    (λ e. absurd (quiet_unfinished (after_feed role config old piece).outcome fed.answer e)) (λ e. came_is) (λ e. absurd (quiet_found (after_feed role config old piece).outcome fed.answer e))
+    (λ e. absurd (quiet_unfinished (after_feed role config old piece).outcome says e)) (λ e. came_is) (λ e. absurd (quiet_found (after_feed role config old piece).outcome says e))
 
 -- What an account says where nothing came yet.
-pub came_fresh : (settings : Settings) (account : Account) → IsFresh account → came_by settings account ≡ puts_alone []
-came_fresh settings account fresh = λ i. record { took = note_there (fresh.took i); item = item_kept (fresh.item i); owed = owed_view settings (fresh.owed i) }
+pub came_fresh : (settings : Settings) (account : Account) (event : Option Event) → IsFresh account → event ≡ None → came_by settings account event ≡ puts_alone []
+came_fresh settings account event fresh none = λ i. record { took = note_there (fresh.took i); item = item_in_event (none i); owed = owed_view settings (fresh.owed i) }
 
--- and where only what is owed has changed
-pub came_owed : (settings : Settings) (account : Account) (more : Owed) → IsFresh account → came_by settings (record account { owed = more }) ≡ puts_alone (owed_view settings more)
-came_owed settings account more fresh = λ i. record { took = note_there (fresh.took i); item = item_kept (fresh.item i); owed = owed_view settings more }
+-- and where start is owed
+pub came_owed : (settings : Settings) (account after : Account) (more : Owed) (event : Option Event) → IsFresh account → after.took ≡ account.took → after.owed ≡ more → event ≡ Some Quiet
+    → came_by settings after event ≡ puts_alone (owed_view settings more)
+came_owed settings account after more event fresh took owed quiet =
+    λ i. record { took = note_there ((took ∙ fresh.took) i); item = item_in_event (quiet i); owed = owed_view settings (owed i) }
+
+-- The item of the event that is answered is the item of what came.
+pub item_is : {A : Type 0} (said : Result A CoreFault) (octets : ℕ) (event : Option Event) (outcome : Outcome) → AnswersFrame (answer_with said event) outcome → ran_out said ≡ false
+    → item_in_event (event_in (taken_with said octets event)) ≡ item_in_outcome outcome
+item_is (Ok done) octets event Unfinished says ran = ap item_in_event says
+item_is (Ok done) octets event (Finished told) says ran = ap item_in_event (sym says)
+item_is (Ok done) octets event (Found fault) says ran = absurd says
+item_is (Err (core.Peer code)) octets event outcome says ran = sym (ap item_in_outcome says)
+item_is (Err core.Fatal) octets event outcome (inl says) ran = sym (ap item_in_outcome says)
+item_is (Err core.Fatal) octets event outcome (inr says) ran = sym (ap item_in_outcome says)
+item_is (Err core.OutOfMemory) octets event outcome says ran = absurd (false≢true (sym ran))
+item_is (Err core.Failed) octets event outcome says ran = sym (ap item_in_outcome says)
+item_is (Err core.Closed) octets event outcome says ran = sym (ap item_in_outcome says)
 
 -- In the words of the splitter.
 

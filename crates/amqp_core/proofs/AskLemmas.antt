@@ -11,7 +11,7 @@ use Rattle.amqp_method.specs.declared.kinds.Kind.TheVariants as kinds
 use Rattle.amqp_method.specs.declared.messages.Form.{Form}
 use Rattle.amqp_method.specs.declared.messages.Form.TheVariants as form
 use Rattle.amqp_model.specs.Asks.{Ask, Open, Send, Close, Blocked, Unblocked, frames_asked, is_made, message_payloads, lowest_free, method_asked, is_running, opens_on, payload_frame, refusal}
-use Rattle.amqp_model.specs.Channels.{Channel, End}
+use Rattle.amqp_model.specs.Channels.{Channel, End, Running}
 use Rattle.amqp_model.specs.Closes.{method_frame, without_arguments}
 use Rattle.amqp_model.specs.Contents as contents
 use Rattle.amqp_model.specs.Contents.{Payload, pieces, room_in}
@@ -27,23 +27,32 @@ use Rattle.amqp_model.specs.ReadingBack.{AskReadsBack}
 use Rattle.amqp_model.specs.Readings.{Calls, payload_of, method_reading, header_reading, reading}
 use Rattle.amqp_outbox.specs.OutboxView.{Outgoing, only, with_staged, all_put}
 use Rattle.amqp_channel.specs.ChannelsView.{OnlyAt}
+use Rattle.amqp_channel.specs.EventView.{agreed_view}
 use Rattle.amqp_channel.specs.Messages.{message_of}
 use Rattle.amqp_channel.specs.Puts.{after_payloads}
 use Rattle.amqp_channel.specs.Roles.{role_of}
 use Rattle.amqp_channel.specs.declared.events.Agreed.{Agreed}
-use Rattle.amqp_channel.specs.declared.verdict.Site.{Site}
+use Rattle.amqp_channel.specs.declared.site.Site.{Site}
 use Rattle.amqp_core.specs.Asked.{IsAccepted, IsAllowed, IsRefusal, IsRefused}
-use Rattle.amqp_core.specs.CoreView.{site_at}
+use Rattle.amqp_core.specs.ConnectionView.{site_at}
 use Rattle.amqp_core.specs.Faults.{refusal_view}
 use Rattle.amqp_core.specs.Laws.{AreWritten, SayPayloads}
 use Rattle.amqp_core.specs.Settings.{config_view, role_for}
-use Rattle.amqp_core.specs.Stages.{phase_at}
+use Rattle.amqp_core.specs.Stages.{agreed_at, phase_at}
 use Rattle.amqp_core.specs.declared.faults.AskFault.{AskFault}
 use Rattle.amqp_core.specs.declared.settings.Settings.{Settings}
 use Rattle.amqp_core.specs.declared.stage.Stage.{Stage}
 use Rattle.amqp_core.specs.declared.stage.Stage.TheVariants as stages
-use Rattle.amqp_core.proofs.CoreLemmas.{end_at, running, set_only}
+use Rattle.amqp_core.proofs.ConnectionLemmas.{set_only}
 use Rattle.amqp_core.proofs.PutSteps.{puts_as_end}
+
+-- an end at this stage, and one of a connection that is Running
+
+abbrev pub end_at : Stage → (ℕ → Channel) → End
+end_at stage channels = record { phase = phase_at stage; agreed = agreed_at stage; channels = channels }
+
+abbrev pub running : Agreed → (ℕ → Channel) → End
+running agreed channels = record { phase = Running; agreed = Some (agreed_view agreed); channels = channels }
 
 -- Refusals.
 

@@ -24,7 +24,7 @@ use Rattle.amqp_outbox.specs.OutboxView.{Outgoing}
 use Rattle.amqp_core.specs.Asked.{IsAccepted, IsRefused}
 use Rattle.amqp_core.specs.Asking.{AcceptsAsk, AskIsOfHistory, RefusesAsk}
 use Rattle.amqp_core.specs.Bounded.{IsBounded}
-use Rattle.amqp_core.specs.CoreView.{core_end}
+use Rattle.amqp_core.specs.ConnectionView.{connection_end}
 use Rattle.amqp_core.specs.Faults.{refusal_view}
 use Rattle.amqp_core.specs.EndpointView.{FieldsFit, IsSound, endpoint_view, is_opened, role_at}
 use Rattle.amqp_core.specs.Settings.{config_view, role_for}
@@ -108,23 +108,23 @@ accepts settings ask old after before new is out fits asked law counted =
       of_history = λ history fed written stands. sym (counted history stands.stands) ∙ verdict;
     }
 
-pub accepted_sound : (ask : Ask) (old new : Endpoint) → IsSound old → new.core.settings ≡ old.core.settings → new.splitter ≡ old.splitter → new.heard ≡ old.heard → IsAccepted old.core.settings ask (core_end old.core) (core_end new.core) old.outbox new.outbox
-    → AskHolds (role_at old) (config_view old.core.settings) (endpoint_view old) ask
-    → AskKeepsAgreed (role_at old) (config_view old.core.settings) (core_end old.core) ask (frames_asked (core_end old.core) ask)
-    → AcceptsAsk (role_at old) (config_view old.core.settings) ask (endpoint_view old) (endpoint_view new)
-    → AskStaysWithin (role_at old) (config_view old.core.settings) (core_end old.core) ask (frames_asked (core_end old.core) ask)
+pub accepted_sound : (ask : Ask) (old new : Endpoint) → IsSound old → new.connection.settings ≡ old.connection.settings → new.splitter ≡ old.splitter → new.heard ≡ old.heard → IsAccepted old.connection.settings ask (connection_end old.connection) (connection_end new.connection) old.outbox new.outbox
+    → AskHolds (role_at old) (config_view old.connection.settings) (endpoint_view old) ask
+    → AskKeepsAgreed (role_at old) (config_view old.connection.settings) (connection_end old.connection) ask (frames_asked (connection_end old.connection) ask)
+    → AcceptsAsk (role_at old) (config_view old.connection.settings) ask (endpoint_view old) (endpoint_view new)
+    → AskStaysWithin (role_at old) (config_view old.connection.settings) (connection_end old.connection) ask (frames_asked (connection_end old.connection) ask)
     → IsSound new
 accepted_sound ask old new sound settings splitter heard is holds keeps accepts_it stays =
-    let verdict : ask_verdict (role_at old) (core_end old.core) ask ≡ Puts (frames_asked (core_end old.core) ask) = ap (λ r. refused_or_put r (frames_asked (core_end old.core) ask)) is.allowed in
-    let running = is_running_then (role_at old) (core_end old.core) ask is.allowed in
-    let agreed : (core_end new.core).agreed ≡ (core_end old.core).agreed = ap (λ (e : End). e.agreed) is.end_is ∙ keeps is.reads_back.method verdict in
-    let reads : is_opened (core_end new.core).phase ≡ true = ap (λ (e : End). is_opened e.phase) is.end_is ∙ asked_opened (role_at old) (config_view old.core.settings) (frames_asked (core_end old.core) ask) (core_end old.core) (ap is_opened running) in
-    let takes : takes_octets (core_end new.core).phase ≡ true = ap (λ (e : End). takes_octets e.phase) is.end_is ∙ asked_takes (role_at old) (config_view old.core.settings) (frames_asked (core_end old.core) ask) (core_end old.core) (ap takes_octets running) in
-    let fields : FieldsFit (role_at old) (core_end new.core) old.heard old.splitter = fields_asked (role_at old) (core_end old.core) (core_end new.core) old.heard old.splitter running sound.fields agreed reads takes in
-    sound_with old.core.settings new settings sound.writes (ap (λ (o : Outgoing). o.staged) is.output_is)
-    (subst (λ h. FieldsFit (role_at old) (core_end new.core) h new.splitter) (sym heard) (subst (λ (s : Stream). FieldsFit (role_at old) (core_end new.core) old.heard s) (sym splitter) fields))
+    let verdict : ask_verdict (role_at old) (connection_end old.connection) ask ≡ Puts (frames_asked (connection_end old.connection) ask) = ap (λ r. refused_or_put r (frames_asked (connection_end old.connection) ask)) is.allowed in
+    let running = is_running_then (role_at old) (connection_end old.connection) ask is.allowed in
+    let agreed : (connection_end new.connection).agreed ≡ (connection_end old.connection).agreed = ap (λ (e : End). e.agreed) is.end_is ∙ keeps is.reads_back.method verdict in
+    let reads : is_opened (connection_end new.connection).phase ≡ true = ap (λ (e : End). is_opened e.phase) is.end_is ∙ asked_opened (role_at old) (config_view old.connection.settings) (frames_asked (connection_end old.connection) ask) (connection_end old.connection) (ap is_opened running) in
+    let takes : takes_octets (connection_end new.connection).phase ≡ true = ap (λ (e : End). takes_octets e.phase) is.end_is ∙ asked_takes (role_at old) (config_view old.connection.settings) (frames_asked (connection_end old.connection) ask) (connection_end old.connection) (ap takes_octets running) in
+    let fields : FieldsFit (role_at old) (connection_end new.connection) old.heard old.splitter = fields_asked (role_at old) (connection_end old.connection) (connection_end new.connection) old.heard old.splitter running sound.fields agreed reads takes in
+    sound_with old.connection.settings new settings sound.writes (ap (λ (o : Outgoing). o.staged) is.output_is)
+    (subst (λ h. FieldsFit (role_at old) (connection_end new.connection) h new.splitter) (sym heard) (subst (λ (s : Stream). FieldsFit (role_at old) (connection_end new.connection) old.heard s) (sym splitter) fields))
     (subst (λ (e : model.Endpoint). HoldsUnfinished (role_at old) e) (sym accepts_it.left) (holds sound.holds is.reads_back))
-    (λ takes. ∥∥₁_map (sound.bounded (ap takes_octets running)) (λ within. subst (λ (e : End). EndIsWithin (role_at old) (config_view old.core.settings) e) (sym is.end_is) (stays within is.reads_back.method is.made verdict)))
+    (λ takes. ∥∥₁_map (sound.bounded (ap takes_octets running)) (λ within. subst (λ (e : End). EndIsWithin (role_at old) (config_view old.connection.settings) e) (sym is.end_is) (stays within is.reads_back.method is.made verdict)))
 
 -- A refused ask changes nothing.
 
@@ -148,14 +148,14 @@ refuses settings ask fault old after before new is out counted =
       of_history = refused_so (role_for settings) ask fault old is.refused counted;
     }
 
-pub refused_sound : (ask : Ask) (fault : AskFault) (old new : Endpoint) → IsSound old → new.core.settings ≡ old.core.settings → new.splitter ≡ old.splitter → new.heard ≡ old.heard → IsRefused old.core.settings ask fault (core_end old.core) (core_end new.core) old.outbox new.outbox → RefusesAsk (role_at old) ask fault (endpoint_view old) (endpoint_view new) → IsSound new
+pub refused_sound : (ask : Ask) (fault : AskFault) (old new : Endpoint) → IsSound old → new.connection.settings ≡ old.connection.settings → new.splitter ≡ old.splitter → new.heard ≡ old.heard → IsRefused old.connection.settings ask fault (connection_end old.connection) (connection_end new.connection) old.outbox new.outbox → RefusesAsk (role_at old) ask fault (endpoint_view old) (endpoint_view new) → IsSound new
 refused_sound ask fault old new sound settings splitter heard is refuses_it =
-    sound_with old.core.settings new settings sound.writes (ap (λ (o : Outgoing). o.staged) is.output_same ∙ sound.staged)
-    (subst (λ h. FieldsFit (role_at old) (core_end new.core) h new.splitter) (sym heard)
-    (subst (λ (s : Stream). FieldsFit (role_at old) (core_end new.core) old.heard s) (sym splitter)
+    sound_with old.connection.settings new settings sound.writes (ap (λ (o : Outgoing). o.staged) is.output_same ∙ sound.staged)
+    (subst (λ h. FieldsFit (role_at old) (connection_end new.connection) h new.splitter) (sym heard)
+    (subst (λ (s : Stream). FieldsFit (role_at old) (connection_end new.connection) old.heard s) (sym splitter)
     (subst (λ (e : End). FieldsFit (role_at old) e old.heard old.splitter) (sym is.end_same) sound.fields)))
     (subst (λ (e : model.Endpoint). HoldsUnfinished (role_at old) e) (sym refuses_it.same) sound.holds)
-    (subst (λ (e : End). IsBounded (role_at old) (config_view old.core.settings) e) (sym is.end_same) sound.bounded)
+    (subst (λ (e : End). IsBounded (role_at old) (config_view old.connection.settings) e) (sym is.end_same) sound.bounded)
 
 -- An ask that is refused before anything is done.
 pub refused_at_once : {A : Type 0} (role : Role) (ask : Ask) (result : Result A AskFault) (endpoint : model.Endpoint) → IfErr result (λ fault. refusal_view fault ≡ refusal role endpoint.end ask) → AskCounted role ask endpoint → IfErr result (λ fault. RefusesAsk role ask fault endpoint endpoint)

@@ -1,5 +1,5 @@
 -- A whole frame that is dropped stands at the start of a piece: it is the frame that the splitter gives.
-use Rattle.std.proofs.Common.{◌≡◌, ◌≢◌, ◌<◌, ◌≤◌, IfOk, false, ℕ, List, [], ◌++◌, take, drop, Option, Result, Ok, Err, sym, ap, ◌∙◌, subst}
+use Rattle.std.proofs.Common.{◌≡◌, ◌≢◌, ◌<◌, ◌≤◌, IfOk, false, ℕ, List, [], ◌++◌, take, drop, Result, Ok, Err, sym, ap, ◌∙◌, subst}
 use Rattle.std.proofs.lemmas.List.{take-append-drop}
 use Rattle.amqp_frame.specs.Frame.{frame_length, octets}
 use Rattle.amqp_frame.specs.Laws.{OneFrameAtStart}
@@ -12,10 +12,9 @@ use Rattle.amqp_model.specs.Frame.{Frame}
 use Rattle.amqp_model.specs.Notes.{Role, Client, Server}
 use Rattle.amqp_model.specs.Outputs.{Output}
 use Rattle.amqp_model.specs.Pieces.{reads_frames}
-use Rattle.amqp_channel.specs.declared.news.News.{News}
 use Rattle.amqp_core.specs.Dropping.{DropsInPlace, IsDropped}
 use Rattle.amqp_core.specs.EndpointView.{FieldsFit, unfinished_of}
-use Rattle.amqp_core.specs.Hearing.{IsHeard}
+use Rattle.amqp_core.specs.Feeding.{IsFed, Seen}
 use Rattle.amqp_core.specs.declared.faults.CoreFault.{CoreFault}
 use Rattle.amqp_core.proofs.FeedLemmas.{reads, unfinished_is}
 
@@ -49,10 +48,10 @@ failed_reads Client phase e = ap (reads_frames Client) e
 failed_reads Server phase e = ap (reads_frames Server) e
 
 -- what is answered of a piece, by what is taken of it
-pub takes_within : (news : Option News) (result : Result ℕ CoreFault) (old : model.Endpoint) (feeding : Feeding) (new : model.Endpoint) (most : ℕ) → IsHeard result news old feeding new → feeding.taken ≤ most → IfOk result (λ octets. octets ≤ most)
-takes_within news (Ok count) old feeding new most fed within = subst (λ n. n ≤ most) (sym fed.taken) within
-takes_within news (Err fault) old feeding new most fed within = tt
+pub takes_within : (result : Result Seen CoreFault) (old : model.Endpoint) (feeding : Feeding) (new : model.Endpoint) (most : ℕ) → IsFed result old feeding new → feeding.taken ≤ most → IfOk result (λ taken. taken.octets ≤ most)
+takes_within (Ok taken) old feeding new most fed within = subst (λ n. n ≤ most) (sym fed.taken) within
+takes_within (Err fault) old feeding new most fed within = tt
 
-pub takes_some : (news : Option News) (result : Result ℕ CoreFault) (old : model.Endpoint) (feeding : Feeding) (new : model.Endpoint) (piece : List ℕ) → IsHeard result news old feeding new → (piece ≢ [] → 0 < feeding.taken) → IfOk result (λ octets. piece ≢ [] → 0 < octets)
-takes_some news (Ok count) old feeding new piece fed some = λ there. subst (λ n. 0 < n) (sym fed.taken) (some there)
-takes_some news (Err fault) old feeding new piece fed some = tt
+pub takes_some : (result : Result Seen CoreFault) (old : model.Endpoint) (feeding : Feeding) (new : model.Endpoint) (piece : List ℕ) → IsFed result old feeding new → (piece ≢ [] → 0 < feeding.taken) → IfOk result (λ taken. piece ≢ [] → 0 < taken.octets)
+takes_some (Ok taken) old feeding new piece fed some = λ there. subst (λ n. 0 < n) (sym fed.taken) (some there)
+takes_some (Err fault) old feeding new piece fed some = tt

@@ -1,5 +1,5 @@
 -- A channel's step is the end's.
-use Rattle.std.proofs.Common.{◌≡◌, ◌<◌, ◌==◌, Bool, true, false, cond, ℕ, zero, suc, List, [], ◌∷◌, map, Option, Some, refl, ap, sym, ◌∙◌, arith}
+use Rattle.std.proofs.Common.{◌≡◌, ◌<◌, ◌==◌, Bool, true, false, cond, ℕ, zero, suc, List, [], ◌∷◌, map, refl, ap, sym, ◌∙◌, arith}
 use Rattle.std.proofs.lemmas.Bool.{eq-eqb, false≢true}
 use Rattle.amqp_frame.specs.declared.frames.FrameKind.{FrameKind}
 use Rattle.amqp_method.specs.declared.kinds.Kind.TheVariants as kinds
@@ -14,9 +14,9 @@ use Rattle.amqp_model.specs.Methods.{Method}
 use Rattle.amqp_model.specs.Negotiation.{Config}
 use Rattle.amqp_model.specs.Readings.{Reading, Calls}
 use Rattle.amqp_channel.specs.Roles.{role_of}
-use Rattle.amqp_channel.specs.VerdictView.{reply_kind, after_owed}
-use Rattle.amqp_channel.specs.declared.news.News.{News}
-use Rattle.amqp_channel.specs.declared.verdict.Site.{Site}
+use Rattle.amqp_channel.specs.Leaving.{after_owed}
+use Rattle.amqp_channel.specs.VerdictView.{reply_there}
+use Rattle.amqp_channel.specs.declared.site.Site.{Site}
 use Rattle.amqp_channel.specs.declared.verdict.Verdict.{Verdict}
 use Rattle.amqp_channel.specs.declared.verdict.Verdict.TheVariants as code
 use Rattle.amqp_core.specs.Laws.{running_end, frame_here, StepsAsEnd}
@@ -60,20 +60,21 @@ step_by site config frame_max channels kind payload reading methods after h afte
     ∙ (owed_above site config frame_max methods (channel_after (role_of site.side) (TookHere reading (frame_here site kind payload)) (channels site.number)) channels h
     ∙ ap (λ c. running_end site frame_max (set_channel site.number c channels)) (sym after_is))
 
-pub steps_as_end : (site : Site) (config : Config (role_of site.side)) (frame_max : ℕ) (channels : ℕ → Channel) (kind : FrameKind) (payload : List ℕ) (reading : Reading) (news : Option News) (verdict : Verdict) (after : Channel) → StepsAsEnd site config frame_max channels kind payload reading news verdict after
-steps_as_end site config frame_max channels kind payload reading news code.Proceeds after h most decides leaves goes =
+pub steps_as_end : (site : Site) (config : Config (role_of site.side)) (frame_max : ℕ) (channels : ℕ → Channel) (kind : FrameKind) (payload : List ℕ) (reading : Reading) (said : Verdict) → StepsAsEnd site config frame_max channels kind payload reading said
+steps_as_end site config frame_max channels kind payload reading (code.Proceeds told due) h most rules goes =
+    let same = sym (rules.verdict config frame_max most) in
     record {
-      verdict_is = sym (decides config frame_max most);
-      end_is = by_verdict site config frame_max channels (TookHere reading (frame_here site kind payload)) _ _ (sym (decides config frame_max most)) ∙ step_by site config frame_max channels kind payload reading [] after h leaves;
+      verdict_is = same;
+      end_is =
+          by_verdict site config frame_max channels (TookHere reading (frame_here site kind payload)) _ _ same
+          ∙ step_by site config frame_max channels kind payload reading (reply_to (reply_there due)) _ h (rules.leaves (frame_here site kind payload));
     }
-steps_as_end site config frame_max channels kind payload reading news (code.Owes reply) after h most decides leaves goes =
+steps_as_end site config frame_max channels kind payload reading code.RefusesContent h most rules goes =
+    let same = sym (rules.verdict config frame_max most) in
     record {
-      verdict_is = sym (decides config frame_max most);
-      end_is = by_verdict site config frame_max channels (TookHere reading (frame_here site kind payload)) _ _ (sym (decides config frame_max most)) ∙ step_by site config frame_max channels kind payload reading (reply_to (Some (reply_kind reply))) after h leaves;
+      verdict_is = same;
+      end_is =
+          by_verdict site config frame_max channels (TookHere reading (frame_here site kind payload)) _ _ same
+          ∙ step_by site config frame_max channels kind payload reading (close_as kinds.ChannelClose (number_of ContentTooLarge) (text_of ContentTooLarge) ∷ []) _ h (rules.leaves (frame_here site kind payload));
     }
-steps_as_end site config frame_max channels kind payload reading news code.RefusesContent after h most decides leaves goes =
-    record {
-      verdict_is = sym (decides config frame_max most);
-      end_is = by_verdict site config frame_max channels (TookHere reading (frame_here site kind payload)) _ _ (sym (decides config frame_max most)) ∙ step_by site config frame_max channels kind payload reading (close_as kinds.ChannelClose (number_of ContentTooLarge) (text_of ContentTooLarge) ∷ []) after h leaves;
-    }
-steps_as_end site config frame_max channels kind payload reading news (code.Faults fault) after h most decides leaves goes = absurd (false≢true goes)
+steps_as_end site config frame_max channels kind payload reading (code.Faults fault) h most rules goes = absurd (false≢true goes)

@@ -12,7 +12,7 @@ use Rattle.amqp_model.specs.Negotiation.{Config}
 use Rattle.amqp_model.specs.Notes.{Role, Client, Server}
 use Rattle.amqp_model.specs.Frame.{Frame}
 use Rattle.amqp_model.specs.Readings.{Reading, Calls, UnknownMethod, MalformedMethod, HeaderOf, MalformedHeader, BodyOf, Beat, is_call}
-use Rattle.amqp_channel.specs.VerdictView.{after_owed}
+use Rattle.amqp_channel.specs.Leaving.{after_owed}
 use Rattle.amqp_core.specs.Stages.{leaves}
 
 -- the end with this channel set

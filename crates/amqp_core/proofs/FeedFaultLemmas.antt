@@ -1,5 +1,5 @@
 -- A fault that octets show leaves an end that has failed.
-use Rattle.std.proofs.Common.{◌≡◌, inl, inr, Bool, true, false, cond, ℕ, List, [], ◌∷◌, ◌++◌, Result, Ok, Err, IfErr, refl, sym, ap, ◌∙◌, subst}
+use Rattle.std.proofs.Common.{◌≡◌, inl, inr, Bool, true, false, cond, ℕ, List, [], ◌∷◌, ◌++◌, Result, Ok, Err, IfErr, IfOk, IsOk, refl, sym, ap, ◌∙◌, subst}
 use Rattle.std.proofs.lemmas.Bool.{true≢false, false≢true}
 use Rattle.amqp_model.specs.Channels as channels
 use Rattle.amqp_model.specs.Channels.{End}
@@ -15,7 +15,7 @@ use Rattle.amqp_model.specs.OctetLaws.{FeedStaysClosed, FeedStaysFailed, nothing
 use Rattle.amqp_model.specs.Octets.{opening_read}
 use Rattle.amqp_core.specs.Answering.{Reports, ran_out, is_out_of_memory}
 use Rattle.amqp_core.specs.FeedFaults.{FeedFaults, IsRefused, FailsAfter}
-use Rattle.amqp_core.specs.Feeding.{AnswersPiece, IsFed, SameEndpoint, ran_out_of}
+use Rattle.amqp_core.specs.Feeding.{AnswersPiece, IsFed, seen, SameEndpoint, ran_out_of}
 use Rattle.amqp_core.specs.Overs.{IsOver}
 use Rattle.amqp_core.specs.declared.faults.CoreFault.{CoreFault}
 use Rattle.amqp_core.specs.declared.faults.CoreFault.TheVariants as core
@@ -96,7 +96,7 @@ told_failed core.OutOfMemory old fed phase reports e fails = sym e
 told_failed core.Failed old fed phase reports e fails = sym e ∙ subst (λ (o : Outcome). FailsWith o fed.endpoint.end.phase) reports fails
 told_failed core.Closed old fed phase reports e fails = tt
 
-fails_told : (result : Result Taken CoreFault) (old new : Endpoint) (fed : Feeding) → IsFed result old fed new → FailsWith fed.outcome fed.endpoint.end.phase → IfErr result (λ fault. FailsAfter fault new.end.phase)
+fails_told : (result : Result Taken CoreFault) (old new : Endpoint) (fed : Feeding) → IsFed (seen result) old fed new → FailsWith fed.outcome fed.endpoint.end.phase → IfErr result (λ fault. FailsAfter fault new.end.phase)
 fails_told (Ok taken) old new fed is fails = tt
 fails_told (Err fault) old new fed is fails = told_failed fault old fed new.end.phase is.answer is.left.end.phase fails
 
@@ -114,9 +114,9 @@ abbrev found_by : (events.Fault → Bool) → Outcome → Bool
 found_by test (Found fault) = test fault
 found_by test outcome = false
 
-over_answer : (fault : events.Fault) (answer : CoreFault) (result : Result Taken CoreFault) (outcome : Outcome) → AnswersPiece result outcome → outcome ≡ Found fault
+over_answer : (fault : events.Fault) (answer : CoreFault) (result : Result Taken CoreFault) (outcome : Outcome) → AnswersPiece (seen result) outcome → outcome ≡ Found fault
     → ((told : CoreFault) → Reports told (Found fault) → is_out_of_memory told ≡ false → told ≡ answer) → ran_out result ≡ false → result ≡ Err answer
-over_answer fault answer (Ok taken) outcome answers is by lasts = absurd (subst (λ (o : Outcome). AnswersPiece (Ok taken) o) is answers)
+over_answer fault answer (Ok taken) outcome answers is by lasts = absurd (subst (λ (o : Outcome). AnswersPiece (seen (Ok taken)) o) is answers)
 over_answer fault answer (Err told) outcome answers is by lasts = ap Err (by told (subst (λ (o : Outcome). AnswersPiece (Err told) o) is answers) lasts)
 
 closed_told : (told : CoreFault) → Reports told (Found events.AlreadyClosed) → is_out_of_memory told ≡ false → told ≡ core.Closed
@@ -144,14 +144,18 @@ same_left : (b : Bool) (old new : Endpoint) (fed : Feeding) → b ≡ false → 
 same_left true old new fed lasts is same = absurd (true≢false lasts)
 same_left false old new fed lasts is same = subst (λ (e : Endpoint). SameEndpoint e new) is same
 
-refused : (fault : events.Fault) (answer : CoreFault) (result : Result Taken CoreFault) (old new : Endpoint) (fed : Feeding) → IsFed result old fed new → fed ≡ nothing_taken old fault
+pub ran_seen : (result : Result Taken CoreFault) → ran_out (seen result) ≡ ran_out result
+ran_seen (Ok taken) = refl
+ran_seen (Err fault) = refl
+
+refused : (fault : events.Fault) (answer : CoreFault) (result : Result Taken CoreFault) (old new : Endpoint) (fed : Feeding) → IsFed (seen result) old fed new → fed ≡ nothing_taken old fault
     → ((told : CoreFault) → Reports told (Found fault) → is_out_of_memory told ≡ false → told ≡ answer) → ran_out result ≡ false → IsRefused answer result old new
 refused fault answer result old new fed is nothing by lasts = record {
   answer = over_answer fault answer result fed.outcome is.answer (ap (λ (f : Feeding). f.outcome) nothing) by lasts;
-  same = same_left (ran_out result) old new fed lasts (ap (λ (f : Feeding). f.endpoint) nothing) is.left;
+  same = same_left (ran_out (seen result)) old new fed (ran_seen result ∙ lasts) (ap (λ (f : Feeding). f.endpoint) nothing) is.left;
 }
 
-pub feed_faults : (role : Role) (config : Config role) (result : Result Taken CoreFault) (old new : Endpoint) (piece : List ℕ) → IsFed result old (after_feed role config old piece) new
+pub feed_faults : (role : Role) (config : Config role) (result : Result Taken CoreFault) (old new : Endpoint) (piece : List ℕ) → IsFed (seen result) old (after_feed role config old piece) new
     → FeedStaysClosed role config old piece → FeedStaysFailed role config old piece → (ran_out result ≡ true → takes_octets old.end.phase ≡ true) → FeedFaults result old new
 feed_faults role config result old new piece is closed failed memory = record {
   fails = fails_told result old new (after_feed role config old piece) is (feed_fails role config old piece);
@@ -166,3 +170,12 @@ over_memory phase core.Failed over ran = absurd (false≢true ran)
 over_memory phase (core.Peer reason) over ran = absurd over
 over_memory phase core.Fatal over ran = absurd over
 over_memory phase core.OutOfMemory over ran = absurd over
+
+-- what is seen of an answer holds of the answer
+pub ok_seen : (result : Result Taken CoreFault) → IsOk (seen result) → IsOk result
+ok_seen (Ok taken) ok = ok
+ok_seen (Err fault) ok = ok
+
+pub count_seen : (result : Result Taken CoreFault) (P : ℕ → Type 0) → IfOk (seen result) (λ taken. P taken.octets) → IfOk result (λ taken. P taken.octets)
+count_seen (Ok taken) P holds = holds
+count_seen (Err fault) P holds = holds

@@ -1,5 +1,5 @@
 -- A piece that is given to the splitter: what comes of each of its answers, and what holds of the end then.
-use Rattle.std.proofs.Common.{◌≡◌, ◌<◌, ◌≤◌, ◌&&◌, not, get_or, Bool, true, false, cond, ℕ, suc, List, [], ◌++◌, map, length, take, All, Option, Some, None, Result, Ok, Err, refl, ap, sym, ◌∙◌, subst, arith}
+use Rattle.std.proofs.Common.{◌≡◌, ◌<◌, ◌≤◌, ◌&&◌, not, get_or, Bool, true, false, cond, ℕ, suc, List, [], ◌++◌, map, length, take, All, Option, Some, None, Result, Ok, Err, IsOk, OnOk, refl, ap, sym, ◌∙◌, subst, arith}
 use Rattle.std.proofs.Math.Logic.{∥∥₁_elim}
 use Rattle.std.proofs.lemmas.Bool.{true≢false, false≢true}
 use Rattle.std.proofs.lemmas.List.Elements.{All-from_get_or}
@@ -28,13 +28,12 @@ use Rattle.amqp_model.specs.Outputs.{Output, after_puts}
 use Rattle.amqp_model.specs.Pieces.{AreBegun, IsFedBy, IsProperPrefixOf, HoldsUnfinished, FaultFed, FeedHolds, FeedGivesFrame, FeedWaits, FeedFindsFault, reads_frames}
 use Rattle.amqp_model.specs.Readings.{reading}
 use Rattle.amqp_outbox.specs.OutboxView.{Outgoing, only}
-use Rattle.amqp_channel.specs.declared.news.News.{News}
-use Rattle.amqp_core.specs.Answering.{Answers, Brings, EndsAs, PutsAs, Reports, ran_out, is_out_of_memory, stopped}
+use Rattle.amqp_model.specs.Events.{Event}
+use Rattle.amqp_core.specs.Answering.{answer_with, AnswersFrame, EndsAs, PutsAs, Reports, ran_out, is_out_of_memory, stopped}
 use Rattle.amqp_core.specs.EndpointView.{FieldsFit, IsSound, endpoint_view, is_opened, unfinished_of}
-use Rattle.amqp_core.specs.Feeding.{SameEndpoint, ran_out_of}
-use Rattle.amqp_core.specs.Hearing.{Hears, IsHeard, IsInPiece}
+use Rattle.amqp_core.specs.Feeding.{IsFed, SameButChannels, SameEndpoint, ran_out_of, taken_with, Seen}
 use Rattle.amqp_core.specs.Bounded.{IsBounded}
-use Rattle.amqp_core.specs.CoreView.{core_end}
+use Rattle.amqp_core.specs.ConnectionView.{connection_end}
 use Rattle.amqp_core.specs.Kept.{agreed_prop}
 use Rattle.amqp_core.specs.Outcomes.{SameEnd}
 use Rattle.amqp_core.specs.Settings.{config_view, role_for}
@@ -134,48 +133,55 @@ same_endpoint true old next new unfinished put output same none out = record { e
 same_endpoint false old next new unfinished put output same none out = record { end = same; unfinished = sym none; output = sym out }
 
 -- the answer to a frame, as an answer to the piece
-heard_in_piece : (news : Option News) (outcome : Outcome) → Brings news outcome → Hears news outcome
-heard_in_piece news Unfinished says = absurd says
-heard_in_piece news (Finished told) says = says
-heard_in_piece news (Found fault) says = absurd says
+pub ran_with : {A : Type 0} (said : Result A CoreFault) (octets : ℕ) (event : Option Event) → ran_out (taken_with said octets event) ≡ ran_out said
+ran_with (Ok done) octets event = refl
+ran_with (Err fault) octets event = refl
 
-pub ran_in_piece : {A : Type 0} (octets : ℕ) (answer : Result A CoreFault) (result : Result ℕ CoreFault) → IsInPiece octets answer result → ran_out result ≡ ran_out answer
-ran_in_piece octets (Ok value) (Ok count) is = refl
-ran_in_piece octets (Ok value) (Err fault) is = absurd is
-ran_in_piece octets (Err fault) (Ok count) is = absurd is
-ran_in_piece octets (Err fault) (Err told) is = ap is_out_of_memory is
+pub ok_with : {A : Type 0} (said : Result A CoreFault) (octets : ℕ) (event : Option Event) → IsOk said → IsOk (taken_with said octets event)
+ok_with (Ok done) octets event ok = ok
+ok_with (Err fault) octets event ok = ok
 
-answered : {A : Type 0} (news : Option News) (answer : Result A CoreFault) (result : Result ℕ CoreFault) (octets : ℕ) (old : model.Endpoint) (next new : End) (unfinished : List ℕ) (put output : Output) (outcome : Outcome) → IsInPiece octets answer result → Answers news answer outcome → SameEnd (cond (ran_out answer) (as_failed old.end) next) new → unfinished ≡ [] → output ≡ cond (ran_out answer) old.output put
-    → IsHeard result news old (record { endpoint = record { end = next; unfinished = []; output = put }; taken = octets; outcome = outcome }) (record { end = new; unfinished = unfinished; output = output })
-answered news (Ok value) (Ok count) octets old next new unfinished put output outcome is says same none out = record { answer = heard_in_piece news outcome says; taken = is; left = same_endpoint false old next new unfinished put output same none out }
-answered news (Ok value) (Err fault) octets old next new unfinished put output outcome is says same none out = absurd is
-answered news (Err fault) (Ok count) octets old next new unfinished put output outcome is says same none out = absurd is
-answered news (Err fault) (Err told) octets old next new unfinished put output outcome is says same none out =
-    subst (λ (f : CoreFault). IsHeard (Err f) news old (record { endpoint = record { end = next; unfinished = []; output = put }; taken = octets; outcome = outcome }) (record { end = new; unfinished = unfinished; output = output })) (sym is)
-    (record { answer = says; taken = tt; left = same_endpoint (is_out_of_memory fault) old next new unfinished put output same none out })
+pub of_ok : {A : Type 0} (said : Result A CoreFault) (P : Type 0) → IsOk said → OnOk said P → P
+of_ok (Ok done) P ok p = p
+of_ok (Err fault) P ok p = absurd (false≢true ok)
 
-pub frame_fed : {A : Type 0} (role : Role) (config : Config role) (old : model.Endpoint) (stream : Stream) (piece : List ℕ) (octets : ℕ) (frame : Frame) (news : Option News) (answer : Result A CoreFault) (result : Result ℕ CoreFault) (new : End) (unfinished : List ℕ) (outgoing : Outgoing) → FeedGivesFrame role config old stream piece octets frame → IsFedBy role old stream piece → octets ≤ length piece → Completes stream (take octets piece) frame → IsInPiece octets answer result → Answers news answer (outcome_of (facts_at config old.end frame.channel) (end_verdict config old.end frame)) → EndsAs answer old.end (end_after_taken role config old.end (reading frame) frame) new → unfinished ≡ [] → PutsAs answer old.output (after_puts (end_puts config old.end frame) old.output) outgoing
-    → IsHeard result news old (after_feed role config old piece) (record { end = new; unfinished = unfinished; output = outgoing.output })
-frame_fed role config old stream piece octets frame news answer result new unfinished outgoing law fed within completes is says ends none puts =
-    subst (λ (f : Feeding). IsHeard result news old f (record { end = new; unfinished = unfinished; output = outgoing.output })) (sym (law fed within completes))
-    (answered news answer result octets old (end_after_taken role config old.end (reading frame) frame) new unfinished (after_puts (end_puts config old.end frame) old.output) outgoing.output (outcome_of (facts_at config old.end frame.channel) (end_verdict config old.end frame)) is says ends none (ap (λ (o : Outgoing). o.output) puts))
+-- a message that is told leaves the rest as it was, whatever octets are unfinished
+pub alone_in : {A : Type 0} (said : Result A CoreFault) (P : Type 0) (end after : End) (one other same different : List ℕ) (before output : Output)
+    → OnOk said (P → SameButChannels (record { end = end; unfinished = one; output = before }) (record { end = after; unfinished = other; output = output }))
+    → OnOk said (P → SameButChannels (record { end = end; unfinished = same; output = before }) (record { end = after; unfinished = different; output = output }))
+alone_in (Ok done) P end after one other same different before output stays =
+    λ p. record { phase = (stays p).phase; agreed = (stays p).agreed; no_channel = (stays p).no_channel; output = (stays p).output }
+alone_in (Err fault) P end after one other same different before output stays = tt
+
+answered : {A : Type 0} (said : Result A CoreFault) (octets : ℕ) (event : Option Event) (old : model.Endpoint) (next new : End) (unfinished : List ℕ) (put output : Output) (outcome : Outcome) → AnswersFrame (answer_with said event) outcome → SameEnd (cond (ran_out said) (as_failed old.end) next) new → unfinished ≡ [] → output ≡ cond (ran_out said) old.output put
+    → IsFed (taken_with said octets event) old (record { endpoint = record { end = next; unfinished = []; output = put }; taken = octets; outcome = outcome }) (record { end = new; unfinished = unfinished; output = output })
+answered (Ok done) octets event old next new unfinished put output outcome says same none out = record { answer = says; taken = refl; left = same_endpoint false old next new unfinished put output same none out }
+answered (Err fault) octets event old next new unfinished put output outcome says same none out =
+    record { answer = says; taken = tt; left = same_endpoint (is_out_of_memory fault) old next new unfinished put output same none out }
+
+pub frame_fed : {A : Type 0} (role : Role) (config : Config role) (old : model.Endpoint) (stream : Stream) (piece : List ℕ) (octets count : ℕ) (frame : Frame) (said : Result A CoreFault) (event : Option Event) (new : End) (unfinished : List ℕ) (outgoing : Outgoing) → FeedGivesFrame role config old stream piece octets frame → IsFedBy role old stream piece → octets ≤ length piece → Completes stream (take octets piece) frame → count ≡ octets → AnswersFrame (answer_with said event) (outcome_of (facts_at config old.end frame.channel) (end_verdict config old.end frame)) → EndsAs said old.end (end_after_taken role config old.end (reading frame) frame) new → unfinished ≡ [] → PutsAs said old.output (after_puts (end_puts config old.end frame) old.output) outgoing
+    → IsFed (taken_with said count event) old (after_feed role config old piece) (record { end = new; unfinished = unfinished; output = outgoing.output })
+frame_fed role config old stream piece octets count frame said event new unfinished outgoing law fed within completes is says ends none puts =
+    subst (λ (n : ℕ). IsFed (taken_with said n event) old (after_feed role config old piece) (record { end = new; unfinished = unfinished; output = outgoing.output })) (sym is)
+    (subst (λ (f : Feeding). IsFed (taken_with said octets event) old f (record { end = new; unfinished = unfinished; output = outgoing.output })) (sym (law fed within completes))
+    (answered said octets event old (end_after_taken role config old.end (reading frame) frame) new unfinished (after_puts (end_puts config old.end frame) old.output) outgoing.output (outcome_of (facts_at config old.end frame.channel) (end_verdict config old.end frame)) says ends none (ap (λ (o : Outgoing). o.output) puts)))
 
 -- It answers with none.
 
 same_end : (end : End) → SameEnd end end
 same_end end = record { phase = refl; agreed = refl; no_channel = refl; channels = λ running. refl }
 
-pub rest_fed : (role : Role) (config : Config role) (old : model.Endpoint) (stream : Stream) (piece : List ℕ) (octets : ℕ) (unfinished : List ℕ) (news : Option News) → FeedWaits role config old stream piece octets → IsFedBy role old stream piece → Waits stream piece octets → old.unfinished ++ piece ≡ unfinished → news ≡ None
-    → IsHeard (Ok octets) news old (after_feed role config old piece) (record { end = old.end; unfinished = unfinished; output = old.output })
-rest_fed role config old stream piece octets unfinished news law fed waits is none =
-    subst (λ (f : Feeding). IsHeard (Ok octets) news old f (record { end = old.end; unfinished = unfinished; output = old.output })) (sym (law fed waits))
+pub rest_fed : (role : Role) (config : Config role) (old : model.Endpoint) (stream : Stream) (piece : List ℕ) (octets : ℕ) (event : Option Event) (unfinished : List ℕ) → FeedWaits role config old stream piece octets → IsFedBy role old stream piece → Waits stream piece octets → old.unfinished ++ piece ≡ unfinished → event ≡ None
+    → IsFed (Ok (record { octets = octets; event = event })) old (after_feed role config old piece) (record { end = old.end; unfinished = unfinished; output = old.output })
+rest_fed role config old stream piece octets event unfinished law fed waits is none =
+    subst (λ (f : Feeding). IsFed (Ok (record { octets = octets; event = event })) old f (record { end = old.end; unfinished = unfinished; output = old.output })) (sym (law fed waits))
     (record { answer = none; taken = refl; left = record { end = same_end old.end; unfinished = is; output = refl } })
 
 -- It reports a fault.
 
-stopped_fed : (news : Option News) (fault : CoreFault) (octets : ℕ) (old : model.Endpoint) (next new : End) (unfinished : List ℕ) (put output : Output) (outcome : Outcome) → Reports fault outcome → SameEnd (cond (is_out_of_memory fault) (as_failed old.end) next) new → unfinished ≡ [] → output ≡ cond (is_out_of_memory fault) old.output put
-    → IsHeard (Err fault) news old (record { endpoint = record { end = next; unfinished = []; output = put }; taken = octets; outcome = outcome }) (record { end = new; unfinished = unfinished; output = output })
-stopped_fed news fault octets old next new unfinished put output outcome says same none out = record { answer = says; taken = tt; left = same_endpoint (is_out_of_memory fault) old next new unfinished put output same none out }
+stopped_fed : (fault : CoreFault) (octets : ℕ) (old : model.Endpoint) (next new : End) (unfinished : List ℕ) (put output : Output) (outcome : Outcome) → Reports fault outcome → SameEnd (cond (is_out_of_memory fault) (as_failed old.end) next) new → unfinished ≡ [] → output ≡ cond (is_out_of_memory fault) old.output put
+    → IsFed (Err fault) old (record { endpoint = record { end = next; unfinished = []; output = put }; taken = octets; outcome = outcome }) (record { end = new; unfinished = unfinished; output = output })
+stopped_fed fault octets old next new unfinished put output outcome says same none out = record { answer = says; taken = tt; left = same_endpoint (is_out_of_memory fault) old next new unfinished put output same none out }
 
 -- The splitter after each answer.
 
@@ -238,26 +244,26 @@ frame_leaves role config old new frame b writes stays read_on fits same =
     (agreed_left b old (end_after_taken role config old (reading frame) frame) new same fits (∥∥₁_elim writes (agreed_prop _) (λ w. stays w fits)), opened_left b old (end_after_taken role config old (reading frame) frame) new same (frame_opened role config old (reading frame) frame read_on))
 
 -- What is unfinished then.
-pub fed_holds : (role : Role) (config : Config role) (old new : model.Endpoint) (stream : Stream) (piece : List ℕ) (news : Option News) (result : Result ℕ CoreFault) → FeedHolds role config old piece → IsFedBy role old stream piece → IsHeard result news old (after_feed role config old piece) new → HoldsUnfinished role new
-fed_holds role config old new stream piece news result law by fed =
+pub fed_holds : (role : Role) (config : Config role) (old new : model.Endpoint) (stream : Stream) (piece : List ℕ) (result : Result Seen CoreFault) → FeedHolds role config old piece → IsFedBy role old stream piece → IsFed result old (after_feed role config old piece) new → HoldsUnfinished role new
+fed_holds role config old new stream piece result law by fed =
     holds_left role (ran_out result) old (after_feed role config old piece).endpoint new fed.left (law by.holds by.are_octets)
 
 -- A fault.
 
-stop_case : (role : Role) (config : Config role) (news : Option News) (old : model.Endpoint) (stream : Stream) (piece : List ℕ) (kind : FrameFaultKind) (at : ℕ) (fault : CoreFault) (new : End) (unfinished : List ℕ) (outgoing : Outgoing) → FaultFed role config old stream piece kind at → Reports fault (Found (fault_told kind)) → SameEnd (cond (is_out_of_memory fault) (as_failed old.end) (stopped role config old.end kind)) new → unfinished ≡ [] → outgoing ≡ only (cond (is_out_of_memory fault) old.output (after_puts (map frame_of (owed_at_fault config old.end kind)) old.output))
-    → IsHeard (Err fault) news old (after_feed role config old piece) (record { end = new; unfinished = unfinished; output = outgoing.output })
-stop_case role config news old stream piece kind at fault new unfinished outgoing told says ends none puts =
-    subst (λ (f : Feeding). IsHeard (Err fault) news old f (record { end = new; unfinished = unfinished; output = outgoing.output })) (sym told.fed)
-    (stopped_fed news fault (suc told.before) old (stopped role config old.end kind) new unfinished (after_puts (map frame_of (owed_at_fault config old.end kind)) old.output) outgoing.output (Found (fault_told kind)) says ends none (ap (λ (o : Outgoing). o.output) puts))
+stop_case : (role : Role) (config : Config role) (old : model.Endpoint) (stream : Stream) (piece : List ℕ) (kind : FrameFaultKind) (at : ℕ) (fault : CoreFault) (new : End) (unfinished : List ℕ) (outgoing : Outgoing) → FaultFed role config old stream piece kind at → Reports fault (Found (fault_told kind)) → SameEnd (cond (is_out_of_memory fault) (as_failed old.end) (stopped role config old.end kind)) new → unfinished ≡ [] → outgoing ≡ only (cond (is_out_of_memory fault) old.output (after_puts (map frame_of (owed_at_fault config old.end kind)) old.output))
+    → IsFed (Err fault) old (after_feed role config old piece) (record { end = new; unfinished = unfinished; output = outgoing.output })
+stop_case role config old stream piece kind at fault new unfinished outgoing told says ends none puts =
+    subst (λ (f : Feeding). IsFed (Err fault) old f (record { end = new; unfinished = unfinished; output = outgoing.output })) (sym told.fed)
+    (stopped_fed fault (suc told.before) old (stopped role config old.end kind) new unfinished (after_puts (map frame_of (owed_at_fault config old.end kind)) old.output) outgoing.output (Found (fault_told kind)) says ends none (ap (λ (o : Outgoing). o.output) puts))
 
 -- out of memory nothing is said of what the octets are
-lacks_case : (news : Option News) (old : model.Endpoint) (feeding : Feeding) (new : End) (unfinished : List ℕ) (outgoing : Outgoing) (next : End) (put : Output) (fault : CoreFault) → is_out_of_memory fault ≡ true → SameEnd (cond (is_out_of_memory fault) (as_failed old.end) next) new → unfinished ≡ [] → outgoing ≡ only (cond (is_out_of_memory fault) old.output put)
-    → IsHeard (Err fault) news old feeding (record { end = new; unfinished = unfinished; output = outgoing.output })
-lacks_case news old feeding new unfinished outgoing next put (core.Peer code) e ends none puts = absurd (false≢true e)
-lacks_case news old feeding new unfinished outgoing next put core.Fatal e ends none puts = absurd (false≢true e)
-lacks_case news old feeding new unfinished outgoing next put core.Failed e ends none puts = absurd (false≢true e)
-lacks_case news old feeding new unfinished outgoing next put core.Closed e ends none puts = absurd (false≢true e)
-lacks_case news old feeding new unfinished outgoing next put core.OutOfMemory e ends none puts = record { answer = tt; taken = tt; left = record { end = ends; unfinished = sym none; output = sym (ap (λ (o : Outgoing). o.output) puts) } }
+lacks_case : (old : model.Endpoint) (feeding : Feeding) (new : End) (unfinished : List ℕ) (outgoing : Outgoing) (next : End) (put : Output) (fault : CoreFault) → is_out_of_memory fault ≡ true → SameEnd (cond (is_out_of_memory fault) (as_failed old.end) next) new → unfinished ≡ [] → outgoing ≡ only (cond (is_out_of_memory fault) old.output put)
+    → IsFed (Err fault) old feeding (record { end = new; unfinished = unfinished; output = outgoing.output })
+lacks_case old feeding new unfinished outgoing next put (core.Peer code) e ends none puts = absurd (false≢true e)
+lacks_case old feeding new unfinished outgoing next put core.Fatal e ends none puts = absurd (false≢true e)
+lacks_case old feeding new unfinished outgoing next put core.Failed e ends none puts = absurd (false≢true e)
+lacks_case old feeding new unfinished outgoing next put core.Closed e ends none puts = absurd (false≢true e)
+lacks_case old feeding new unfinished outgoing next put core.OutOfMemory e ends none puts = record { answer = tt; taken = tt; left = record { end = ends; unfinished = sym none; output = sym (ap (λ (o : Outgoing). o.output) puts) } }
 
 abbrev lacks_memory : FrameFaultKind → Bool
 lacks_memory UnknownType = false
@@ -269,17 +275,17 @@ lacks_memory kinds.Failed = false
 pub first_fault : (stream : Stream) (piece : List ℕ) (fault : FrameFault) → stream.fault ≡ None → Faults stream.fault stream piece fault → FirstFault stream piece fault.kind fault.at
 first_fault stream piece fault none faults = subst (λ (place : Option ℕ). Faults place stream piece fault) none faults
 
-pub fault_fed : (role : Role) (config : Config role) (news : Option News) (old : model.Endpoint) (stream : Stream) (piece : List ℕ) (kind : FrameFaultKind) (at : ℕ) (fault : CoreFault) (new : End) (unfinished : List ℕ) (outgoing : Outgoing) → FeedFindsFault role config old stream piece kind at → IsFedBy role old stream piece → FirstFault stream piece kind at → (kind ≡ OutOfMemory → is_out_of_memory fault ≡ true) → Reports fault (Found (fault_told kind)) → SameEnd (cond (is_out_of_memory fault) (as_failed old.end) (stopped role config old.end kind)) new → unfinished ≡ [] → outgoing ≡ only (cond (is_out_of_memory fault) old.output (after_puts (map frame_of (owed_at_fault config old.end kind)) old.output))
-    → IsHeard (Err fault) news old (after_feed role config old piece) (record { end = new; unfinished = unfinished; output = outgoing.output })
-fault_fed role config news old stream piece OutOfMemory at fault new unfinished outgoing law by first memory says ends none puts =
-    lacks_case news old (after_feed role config old piece) new unfinished outgoing (stopped role config old.end OutOfMemory) (after_puts (map frame_of (owed_at_fault config old.end OutOfMemory)) old.output) fault (memory refl) ends none puts
-fault_fed role config news old stream piece UnknownType at fault new unfinished outgoing law by first memory says ends none puts =
-    stop_case role config news old stream piece UnknownType at fault new unfinished outgoing (law by (λ e. false≢true (ap lacks_memory e)) first) says ends none puts
-fault_fed role config news old stream piece TooLarge at fault new unfinished outgoing law by first memory says ends none puts =
-    stop_case role config news old stream piece TooLarge at fault new unfinished outgoing (law by (λ e. false≢true (ap lacks_memory e)) first) says ends none puts
-fault_fed role config news old stream piece BadEnd at fault new unfinished outgoing law by first memory says ends none puts =
-    stop_case role config news old stream piece BadEnd at fault new unfinished outgoing (law by (λ e. false≢true (ap lacks_memory e)) first) says ends none puts
-fault_fed role config news old stream piece kinds.Failed at fault new unfinished outgoing law by first memory says ends none puts = absurd first
+pub fault_fed : (role : Role) (config : Config role) (old : model.Endpoint) (stream : Stream) (piece : List ℕ) (kind : FrameFaultKind) (at : ℕ) (fault : CoreFault) (new : End) (unfinished : List ℕ) (outgoing : Outgoing) → FeedFindsFault role config old stream piece kind at → IsFedBy role old stream piece → FirstFault stream piece kind at → (kind ≡ OutOfMemory → is_out_of_memory fault ≡ true) → Reports fault (Found (fault_told kind)) → SameEnd (cond (is_out_of_memory fault) (as_failed old.end) (stopped role config old.end kind)) new → unfinished ≡ [] → outgoing ≡ only (cond (is_out_of_memory fault) old.output (after_puts (map frame_of (owed_at_fault config old.end kind)) old.output))
+    → IsFed (Err fault) old (after_feed role config old piece) (record { end = new; unfinished = unfinished; output = outgoing.output })
+fault_fed role config old stream piece OutOfMemory at fault new unfinished outgoing law by first memory says ends none puts =
+    lacks_case old (after_feed role config old piece) new unfinished outgoing (stopped role config old.end OutOfMemory) (after_puts (map frame_of (owed_at_fault config old.end OutOfMemory)) old.output) fault (memory refl) ends none puts
+fault_fed role config old stream piece UnknownType at fault new unfinished outgoing law by first memory says ends none puts =
+    stop_case role config old stream piece UnknownType at fault new unfinished outgoing (law by (λ e. false≢true (ap lacks_memory e)) first) says ends none puts
+fault_fed role config old stream piece TooLarge at fault new unfinished outgoing law by first memory says ends none puts =
+    stop_case role config old stream piece TooLarge at fault new unfinished outgoing (law by (λ e. false≢true (ap lacks_memory e)) first) says ends none puts
+fault_fed role config old stream piece BadEnd at fault new unfinished outgoing law by first memory says ends none puts =
+    stop_case role config old stream piece BadEnd at fault new unfinished outgoing (law by (λ e. false≢true (ap lacks_memory e)) first) says ends none puts
+fault_fed role config old stream piece kinds.Failed at fault new unfinished outgoing law by first memory says ends none puts = absurd first
 
 -- The unfinished octets then.
 
@@ -295,11 +301,11 @@ stop_leaves role config old new kind true same fits = (same.phase, subst IfAgree
 stop_leaves role config old new kind false same fits = (same.phase, subst IfAgreedFits same.agreed (subst IfAgreedFits (sym (stopped_agreed role config old kind)) fits))
 
 -- What an end is set up with stays, so what holds of it is of the same role and the same configuration.
-pub sound_with : (settings : Settings) (new : Endpoint) → new.core.settings ≡ settings → ∥ ConfigWrites (config_view settings) ∥₁ → new.outbox.staged ≡ [] → FieldsFit (role_for settings) (core_end new.core) new.heard new.splitter → HoldsUnfinished (role_for settings) (endpoint_view new) → IsBounded (role_for settings) (config_view settings) (core_end new.core) → IsSound new
+pub sound_with : (settings : Settings) (new : Endpoint) → new.connection.settings ≡ settings → ∥ ConfigWrites (config_view settings) ∥₁ → new.outbox.staged ≡ [] → FieldsFit (role_for settings) (connection_end new.connection) new.heard new.splitter → HoldsUnfinished (role_for settings) (endpoint_view new) → IsBounded (role_for settings) (config_view settings) (connection_end new.connection) → IsSound new
 sound_with settings new e writes staged fields holds bounded = record {
   writes = subst (λ (s : Settings). ∥ ConfigWrites (config_view s) ∥₁) (sym e) writes;
   staged = staged;
-  fields = subst (λ (s : Settings). FieldsFit (role_for s) (core_end new.core) new.heard new.splitter) (sym e) fields;
+  fields = subst (λ (s : Settings). FieldsFit (role_for s) (connection_end new.connection) new.heard new.splitter) (sym e) fields;
   holds = subst (λ (s : Settings). HoldsUnfinished (role_for s) (endpoint_view new)) (sym e) holds;
-  bounded = subst (λ (s : Settings). IsBounded (role_for s) (config_view s) (core_end new.core)) (sym e) bounded;
+  bounded = subst (λ (s : Settings). IsBounded (role_for s) (config_view s) (connection_end new.connection)) (sym e) bounded;
 }

@@ -52,8 +52,7 @@ owed-noted settings (code.Close reason) = refl
 owed-noted settings code.CloseOk = refl
 owed-noted settings (code.OnChannel number replies.OpenOk) = refl
 owed-noted settings (code.OnChannel number replies.CloseOk) = refl
-owed-noted settings (code.OnChannel number replies.FlowOkActive) = refl
-owed-noted settings (code.OnChannel number replies.FlowOkInactive) = refl
+owed-noted settings (code.OnChannel number (replies.FlowOk active)) = refl
 owed-noted settings (code.ChannelClose number reason) = refl
 
 -- Only the lives of channels above 0 matter.

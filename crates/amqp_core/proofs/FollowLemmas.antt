@@ -1,5 +1,5 @@
 -- A piece makes of each history what the definitions say, whatever a failed end keeps of its channels.
-use Rattle.std.proofs.Common.{◌≡◌, ◌≢◌, ◌<◌, Bool, true, false, cond, ℕ, List, get_or, All, Option, Result, refl, sym, ap, ◌∙◌, subst}
+use Rattle.std.proofs.Common.{◌≡◌, ◌≢◌, ◌<◌, Bool, true, false, cond, ℕ, List, get_or, All, Result, refl, sym, ap, ◌∙◌, subst}
 use Rattle.std.proofs.Math.Logic.{∥∥₁_map}
 use Rattle.std.proofs.lemmas.Bool.{true≢false}
 use Rattle.amqp_method.specs.declared.kinds.Kind.TheVariants as kinds
@@ -18,10 +18,8 @@ use Rattle.amqp_model.specs.Octets.{frames_put, opening_written}
 use Rattle.amqp_model.specs.Outputs.{Output}
 use Rattle.amqp_model.specs.RunningOut.{RunsOut}
 use Rattle.amqp_model.specs.StateFromHistory.{has_put, is_closed, is_negotiated, phase_from, step_from}
-use Rattle.amqp_channel.specs.declared.news.News.{News}
 use Rattle.amqp_core.specs.Answering.{ran_out}
-use Rattle.amqp_core.specs.Feeding.{SameEndpoint, ran_out_of}
-use Rattle.amqp_core.specs.Hearing.{IsHeard}
+use Rattle.amqp_core.specs.Feeding.{IsFed, SameEndpoint, ran_out_of, Seen}
 use Rattle.amqp_core.specs.Following.{GoesOn, KeepsHistory}
 use Rattle.amqp_core.specs.Outcomes.{SameEnd}
 use Rattle.amqp_core.specs.declared.faults.CoreFault.{CoreFault}
@@ -97,7 +95,7 @@ by_memory role config true old new history fed written piece law runs follows oc
 by_memory role config false old new history fed written piece law runs follows octets writes taking stands same =
     follows_same role config old new history fed written piece (after_feed role config old piece) law same (follows stands octets writes)
 
-pub piece_goes_on : (role : Role) (config : Config role) (news : Option News) (result : Result ℕ CoreFault) (old new : Endpoint) (history : History) (fed written piece : List ℕ) → ((end next : End) (h : History) → FailedIsRead role config end next h) → RunsOut role config old history fed written → FeedFollows role config old history fed written piece → ((i : ℕ) → get_or piece i 0 < 256) → ∥ ConfigWrites config ∥₁ → (ran_out result ≡ true → takes_octets old.end.phase ≡ true) → IsHeard result news old (after_feed role config old piece) new → EndpointStandsFor role config old history fed written
+pub piece_goes_on : (role : Role) (config : Config role) (result : Result Seen CoreFault) (old new : Endpoint) (history : History) (fed written piece : List ℕ) → ((end next : End) (h : History) → FailedIsRead role config end next h) → RunsOut role config old history fed written → FeedFollows role config old history fed written piece → ((i : ℕ) → get_or piece i 0 < 256) → ∥ ConfigWrites config ∥₁ → (ran_out result ≡ true → takes_octets old.end.phase ≡ true) → IsFed result old (after_feed role config old piece) new → EndpointStandsFor role config old history fed written
     → ∥ GoesOn role config (ran_out result) old history fed written piece (after_feed role config old piece) new ∥₁
-piece_goes_on role config news result old new history fed written piece law runs follows octets writes taking is stands =
+piece_goes_on role config result old new history fed written piece law runs follows octets writes taking is stands =
     ∥∥₁_map writes (λ w. by_memory role config (ran_out result) old new history fed written piece law runs follows (are_octets piece octets) w taking stands is.left)

@@ -105,8 +105,7 @@ owed_few settings (code.Close reason) = omega arith
 owed_few settings code.CloseOk = omega arith
 owed_few settings (code.OnChannel number replies.OpenOk) = omega arith
 owed_few settings (code.OnChannel number replies.CloseOk) = omega arith
-owed_few settings (code.OnChannel number replies.FlowOkActive) = omega arith
-owed_few settings (code.OnChannel number replies.FlowOkInactive) = omega arith
+owed_few settings (code.OnChannel number (replies.FlowOk active)) = omega arith
 owed_few settings (code.ChannelClose number reason) = omega arith
 
 grown : (owed : List closes.Owed) (old : Output) → length owed ≤ 2 → AllWithin FRAME_MIN (map frame_of owed) → GrowsLittle old (after_puts (map frame_of owed) old)

@@ -14,7 +14,7 @@ use Rattle.amqp_model.specs.StateFromHistory.{awaits_tune_ok}
 use Rattle.amqp_model.specs.Histories.{TookHere}
 use Rattle.amqp_model.specs.Readings.{Reading, Calls}
 use Rattle.amqp_channel.specs.Used.{is_closing_at}
-use Rattle.amqp_core.specs.CoreView.{EndLeft, frame_at}
+use Rattle.amqp_core.specs.ConnectionView.{EndLeft, frame_at}
 use Rattle.amqp_core.specs.Handshakes.{within, is_in_handshake, awaited_in, answers_at, answered_in}
 use Rattle.amqp_core.specs.OwedView.{answers_start, tunes, answers_tune}
 use Rattle.amqp_core.specs.Stages.{leaves}

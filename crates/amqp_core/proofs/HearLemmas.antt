@@ -9,17 +9,16 @@ use Rattle.amqp_model.specs.Closes.{frame_of}
 use Rattle.amqp_model.specs.Endpoint as model
 use Rattle.amqp_model.specs.Endpoint.{Differs, Feeding, after_feed, after_opening, awaits_opening, greeting, output_of}
 use Rattle.amqp_model.specs.EndVerdict.{takes_octets}
+use Rattle.amqp_model.specs.Events.{Event, Quiet}
 use Rattle.amqp_model.specs.Machine.{as_failed, end_after_owed}
 use Rattle.amqp_model.specs.Negotiation.{Config, PROTOCOL_HEADER, frame_limit}
 use Rattle.amqp_model.specs.Notes.{Role, Client, Server}
 use Rattle.amqp_model.specs.Octets.{opening_read}
 use Rattle.amqp_model.specs.Outputs.{Output, after_puts}
 use Rattle.amqp_model.specs.Pieces.{IsProperPrefixOf, HoldsUnfinished, FeedBeginsOpening, FeedEndsOpening, FeedHolds, FeedLeavesOpening, with_taken}
-use Rattle.amqp_channel.specs.declared.news.News.{News}
-use Rattle.amqp_channel.specs.declared.news.News.TheVariants as codes
 use Rattle.amqp_core.specs.Answering.{ran_out}
 use Rattle.amqp_core.specs.EndpointView.{FieldsFit, unfinished_of}
-use Rattle.amqp_core.specs.Hearing.{IsHeard}
+use Rattle.amqp_core.specs.Feeding.{IsFed, Seen}
 use Rattle.amqp_core.specs.Outcomes.{SameEnd}
 use Rattle.amqp_core.specs.declared.faults.CoreFault.{CoreFault}
 use Rattle.amqp_core.specs.declared.faults.CoreFault.TheVariants as core
@@ -54,29 +53,29 @@ pub same_end : (one other : End) → one ≡ other → SameEnd one other
 same_end one other e = subst (SameEnd one) e (record { phase = refl; agreed = refl; no_channel = refl; channels = λ running. refl })
 
 -- The rest of the header came.
-pub whole_fed : (role : Role) (config : Config role) (end new : End) (heard count : ℕ) (pending piece : List ℕ) (output put : Output) →
+pub whole_fed : (role : Role) (config : Config role) (event : Option Event) (end new : End) (heard count : ℕ) (pending piece : List ℕ) (output put : Output) →
     let old : model.Endpoint = record { end = end; unfinished = unfinished_of heard pending; output = output } in
     FeedEndsOpening role config old piece count → awaits_opening role end.phase ≡ true → HoldsUnfinished role old → pending ≡ [] → count ≤ length piece → heard + count ≡ 8 → take heard PROTOCOL_HEADER ++ take count piece ≡ take (heard + count) PROTOCOL_HEADER
-    → new ≡ end_after_owed role config (greeting role config) end → put ≡ after_puts (map frame_of (greeting role config)) output
-    → IsHeard (Ok count) (Some codes.Quiet) old (after_feed role config old piece) (record { end = new; unfinished = unfinished_of 0 pending; output = put })
-whole_fed role config end new heard count pending piece output put law awaits holds none within all same ends puts =
+    → new ≡ end_after_owed role config (greeting role config) end → put ≡ after_puts (map frame_of (greeting role config)) output → event ≡ Some Quiet
+    → IsFed (Ok (record { octets = count; event = event })) old (after_feed role config old piece) (record { end = new; unfinished = unfinished_of 0 pending; output = put })
+whole_fed role config event end new heard count pending piece output put law awaits holds none within all same ends puts quiet =
     let old : model.Endpoint = record { end = end; unfinished = unfinished_of heard pending; output = output } in
     let whole : unfinished_of heard pending ++ take count piece ≡ opening_read role =
     ap (λ (xs : List ℕ). xs ++ take count piece) (heard_is heard pending none) ∙ (same ∙ (ap (λ n. take n PROTOCOL_HEADER) all ∙ sym (opening_is role end.phase awaits))) in
-    subst (λ (f : Feeding). IsHeard (Ok count) (Some codes.Quiet) old f (record { end = new; unfinished = unfinished_of 0 pending; output = put })) (sym (law awaits holds within whole))
-    (record { answer = refl; taken = refl; left = record { end = same_end _ new (sym ends); unfinished = sym none; output = sym puts } })
+    subst (λ (f : Feeding). IsFed (Ok (record { octets = count; event = event })) old f (record { end = new; unfinished = unfinished_of 0 pending; output = put })) (sym (law awaits holds within whole))
+    (record { answer = sym quiet; taken = refl; left = record { end = same_end _ new (sym ends); unfinished = sym none; output = sym puts } })
 
 -- A part of it came.
-pub part_fed : (role : Role) (config : Config role) (news : Option News) (end : End) (heard count : ℕ) (pending piece : List ℕ) (output : Output) →
+pub part_fed : (role : Role) (config : Config role) (event : Option Event) (end : End) (heard count : ℕ) (pending piece : List ℕ) (output : Output) →
     let old : model.Endpoint = record { end = end; unfinished = unfinished_of heard pending; output = output } in
-    FeedBeginsOpening role config old piece → awaits_opening role end.phase ≡ true → pending ≡ [] → count ≡ length piece → heard + count < 8 → take heard PROTOCOL_HEADER ++ take count piece ≡ take (heard + count) PROTOCOL_HEADER → news ≡ None
-    → IsHeard (Ok count) news old (after_feed role config old piece) (record { end = end; unfinished = unfinished_of (heard + count) pending; output = output })
-part_fed role config news end heard count pending piece output law awaits none all within same quiet =
+    FeedBeginsOpening role config old piece → awaits_opening role end.phase ≡ true → pending ≡ [] → count ≡ length piece → heard + count < 8 → take heard PROTOCOL_HEADER ++ take count piece ≡ take (heard + count) PROTOCOL_HEADER → event ≡ None
+    → IsFed (Ok (record { octets = count; event = event })) old (after_feed role config old piece) (record { end = end; unfinished = unfinished_of (heard + count) pending; output = output })
+part_fed role config event end heard count pending piece output law awaits none all within same quiet =
     let old : model.Endpoint = record { end = end; unfinished = unfinished_of heard pending; output = output } in
     let all_taken : take count piece ≡ piece = ap (λ n. take n piece) all ∙ take-length piece in
     let is : unfinished_of heard pending ++ piece ≡ take (heard + count) PROTOCOL_HEADER =
     ap (λ (xs : List ℕ). xs ++ piece) (heard_is heard pending none) ∙ (ap (λ (xs : List ℕ). take heard PROTOCOL_HEADER ++ xs) (sym all_taken) ∙ same) in
-    subst (λ (f : Feeding). IsHeard (Ok count) news old f (record { end = end; unfinished = unfinished_of (heard + count) pending; output = output })) (sym (law awaits (begun role end.phase (heard + count) (unfinished_of heard pending ++ piece) awaits within is)))
+    subst (λ (f : Feeding). IsFed (Ok (record { octets = count; event = event })) old f (record { end = end; unfinished = unfinished_of (heard + count) pending; output = output })) (sym (law awaits (begun role end.phase (heard + count) (unfinished_of heard pending ++ piece) awaits within is)))
     (record { answer = quiet; taken = all; left = record { end = same_end end end refl; unfinished = is ∙ sym (heard_is (heard + count) pending none); output = refl } })
 
 -- An octet differs.
@@ -93,14 +92,14 @@ differs_so role config end heard count pending piece output law awaits none hear
     λ e. differs (e ∙ (ap (λ (xs : List ℕ). slice_index xs (length (unfinished_of heard pending) + count)) (opening_is role end.phase awaits) ∙ ap (λ n. slice_index PROTOCOL_HEADER (n + count)) many)) in
     law awaits within (begun role end.phase (heard + count) (unfinished_of heard pending ++ take count piece) awaits room is) there
 
-pub other_fed : (role : Role) (config : Config role) (news : Option News) (end new : End) (heard count : ℕ) (pending piece : List ℕ) (output put : Output) →
+pub other_fed : (role : Role) (config : Config role) (end new : End) (heard count : ℕ) (pending piece : List ℕ) (output put : Output) →
     let old : model.Endpoint = record { end = end; unfinished = unfinished_of heard pending; output = output } in
     FeedLeavesOpening role config old piece count → awaits_opening role end.phase ≡ true → pending ≡ [] → heard < 8 → count < length piece → heard + count < 8 → take heard PROTOCOL_HEADER ++ take count piece ≡ take (heard + count) PROTOCOL_HEADER
     → slice_index piece count ≢ slice_index PROTOCOL_HEADER (heard + count) → new ≡ as_failed end → put ≡ output_of PROTOCOL_HEADER
-    → IsHeard (Err core.Fatal) news old (after_feed role config old piece) (record { end = new; unfinished = unfinished_of 0 pending; output = put })
-other_fed role config news end new heard count pending piece output put law awaits none heard_within within room same differs ends puts =
+    → IsFed (Err core.Fatal) old (after_feed role config old piece) (record { end = new; unfinished = unfinished_of 0 pending; output = put })
+other_fed role config end new heard count pending piece output put law awaits none heard_within within room same differs ends puts =
     let old : model.Endpoint = record { end = end; unfinished = unfinished_of heard pending; output = output } in
-    subst (λ (f : Feeding). IsHeard (Err core.Fatal) news old f (record { end = new; unfinished = unfinished_of 0 pending; output = put })) (sym (differs_so role config end heard count pending piece output law awaits none heard_within within room same differs))
+    subst (λ (f : Feeding). IsFed (Err core.Fatal) old f (record { end = new; unfinished = unfinished_of 0 pending; output = put })) (sym (differs_so role config end heard count pending piece output law awaits none heard_within within room same differs))
     (record { answer = inr refl; taken = tt; left = record { end = same_end _ new (sym ends); unfinished = sym none; output = sym puts } })
 
 -- so many octets were taken then
@@ -112,8 +111,8 @@ other_taken role config end heard count pending piece output law awaits none hea
     ap (λ (f : Feeding). f.taken) (differs_so role config end heard count pending piece output law awaits none heard_within within room same differs) ∙ omega arith
 
 -- What is unfinished then.
-pub piece_holds : (role : Role) (config : Config role) (old new : model.Endpoint) (piece : List ℕ) (news : Option News) (result : Result ℕ CoreFault) → FeedHolds role config old piece → HoldsUnfinished role old → ((i : ℕ) → get_or piece i 0 < 256) → IsHeard result news old (after_feed role config old piece) new → HoldsUnfinished role new
-piece_holds role config old new piece news result law holds octets fed =
+pub piece_holds : (role : Role) (config : Config role) (old new : model.Endpoint) (piece : List ℕ) (result : Result Seen CoreFault) → FeedHolds role config old piece → HoldsUnfinished role old → ((i : ℕ) → get_or piece i 0 < 256) → IsFed result old (after_feed role config old piece) new → HoldsUnfinished role new
+piece_holds role config old new piece result law holds octets fed =
     holds_left role (ran_out result) old (after_feed role config old piece).endpoint new fed.left (law holds (are_octets piece octets))
 
 -- the fields, where more of the header is awaited

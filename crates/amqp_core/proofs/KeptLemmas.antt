@@ -10,7 +10,7 @@ use Rattle.amqp_model.specs.Negotiation.{frame_limit}
 use Rattle.amqp_model.specs.Notes.{Role, Client, Server}
 use Rattle.amqp_model.specs.Outputs.{Output}
 use Rattle.amqp_model.specs.Pieces.{AreBegun, HoldsUnfinished, reads_frames}
-use Rattle.amqp_core.specs.CoreView.{core_end}
+use Rattle.amqp_core.specs.ConnectionView.{connection_end}
 use Rattle.amqp_core.specs.EndpointView.{FieldsFit, IsSound, role_at, unfinished_of}
 use Rattle.amqp_core.specs.Kept.{IsKept}
 use Rattle.amqp_core.specs.declared.endpoint.Endpoint.{Endpoint}
@@ -32,7 +32,7 @@ kept_sound end kept = record {
   writes = kept.writes;
   staged = none_there end.outbox.staged kept.staged;
   fields = kept.fields;
-  holds = holds_of (role_at end) (core_end end.core) end.heard end.splitter end.outbox.output kept.fields kept.begun;
+  holds = holds_of (role_at end) (connection_end end.connection) end.heard end.splitter end.outbox.output kept.fields kept.begun;
   bounded = kept.bounded;
 }
 
@@ -41,7 +41,7 @@ sound_kept end sound = record {
   writes = sound.writes;
   staged = ap (λ xs. length xs) sound.staged;
   fields = sound.fields;
-  begun = λ r. subst (λ (xs : List ℕ). AreBegun (frame_limit (core_end end.core).agreed) xs) (unfinished_is end.heard end.splitter.pending (sound.fields.opened (reads (role_at end) (core_end end.core).phase r).opened)) (sound.holds.of_frame r);
+  begun = λ r. subst (λ (xs : List ℕ). AreBegun (frame_limit (connection_end end.connection).agreed) xs) (unfinished_is end.heard end.splitter.pending (sound.fields.opened (reads (role_at end) (connection_end end.connection).phase r).opened)) (sound.holds.of_frame r);
   bounded = sound.bounded;
 }
 

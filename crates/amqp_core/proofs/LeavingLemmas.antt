@@ -9,9 +9,9 @@ use Rattle.amqp_model.specs.Methods.{Method, same_kind}
 use Rattle.amqp_model.specs.Negotiation.{Config}
 use Rattle.amqp_model.specs.Notes.{Role, Client, Server}
 use Rattle.amqp_model.specs.Readings.{Calls}
-use Rattle.amqp_core.specs.CoreView.{EndLeft}
+use Rattle.amqp_core.specs.ConnectionView.{EndLeft}
 use Rattle.amqp_core.specs.Stages.{leaves}
-use Rattle.amqp_core.proofs.CoreLemmas.{leaving_verdict}
+use Rattle.amqp_core.proofs.ConnectionLemmas.{leaving_verdict}
 use Rattle.amqp_core.proofs.KindLemmas.{same_is}
 
 and_false : (b : Bool) → (b && false) ≡ false

@@ -1,9 +1,10 @@
 pub mod EntryLemmas
-pub mod CoreLemmas
-pub mod MethodRead
+pub mod ConnectionLemmas
 pub mod KindLemmas
 pub mod LeavingLemmas
 pub mod HandshakeLemmas
+pub mod VerdictLemmas
+pub mod ReceiveLemmas
 pub mod OutcomeLemmas
 pub mod NewLemmas
 pub mod EndLemmas
@@ -12,13 +13,13 @@ pub mod StopLemmas
 pub mod OpeningLemmas
 pub mod OpenedLemmas
 pub mod FeedLemmas
-pub mod TakenLemmas
 pub mod HearLemmas
 pub mod BoundLemmas
 pub mod KeptLemmas
 pub mod FollowLemmas
 pub mod DropLemmas
 pub mod AskedLemmas
+pub mod AnswerLemmas
 pub mod EndpointNew
 pub mod SettingsLemmas
 pub mod GreetingLemmas

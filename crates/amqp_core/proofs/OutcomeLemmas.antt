@@ -12,7 +12,7 @@ use Rattle.amqp_model.specs.Machine.{end_after, end_after_owed, end_after_taken,
 use Rattle.amqp_model.specs.Negotiation.{Config}
 use Rattle.amqp_model.specs.Notes.{Role, Client, Server}
 use Rattle.amqp_model.specs.Readings.{Reading}
-use Rattle.amqp_core.specs.CoreView.{EndLeft, frame_at}
+use Rattle.amqp_core.specs.ConnectionView.{EndLeft, frame_at}
 use Rattle.amqp_core.specs.Outcomes.{owed_for, owed_by, told_by, ended_by, SameEnd}
 use Rattle.amqp_core.specs.Stages.{leaves}
 

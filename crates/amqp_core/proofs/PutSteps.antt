@@ -11,7 +11,7 @@ use Rattle.amqp_model.specs.Negotiation.{Config}
 use Rattle.amqp_model.specs.Readings.{Reading, Calls, UnknownMethod, MalformedMethod, HeaderOf, MalformedHeader, BodyOf, Beat, payload_of, reading as reading_of}
 use Rattle.amqp_channel.specs.Puts.{reading_as, after_payloads}
 use Rattle.amqp_channel.specs.Roles.{role_of}
-use Rattle.amqp_channel.specs.declared.verdict.Site.{Site}
+use Rattle.amqp_channel.specs.declared.site.Site.{Site}
 use Rattle.amqp_core.proofs.EndLemmas.{entry_above, set_here, set_twice}
 use Rattle.amqp_core.specs.Laws.{running_end, IsWritten, AreWritten, SayPayloads, PutsAsEnd}
 

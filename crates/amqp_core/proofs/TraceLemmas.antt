@@ -133,7 +133,6 @@ said-owed settings (code.Close reason) history law back = refl
 said-owed settings code.CloseOk history law back = refl
 said-owed settings (code.OnChannel number replies.OpenOk) history law back = law number _ history back.0
 said-owed settings (code.OnChannel number replies.CloseOk) history law back = law number _ history back.0
-said-owed settings (code.OnChannel number replies.FlowOkActive) history law back = law number _ history back.0
-said-owed settings (code.OnChannel number replies.FlowOkInactive) history law back = law number _ history back.0
+said-owed settings (code.OnChannel number (replies.FlowOk active)) history law back = law number _ history back.0
 said-owed settings (code.ChannelClose number reason) history law back =
     law number _ history back.0 ∙ nothing_more (role_for settings) history _ (none_above number (life_on (role_for settings) number history))

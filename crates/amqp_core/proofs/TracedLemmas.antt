@@ -25,7 +25,7 @@ use Rattle.amqp_core.specs.AccountView.{IsAccount}
 use Rattle.amqp_core.specs.Asking.{RefusesAsk}
 use Rattle.amqp_core.specs.Answering.{Reports, is_out_of_memory, ran_out}
 use Rattle.amqp_core.specs.Following.{GoesOn}
-use Rattle.amqp_core.specs.Feeding.{IsFed, SameEndpoint, ran_out_of}
+use Rattle.amqp_core.specs.Feeding.{IsFed, SameButChannels, SameEndpoint, ran_out_of, Seen}
 use Rattle.amqp_core.specs.Outcomes.{SameEnd}
 use Rattle.amqp_core.specs.Overs.{IsOver}
 use Rattle.amqp_core.specs.OwedView.{owed_view}
@@ -33,7 +33,6 @@ use Rattle.amqp_core.specs.Settings.{config_view, role_for}
 use Rattle.amqp_core.specs.Tracing as tracing
 use Rattle.amqp_model.specs.Grown as grown
 use Rattle.amqp_core.specs.Tracing.{FedGrows, Kept, IsTraceOf, Stands, SameLists, TraceGoesOn, TraceGrows}
-use Rattle.amqp_core.specs.declared.taken.Taken.{Taken}
 use Rattle.amqp_core.specs.declared.faults.AskFault.{AskFault}
 use Rattle.amqp_core.specs.declared.faults.CoreFault.{CoreFault}
 use Rattle.amqp_core.specs.declared.faults.CoreFault.TheVariants as core
@@ -83,6 +82,14 @@ traced-out role config old new history law runs octets same lists traced = recor
   told = sym lists.told ∙ traced.told;
   said = sym lists.said ∙ traced.said;
   stands = stands-out role config old new history law runs octets same (sym lists.fed) (sym lists.written) traced.stands;
+}
+
+-- where there is none to keep a message that was told, all else is as it was
+pub out-kept : (old mid new : Endpoint) → SameButChannels old mid → SameEndpoint (ran_out_of mid) new → SameEndpoint (ran_out_of old) new
+out-kept old mid new same out = record {
+  end = record { phase = out.end.phase; agreed = same.agreed ∙ out.end.agreed; no_channel = same.no_channel ∙ out.end.no_channel; channels = λ running. absurd (running refl) };
+  unfinished = out.unfinished;
+  output = same.output ∙ out.output;
 }
 
 -- the same, of what a feed answers
@@ -227,7 +234,7 @@ refused-after (Err fault) old ready new first second = same-then old ready new f
 -- A feed of an end that is closed or has failed.
 
 -- what comes of it: a fault, and nothing else
-pub record OverFeed (role : Role) (config : Config role) (kept : Kept) (piece : List ℕ) (fed : Feeding) (answer : Result Taken CoreFault) : Type 0 where
+pub record OverFeed (role : Role) (config : Config role) (kept : Kept) (piece : List ℕ) (fed : Feeding) (answer : Result Seen CoreFault) : Type 0 where
   pub is_fed : IsFed answer kept.endpoint fed kept.endpoint
   pub octets : FedGrows (ran_out answer) piece fed kept kept
   pub history : (history : History) → IsTraceOf role config kept history → ∥ TraceGoesOn role config (ran_out answer) kept.endpoint piece fed history kept ∥₁

@@ -1,5 +1,5 @@
 -- What came of a piece beside the answer to it, in the words of the model.
-use Rattle.std.specs.Prelude.{◌≡◌, true, ℕ, List, [], Option, Some, None}
+use Rattle.std.specs.Prelude.{◌≡◌, true, ℕ, List, [], Option, Some, None, Result}
 use Rattle.amqp_frame.specs.declared.faults.FrameFaultKind.{FrameFaultKind}
 use Rattle.amqp_model.specs.Channels.{End}
 use Rattle.amqp_model.specs.Closes.{Owed}
@@ -13,13 +13,14 @@ use Rattle.amqp_model.specs.Negotiation.{Config}
 use Rattle.amqp_model.specs.Notes.{Role}
 use Rattle.amqp_model.specs.OctetLaws.{CompletesFrame, ShowsFault}
 use Rattle.amqp_model.specs.Traces.{Noted, IsTaken, noted, item_in_event}
-use Rattle.amqp_channel.specs.declared.news.News.{News}
-use Rattle.amqp_core.specs.CoreView.{told_view}
-use Rattle.amqp_core.specs.NoteView.{item_kept, note_view}
+use Rattle.amqp_model.specs.Events as events
+use Rattle.amqp_channel.specs.PartsView.{parts_there}
+use Rattle.amqp_core.specs.Feeding.{Seen, taken_with}
+use Rattle.amqp_core.specs.NoteView.{note_view}
 use Rattle.amqp_core.specs.OwedView.{owed_view}
 use Rattle.amqp_core.specs.declared.account.Account.{Account}
+use Rattle.amqp_core.specs.declared.faults.CoreFault.{CoreFault}
 use Rattle.amqp_core.specs.declared.notes.Note.{Note}
-use Rattle.amqp_core.specs.declared.one_end.Fault as faults
 use Rattle.amqp_core.specs.declared.owed.Owed.TheVariants as owed
 use Rattle.amqp_core.specs.declared.settings.Settings.{Settings}
 
@@ -31,7 +32,7 @@ note_there (Some note) = Some (note_view note)
 pub record IsFresh (account : Account) : Type 0 where
   pub octets : account.octets ≡ 0
   pub took : account.took ≡ None
-  pub item : account.item ≡ None
+  pub parts : account.parts ≡ None
   pub owed : account.owed ≡ owed.Nothing
 
 -- the item of what came
@@ -39,18 +40,16 @@ abbrev pub item_in_outcome : Outcome → Option Item
 item_in_outcome (Finished event) = item_in_event event
 item_in_outcome outcome = None
 
--- the account has the item that is told
-abbrev pub TellsItem : Option News → Option faults.Fault → Account → Type 0
-TellsItem news fault account = item_kept account.item ≡ item_in_outcome (told_view news fault)
-
 -- What a piece came to: the frame that was taken, as it is noted, the item that it told, and the methods that were put.
 pub record Came : Type 0 where
   pub took : Option Noted
   pub item : Option Item
   pub owed : List Owed
 
-abbrev pub came_by : Settings → Account → Came
-came_by settings account = record { took = note_there account.took; item = item_kept account.item; owed = owed_view settings account.owed }
+-- what an account says, of a piece that told this event
+abbrev pub came_by : Settings → Account → Option events.Event → Came
+came_by settings account event =
+    record { took = note_there account.took; item = item_in_event event; owed = owed_view settings account.owed }
 
 -- no frame, and these methods put
 abbrev pub puts_alone : List Owed → Came
@@ -72,3 +71,7 @@ pub record IsAccount (role : Role) (config : Config role) (old : Endpoint) (piec
   pub takes : (frame : Frame) → takes_frames old.end.phase ≡ true → CompletesFrame old piece fed frame → came ≡ came_of_frame config old.end frame
   pub tells : (kind : FrameFaultKind) → takes_frames old.end.phase ≡ true → ShowsFault old piece fed kind → came ≡ puts_alone (owed_at_fault config old.end kind)
   pub differs : awaits_opening role old.end.phase ≡ true → fed.outcome ≡ Found WrongProtocolHeader → came ≡ puts_alone []
+
+-- what is answered to a piece that came to this
+abbrev pub taken_by : {A : Type 0} → Result A CoreFault → Account → Result Seen CoreFault
+taken_by answer account = taken_with answer account.octets (parts_there account.parts)

@@ -10,18 +10,14 @@ use Rattle.amqp_model.specs.Notes.{Role}
 use Rattle.amqp_model.specs.Outputs.{Output}
 use Rattle.amqp_outbox.specs.OutboxView.{Outgoing, only}
 use Rattle.amqp_channel.specs.Closes.{code_view}
-use Rattle.amqp_channel.specs.EventView.{event_there}
-use Rattle.amqp_channel.specs.NewsView.{news_there}
-use Rattle.amqp_channel.specs.declared.events.Event.{Event}
-use Rattle.amqp_channel.specs.declared.news.News.{News}
 use Rattle.amqp_core.specs.Outcomes.{SameEnd}
 use Rattle.amqp_core.specs.declared.faults.CoreFault.{CoreFault}
 use Rattle.amqp_core.specs.declared.faults.CoreFault.TheVariants as core
 
 -- an event or none comes of something that is whole, and none of octets that are not whole yet
-abbrev pub Tells : Option Event → Outcome → Type 0
+abbrev pub Tells : Option events.Event → Outcome → Type 0
 Tells event Unfinished = event ≡ None
-Tells event (Finished told) = told ≡ event_there event
+Tells event (Finished told) = told ≡ event
 Tells event (Found fault) = ⊥
 
 -- A fault is the one that is found; another protocol header is one to which there is no answer. Out of memory is no
@@ -33,15 +29,15 @@ Reports core.OutOfMemory outcome = Unit {0}
 Reports core.Failed outcome = outcome ≡ Found events.AlreadyFailed
 Reports core.Closed outcome = outcome ≡ Found events.AlreadyClosed
 
--- what comes of a frame, before its event is made
-abbrev pub Brings : Option News → Outcome → Type 0
-Brings news Unfinished = ⊥
-Brings news (Finished told) = told ≡ news_there news
-Brings news (Found fault) = ⊥
+-- what is answered to a frame
+abbrev pub AnswersFrame : Result (Option events.Event) CoreFault → Outcome → Type 0
+AnswersFrame (Ok event) outcome = Tells event outcome
+AnswersFrame (Err fault) outcome = Reports fault outcome
 
-abbrev pub Answers : {A : Type 0} → Option News → Result A CoreFault → Outcome → Type 0
-Answers news (Ok value) outcome = Brings news outcome
-Answers news (Err fault) outcome = Reports fault outcome
+-- the answer to a frame that tells this event
+abbrev pub answer_with : {A : Type 0} → Result A CoreFault → Option events.Event → Result (Option events.Event) CoreFault
+answer_with (Ok done) event = Ok event
+answer_with (Err fault) event = Err fault
 
 -- memory was refused
 abbrev pub is_out_of_memory : CoreFault → Bool

@@ -9,6 +9,7 @@ use Rattle.amqp_model.specs.Frame.{Frame}
 use Rattle.amqp_model.specs.Negotiation.{frame_limit}
 use Rattle.amqp_model.specs.Notes.{Role}
 use Rattle.amqp_model.specs.Pieces.{reads_frames}
+use Rattle.amqp_model.specs.Readings.{Reading, HeaderOf, MalformedHeader, BodyOf, Beat}
 use Rattle.amqp_channel.specs.Used.{is_closing_at}
 use Rattle.amqp_core.specs.Stages.{leaves}
 
@@ -18,6 +19,14 @@ IsDropped phase channel number Method payload = ⊥
 IsDropped phase channel number Header payload = (leaves phase ≡ true) ⊎ (is_closing_at channel ≡ true)
 IsDropped phase channel number Body payload = (leaves phase ≡ true) ⊎ (is_closing_at channel ≡ true)
 IsDropped phase channel number Heartbeat payload = (leaves phase ≡ true) ⊎ ((number ≡ 0) × (payload ≡ []))
+
+-- the same of what the frame says
+abbrev pub DropsReading : model.Phase → model.Channel → (number : ℕ) → Reading → Type 0
+DropsReading phase channel number (HeaderOf size properties) = (leaves phase ≡ true) ⊎ (is_closing_at channel ≡ true)
+DropsReading phase channel number MalformedHeader = (leaves phase ≡ true) ⊎ (is_closing_at channel ≡ true)
+DropsReading phase channel number (BodyOf octets) = (leaves phase ≡ true) ⊎ (is_closing_at channel ≡ true)
+DropsReading phase channel number (Beat empty) = (leaves phase ≡ true) ⊎ ((number ≡ 0) × (empty ≡ true))
+DropsReading phase channel number reading = ⊥
 
 -- nothing is unfinished, and a whole frame that is dropped stands at the start of the piece
 pub record DropsInPlace (role : Role) (endpoint : Endpoint) (piece : List ℕ) : Type 0 where

@@ -10,7 +10,7 @@ use Rattle.amqp_core.specs.declared.settings.Settings.{Settings}
 
 -- what it is set up with
 abbrev pub settings_at : {R H : Type 0} {G : Ghosts R H} → End R H G → Settings
-settings_at end = end.inner.core.settings
+settings_at end = end.inner.connection.settings
 
 abbrev pub role_played : {R H : Type 0} {G : Ghosts R H} → End R H G → Role
 role_played end = role_for (settings_at end)

@@ -10,7 +10,7 @@ use Rattle.amqp_model.specs.Notes.{Role}
 use Rattle.amqp_model.specs.Pieces.{HoldsUnfinished}
 use Rattle.amqp_frame.specs.Stream.{Stream}
 use Rattle.amqp_core.specs.Bounded.{IsBounded}
-use Rattle.amqp_core.specs.CoreView.{core_end}
+use Rattle.amqp_core.specs.ConnectionView.{connection_end}
 use Rattle.amqp_core.specs.Settings.{config_view, role_for}
 use Rattle.amqp_core.specs.declared.endpoint.Endpoint.{Endpoint}
 
@@ -19,11 +19,11 @@ abbrev pub unfinished_of : (heard : ℕ) (pending : List ℕ) → List ℕ
 unfinished_of heard pending = take heard PROTOCOL_HEADER ++ pending
 
 abbrev pub endpoint_view : Endpoint → endpoint.Endpoint
-endpoint_view end = record { end = core_end end.core; unfinished = unfinished_of end.heard end.splitter.pending; output = end.outbox.output }
+endpoint_view end = record { end = connection_end end.connection; unfinished = unfinished_of end.heard end.splitter.pending; output = end.outbox.output }
 
 -- the role that an end plays
 abbrev pub role_at : Endpoint → Role
-role_at end = role_for end.core.settings
+role_at end = role_for end.connection.settings
 
 -- a splitter between two frames or within one, for an end that reads the frames
 pub record IsReady (limit : ℕ) (stream : Stream) : Type 0 where
@@ -49,8 +49,8 @@ pub record FieldsFit (role : Role) (end : model.End) (heard : ℕ) (stream : Str
 
 -- what holds of an end between two calls
 pub record IsSound (end : Endpoint) : Type 0 where
-  pub writes : ∥ ConfigWrites (config_view end.core.settings) ∥₁
+  pub writes : ∥ ConfigWrites (config_view end.connection.settings) ∥₁
   pub staged : end.outbox.staged ≡ []
-  pub fields : FieldsFit (role_at end) (core_end end.core) end.heard end.splitter
+  pub fields : FieldsFit (role_at end) (connection_end end.connection) end.heard end.splitter
   pub holds : HoldsUnfinished (role_at end) (endpoint_view end)
-  pub bounded : IsBounded (role_at end) (config_view end.core.settings) (core_end end.core)
+  pub bounded : IsBounded (role_at end) (config_view end.connection.settings) (connection_end end.connection)

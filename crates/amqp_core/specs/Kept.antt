@@ -6,18 +6,18 @@ use Rattle.amqp_model.specs.Fitting.{ConfigWrites, IfAgreedFits, SettledFits}
 use Rattle.amqp_model.specs.Negotiation.{frame_limit}
 use Rattle.amqp_model.specs.Pieces.{AreBegun, reads_frames}
 use Rattle.amqp_core.specs.Bounded.{IsBounded}
-use Rattle.amqp_core.specs.CoreView.{core_end}
+use Rattle.amqp_core.specs.ConnectionView.{connection_end}
 use Rattle.amqp_core.specs.EndpointView.{FieldsFit, role_at}
 use Rattle.amqp_core.specs.Settings.{config_view}
 use Rattle.amqp_core.specs.declared.endpoint.Endpoint.{Endpoint}
 
 pub record IsKept (end : Endpoint) : Type 0 where
-  pub writes : ∥ ConfigWrites (config_view end.core.settings) ∥₁
+  pub writes : ∥ ConfigWrites (config_view end.connection.settings) ∥₁
   pub staged : length end.outbox.staged ≡ 0
-  pub fields : FieldsFit (role_at end) (core_end end.core) end.heard end.splitter
+  pub fields : FieldsFit (role_at end) (connection_end end.connection) end.heard end.splitter
   -- the pending octets are those of one frame that is begun
-  pub begun : reads_frames (role_at end) (core_end end.core).phase ≡ true → AreBegun (frame_limit (core_end end.core).agreed) end.splitter.pending
-  pub bounded : IsBounded (role_at end) (config_view end.core.settings) (core_end end.core)
+  pub begun : reads_frames (role_at end) (connection_end end.connection).phase ≡ true → AreBegun (frame_limit (connection_end end.connection).agreed) end.splitter.pending
+  pub bounded : IsBounded (role_at end) (config_view end.connection.settings) (connection_end end.connection)
 
 -- what was agreed fits its limits in one way only
 

@@ -1,5 +1,5 @@
 -- What is decided and left on one channel is what the whole end decides and keeps: the statement.
-use Rattle.std.specs.Prelude.{◌≡◌, ◌<◌, true, ℕ, List, [], ◌∷◌, map, Option, Some}
+use Rattle.std.specs.Prelude.{◌≡◌, ◌<◌, true, ℕ, List, [], ◌∷◌, map, Some}
 use Rattle.amqp_frame.specs.declared.frames.FrameKind.{FrameKind}
 use Rattle.amqp_model.specs.Asks.{payload_frame}
 use Rattle.amqp_model.specs.Channels.{Channel, Running, End}
@@ -11,9 +11,8 @@ use Rattle.amqp_model.specs.Negotiation.{Config}
 use Rattle.amqp_model.specs.Readings.{Reading, payload_of, reading}
 use Rattle.amqp_channel.specs.Puts.{after_payloads}
 use Rattle.amqp_channel.specs.Roles.{role_of}
-use Rattle.amqp_channel.specs.VerdictView.{verdict_view, Decides, LeavesAfter}
-use Rattle.amqp_channel.specs.declared.news.News.{News}
-use Rattle.amqp_channel.specs.declared.verdict.Site.{Site}
+use Rattle.amqp_channel.specs.VerdictView.{left_by, verdict_view, whole_now, Rules}
+use Rattle.amqp_channel.specs.declared.site.Site.{Site}
 use Rattle.amqp_channel.specs.declared.verdict.Verdict.{Verdict}
 
 -- an end whose connection is Running
@@ -25,17 +24,20 @@ frame_here site kind payload = record { kind = kind; channel = site.number; payl
 
 -- the verdict is the end's, and the end keeps the channel that is left, and all else as it was
 pub record IsStepOfEnd (site : Site) (config : Config (role_of site.side)) (frame_max : ℕ) (channels : ℕ → Channel) (frame : Frame)
-    (reading : Reading) (news : Option News) (verdict : Verdict) (after : Channel) : Type 0 where
-  pub verdict_is : taken_verdict config (running_end site frame_max channels) site.number reading ≡ verdict_view site.number news verdict
-  pub end_is : end_after_taken (role_of site.side) config (running_end site frame_max channels) reading frame ≡ running_end site frame_max (set_channel site.number after channels)
+    (reading : Reading) (said : Verdict) : Type 0 where
+  pub verdict_is :
+      taken_verdict config (running_end site frame_max channels) site.number reading
+      ≡ verdict_view site.number reading (whole_now (channels site.number) reading) said
+  pub end_is :
+      end_after_taken (role_of site.side) config (running_end site frame_max channels) reading frame
+      ≡ running_end site frame_max (set_channel site.number (left_by (role_of site.side) reading said (channels site.number)) channels)
 
 abbrev pub StepsAsEnd : (site : Site) → Config (role_of site.side) → (frame_max : ℕ) → (ℕ → Channel)
-    → FrameKind → List ℕ → Reading → Option News → Verdict → Channel → Type 0
-StepsAsEnd site config frame_max channels kind payload reading news verdict after =
-    0 < site.number → config.max_body ≡ site.max_body → Decides site (channels site.number) reading (verdict_view site.number news verdict)
-    → LeavesAfter (role_of site.side) site.number (frame_here site kind payload) reading (verdict_view site.number news verdict) (channels site.number) after
-    → goes_on (verdict_view site.number news verdict) ≡ true
-    → IsStepOfEnd site config frame_max channels (frame_here site kind payload) reading news verdict after
+    → FrameKind → List ℕ → Reading → Verdict → Type 0
+StepsAsEnd site config frame_max channels kind payload reading said =
+    0 < site.number → config.max_body ≡ site.max_body → Rules site (channels site.number) reading said
+    → goes_on (verdict_view site.number reading (whole_now (channels site.number) reading) said) ≡ true
+    → IsStepOfEnd site config frame_max channels (frame_here site kind payload) reading said
 
 -- an end writes such a payload
 abbrev pub IsWritten : Payload → Type 0

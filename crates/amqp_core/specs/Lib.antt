@@ -12,8 +12,10 @@ pub mod Faults
 pub mod Stages
 pub mod OwedView
 pub mod HandshakeMethods
-pub mod CoreView
+pub mod ConnectionView
 pub mod Handshakes
+pub mod FreeBefore
+pub mod VerdictView
 pub mod Outcomes
 pub mod Laws
 pub mod Answering
@@ -21,7 +23,6 @@ pub mod Bounded
 pub mod EndpointView
 pub mod Kept
 pub mod Feeding
-pub mod Hearing
 pub mod Following
 pub mod EndView
 pub mod Counted
@@ -36,7 +37,8 @@ pub mod Asked
 pub mod Refusals
 pub mod Asking
 pub mod Dropping
-pub mod Owing
+pub mod Feeds
+pub mod EndAsks
 pub mod NoteView
 pub mod AccountView
 pub mod Growth

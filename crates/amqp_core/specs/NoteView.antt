@@ -1,6 +1,5 @@
 -- Notes and items of the code, in the words of the model.
-use Rattle.std.specs.Global.{Global}
-use Rattle.std.specs.Prelude.{Box, cond, ◌==◌, ℕ, Option, Some, None}
+use Rattle.std.specs.Prelude.{cond, ◌==◌, ℕ, Option, Some, None}
 use Rattle.amqp_method.specs.MessageView.{message_view}
 use Rattle.amqp_model.specs.Items as items
 use Rattle.amqp_model.specs.Sent as sent
@@ -44,11 +43,6 @@ item_view (code.FlowOk active) = items.FlowOkItem active
 abbrev pub item_there : Option Item → Option items.Item
 item_there None = None
 item_there (Some item) = Some (item_view item)
-
--- the same of an item in a box
-abbrev pub item_kept : Option (Box Item Global) → Option items.Item
-item_kept None = None
-item_kept (Some item) = Some (item_view item.value)
 
 abbrev pub telling_view : Telling → sent.Telling
 telling_view telling = record { channel = telling.channel; life = telling.life; item = item_view telling.item }

@@ -1,5 +1,5 @@
 -- What a piece adds to the lists of an end that is kept with its history.
-use Rattle.std.specs.Prelude.{ℕ, true, false, List, [], ◌∷◌, ◌++◌, Option, Some, None}
+use Rattle.std.specs.Prelude.{ℕ, List, [], ◌∷◌, ◌++◌, Option, Some, None}
 use Rattle.amqp_model.specs.Closes as closes
 use Rattle.amqp_model.specs.Items.{Item, FlowOkItem, item_of}
 use Rattle.amqp_model.specs.Methods.{sort_of}
@@ -20,8 +20,7 @@ noted_owed owed = noted_as IsPut owed.channel (word_of (kind_of (Calls owed.meth
 
 -- the item of a reply
 abbrev pub item_of_reply : Reply → Option Item
-item_of_reply reply.FlowOkActive = Some (FlowOkItem true)
-item_of_reply reply.FlowOkInactive = Some (FlowOkItem false)
+item_of_reply (reply.FlowOk active) = Some (FlowOkItem active)
 item_of_reply other = None
 
 -- what is said by what an end owes: a flow-ok says itself, in the life that its channel has then
@@ -44,8 +43,7 @@ by_role Server client server = server
 abbrev pub word_of_reply : Reply → Word
 word_of_reply reply.OpenOk = OpenOk
 word_of_reply reply.CloseOk = CloseOk
-word_of_reply reply.FlowOkActive = FlowOk
-word_of_reply reply.FlowOkInactive = FlowOk
+word_of_reply (reply.FlowOk active) = FlowOk
 
 -- the notes of what an end owes; each role alone has its part in the handshake
 abbrev pub notes_owed : Role → Owed → List Noted

@@ -43,3 +43,8 @@ owed_view settings (code.Close reason) = connection_close (code_view reason) ∷
 owed_view settings code.CloseOk = connection_close_ok ∷ []
 owed_view settings (code.OnChannel number reply) = map (on_channel number) (reply_to (Some (reply_kind reply)))
 owed_view settings (code.ChannelClose number reason) = channel_close number (code_view reason) ∷ []
+
+-- nothing is owed
+abbrev pub IsNothing : Owed → Type 0
+IsNothing code.Nothing = Unit {0}
+IsNothing other = ⊥

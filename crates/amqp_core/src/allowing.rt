@@ -8,8 +8,8 @@ ghost use Rattle.amqp_core.specs.AskView.{lent_view};
 ghost use Rattle.amqp_core.specs.Asked.{IsAllowed, IsRefusal};
 
 use crate::asks::LentAsk;
+use crate::connection::Connection;
 use crate::faults::AskFault;
-use crate::one_end::Core;
 use amqp_channel::{Agreed, Side};
 
 /// Where the frames of an ask go.
@@ -21,16 +21,16 @@ pub(crate) struct Place {
     pub(crate) frame_max: u32,
 }
 
-impl Core {
-    ghost use Rattle.amqp_core.specs.CoreView.{core_end};
+impl Connection {
+    ghost use Rattle.amqp_core.specs.ConnectionView.{connection_end};
     ghost use Rattle.amqp_core.specs.declared.stage.Stage.TheVariants.{Running};
 
     /// The channel that an open takes, where it isn't refused.
     fn find_free(&self, agreed: Agreed) -> Result<u16, AskFault>
         requires { self.now.stage ≡ Running agreed }
-        ensures allowed { OnOk result (IsAllowed self.now.settings (core_end self.now) asks.Open) }
-        ensures refused { IfErr result (λ fault. IsRefusal self.now.settings (core_end self.now) asks.Open fault) }
-        ensures lowest { IfOk result (λ number. lowest_free (core_end self.now) ≡ Some number) }
+        ensures allowed { OnOk result (IsAllowed self.now.settings (connection_end self.now) asks.Open) }
+        ensures refused { IfErr result (λ fault. IsRefusal self.now.settings (connection_end self.now) asks.Open fault) }
+        ensures lowest { IfOk result (λ number. lowest_free (connection_end self.now) ≡ Some number) }
     {
         match self.settings.hello.side() {
             Side::Server => Err(AskFault::NotSendable),
@@ -43,10 +43,10 @@ impl Core {
 
     /// Where the frames of an ask go, or why it is refused.
     pub(crate) fn allow(&self, ask: LentAsk<'_>) -> Result<Place, AskFault>
-        ensures allowed { OnOk result (IsAllowed self.now.settings (core_end self.now) (lent_view ask.entry)) }
-        ensures refused { IfErr result (λ fault. IsRefusal self.now.settings (core_end self.now) (lent_view ask.entry) fault) }
-        ensures channel { IfOk result (λ place. IsChannelOf (core_end self.now) (lent_view ask.entry) place.channel) }
-        ensures size { IfOk result (λ place. IsSizeOf (core_end self.now).agreed place.frame_max) }
+        ensures allowed { OnOk result (IsAllowed self.now.settings (connection_end self.now) (lent_view ask.entry)) }
+        ensures refused { IfErr result (λ fault. IsRefusal self.now.settings (connection_end self.now) (lent_view ask.entry) fault) }
+        ensures channel { IfOk result (λ place. IsChannelOf (connection_end self.now) (lent_view ask.entry) place.channel) }
+        ensures size { IfOk result (λ place. IsSizeOf (connection_end self.now).agreed place.frame_max) }
     {
         let agreed = self.running()?;
         let frame_max = agreed.frame_max;

@@ -11,8 +11,8 @@ ghost use Rattle.amqp_core.specs.AskView.{lent_view};
 ghost use Rattle.amqp_core.specs.Asked.{number_taken, IsAccepted, IsRefused};
 
 use crate::asks::LentAsk;
+use crate::connection::Connection;
 use crate::faults::AskFault;
-use crate::one_end::Core;
 use crate::replies::bare;
 use crate::sending;
 use crate::stage::Stage;
@@ -21,15 +21,15 @@ use amqp_method::{Kind, Message};
 use amqp_outbox::Outbox;
 use amqp_value::ShortStr;
 
-impl Core {
-    ghost use Rattle.amqp_core.specs.CoreView.{core_end};
+impl Connection {
+    ghost use Rattle.amqp_core.specs.ConnectionView.{connection_end};
 
     /// Opens the lowest channel that is free, which it answers.
     pub(crate) fn open_channel(&mut self, outbox: &mut Outbox) -> Result<u16, AskFault>
         requires staged { outbox.old.staged ≡ [] }
-        ensures accepted { OnOk result (IsAccepted self.old.settings asks.Open (core_end self.old) (core_end self.new) outbox.old outbox.new) }
-        ensures number { IfOk result (λ number. lowest_free (core_end self.old) ≡ Some number) }
-        ensures refused { IfErr result (λ fault. IsRefused self.old.settings asks.Open fault (core_end self.old) (core_end self.new) outbox.old outbox.new) }
+        ensures accepted { OnOk result (IsAccepted self.old.settings asks.Open (connection_end self.old) (connection_end self.new) outbox.old outbox.new) }
+        ensures number { IfOk result (λ number. lowest_free (connection_end self.old) ≡ Some number) }
+        ensures refused { IfErr result (λ fault. IsRefused self.old.settings asks.Open fault (connection_end self.old) (connection_end self.new) outbox.old outbox.new) }
         ensures settings { self.new.settings ≡ self.old.settings }
     {
         let number = self.allow_open()?;
@@ -51,8 +51,8 @@ impl Core {
         message: &Message,
     ) -> Result<(), AskFault>
         requires staged { outbox.old.staged ≡ [] }
-        ensures accepted { OnOk result (IsAccepted self.old.settings (asks.Send number (message_of (message_view message.now))) (core_end self.old) (core_end self.new) outbox.old outbox.new) }
-        ensures refused { IfErr result (λ fault. IsRefused self.old.settings (asks.Send number (message_of (message_view message.now))) fault (core_end self.old) (core_end self.new) outbox.old outbox.new) }
+        ensures accepted { OnOk result (IsAccepted self.old.settings (asks.Send number (message_of (message_view message.now))) (connection_end self.old) (connection_end self.new) outbox.old outbox.new) }
+        ensures refused { IfErr result (λ fault. IsRefused self.old.settings (asks.Send number (message_of (message_view message.now))) fault (connection_end self.old) (connection_end self.new) outbox.old outbox.new) }
         ensures settings { self.new.settings ≡ self.old.settings }
     {
         let agreed = self.allow_send(number, message)?;
@@ -77,8 +77,8 @@ impl Core {
         active: bool,
     ) -> Result<(), AskFault>
         requires staged { outbox.old.staged ≡ [] }
-        ensures accepted { OnOk result (IsAccepted self.old.settings (asks.Flow number active) (core_end self.old) (core_end self.new) outbox.old outbox.new) }
-        ensures refused { IfErr result (λ fault. IsRefused self.old.settings (asks.Flow number active) fault (core_end self.old) (core_end self.new) outbox.old outbox.new) }
+        ensures accepted { OnOk result (IsAccepted self.old.settings (asks.Flow number active) (connection_end self.old) (connection_end self.new) outbox.old outbox.new) }
+        ensures refused { IfErr result (λ fault. IsRefused self.old.settings (asks.Flow number active) fault (connection_end self.old) (connection_end self.new) outbox.old outbox.new) }
         ensures settings { self.new.settings ≡ self.old.settings }
     {
         let agreed = self.allow_flow(number)?;
@@ -99,8 +99,8 @@ impl Core {
         text: &ShortStr,
     ) -> Result<(), AskFault>
         requires staged { outbox.old.staged ≡ [] }
-        ensures accepted { OnOk result (IsAccepted self.old.settings (asks.CloseChannel number code text.now) (core_end self.old) (core_end self.new) outbox.old outbox.new) }
-        ensures refused { IfErr result (λ fault. IsRefused self.old.settings (asks.CloseChannel number code text.now) fault (core_end self.old) (core_end self.new) outbox.old outbox.new) }
+        ensures accepted { OnOk result (IsAccepted self.old.settings (asks.CloseChannel number code text.now) (connection_end self.old) (connection_end self.new) outbox.old outbox.new) }
+        ensures refused { IfErr result (λ fault. IsRefused self.old.settings (asks.CloseChannel number code text.now) fault (connection_end self.old) (connection_end self.new) outbox.old outbox.new) }
         ensures settings { self.new.settings ≡ self.old.settings }
     {
         let agreed = self.allow_close(number)?;
@@ -120,8 +120,8 @@ impl Core {
         text: &ShortStr,
     ) -> Result<(), AskFault>
         requires staged { outbox.old.staged ≡ [] }
-        ensures accepted { OnOk result (IsAccepted self.old.settings (asks.Close code text.now) (core_end self.old) (core_end self.new) outbox.old outbox.new) }
-        ensures refused { IfErr result (λ fault. IsRefused self.old.settings (asks.Close code text.now) fault (core_end self.old) (core_end self.new) outbox.old outbox.new) }
+        ensures accepted { OnOk result (IsAccepted self.old.settings (asks.Close code text.now) (connection_end self.old) (connection_end self.new) outbox.old outbox.new) }
+        ensures refused { IfErr result (λ fault. IsRefused self.old.settings (asks.Close code text.now) fault (connection_end self.old) (connection_end self.new) outbox.old outbox.new) }
         ensures settings { self.new.settings ≡ self.old.settings }
     {
         let agreed = self.running()?;
@@ -135,8 +135,8 @@ impl Core {
     /// Says that the server takes no more contents, and why.
     pub(crate) fn blocked(&mut self, outbox: &mut Outbox, reason: &ShortStr) -> Result<(), AskFault>
         requires staged { outbox.old.staged ≡ [] }
-        ensures accepted { OnOk result (IsAccepted self.old.settings (asks.Blocked reason.now) (core_end self.old) (core_end self.new) outbox.old outbox.new) }
-        ensures refused { IfErr result (λ fault. IsRefused self.old.settings (asks.Blocked reason.now) fault (core_end self.old) (core_end self.new) outbox.old outbox.new) }
+        ensures accepted { OnOk result (IsAccepted self.old.settings (asks.Blocked reason.now) (connection_end self.old) (connection_end self.new) outbox.old outbox.new) }
+        ensures refused { IfErr result (λ fault. IsRefused self.old.settings (asks.Blocked reason.now) fault (connection_end self.old) (connection_end self.new) outbox.old outbox.new) }
         ensures settings { self.new.settings ≡ self.old.settings }
     {
         let _agreed = self.allow_block()?;
@@ -149,8 +149,8 @@ impl Core {
     /// Says that the server takes contents again.
     pub(crate) fn unblocked(&mut self, outbox: &mut Outbox) -> Result<(), AskFault>
         requires staged { outbox.old.staged ≡ [] }
-        ensures accepted { OnOk result (IsAccepted self.old.settings asks.Unblocked (core_end self.old) (core_end self.new) outbox.old outbox.new) }
-        ensures refused { IfErr result (λ fault. IsRefused self.old.settings asks.Unblocked fault (core_end self.old) (core_end self.new) outbox.old outbox.new) }
+        ensures accepted { OnOk result (IsAccepted self.old.settings asks.Unblocked (connection_end self.old) (connection_end self.new) outbox.old outbox.new) }
+        ensures refused { IfErr result (λ fault. IsRefused self.old.settings asks.Unblocked fault (connection_end self.old) (connection_end self.new) outbox.old outbox.new) }
         ensures settings { self.new.settings ≡ self.old.settings }
     {
         let _agreed = self.allow_block()?;
@@ -167,9 +167,9 @@ impl Core {
         ask: LentAsk<'_>,
     ) -> Result<Option<u16>, AskFault>
         requires staged { outbox.old.staged ≡ [] }
-        ensures accepted { OnOk result (IsAccepted self.old.settings (lent_view ask.entry) (core_end self.old) (core_end self.new) outbox.old outbox.new) }
-        ensures number { IfOk result (λ number. number ≡ number_taken (core_end self.old) (lent_view ask.entry)) }
-        ensures refused { IfErr result (λ fault. IsRefused self.old.settings (lent_view ask.entry) fault (core_end self.old) (core_end self.new) outbox.old outbox.new) }
+        ensures accepted { OnOk result (IsAccepted self.old.settings (lent_view ask.entry) (connection_end self.old) (connection_end self.new) outbox.old outbox.new) }
+        ensures number { IfOk result (λ number. number ≡ number_taken (connection_end self.old) (lent_view ask.entry)) }
+        ensures refused { IfErr result (λ fault. IsRefused self.old.settings (lent_view ask.entry) fault (connection_end self.old) (connection_end self.new) outbox.old outbox.new) }
         ensures settings { self.new.settings ≡ self.old.settings }
     {
         match ask {

@@ -25,15 +25,15 @@ ghost use Rattle.amqp_core.specs.Configs.{settings_of};
 ghost use Rattle.amqp_core.specs.EndpointView.{role_at};
 ghost use Rattle.std.proofs.Props.{props};
 ghost use Rattle.amqp_channel.specs.EventView.{agreed_there};
+ghost use Rattle.amqp_channel.specs.PartsView.{parts_there};
 ghost use Rattle.amqp_channel.specs.Messages.{message_of};
 ghost use Rattle.amqp_channel.specs.Roles.{role_of};
 ghost use Rattle.amqp_channel.specs.StateView.{state_view};
 ghost use Rattle.amqp_core.specs.Kept.{IsKept, agreed_prop};
 ghost use Rattle.amqp_core.specs.Faults.{config_fault_view};
 ghost use Rattle.amqp_core.specs.Dropping.{DropsInPlace};
-ghost use Rattle.amqp_core.specs.Feeding.{IsFed};
+ghost use Rattle.amqp_core.specs.Feeding.{event_in, seen, IsFed, IsMessage, SameButChannels};
 ghost use Rattle.amqp_core.specs.Following.{GoesOn};
-ghost use Rattle.amqp_core.specs.Hearing.{IsHeard};
 ghost use Rattle.amqp_core.specs.Settings.{config_view, role_for};
 ghost use Rattle.amqp_core.specs.Stages.{phase_name};
 
@@ -45,8 +45,8 @@ use crate::endpoint::Endpoint;
 use crate::faults::{AskFault, ConfigFault, CoreFault};
 use crate::roles::Role;
 use crate::stage::Phase;
-use crate::taken::{Taken, told};
-use amqp_channel::{Agreed, ChannelState, News, Side};
+use crate::taken::Taken;
+use amqp_channel::{Agreed, ChannelState, Side};
 use amqp_method::{Kind, Message};
 use amqp_model::{answers, arrangement, bounds, fitting, octets, one_end, replies, traces};
 use amqp_value::ShortStr;
@@ -80,9 +80,11 @@ pub struct End<R: Role> {
 }
 
 impl<R: Role> End<R> {
-    ghost use Rattle.amqp_core.specs.AccountView.{IsAccount, came_by};
+    ghost use Rattle.amqp_core.specs.AccountView.{IsAccount, came_by, taken_by};
     ghost use Rattle.amqp_core.specs.Beginning.{BeginsHistory};
+    ghost use Rattle.amqp_core.specs.EndAsks.{AnswersLowest, AnswersNumber, Asked};
     ghost use Rattle.amqp_core.specs.EndView.{config_at, endpoint_of, role_played, settings_at};
+    ghost use Rattle.amqp_core.specs.Feeds.{Feeds};
     ghost use Rattle.amqp_core.specs.FeedFaults.{FeedFaults};
     ghost use Rattle.amqp_core.specs.Feeding.{SameEndpoint, ran_out_of};
     ghost use Rattle.amqp_core.specs.Growth.{GrowsLittle};
@@ -115,56 +117,40 @@ impl<R: Role> End<R> {
     /// Takes octets of a piece: up to the end of the next frame, or of the protocol header at a server that awaits it. Where
     /// the piece ends before that, all of it is taken. A piece that has octets loses at least one, unless the end is closed or
     /// has failed.
+    ///
+    /// Replies wait in the output, which has no limit: do not feed while [`End::output`] is longer than a bound of your own.
     pub fn feed(&mut self, piece: &[u8]) -> Result<Taken, CoreFault>
-        ensures fed { IsFed result (endpoint_of self.old) (after_feed (role_played self.old) (config_at self.old) (endpoint_of self.old) piece.now) (endpoint_of self.new) }
+        ensures feeds { Feeds self.old piece.now result self.new }
         ensures within { IfOk result (λ taken. taken.octets ≤ length piece.now) }
         ensures progress { IfOk result (λ taken. piece.now ≢ [] → 0 < taken.octets) }
-        // A header, a body or a heartbeat that is dropped takes no memory, where it lies whole in the piece.
-        ensures in_place { DropsInPlace (role_played self.old) (endpoint_of self.old) piece.now → IsOk result }
-        // For every history that the end stands for: what comes of the piece, and the history that follows.
-        ensures history { (history : History) (fed written : List ℕ) → EndpointStandsFor (role_played self.old) (config_at self.old) (endpoint_of self.old) history fed written
-            → ∥ GoesOn (role_played self.old) (config_at self.old) (ran_out result) (endpoint_of self.old) history fed written piece.now (after_feed (role_played self.old) (config_at self.old) (endpoint_of self.old) piece.now) (endpoint_of self.new) ∥₁ }
-        // A closed or failed end says so, and takes no memory.
-        ensures memory { ran_out result ≡ true → takes_octets (endpoint_of self.old).end.phase ≡ true }
-        // After a fault the end has failed. One that is closed, or had failed before, takes nothing and stays as it is.
-        ensures faults { FeedFaults result (endpoint_of self.old) (endpoint_of self.new) }
-        // What the end does with a frame is what each of these histories gives.
-        ensures verdicts { VerdictsOfHistory self.old }
-        ensures settings { settings_at self.new ≡ settings_at self.old }
     {
         octets::cut_changes_nothing();
         one_end::record_reads();
-        let mut account = Account::new(false);
-        let mut news = None;
-        let answer = self.advance(piece, &mut account, &mut news);
-        told(answer, news)
+        let mut account = Account::new();
+        let answer = self.advance(piece, &mut account);
+        account.taken(answer)
     }
 
-    /// Takes octets as [`End::feed`] does, and answers how many, with an account of what came of them. What they tell goes where
-    /// the caller has room for it, and is no event yet.
-    pub(crate) fn advance(
-        &mut self,
-        piece: &[u8],
-        account: &mut Account,
-        news: &mut Option<News>,
-    ) -> Result<usize, CoreFault>
+    /// Takes octets as [`End::feed`] does, and accounts for what came of them.
+    pub(crate) fn advance(&mut self, piece: &[u8], account: &mut Account) -> Result<(), CoreFault>
         requires fresh { IsFresh account.old }
-        requires none { news.old ≡ None }
-        ensures fed { IsHeard result news.new (endpoint_of self.old) (after_feed (role_played self.old) (config_at self.old) (endpoint_of self.old) piece.now) (endpoint_of self.new) }
-        ensures within { IfOk result (λ octets. octets ≤ length piece.now) }
-        ensures progress { IfOk result (λ octets. piece.now ≢ [] → 0 < octets) }
-        ensures in_place { account.old.wanted ≡ false → DropsInPlace (role_played self.old) (endpoint_of self.old) piece.now → IsOk result }
+        ensures fed { IsFed (taken_by result account.new) (endpoint_of self.old) (after_feed (role_played self.old) (config_at self.old) (endpoint_of self.old) piece.now) (endpoint_of self.new) }
+        ensures within { IfOk (taken_by result account.new) (λ taken. taken.octets ≤ length piece.now) }
+        ensures progress { IfOk (taken_by result account.new) (λ taken. piece.now ≢ [] → 0 < taken.octets) }
+        ensures in_place { DropsInPlace (role_played self.old) (endpoint_of self.old) piece.now → IsOk result }
         ensures history { (history : History) (fed written : List ℕ) → EndpointStandsFor (role_played self.old) (config_at self.old) (endpoint_of self.old) history fed written
             → ∥ GoesOn (role_played self.old) (config_at self.old) (ran_out result) (endpoint_of self.old) history fed written piece.now (after_feed (role_played self.old) (config_at self.old) (endpoint_of self.old) piece.now) (endpoint_of self.new) ∥₁ }
         ensures memory { ran_out result ≡ true → takes_octets (endpoint_of self.old).end.phase ≡ true }
-        ensures account { account.old.wanted ≡ true → takes_octets (endpoint_of self.old).end.phase ≡ true → ran_out result ≡ false → IsAccount (role_played self.old) (config_at self.old) (endpoint_of self.old) piece.now (after_feed (role_played self.old) (config_at self.old) (endpoint_of self.old) piece.now) account.new.octets (came_by (settings_at self.old) account.new) }
+        ensures account { takes_octets (endpoint_of self.old).end.phase ≡ true → ran_out result ≡ false → IsAccount (role_played self.old) (config_at self.old) (endpoint_of self.old) piece.now (after_feed (role_played self.old) (config_at self.old) (endpoint_of self.old) piece.now) account.new.octets (came_by (settings_at self.old) account.new (event_in (taken_by result account.new))) }
+        // A message that is told leaves all but its channel as it was.
+        ensures message { OnOk result (IsMessage (parts_there account.new.parts) → SameButChannels (endpoint_of self.old) (endpoint_of self.new)) }
         ensures grows { GrowsLittle (endpoint_of self.old).output (endpoint_of self.new).output }
         ensures settings { settings_at self.new ≡ settings_at self.old }
     {
         octets::octets_follow();
         one_end::failed_follows();
         traces::memory_runs_out();
-        self.inner.feed(piece, account, news)
+        self.inner.feed(piece, account)
     }
 
     /// Out of memory: the end has failed, and what it has put can still be sent.
@@ -180,21 +166,21 @@ impl<R: Role> End<R> {
     pub(crate) fn side(&self) -> Side
         ensures { role_of result ≡ role_played self.now }
     {
-        self.inner.core.settings.hello.side()
+        self.inner.connection.settings.hello.side()
     }
 
     pub(crate) fn allocator(&self) -> Global {
-        self.inner.core.alloc
+        self.inner.connection.alloc
     }
 
     /// The fault that a feed answers of an end that is closed, or has failed.
     pub(crate) fn over(&self) -> Option<CoreFault>
         ensures { MatchOption result (takes_octets (endpoint_of self.now).end.phase ≡ true) (IsOver (endpoint_of self.now).end.phase) }
     {
-        if self.inner.core.stage.is_closed() {
+        if self.inner.connection.stage.is_closed() {
             return Some(CoreFault::Closed);
         }
-        if self.inner.core.stage.is_failed() {
+        if self.inner.connection.stage.is_failed() {
             return Some(CoreFault::Failed);
         }
         None
@@ -232,7 +218,7 @@ impl<R: Role> End<R> {
         ensures phase { result ≡ phase_name (endpoint_of self.now).end.phase }
         ensures history { PhaseOfHistory self.now result }
     {
-        self.inner.core.stage.phase()
+        self.inner.connection.stage.phase()
     }
 
     /// What tune-ok settled: known from the moment on that a client has put it, or that a server has taken it.
@@ -240,7 +226,7 @@ impl<R: Role> End<R> {
         ensures agreed { agreed_there result ≡ (endpoint_of self.now).end.agreed }
         ensures history { AgreedOfHistory self.now (agreed_there result) }
     {
-        self.inner.core.stage.agreed()
+        self.inner.connection.stage.agreed()
     }
 
     /// The state of a channel. Channel 0 and the numbers above the agreed maximum are Free.
@@ -253,7 +239,7 @@ impl<R: Role> End<R> {
         bounds::answers_are_bounded();
         one_end::answers_are_of_history();
         answers::states_are_of_notes();
-        self.inner.core.channel_state(channel)
+        self.inner.connection.channel_state(channel)
     }
 
     /// How many octets were taken of a frame that isn't whole yet, or of the protocol header: fewer than a frame may have.
@@ -277,7 +263,7 @@ impl<R: Role> End<R> {
         one_end::answers_are_of_history();
         one_end::record_reads();
         answers::octets_are_of_body();
-        self.inner.core.gathered(channel)
+        self.inner.connection.gathered(channel)
     }
 
     /// The request that is to be answered next on a channel: at a client the one that waits for its reply, at a server the
@@ -292,16 +278,14 @@ impl<R: Role> End<R> {
         one_end::record_reads();
         replies::unanswered_are_kept();
         fitting::owed_read_back();
-        self.inner.core.reply_due(channel)
+        self.inner.connection.reply_due(channel)
     }
 
     /// Asks something of the end: it is refused with the first refusal that applies, which changes nothing, or its frames are
     /// put. The answer is the channel that an open takes.
     pub fn ask(&mut self, ask: &Ask) -> Result<Option<u16>, AskFault>
-        ensures accepted { OnOk result (AcceptsAsk (role_played self.old) (config_at self.old) (ask_view ask.now) (endpoint_of self.old) (endpoint_of self.new)) }
-        ensures refused { IfErr result (λ fault. RefusesAsk (role_played self.old) (ask_view ask.now) fault (endpoint_of self.old) (endpoint_of self.new)) }
-        ensures number { IfOk result (λ number. number ≡ number_taken (endpoint_of self.old).end (ask_view ask.now)) }
-        ensures settings { settings_at self.new ≡ settings_at self.old }
+        ensures asked { Asked self.old (ask_view ask.now) result self.new }
+        ensures number { AnswersNumber self.old (ask_view ask.now) result }
     {
         self.inner.ask(ask.lent())
     }
@@ -319,10 +303,8 @@ impl<R: Role> End<R> {
 
     /// Opens the lowest channel that is free, which it answers. Only a client opens channels.
     pub fn open_channel(&mut self) -> Result<u16, AskFault>
-        ensures accepted { OnOk result (AcceptsAsk (role_played self.old) (config_at self.old) (asks.Open) (endpoint_of self.old) (endpoint_of self.new)) }
-        ensures refused { IfErr result (λ fault. RefusesAsk (role_played self.old) (asks.Open) fault (endpoint_of self.old) (endpoint_of self.new)) }
-        ensures number { IfOk result (λ number. lowest_free (endpoint_of self.old).end ≡ Some number) }
-        ensures settings { settings_at self.new ≡ settings_at self.old }
+        ensures asked { Asked self.old asks.Open result self.new }
+        ensures number { AnswersLowest self.old result }
     {
         match self.inner.ask(LentAsk::Open)? {
             Some(number) => Ok(number),
@@ -332,9 +314,7 @@ impl<R: Role> End<R> {
 
     /// Sends a message on a channel: a method, or a method with its content, which is cut to the agreed frame size.
     pub fn send(&mut self, channel: u16, message: &Message) -> Result<(), AskFault>
-        ensures accepted { OnOk result (AcceptsAsk (role_played self.old) (config_at self.old) (asks.Send channel (message_of (message_view message.now))) (endpoint_of self.old) (endpoint_of self.new)) }
-        ensures refused { IfErr result (λ fault. RefusesAsk (role_played self.old) (asks.Send channel (message_of (message_view message.now))) fault (endpoint_of self.old) (endpoint_of self.new)) }
-        ensures settings { settings_at self.new ≡ settings_at self.old }
+        ensures { Asked self.old (asks.Send channel (message_of (message_view message.now))) result self.new }
     {
         self.inner.ask(LentAsk::Send(channel, message))?;
         Ok(())
@@ -342,9 +322,7 @@ impl<R: Role> End<R> {
 
     /// Asks the other end to send contents on a channel, or no more of them.
     pub fn flow(&mut self, channel: u16, active: bool) -> Result<(), AskFault>
-        ensures accepted { OnOk result (AcceptsAsk (role_played self.old) (config_at self.old) (asks.Flow channel active) (endpoint_of self.old) (endpoint_of self.new)) }
-        ensures refused { IfErr result (λ fault. RefusesAsk (role_played self.old) (asks.Flow channel active) fault (endpoint_of self.old) (endpoint_of self.new)) }
-        ensures settings { settings_at self.new ≡ settings_at self.old }
+        ensures { Asked self.old (asks.Flow channel active) result self.new }
     {
         self.inner.ask(LentAsk::Flow(channel, active))?;
         Ok(())
@@ -357,9 +335,7 @@ impl<R: Role> End<R> {
         code: u16,
         text: &ShortStr,
     ) -> Result<(), AskFault>
-        ensures accepted { OnOk result (AcceptsAsk (role_played self.old) (config_at self.old) (asks.CloseChannel channel code text.now) (endpoint_of self.old) (endpoint_of self.new)) }
-        ensures refused { IfErr result (λ fault. RefusesAsk (role_played self.old) (asks.CloseChannel channel code text.now) fault (endpoint_of self.old) (endpoint_of self.new)) }
-        ensures settings { settings_at self.new ≡ settings_at self.old }
+        ensures { Asked self.old (asks.CloseChannel channel code text.now) result self.new }
     {
         self.inner.ask(LentAsk::CloseChannel(channel, code, text))?;
         Ok(())
@@ -367,9 +343,7 @@ impl<R: Role> End<R> {
 
     /// Closes the connection, with a code and a text.
     pub fn close(&mut self, code: u16, text: &ShortStr) -> Result<(), AskFault>
-        ensures accepted { OnOk result (AcceptsAsk (role_played self.old) (config_at self.old) (asks.Close code text.now) (endpoint_of self.old) (endpoint_of self.new)) }
-        ensures refused { IfErr result (λ fault. RefusesAsk (role_played self.old) (asks.Close code text.now) fault (endpoint_of self.old) (endpoint_of self.new)) }
-        ensures settings { settings_at self.new ≡ settings_at self.old }
+        ensures { Asked self.old (asks.Close code text.now) result self.new }
     {
         self.inner.ask(LentAsk::Close(code, text))?;
         Ok(())
@@ -377,9 +351,7 @@ impl<R: Role> End<R> {
 
     /// Says that the server takes no more contents, and why. Only a server says so.
     pub fn blocked(&mut self, reason: &ShortStr) -> Result<(), AskFault>
-        ensures accepted { OnOk result (AcceptsAsk (role_played self.old) (config_at self.old) (asks.Blocked reason.now) (endpoint_of self.old) (endpoint_of self.new)) }
-        ensures refused { IfErr result (λ fault. RefusesAsk (role_played self.old) (asks.Blocked reason.now) fault (endpoint_of self.old) (endpoint_of self.new)) }
-        ensures settings { settings_at self.new ≡ settings_at self.old }
+        ensures { Asked self.old (asks.Blocked reason.now) result self.new }
     {
         self.inner.ask(LentAsk::Blocked(reason))?;
         Ok(())
@@ -387,9 +359,7 @@ impl<R: Role> End<R> {
 
     /// Says that the server takes contents again. Only a server says so.
     pub fn unblocked(&mut self) -> Result<(), AskFault>
-        ensures accepted { OnOk result (AcceptsAsk (role_played self.old) (config_at self.old) (asks.Unblocked) (endpoint_of self.old) (endpoint_of self.new)) }
-        ensures refused { IfErr result (λ fault. RefusesAsk (role_played self.old) (asks.Unblocked) fault (endpoint_of self.old) (endpoint_of self.new)) }
-        ensures settings { settings_at self.new ≡ settings_at self.old }
+        ensures { Asked self.old asks.Unblocked result self.new }
     {
         self.inner.ask(LentAsk::Unblocked)?;
         Ok(())

@@ -1,7 +1,7 @@
 //! One end of a connection, octet by octet: what is taken of a piece, and the octets that are to be written.
 //!
-//! A server compares the first octets with the protocol header. All others go to the splitter, which lends each frame from
-//! the piece where it lies whole in it; the frame is taken while it is lent, so a body is copied once.
+//! A server compares the first octets with the protocol header. All others go to the splitter, which lends each frame
+//! from the piece where it lies whole in it; the frame is taken while it is lent, so a body is copied once.
 ghost use Rattle.std.specs.Prelude.{◌≡◌, ◌≢◌, ◌+◌, ◌<◌, ◌≤◌, length, true, false, [], Some, None, Ok, IsOk, IfOk, IfErr, OnOk};
 ghost use Rattle.amqp_model.specs.Endpoint.{after_feed, after_wrote, awaits_opening, new_endpoint};
 ghost use Rattle.amqp_model.specs.EndVerdict.{takes_octets};
@@ -21,21 +21,21 @@ ghost use Rattle.amqp_core.specs.Asked.{number_taken};
 ghost use Rattle.amqp_core.specs.Asking.{AcceptsAsk, RefusesAsk};
 ghost use Rattle.amqp_core.specs.Answering.{ran_out};
 ghost use Rattle.amqp_core.specs.Dropping.{DropsInPlace};
-ghost use Rattle.amqp_core.specs.Feeding.{SameEndpoint, ran_out_of};
-ghost use Rattle.amqp_core.specs.Hearing.{IsHeard, IsInPiece};
+ghost use Rattle.amqp_channel.specs.PartsView.{parts_there};
+ghost use Rattle.amqp_core.specs.Feeding.{event_in, ran_out_of, IsFed, IsMessage, SameButChannels, SameEndpoint};
 ghost use Rattle.amqp_core.specs.Settings.{config_view, role_for};
 ghost use Rattle.amqp_core.specs.Stages.{agreed_at, phase_at};
 
 use crate::account::Account;
 use crate::allowing::Place;
 use crate::asks::LentAsk;
+use crate::connection::Connection;
 use crate::faults::{AskFault, CoreFault, OutOfMemory};
-use crate::one_end::Core;
 use crate::opening::going_on;
 use crate::owed::Owed;
 use crate::settings::Settings;
 use crate::stage::Stage;
-use amqp_channel::{News, Side};
+use amqp_channel::{EventParts, Side};
 use amqp_frame::{PROTOCOL_HEADER, Splitter, faults_are_judged, one_frame_at_start};
 use amqp_model::{bounds, fitting, octets, one_end, pieces};
 use amqp_outbox::Outbox;
@@ -43,7 +43,7 @@ use std::alloc::Global;
 
 /// What an end keeps.
 pub(crate) struct Endpoint {
-    pub(crate) core: Core,
+    pub(crate) connection: Connection,
     pub(crate) splitter: Splitter,
     /// how many octets of the protocol header a server has heard that awaits it
     pub(crate) heard: usize,
@@ -54,7 +54,7 @@ pub(crate) struct Endpoint {
 impl Drop for Endpoint {
     fn drop(self) {
         let Endpoint {
-            core: _,
+            connection: _,
             splitter: _,
             heard: _,
             outbox: _,
@@ -81,17 +81,6 @@ fn tune(splitter: &mut Splitter, stage: Stage)
     }
 }
 
-/// The answer to the frame that so many octets of a piece end.
-fn after_octets(octets: usize, answer: Result<(), CoreFault>) -> Result<usize, CoreFault>
-    ensures piece { IsInPiece octets answer result }
-    ensures ok { IsOk answer → IsOk result }
-{
-    match answer {
-        Ok(()) => Ok(octets),
-        Err(fault) => Err(fault),
-    }
-}
-
 /// What an end of a side has to write as it begins.
 fn begun(alloc: Global, side: Side) -> Result<Outbox, OutOfMemory>
     ensures { IfOk result (λ outbox. outbox ≡ begins_with (opening_written (role_of side))) }
@@ -107,27 +96,23 @@ fn begun(alloc: Global, side: Side) -> Result<Outbox, OutOfMemory>
 }
 
 impl Endpoint {
-    ghost use Rattle.amqp_core.specs.AccountView.{IsAccount, came_by};
+    ghost use Rattle.amqp_core.specs.AccountView.{IsAccount, came_by, taken_by};
     ghost use Rattle.amqp_core.specs.EndpointView.{endpoint_view, role_at, IsSound};
     ghost use Rattle.amqp_core.specs.Growth.{GrowsLittle};
 
     /// Octets of the protocol header, at a server that awaits it.
     #[inline(never)]
-    fn hear(
-        &mut self,
-        piece: &[u8],
-        account: &mut Account,
-        news: &mut Option<News>,
-    ) -> Result<usize, CoreFault>
+    fn hear(&mut self, piece: &[u8], account: &mut Account) -> Result<(), CoreFault>
         requires sound { IsSound self.old }
         requires fresh { IsFresh account.old }
-        requires none { news.old ≡ None }
-        requires awaits { awaits_opening (role_at self.old) (phase_at self.old.core.stage) ≡ true }
-        ensures fed { IsHeard result news.new (endpoint_view self.old) (after_feed (role_at self.old) (config_view self.old.core.settings) (endpoint_view self.old) piece.now) (endpoint_view self.new) }
-        ensures account { account.old.wanted ≡ true → ran_out result ≡ false → IsAccount (role_at self.old) (config_view self.old.core.settings) (endpoint_view self.old) piece.now (after_feed (role_at self.old) (config_view self.old.core.settings) (endpoint_view self.old) piece.now) account.new.octets (came_by self.old.core.settings account.new) }
+        requires awaits { awaits_opening (role_at self.old) (phase_at self.old.connection.stage) ≡ true }
+        ensures fed { IsFed (taken_by result account.new) (endpoint_view self.old) (after_feed (role_at self.old) (config_view self.old.connection.settings) (endpoint_view self.old) piece.now) (endpoint_view self.new) }
+        ensures account { ran_out result ≡ false → IsAccount (role_at self.old) (config_view self.old.connection.settings) (endpoint_view self.old) piece.now (after_feed (role_at self.old) (config_view self.old.connection.settings) (endpoint_view self.old) piece.now) account.new.octets (came_by self.old.connection.settings account.new (event_in (taken_by result account.new))) }
+        // A message that is told leaves all but its channel as it was.
+        ensures message { OnOk result (IsMessage (parts_there account.new.parts) → SameButChannels (endpoint_view self.old) (endpoint_view self.new)) }
         ensures grows { GrowsLittle (endpoint_view self.old).output (endpoint_view self.new).output }
         ensures sound { IsSound self.new }
-        ensures settings { self.new.core.settings ≡ self.old.core.settings }
+        ensures settings { self.new.connection.settings ≡ self.old.connection.settings }
     {
         pieces::pieces_are_compared();
         pieces::unfinished_is_held();
@@ -135,20 +120,20 @@ impl Endpoint {
         account.octets = same;
         if self.heard + same == PROTOCOL_HEADER.len() {
             self.heard = 0;
-            let Ok(()) = self.core.greet(&mut self.outbox) else {
+            let Ok(()) = self.connection.greet(&mut self.outbox) else {
                 return Err(CoreFault::OutOfMemory);
             };
             account.owed = Owed::Start;
-            News::Quiet.put_in(news);
-            return Ok(same);
+            EventParts::Quiet.put_in(&mut account.parts);
+            return Ok(());
         }
         if same == piece.len() {
             self.heard += same;
-            return Ok(same);
+            return Ok(());
         }
         account.octets = same + 1;
         self.heard = 0;
-        self.core.fail();
+        self.connection.fail();
         let Ok(()) = self.outbox.begin_with(&PROTOCOL_HEADER) else {
             return Err(CoreFault::OutOfMemory);
         };
@@ -157,23 +142,19 @@ impl Endpoint {
 
     /// Octets of frames. It stands where it is called, which spares each frame the way there.
     #[inline(always)]
-    fn read(
-        &mut self,
-        piece: &[u8],
-        account: &mut Account,
-        news: &mut Option<News>,
-    ) -> Result<usize, CoreFault>
+    fn read(&mut self, piece: &[u8], account: &mut Account) -> Result<(), CoreFault>
         requires sound { IsSound self.old }
         requires fresh { IsFresh account.old }
-        requires none { news.old ≡ None }
-        requires reads { reads_frames (role_at self.old) (phase_at self.old.core.stage) ≡ true }
-        ensures fed { IsHeard result news.new (endpoint_view self.old) (after_feed (role_at self.old) (config_view self.old.core.settings) (endpoint_view self.old) piece.now) (endpoint_view self.new) }
+        requires reads { reads_frames (role_at self.old) (phase_at self.old.connection.stage) ≡ true }
+        ensures fed { IsFed (taken_by result account.new) (endpoint_view self.old) (after_feed (role_at self.old) (config_view self.old.connection.settings) (endpoint_view self.old) piece.now) (endpoint_view self.new) }
         // A frame that is dropped takes no memory, where it lies whole in the piece.
-        ensures in_place { account.old.wanted ≡ false → DropsInPlace (role_at self.old) (endpoint_view self.old) piece.now → IsOk result }
-        ensures account { account.old.wanted ≡ true → ran_out result ≡ false → IsAccount (role_at self.old) (config_view self.old.core.settings) (endpoint_view self.old) piece.now (after_feed (role_at self.old) (config_view self.old.core.settings) (endpoint_view self.old) piece.now) account.new.octets (came_by self.old.core.settings account.new) }
+        ensures in_place { DropsInPlace (role_at self.old) (endpoint_view self.old) piece.now → IsOk result }
+        ensures account { ran_out result ≡ false → IsAccount (role_at self.old) (config_view self.old.connection.settings) (endpoint_view self.old) piece.now (after_feed (role_at self.old) (config_view self.old.connection.settings) (endpoint_view self.old) piece.now) account.new.octets (came_by self.old.connection.settings account.new (event_in (taken_by result account.new))) }
+        // A message that is told leaves all but its channel as it was.
+        ensures message { OnOk result (IsMessage (parts_there account.new.parts) → SameButChannels (endpoint_view self.old) (endpoint_view self.new)) }
         ensures grows { GrowsLittle (endpoint_view self.old).output (endpoint_view self.new).output }
         ensures sound { IsSound self.new }
-        ensures settings { self.new.core.settings ≡ self.old.core.settings }
+        ensures settings { self.new.connection.settings ≡ self.old.connection.settings }
     {
         pieces::pieces_are_split();
         pieces::unfinished_is_held();
@@ -187,24 +168,16 @@ impl Endpoint {
             Ok(fed) => fed,
             Err(fault) => {
                 account.octets = self.splitter.taken_to_fault();
-                return Err(self.core.stop(&mut self.outbox, fault.kind, account));
+                return Err(self.connection.stop(&mut self.outbox, fault.kind, account));
             }
         };
-        let octets = fed.taken;
-        account.octets = octets;
+        account.octets = fed.taken;
         let Some(frame) = fed.frame else {
-            return Ok(octets);
+            return Ok(());
         };
-        let answer = self.core.answer(
-            &mut self.outbox,
-            frame.kind,
-            frame.channel,
-            frame.payload,
-            account,
-            news,
-        );
-        tune(&mut self.splitter, self.core.stage);
-        after_octets(octets, answer)
+        let answer = self.connection.receive(&mut self.outbox, frame, account);
+        tune(&mut self.splitter, self.connection.stage);
+        answer
     }
 
     /// An end as it begins: a client has the protocol header to write, a server nothing.
@@ -212,52 +185,47 @@ impl Endpoint {
         requires { ConfigWrites (config_view settings) }
         ensures view { IfOk result (λ end. endpoint_view end ≡ new_endpoint (role_for settings)) }
         ensures sound { IfOk result IsSound }
-        ensures settings { IfOk result (λ end. end.core.settings ≡ settings) }
+        ensures settings { IfOk result (λ end. end.connection.settings ≡ settings) }
     {
         pieces::unfinished_is_held();
         bounds::ends_are_bounded();
         let outbox = begun(alloc, settings.hello.side())?;
         Ok(Endpoint {
-            core: Core::new(alloc, settings),
+            connection: Connection::new(alloc, settings),
             splitter: Splitter::new(alloc, FRAME_MIN),
             heard: 0,
             outbox,
         })
     }
 
-    /// Takes octets up to the end of the next frame, or of the protocol header at a server that awaits it, and answers how many.
-    /// What they tell goes where the caller has room for it.
-    pub(crate) fn feed(
-        &mut self,
-        piece: &[u8],
-        account: &mut Account,
-        news: &mut Option<News>,
-    ) -> Result<usize, CoreFault>
+    /// Takes octets up to the end of the next frame, or of the protocol header at a server that awaits it.
+    pub(crate) fn feed(&mut self, piece: &[u8], account: &mut Account) -> Result<(), CoreFault>
         requires sound { IsSound self.old }
         requires fresh { IsFresh account.old }
-        requires none { news.old ≡ None }
-        ensures fed { IsHeard result news.new (endpoint_view self.old) (after_feed (role_at self.old) (config_view self.old.core.settings) (endpoint_view self.old) piece.now) (endpoint_view self.new) }
-        ensures memory { ran_out result ≡ true → takes_octets (phase_at self.old.core.stage) ≡ true }
+        ensures fed { IsFed (taken_by result account.new) (endpoint_view self.old) (after_feed (role_at self.old) (config_view self.old.connection.settings) (endpoint_view self.old) piece.now) (endpoint_view self.new) }
+        ensures memory { ran_out result ≡ true → takes_octets (phase_at self.old.connection.stage) ≡ true }
         // A frame that is dropped takes no memory, where it lies whole in the piece.
-        ensures in_place { account.old.wanted ≡ false → DropsInPlace (role_at self.old) (endpoint_view self.old) piece.now → IsOk result }
-        ensures within { IfOk result (λ octets. octets ≤ length piece.now) }
-        ensures progress { IfOk result (λ octets. piece.now ≢ [] → 0 < octets) }
-        ensures account { account.old.wanted ≡ true → takes_octets (phase_at self.old.core.stage) ≡ true → ran_out result ≡ false → IsAccount (role_at self.old) (config_view self.old.core.settings) (endpoint_view self.old) piece.now (after_feed (role_at self.old) (config_view self.old.core.settings) (endpoint_view self.old) piece.now) account.new.octets (came_by self.old.core.settings account.new) }
+        ensures in_place { DropsInPlace (role_at self.old) (endpoint_view self.old) piece.now → IsOk result }
+        ensures within { IfOk (taken_by result account.new) (λ taken. taken.octets ≤ length piece.now) }
+        ensures progress { IfOk (taken_by result account.new) (λ taken. piece.now ≢ [] → 0 < taken.octets) }
+        ensures account { takes_octets (phase_at self.old.connection.stage) ≡ true → ran_out result ≡ false → IsAccount (role_at self.old) (config_view self.old.connection.settings) (endpoint_view self.old) piece.now (after_feed (role_at self.old) (config_view self.old.connection.settings) (endpoint_view self.old) piece.now) account.new.octets (came_by self.old.connection.settings account.new (event_in (taken_by result account.new))) }
+        // A message that is told leaves all but its channel as it was.
+        ensures message { OnOk result (IsMessage (parts_there account.new.parts) → SameButChannels (endpoint_view self.old) (endpoint_view self.new)) }
         ensures grows { GrowsLittle (endpoint_view self.old).output (endpoint_view self.new).output }
         ensures sound { IsSound self.new }
-        ensures settings { self.new.core.settings ≡ self.old.core.settings }
+        ensures settings { self.new.connection.settings ≡ self.old.connection.settings }
     {
         octets::cut_changes_nothing();
-        if self.core.stage.is_closed() {
+        if self.connection.stage.is_closed() {
             return Err(CoreFault::Closed);
         }
-        if self.core.stage.is_failed() {
+        if self.connection.stage.is_failed() {
             return Err(CoreFault::Failed);
         }
         if self.awaits_header() {
-            return self.hear(piece, account, news);
+            return self.hear(piece, account);
         }
-        self.read(piece, account, news)
+        self.read(piece, account)
     }
 
     /// Out of memory: the end has failed, and keeps no unfinished octets.
@@ -265,19 +233,19 @@ impl Endpoint {
         requires sound { IsSound self.old }
         ensures left { SameEndpoint (ran_out_of (endpoint_view self.old)) (endpoint_view self.new) }
         ensures sound { IsSound self.new }
-        ensures settings { self.new.core.settings ≡ self.old.core.settings }
+        ensures settings { self.new.connection.settings ≡ self.old.connection.settings }
     {
-        self.core.fail();
+        self.connection.fail();
         self.heard = 0;
-        self.splitter = Splitter::new(self.core.alloc, FRAME_MIN);
+        self.splitter = Splitter::new(self.connection.alloc, FRAME_MIN);
     }
 
     /// Whether the protocol header is awaited.
     fn awaits_header(&self) -> bool
-        ensures { result ≡ awaits_opening (role_at self.now) (phase_at self.now.core.stage) }
+        ensures { result ≡ awaits_opening (role_at self.now) (phase_at self.now.connection.stage) }
     {
-        match self.core.stage {
-            Stage::AwaitsProtocolHeader => !self.core.settings.hello.side().is_client(),
+        match self.connection.stage {
+            Stage::AwaitsProtocolHeader => !self.connection.settings.hello.side().is_client(),
             Stage::AwaitsStart
             | Stage::AwaitsStartOk
             | Stage::AwaitsTune
@@ -297,7 +265,7 @@ impl Endpoint {
         requires sound { IsSound self.old }
         ensures written { endpoint_view self.new ≡ after_wrote octets (endpoint_view self.old) }
         ensures sound { IsSound self.new }
-        ensures settings { self.new.core.settings ≡ self.old.core.settings }
+        ensures settings { self.new.connection.settings ≡ self.old.connection.settings }
     {
         pieces::unfinished_is_held();
         self.outbox.wrote(octets);
@@ -307,8 +275,8 @@ impl Endpoint {
     pub(crate) fn pending(&self) -> usize
         requires { IsSound self.now }
         ensures count { result ≡ length (endpoint_view self.now).unfinished }
-        ensures below { result < frame_limit (agreed_at self.now.core.stage) }
-        ensures none { takes_octets (phase_at self.now.core.stage) ≡ false → result ≡ 0 }
+        ensures below { result < frame_limit (agreed_at self.now.connection.stage) }
+        ensures none { takes_octets (phase_at self.now.connection.stage) ≡ false → result ≡ 0 }
     {
         self.heard + self.splitter.pending()
     }
@@ -323,17 +291,17 @@ impl Endpoint {
         ensures least { IfOk result (λ place. negotiation.FRAME_MIN ≤ place.frame_max) }
     {
         one_end::ask_is_of_history();
-        self.core.allow(ask)
+        self.connection.allow(ask)
     }
 
     /// What an application asks: it is refused, or its frames are put. The answer is the channel that an open takes.
     pub(crate) fn ask(&mut self, ask: LentAsk<'_>) -> Result<Option<u16>, AskFault>
         requires { IsSound self.old }
-        ensures accepted { OnOk result (AcceptsAsk (role_at self.old) (config_view self.old.core.settings) (lent_view ask.entry) (endpoint_view self.old) (endpoint_view self.new)) }
+        ensures accepted { OnOk result (AcceptsAsk (role_at self.old) (config_view self.old.connection.settings) (lent_view ask.entry) (endpoint_view self.old) (endpoint_view self.new)) }
         ensures number { IfOk result (λ number. number ≡ number_taken (endpoint_view self.old).end (lent_view ask.entry)) }
         ensures refused { IfErr result (λ fault. RefusesAsk (role_at self.old) (lent_view ask.entry) fault (endpoint_view self.old) (endpoint_view self.new)) }
         ensures sound { IsSound self.new }
-        ensures settings { self.new.core.settings ≡ self.old.core.settings }
+        ensures settings { self.new.connection.settings ≡ self.old.connection.settings }
     {
         pieces::unfinished_is_held();
         fitting::agreed_is_within();
@@ -341,7 +309,7 @@ impl Endpoint {
         bounds::ends_are_bounded();
         octets::octets_follow();
         one_end::ask_is_of_history();
-        match self.core.ask(&mut self.outbox, ask) {
+        match self.connection.ask(&mut self.outbox, ask) {
             Ok(number) => Ok(number),
             Err(fault) => Err(fault),
         }

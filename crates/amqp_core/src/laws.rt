@@ -1,13 +1,12 @@
 //! Laws, over definitions alone: those of `amqp_model`, and of the two roles. Who needs one calls the function and has its
 //! clauses.
-ghost use Rattle.std.specs.Prelude.{ℕ, List, Option};
+ghost use Rattle.std.specs.Prelude.{ℕ, List};
 ghost use Rattle.amqp_frame.specs.declared.frames.FrameKind.{FrameKind};
 ghost use Rattle.amqp_model.specs.Channels.{Channel};
 ghost use Rattle.amqp_model.specs.Contents.{Payload};
 ghost use Rattle.amqp_model.specs.Negotiation.{Config};
 ghost use Rattle.amqp_model.specs.Readings.{Reading};
-ghost use Rattle.amqp_channel.specs.declared.news.News.{News};
-ghost use Rattle.amqp_channel.specs.declared.verdict.Site.{Site};
+ghost use Rattle.amqp_channel.specs.declared.site.Site.{Site};
 ghost use Rattle.amqp_channel.specs.declared.verdict.Verdict.{Verdict};
 ghost use Rattle.amqp_core.specs.Cuts.{CutsChangeNothing};
 ghost use Rattle.amqp_core.specs.Laws.{PutsAsEnd, StepsAsEnd};
@@ -41,7 +40,8 @@ pub fn cuts_change_nothing()
 /// What is decided on one channel of a connection that is Running is the end's verdict, and where it goes on, what the end
 /// keeps then is the channel that is left, and all else as it was.
 pub(crate) fn channel_steps_as_end()
-    ensures { (site : Site) (config : Config (role_of site.side)) (frame_max : ℕ) (channels : ℕ → Channel) (kind : FrameKind) (payload : List ℕ) (reading : Reading) (news : Option News) (verdict : Verdict) (after : Channel) → StepsAsEnd site config frame_max channels kind payload reading news verdict after }
+    ensures { (site : Site) (config : Config (role_of site.side)) (frame_max : ℕ) (channels : ℕ → Channel) (kind : FrameKind) (payload : List ℕ) (reading : Reading) (said : Verdict)
+        → StepsAsEnd site config frame_max channels kind payload reading said }
 {}
 
 /// What payloads that are put leave of a channel is what the end keeps of it then, where each frame says its payload.

@@ -12,7 +12,7 @@ ghost use Rattle.amqp_core.specs.AccountView.{note_there};
 ghost use Rattle.amqp_core.specs.AskNoting.{count_asked, notes_asked};
 ghost use Rattle.amqp_core.specs.AskView.{lent_view};
 ghost use Rattle.amqp_core.specs.CountsLives.{CountsLives};
-ghost use Rattle.amqp_core.specs.NoteView.{item_kept, item_there, note_view, noted_as, word_view};
+ghost use Rattle.amqp_core.specs.NoteView.{item_there, note_view, noted_as, word_view};
 ghost use Rattle.amqp_core.specs.Noting.{lives_in, notes_owed, said_by_owed, told_by, word_of_reply as reply_word};
 
 use crate::account::Account;
@@ -87,8 +87,7 @@ fn word_of_reply(reply: Reply) -> Word
     match reply {
         Reply::OpenOk => Word::OpenOk,
         Reply::CloseOk => Word::CloseOk,
-        Reply::FlowOkActive => Word::FlowOk,
-        Reply::FlowOkInactive => Word::FlowOk,
+        Reply::FlowOk(_) => Word::FlowOk,
     }
 }
 
@@ -311,16 +310,15 @@ impl Ledger {
         ensures side { self.new.side ≡ self.old.side }
     {
         match owed {
-            Owed::OnChannel(channel, Reply::FlowOkActive) => self.say_flow_ok(channel, true),
-            Owed::OnChannel(channel, Reply::FlowOkInactive) => self.say_flow_ok(channel, false),
+            Owed::OnChannel(channel, Reply::FlowOk(active)) => self.say_flow_ok(channel, active),
             _ => {}
         }
     }
 
     /// An item is acted on, if there is one.
-    fn tell(&mut self, channel: u16, item: Option<Box<Item>>)
+    fn tell(&mut self, channel: u16, item: Option<Item>)
         requires room { vec_len self.old.told < vec_capacity self.old.told }
-        ensures told { told_in self.new ≡ told_in self.old ++ telling_at channel (lives_in (role_of self.old.side) (notes_in self.old) channel) (item_kept item) }
+        ensures told { told_in self.new ≡ told_in self.old ++ telling_at channel (lives_in (role_of self.old.side) (notes_in self.old) channel) (item_there item) }
         ensures notes_same { self.new.notes ≡ self.old.notes }
         ensures lives_same { self.new.lives ≡ self.old.lives }
         ensures said_same { self.new.said ≡ self.old.said }
@@ -335,39 +333,32 @@ impl Ledger {
                 Telling {
                     channel,
                     life,
-                    item: Box::into_inner(item),
+                    item,
                 },
             );
         }
     }
 
-    /// What came of a piece, of which these octets were taken.
-    pub(crate) fn enter(&mut self, octets: &[u8], account: Account)
+    /// What came of a piece, of which these octets were taken, and the item that it told.
+    pub(crate) fn enter(&mut self, octets: &[u8], account: &Account, item: Option<Item>)
         requires { HasRoom self.old 3 (length octets.now) }
-        ensures notes { notes_in self.new ≡ notes_in self.old ++ (option_to_list (note_there account.took) ++ notes_owed (role_of self.old.side) account.owed) }
-        ensures told { told_in self.new ≡ told_in self.old ++ told_by (lives_in (role_of self.old.side) (notes_in self.old)) (note_there account.took) (item_kept account.item) }
-        ensures said { said_in self.new ≡ said_in self.old ++ said_by_owed (lives_in (role_of self.old.side) (notes_in self.old ++ option_to_list (note_there account.took))) account.owed }
+        ensures notes { notes_in self.new ≡ notes_in self.old ++ (option_to_list (note_there account.now.took) ++ notes_owed (role_of self.old.side) account.now.owed) }
+        ensures told { told_in self.new ≡ told_in self.old ++ told_by (lives_in (role_of self.old.side) (notes_in self.old)) (note_there account.now.took) (item_there item) }
+        ensures said { said_in self.new ≡ said_in self.old ++ said_by_owed (lives_in (role_of self.old.side) (notes_in self.old ++ option_to_list (note_there account.now.took))) account.now.owed }
         ensures fed { self.new.fed.items ≡ self.old.fed.items ++ octets.now }
         ensures written_same { self.new.written ≡ self.old.written }
         ensures side { self.new.side ≡ self.old.side }
     {
-        let Account {
-            wanted: _,
-            octets: _,
-            took,
-            item,
-            owed,
-        } = account;
         append_within(&mut self.fed, octets);
-        match took {
+        match account.took {
             Some(note) => {
                 self.tell(note.channel, item);
                 self.note(note);
             }
             None => drop(item),
         }
-        self.say_owed(owed);
-        self.note_owed(owed);
+        self.say_owed(account.owed);
+        self.note_owed(account.owed);
     }
 
     /// These octets of the output were written.

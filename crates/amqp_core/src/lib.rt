@@ -8,21 +8,19 @@
 
 mod account;
 mod allowing;
-mod answering;
 mod asking;
 mod asks;
 mod config;
+mod connection;
 mod display;
 mod end;
 mod endpoint;
 mod faults;
 mod greeting;
-mod handshake;
 pub mod laws;
 mod ledger;
 mod lives;
 mod notes;
-mod one_end;
 mod opening;
 mod owed;
 mod queries;
@@ -33,10 +31,10 @@ mod sending;
 mod settings;
 mod stage;
 mod taken;
-mod taking;
 mod tellings;
 mod traced;
 mod tracing;
+mod verdict;
 
 pub use crate::asks::Ask;
 pub use crate::config::Config;

@@ -1,17 +1,13 @@
 //! What an end writes down of the frames that it puts and takes: a note for each.
-ghost use Rattle.std.specs.Prelude.{◌≡◌, IfOk};
-ghost use Rattle.amqp_method.specs.MethodView.{method_view};
-ghost use Rattle.amqp_model.specs.Methods.{method_at};
-ghost use Rattle.amqp_model.specs.Readings.{Calls, method_reading, kind_of};
-ghost use Rattle.amqp_model.specs.Traces.{IsPut, IsTaken, noted, word_of};
-ghost use Rattle.amqp_core.specs.CoreView.{frame_at};
+ghost use Rattle.std.specs.Prelude.{◌≡◌};
+ghost use Rattle.amqp_method.specs.MethodRefView.{lent_call};
+ghost use Rattle.amqp_model.specs.Readings.{Calls, kind_of};
+ghost use Rattle.amqp_model.specs.Traces.{IsPut, IsTaken, word_of};
+ghost use Rattle.amqp_channel.specs.ReadingView.{reading_view};
 ghost use Rattle.amqp_core.specs.NoteView.{note_view, noted_as, word_view};
 
-use crate::faults::OutOfMemory;
-use amqp_channel::read_call;
-use amqp_frame::FrameKind;
-use amqp_method::{Kind, Method};
-use std::alloc::Global;
+use amqp_channel::Reading;
+use amqp_method::{Kind, MethodRef};
 
 /// Whether a frame was put or taken.
 #[derive(Clone, Copy, PartialEq, Eq, Debug)]
@@ -42,8 +38,8 @@ pub struct Note {
 }
 
 /// What a method is to its channel.
-fn word_of_method(method: &Method) -> Word
-    ensures { word_view result ≡ word_of (kind_of (Calls (method_view method.now))) }
+fn word_of_method(method: MethodRef<'_>) -> Word
+    ensures { word_view result ≡ word_of (kind_of (Calls (lent_call method.entry))) }
 {
     match method.kind() {
         Kind::ChannelOpen => Word::Open,
@@ -56,14 +52,18 @@ fn word_of_method(method: &Method) -> Word
     }
 }
 
-/// What the payload of a method frame is to its channel.
-fn word_of_payload(alloc: Global, payload: &[u8]) -> Result<Word, OutOfMemory>
-    ensures { IfOk result (λ word. word_view word ≡ word_of (kind_of (method_reading (method_at payload.now)))) }
+/// What a frame is to its channel.
+fn word_of_reading(reading: Reading<'_>) -> Word
+    ensures { word_view result ≡ word_of (kind_of (reading_view reading.entry)) }
 {
-    let read = read_call(alloc, payload)?;
-    match read {
-        Ok(method) => Ok(word_of_method(&method)),
-        Err(_) => Ok(Word::Other),
+    match reading {
+        Reading::Method(method) => word_of_method(method),
+        Reading::UnknownMethod => Word::Other,
+        Reading::MalformedMethod => Word::Other,
+        Reading::Header(_) => Word::Other,
+        Reading::MalformedHeader => Word::Other,
+        Reading::Body(_) => Word::Other,
+        Reading::Heartbeat { .. } => Word::Other,
     }
 }
 
@@ -80,27 +80,19 @@ impl Note {
         }
     }
 
-    /// The note of a frame that is taken. Only a method on a channel above 0 is read for it.
-    pub(crate) fn taken(
-        alloc: Global,
-        kind: FrameKind,
-        channel: u16,
-        payload: &[u8],
-    ) -> Result<Note, OutOfMemory>
-        ensures { IfOk result (λ note. note_view note ≡ noted IsTaken (frame_at channel kind payload.now)) }
+    /// The note of a frame that is taken on a channel, and says this.
+    pub(crate) fn taken(channel: u16, reading: Reading<'_>) -> Note
+        ensures { note_view result ≡ noted_as IsTaken channel (word_of (kind_of (reading_view reading.entry))) }
     {
-        let direction = Direction::Took;
-        let mut word = Word::Other;
-        if channel != 0 {
-            match kind {
-                FrameKind::Method => word = word_of_payload(alloc, payload)?,
-                FrameKind::Header | FrameKind::Body | FrameKind::Heartbeat => {}
-            }
-        }
-        Ok(Note {
+        let word = if channel == 0 {
+            Word::Other
+        } else {
+            word_of_reading(reading)
+        };
+        Note {
             channel,
-            direction,
+            direction: Direction::Took,
             word,
-        })
+        }
     }
 }

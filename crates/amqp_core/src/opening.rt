@@ -6,13 +6,12 @@ ghost use Rattle.amqp_model.specs.Machine.{as_failed, end_after_owed};
 ghost use Rattle.amqp_model.specs.Negotiation.{PROTOCOL_HEADER as HEADER};
 ghost use Rattle.amqp_model.specs.Outputs.{after_puts};
 ghost use Rattle.amqp_outbox.specs.OutboxView.{only};
-ghost use Rattle.amqp_core.specs.CoreView.{core_end};
+ghost use Rattle.amqp_core.specs.ConnectionView.{connection_end};
 ghost use Rattle.amqp_core.specs.Outcomes.{SameEnd};
 ghost use Rattle.amqp_core.specs.Settings.{config_view, role_for};
 
-use crate::answering::put_owed;
+use crate::connection::{Connection, put_owed};
 use crate::faults::OutOfMemory;
-use crate::one_end::Core;
 use crate::owed::Owed;
 use crate::stage::Stage;
 use amqp_frame::PROTOCOL_HEADER;
@@ -46,14 +45,14 @@ pub(crate) fn going_on(heard: usize, octets: &[u8]) -> usize
     agreeing(octets, &PROTOCOL_HEADER[heard..])
 }
 
-impl Core {
+impl Connection {
     /// The protocol header is whole: a server puts start. Out of memory, it fails, and nothing is put.
     pub(crate) fn greet(&mut self, outbox: &mut Outbox) -> Result<(), OutOfMemory>
-        requires awaited { awaits_opening (role_for self.old.settings) (core_end self.old).phase ≡ true }
+        requires awaited { awaits_opening (role_for self.old.settings) (connection_end self.old).phase ≡ true }
         requires staged { outbox.old.staged ≡ [] }
-        ensures end { OnOk result (core_end self.new ≡ end_after_owed (role_for self.old.settings) (config_view self.old.settings) (greeting (role_for self.old.settings) (config_view self.old.settings)) (core_end self.old)) }
+        ensures end { OnOk result (connection_end self.new ≡ end_after_owed (role_for self.old.settings) (config_view self.old.settings) (greeting (role_for self.old.settings) (config_view self.old.settings)) (connection_end self.old)) }
         ensures output { OnOk result (outbox.new ≡ only (after_puts (map frame_of (greeting (role_for self.old.settings) (config_view self.old.settings))) outbox.old.output)) }
-        ensures failed { OnErr result (core_end self.new ≡ as_failed (core_end self.old)) }
+        ensures failed { OnErr result (connection_end self.new ≡ as_failed (connection_end self.old)) }
         ensures same { OnErr result (outbox.new ≡ only outbox.old.output) }
         ensures settings { self.new.settings ≡ self.old.settings }
     {

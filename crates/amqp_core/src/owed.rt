@@ -109,12 +109,8 @@ fn stage_reply(
     match reply {
         Reply::OpenOk => outbox.stage_method(number, &bare(alloc, Kind::ChannelOpenOk)),
         Reply::CloseOk => outbox.stage_method(number, &bare(alloc, Kind::ChannelCloseOk)),
-        Reply::FlowOkActive => {
-            let method = flow_ok(alloc, true)?;
-            outbox.stage_method(number, &method)
-        }
-        Reply::FlowOkInactive => {
-            let method = flow_ok(alloc, false)?;
+        Reply::FlowOk(active) => {
+            let method = flow_ok(alloc, active)?;
             outbox.stage_method(number, &method)
         }
     }
@@ -145,7 +141,7 @@ fn stage_channel_close(
 
 impl Owed {
     ghost use Rattle.std.specs.Prelude.{IsOk};
-    ghost use Rattle.amqp_core.specs.Owing.{IsNothing};
+    ghost use Rattle.amqp_core.specs.OwedView.{IsNothing};
 
     /// Stages the frames of what is owed, after those that are staged.
     pub(crate) fn stage(

@@ -3,17 +3,17 @@ ghost use Rattle.std.specs.Prelude.{◌≡◌};
 ghost use Rattle.amqp_model.specs.Answers.{channel_state, gathered, reply_due};
 ghost use Rattle.amqp_model.specs.Asks.{channel_max};
 ghost use Rattle.amqp_channel.specs.StateView.{state_view};
-ghost use Rattle.amqp_core.specs.CoreView.{core_end};
+ghost use Rattle.amqp_core.specs.ConnectionView.{connection_end};
 
-use crate::one_end::Core;
+use crate::connection::Connection;
 use crate::stage::Stage;
 use amqp_channel::ChannelState;
 use amqp_method::Kind;
 
-impl Core {
+impl Connection {
     /// The greatest channel number that was agreed, 0 before.
     fn channel_max(&self) -> u16
-        ensures { result ≡ channel_max (core_end self.now).agreed }
+        ensures { result ≡ channel_max (connection_end self.now).agreed }
     {
         match self.stage.agreed() {
             Some(agreed) => agreed.channel_max,
@@ -22,7 +22,7 @@ impl Core {
     }
 
     pub(crate) fn channel_state(&self, number: u16) -> ChannelState
-        ensures { state_view result ≡ channel_state (core_end self.now) number }
+        ensures { state_view result ≡ channel_state (connection_end self.now) number }
     {
         if number == 0 || self.channel_max() < number {
             return ChannelState::Free;
@@ -37,7 +37,7 @@ impl Core {
     }
 
     pub(crate) fn gathered(&self, number: u16) -> usize
-        ensures { result ≡ gathered (core_end self.now) number }
+        ensures { result ≡ gathered (connection_end self.now) number }
     {
         let Stage::Running(_) = self.stage else {
             return 0;
@@ -52,7 +52,7 @@ impl Core {
     }
 
     pub(crate) fn reply_due(&self, number: u16) -> Option<Kind>
-        ensures { result ≡ reply_due (core_end self.now) number }
+        ensures { result ≡ reply_due (connection_end self.now) number }
     {
         if number == 0 || self.stage.is_closed() || self.stage.is_failed() {
             return None;

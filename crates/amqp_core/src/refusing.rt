@@ -13,8 +13,8 @@ ghost use Rattle.amqp_channel.specs.Messages.{message_of};
 ghost use Rattle.amqp_channel.specs.Roles.{role_of};
 ghost use Rattle.amqp_core.specs.Refusals.{refusal_there, refusal_in, reply_refusal, passes as is_passed, is_too_large as is_longer};
 
+use crate::connection::Connection;
 use crate::faults::AskFault;
-use crate::one_end::Core;
 use crate::stage::Stage;
 use amqp_channel::words::same;
 use amqp_channel::{Agreed, Channel, Life, Side};
@@ -120,7 +120,7 @@ fn refusal_of_message(
     refusal_of_turn(side, life, message.method())
 }
 
-impl Core {
+impl Connection {
     ghost use Rattle.amqp_model.specs.Asks as asks;
     ghost use Rattle.amqp_model.specs.Asks.{is_free, is_running, lowest_free, refusal};
     ghost use Rattle.amqp_model.specs.Notes.{Client, Role, Server};
@@ -128,7 +128,7 @@ impl Core {
     ghost use Rattle.amqp_channel.specs.ChannelsView.{channels_view};
     ghost use Rattle.amqp_channel.specs.Used.{is_open_at};
     ghost use Rattle.amqp_core.specs.Asked.{IsAllowed, IsRefusal};
-    ghost use Rattle.amqp_core.specs.CoreView.{core_end};
+    ghost use Rattle.amqp_core.specs.ConnectionView.{connection_end};
     ghost use Rattle.amqp_core.specs.Faults.{refusal_view};
     ghost use Rattle.amqp_core.specs.Refusals.{refused_on, IsOpenIn};
     ghost use Rattle.amqp_core.specs.Settings.{role_for};
@@ -137,7 +137,7 @@ impl Core {
     /// What was agreed on a connection that is Running.
     pub(crate) fn running(&self) -> Result<Agreed, AskFault>
         ensures running { IfOk result (λ agreed. self.now.stage ≡ Running agreed) }
-        ensures refused { IfErr result (λ fault. (role : Role) (ask : asks.Ask) → refusal_view fault ≡ refusal role (core_end self.now) ask) }
+        ensures refused { IfErr result (λ fault. (role : Role) (ask : asks.Ask) → refusal_view fault ≡ refusal role (connection_end self.now) ask) }
     {
         match self.stage {
             Stage::Running(agreed) => Ok(agreed),
@@ -157,8 +157,8 @@ impl Core {
     /// The life of a channel that is Open.
     fn open_life(&self, agreed: Agreed, number: u16) -> Result<&Life, AskFault>
         requires { self.now.stage ≡ Running agreed }
-        ensures open { IfOk result (λ life. IsOpenIn (core_end self.now) number (life_view life.now)) }
-        ensures refused { IfErr result (λ fault. (later : List (Option Refusal)) → refusal_view fault ≡ refused_on (core_end self.now) number later) }
+        ensures open { IfOk result (λ life. IsOpenIn (connection_end self.now) number (life_view life.now)) }
+        ensures refused { IfErr result (λ fault. (later : List (Option Refusal)) → refusal_view fault ≡ refused_on (connection_end self.now) number later) }
     {
         if number == 0 || agreed.channel_max < number {
             return Err(AskFault::BadChannel);
@@ -174,10 +174,10 @@ impl Core {
 
     /// The channel that an open takes, where it isn't refused.
     pub(crate) fn allow_open(&mut self) -> Result<u16, AskFault>
-        ensures allowed { OnOk result (IsAllowed self.old.settings (core_end self.old) asks.Open) }
-        ensures refused { IfErr result (λ fault. IsRefusal self.old.settings (core_end self.old) asks.Open fault) }
-        ensures running { OnOk result (is_running (core_end self.old).phase ≡ true) }
-        ensures lowest { IfOk result (λ number. lowest_free (core_end self.old) ≡ Some number) }
+        ensures allowed { OnOk result (IsAllowed self.old.settings (connection_end self.old) asks.Open) }
+        ensures refused { IfErr result (λ fault. IsRefusal self.old.settings (connection_end self.old) asks.Open fault) }
+        ensures running { OnOk result (is_running (connection_end self.old).phase ≡ true) }
+        ensures lowest { IfOk result (λ number. lowest_free (connection_end self.old) ≡ Some number) }
         ensures above { IfOk result (λ number. 0 < number) }
         ensures free { IfOk result (λ number. is_free (channels_view self.old.channels number) ≡ true) }
         ensures client { OnOk result (role_for self.old.settings ≡ Client) }
@@ -197,8 +197,8 @@ impl Core {
 
     /// What was agreed, where a message isn't refused.
     pub(crate) fn allow_send(&self, number: u16, message: &Message) -> Result<Agreed, AskFault>
-        ensures allowed { OnOk result (IsAllowed self.now.settings (core_end self.now) (asks.Send number (message_of (message_view message.now)))) }
-        ensures refused { IfErr result (λ fault. IsRefusal self.now.settings (core_end self.now) (asks.Send number (message_of (message_view message.now))) fault) }
+        ensures allowed { OnOk result (IsAllowed self.now.settings (connection_end self.now) (asks.Send number (message_of (message_view message.now)))) }
+        ensures refused { IfErr result (λ fault. IsRefusal self.now.settings (connection_end self.now) (asks.Send number (message_of (message_view message.now))) fault) }
         ensures running { IfOk result (λ agreed. self.now.stage ≡ Running agreed) }
         ensures above { OnOk result (0 < number) }
         ensures open { OnOk result (is_open_at (channels_view self.now.channels number) ≡ true) }
@@ -216,8 +216,8 @@ impl Core {
 
     /// What was agreed, where a flow isn't refused.
     pub(crate) fn allow_flow(&self, number: u16) -> Result<Agreed, AskFault>
-        ensures allowed { OnOk result ((active : Bool) → IsAllowed self.now.settings (core_end self.now) (asks.Flow number active)) }
-        ensures refused { IfErr result (λ fault. (active : Bool) → IsRefusal self.now.settings (core_end self.now) (asks.Flow number active) fault) }
+        ensures allowed { OnOk result ((active : Bool) → IsAllowed self.now.settings (connection_end self.now) (asks.Flow number active)) }
+        ensures refused { IfErr result (λ fault. (active : Bool) → IsRefusal self.now.settings (connection_end self.now) (asks.Flow number active) fault) }
         ensures running { IfOk result (λ agreed. self.now.stage ≡ Running agreed) }
         ensures above { OnOk result (0 < number) }
         ensures open { OnOk result (is_open_at (channels_view self.now.channels number) ≡ true) }
@@ -232,8 +232,8 @@ impl Core {
 
     /// What was agreed, where a close of a channel isn't refused.
     pub(crate) fn allow_close(&self, number: u16) -> Result<Agreed, AskFault>
-        ensures allowed { OnOk result ((code : ℕ) (text : List ℕ) → IsAllowed self.now.settings (core_end self.now) (asks.CloseChannel number code text)) }
-        ensures refused { IfErr result (λ fault. (code : ℕ) (text : List ℕ) → IsRefusal self.now.settings (core_end self.now) (asks.CloseChannel number code text) fault) }
+        ensures allowed { OnOk result ((code : ℕ) (text : List ℕ) → IsAllowed self.now.settings (connection_end self.now) (asks.CloseChannel number code text)) }
+        ensures refused { IfErr result (λ fault. (code : ℕ) (text : List ℕ) → IsRefusal self.now.settings (connection_end self.now) (asks.CloseChannel number code text) fault) }
         ensures running { IfOk result (λ agreed. self.now.stage ≡ Running agreed) }
         ensures above { OnOk result (0 < number) }
         ensures open { OnOk result (is_open_at (channels_view self.now.channels number) ≡ true) }
@@ -245,10 +245,10 @@ impl Core {
 
     /// What was agreed, where it isn't refused to say that contents are taken or not.
     pub(crate) fn allow_block(&self) -> Result<Agreed, AskFault>
-        ensures allowed { OnOk result ((reason : List ℕ) → IsAllowed self.now.settings (core_end self.now) (asks.Blocked reason)) }
-        ensures unblocking { OnOk result (IsAllowed self.now.settings (core_end self.now) asks.Unblocked) }
-        ensures refused { IfErr result (λ fault. (reason : List ℕ) → IsRefusal self.now.settings (core_end self.now) (asks.Blocked reason) fault) }
-        ensures no_unblocking { IfErr result (λ fault. IsRefusal self.now.settings (core_end self.now) asks.Unblocked fault) }
+        ensures allowed { OnOk result ((reason : List ℕ) → IsAllowed self.now.settings (connection_end self.now) (asks.Blocked reason)) }
+        ensures unblocking { OnOk result (IsAllowed self.now.settings (connection_end self.now) asks.Unblocked) }
+        ensures refused { IfErr result (λ fault. (reason : List ℕ) → IsRefusal self.now.settings (connection_end self.now) (asks.Blocked reason) fault) }
+        ensures no_unblocking { IfErr result (λ fault. IsRefusal self.now.settings (connection_end self.now) asks.Unblocked fault) }
         ensures running { IfOk result (λ agreed. self.now.stage ≡ Running agreed) }
         ensures server { OnOk result (role_for self.now.settings ≡ Server) }
     {

@@ -1,4 +1,11 @@
 //! Where a connection stands: what an end awaits next, and what was agreed by then.
+//!
+//! A client awaits start, tune and open-ok, a server the protocol header, start-ok, tune-ok and open. Then:
+//!
+//!     Handshake --open-ok--> Running --close put--> Closing --close-ok--> Closed
+//!     Handshake, Running --close taken--> Closed
+//!
+//! A fault of the peer, or out of memory, leads from each but Closed to Failed.
 ghost use Rattle.std.specs.Prelude.{◌≡◌, ◌≢◌, true, false, None};
 ghost use Rattle.amqp_model.specs.Channels as model;
 ghost use Rattle.amqp_model.specs.EndVerdict.{takes_octets};

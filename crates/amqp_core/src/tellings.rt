@@ -1,14 +1,15 @@
 //! What an end told its application, and what it said to the other end: items, each in a life of its channel.
-ghost use Rattle.std.specs.Prelude.{◌≡◌, IfOk};
+ghost use Rattle.std.specs.Prelude.{◌≡◌, IfOk, OnErr};
 ghost use Rattle.amqp_model.specs.Traces.{item_in_event};
-ghost use Rattle.amqp_channel.specs.NewsView.{news_there};
+ghost use Rattle.amqp_channel.specs.PartsView.{parts_there};
 ghost use Rattle.amqp_core.specs.AskNoting.{item_asked};
 ghost use Rattle.amqp_core.specs.AskView.{lent_view};
+ghost use Rattle.amqp_core.specs.Feeding.{IsMessage};
 ghost use Rattle.amqp_core.specs.NoteView.{item_there, item_view};
 
 use crate::asks::LentAsk;
 use crate::faults::OutOfMemory;
-use amqp_channel::News;
+use amqp_channel::EventParts;
 use amqp_method::Message;
 
 /// What an application sends or receives on a channel.
@@ -66,22 +67,32 @@ impl Item {
         }
     }
 
-    /// The item that the news of a frame tells, if it tells one.
-    pub(crate) fn of_news(news: &Option<News>) -> Result<Option<Item>, OutOfMemory>
-        ensures { IfOk result (λ item. item_there item ≡ item_in_event (news_there news.now)) }
+    /// The item of an event with these parts, if it tells one. Only a message takes memory.
+    pub(crate) fn of_parts(parts: &Option<EventParts>) -> Result<Option<Item>, OutOfMemory>
+        ensures item { IfOk result (λ item. item_there item ≡ item_in_event (parts_there parts.now)) }
+        ensures err { OnErr result (IsMessage (parts_there parts.now)) }
     {
-        match news {
-            Some(News::Method(_, lone)) => {
-                let message = lone.copy_message()?;
+        match parts {
+            Some(EventParts::Method(_, method)) => {
+                let message = method.copy_message()?;
                 Ok(Some(Item::Message(message)))
             }
-            Some(News::Content(_, content)) => {
+            Some(EventParts::Content(_, content)) => {
                 let message = content.copy_message()?;
                 Ok(Some(Item::Message(message)))
             }
-            Some(News::Flow(_, active)) => Ok(Some(Item::Flow(*active))),
-            Some(News::FlowOk(_, active)) => Ok(Some(Item::FlowOk(*active))),
-            Some(_) => Ok(None),
+            Some(EventParts::Flow(_, active)) => Ok(Some(Item::Flow(*active))),
+            Some(EventParts::FlowOk(_, active)) => Ok(Some(Item::FlowOk(*active))),
+            Some(
+                EventParts::Negotiated(_)
+                | EventParts::Opened(_)
+                | EventParts::ChannelClosed(_, _)
+                | EventParts::ConnectionClosed(_)
+                | EventParts::Discarded(_)
+                | EventParts::Blocked(_)
+                | EventParts::Unblocked
+                | EventParts::Quiet,
+            ) => Ok(None),
             None => Ok(None),
         }
     }

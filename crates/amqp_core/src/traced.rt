@@ -20,7 +20,7 @@ ghost use Rattle.amqp_core.specs.Asked.{number_taken};
 ghost use Rattle.amqp_core.specs.Asking.{AcceptsAsk, RefusesAsk};
 ghost use Rattle.amqp_core.specs.Bounded.{IsBounded};
 ghost use Rattle.amqp_core.specs.EndView as ends;
-ghost use Rattle.amqp_core.specs.Feeding.{IsFed};
+ghost use Rattle.amqp_core.specs.Feeding.{seen, IsFed};
 ghost use Rattle.amqp_core.specs.LedgerView.{HasRoom};
 ghost use Rattle.amqp_core.specs.NoteView.{note_view, telling_view};
 ghost use Rattle.amqp_core.specs.Stages.{phase_name};
@@ -34,7 +34,7 @@ use crate::ledger::Ledger;
 use crate::notes::Note;
 use crate::roles::Role;
 use crate::stage::Phase;
-use crate::taken::{Taken, told};
+use crate::taken::Taken;
 use crate::tellings::Telling;
 use crate::tracing::{make_room, put, room_for_ask, take};
 use amqp_channel::{Agreed, ChannelState};
@@ -84,7 +84,7 @@ impl<R: Role> Traced<R> {
 
     /// Takes octets as [`End::feed`] does. Out of memory, the end has failed, and what is kept of its history is as it was.
     pub fn feed(&mut self, piece: &[u8]) -> Result<Taken, CoreFault>
-        ensures fed { IsFed result (traced_of self.old).endpoint (after_feed (role_played self.old) (config_at self.old) (traced_of self.old).endpoint piece.now) (traced_of self.new).endpoint }
+        ensures fed { IsFed (seen result) (traced_of self.old).endpoint (after_feed (role_played self.old) (config_at self.old) (traced_of self.old).endpoint piece.now) (traced_of self.new).endpoint }
         ensures within { IfOk result (λ taken. taken.octets ≤ length piece.now) }
         ensures progress { IfOk result (λ taken. piece.now ≢ [] → 0 < taken.octets) }
         ensures octets { FedGrows (ran_out result) piece.now (after_feed (role_played self.old) (config_at self.old) (traced_of self.old).endpoint piece.now) (traced_of self.old) (traced_of self.new) }
@@ -116,9 +116,7 @@ impl<R: Role> Traced<R> {
             self.end.run_out();
             return Err(CoreFault::OutOfMemory);
         }
-        let mut news = None;
-        let answer = take(&mut self.end, &mut self.ledger, piece, &mut news);
-        told(answer, news)
+        take(&mut self.end, &mut self.ledger, piece)
     }
 
     /// Does what an application asks, as [`End::ask`] does. Out of memory, nothing has changed.

@@ -1,11 +1,13 @@
 //! What an end does, and what is kept of it beside the end: both, or, out of memory, neither.
-ghost use Rattle.std.specs.Prelude.{◌≡◌, ◌≢◌, ◌+◌, ◌*◌, ◌<◌, ◌≤◌, ℕ, true, false, [], length, vec_len, vec_capacity, None, IfOk, IfErr, OnOk, OnErr};
+ghost use Rattle.std.specs.Prelude.{◌≡◌, ◌≢◌, ◌+◌, ◌*◌, ◌<◌, ◌≤◌, ℕ, true, false, [], length, vec_len, vec_capacity, IsOk, IfOk, IfErr, OnOk, OnErr};
 ghost use Rattle.amqp_model.specs.Asks.{frames_asked, refusal};
 ghost use Rattle.amqp_model.specs.Endpoint.{after_feed};
 ghost use Rattle.amqp_model.specs.EndVerdict.{takes_octets};
 ghost use Rattle.amqp_model.specs.Histories.{History};
 ghost use Rattle.amqp_model.specs.LawfulHistories.{then_put};
 ghost use Rattle.amqp_model.specs.Outputs.{output_octets};
+ghost use Rattle.amqp_model.specs.Traces.{item_in_event};
+ghost use Rattle.amqp_channel.specs.PartsView.{parts_there};
 ghost use Rattle.amqp_channel.specs.Roles.{role_of};
 ghost use Rattle.amqp_core.specs.Answering.{ran_out};
 ghost use Rattle.amqp_core.specs.AskNoting.{GrowsByFrames, IsChannelOf, IsSizeOf, count_asked, item_asked};
@@ -14,7 +16,7 @@ ghost use Rattle.amqp_core.specs.Asked.{number_taken};
 ghost use Rattle.amqp_core.specs.Asking.{AcceptsAsk, RefusesAsk};
 ghost use Rattle.amqp_core.specs.EndView.{config_at, endpoint_of, role_played, settings_at};
 ghost use Rattle.amqp_core.specs.Growth.{GrowsLittle};
-ghost use Rattle.amqp_core.specs.Hearing.{IsHeard};
+ghost use Rattle.amqp_core.specs.Feeding.{event_in, seen, taken_with, IsFed, IsMessage};
 ghost use Rattle.amqp_core.specs.LedgerView.{HasRoom};
 ghost use Rattle.amqp_core.specs.NoteView.{item_there};
 ghost use Rattle.amqp_core.specs.TracedFields.{kept_of};
@@ -28,8 +30,9 @@ use crate::end::End;
 use crate::faults::{AskFault, CoreFault, OutOfMemory};
 use crate::ledger::Ledger;
 use crate::roles::Role;
+use crate::taken::Taken;
 use crate::tellings::Item;
-use amqp_channel::News;
+use amqp_channel::EventParts;
 use amqp_model::{fitting, octets, one_end, traces};
 
 /// Makes room for so many frames, so many octets that are fed, and as many that are written as the output has and may get.
@@ -53,33 +56,47 @@ pub(crate) fn make_room<R: Role>(
     ledger.reserve(frames, fed, written)
 }
 
-fn is_out_of_memory(answer: &Result<usize, CoreFault>) -> bool
+fn is_out_of_memory(answer: &Result<(), CoreFault>) -> bool
     ensures { result ≡ ran_out answer.now }
 {
     match answer {
         Err(CoreFault::OutOfMemory) => true,
         Err(CoreFault::Peer(_) | CoreFault::Fatal | CoreFault::Failed | CoreFault::Closed) => false,
-        Ok(_) => false,
+        Ok(()) => false,
     }
 }
 
-/// Takes octets, for which there is room, and answers how many. What they tell goes where the caller has room for it.
+/// The item that a piece told, if it told one. Only a message takes memory.
+fn item_told(
+    answer: &Result<(), CoreFault>,
+    parts: &Option<EventParts>,
+) -> Result<Option<Item>, OutOfMemory>
+    ensures item { IfOk result (λ item. (octets : ℕ)
+        → item_there item ≡ item_in_event (event_in (taken_with answer.now octets (parts_there parts.now)))) }
+    ensures told { OnErr result (IsOk answer.now) }
+    ensures err { OnErr result (IsMessage (parts_there parts.now)) }
+{
+    match answer {
+        Ok(()) => Item::of_parts(parts),
+        Err(_) => Ok(None),
+    }
+}
+
+/// Takes octets, for which there is room.
 pub(crate) fn take<R: Role>(
     end: &mut End<R>,
     ledger: &mut Ledger,
     piece: &[u8],
-    news: &mut Option<News>,
-) -> Result<usize, CoreFault>
+) -> Result<Taken, CoreFault>
     requires room { HasRoom ledger.old 3 (length piece.now) }
     requires takes { takes_octets (endpoint_of end.old).end.phase ≡ true }
     requires plays { role_of ledger.old.side ≡ role_played end.old }
-    requires none { news.old ≡ None }
-    ensures fed { IsHeard result news.new (endpoint_of end.old) (after_feed (role_played end.old) (config_at end.old) (endpoint_of end.old) piece.now) (endpoint_of end.new) }
+    ensures fed { IsFed (seen result) (endpoint_of end.old) (after_feed (role_played end.old) (config_at end.old) (endpoint_of end.old) piece.now) (endpoint_of end.new) }
     ensures octets { FedGrows (ran_out result) piece.now (after_feed (role_played end.old) (config_at end.old) (endpoint_of end.old) piece.now) (kept_of end.old ledger.old) (kept_of end.new ledger.new) }
     ensures history { (history : History) → IsTraceOf (role_played end.old) (config_at end.old) (kept_of end.old ledger.old) history
         → ∥ TraceGoesOn (role_played end.old) (config_at end.old) (ran_out result) (endpoint_of end.old) piece.now (after_feed (role_played end.old) (config_at end.old) (endpoint_of end.old) piece.now) history (kept_of end.new ledger.new) ∥₁ }
-    ensures within { IfOk result (λ octets. octets ≤ length piece.now) }
-    ensures progress { IfOk result (λ octets. piece.now ≢ [] → 0 < octets) }
+    ensures within { IfOk result (λ taken. taken.octets ≤ length piece.now) }
+    ensures progress { IfOk result (λ taken. piece.now ≢ [] → 0 < taken.octets) }
     ensures grows { GrowsLittle (endpoint_of end.old).output (endpoint_of end.new).output }
     ensures written { ledger.new.written ≡ ledger.old.written }
     ensures settings { settings_at end.new ≡ settings_at end.old }
@@ -95,15 +112,18 @@ pub(crate) fn take<R: Role>(
     traces::events_are_told();
     traces::messages_are_said();
     fitting::owed_read_back();
-    let mut account = Account::new(true);
-    let answer = end.advance(piece, &mut account, news);
+    let mut account = Account::new();
+    let answer = end.advance(piece, &mut account);
     if is_out_of_memory(&answer) {
-        drop(account);
-        return answer;
+        return account.taken(answer);
     }
-    let octets = account.octets;
-    ledger.enter(&piece[..octets], account);
-    answer
+    let Ok(item) = item_told(&answer, &account.parts) else {
+        drop(account);
+        end.run_out();
+        return Err(CoreFault::OutOfMemory);
+    };
+    ledger.enter(&piece[..account.octets], &account, item);
+    account.taken(answer)
 }
 
 /// Makes room for an ask that isn't refused, and answers the item that it says.

@@ -1,5 +1,5 @@
 //! What ends answer where memory is refused. With ample memory none is; where each request is refused in turn
-//! (`beside/memory/refused_calls.py`), each run ends in its own answer, or in out of memory.
+//! (`checks/memory/refused_calls.py`), each run ends in its own answer, or in out of memory.
 use crate::messages::message;
 use crate::octets::octets_of;
 use crate::pairs::{DEFAULT, Pair, SMALL_FRAMES, Setting};

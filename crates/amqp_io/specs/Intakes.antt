@@ -6,7 +6,7 @@ use Rattle.amqp_model.specs.Negotiation.{Config}
 use Rattle.amqp_model.specs.Notes.{Role}
 use Rattle.amqp_model.specs.OctetLaws.{EndpointStandsFor}
 use Rattle.amqp_core.specs.Answering.{ran_out}
-use Rattle.amqp_core.specs.Feeding.{IsFed}
+use Rattle.amqp_core.specs.Feeding.{IsFed, seen}
 use Rattle.amqp_core.specs.Following.{GoesOn}
 use Rattle.amqp_core.specs.Events.{Event}
 use Rattle.amqp_core.specs.declared.taken.Taken.{Taken}
@@ -28,7 +28,7 @@ HistoriesGoOn role config result old octets new =
 
 -- What one feed of these octets promises: its answer, and the end that is left, are those of the definitions.
 pub record Feeds (role : Role) (config : Config role) (result : Result Taken CoreFault) (old : Endpoint) (octets : List ℕ) (new : Endpoint) : Type 0 where
-  pub answered : IsFed result old (after_feed role config old octets) new
+  pub answered : IsFed (seen result) old (after_feed role config old octets) new
   pub follows : HistoriesGoOn role config result old octets new
 
 -- after a feed: the octets taken are gone from the start, and the event, if there is one, comes last

@@ -11,3 +11,4 @@ pub mod IoFaults
 pub mod Intakes
 pub mod Sessions
 pub mod SessionView
+pub mod SessionAsks

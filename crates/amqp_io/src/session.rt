@@ -2,10 +2,13 @@
 ghost use Rattle.std.specs.Prelude.{◌≡◌, ◌⊎◌, ◌<◌, ℕ, min, [], ◌++◌, length, option_to_list, Result, Ok, Err, Some, None, IfOk, IfErr, OnOk};
 ghost use Rattle.std.specs.VecDeque.{deque_len, deque_capacity};
 ghost use Rattle.amqp_model.specs.Outputs.{output_octets};
+ghost use Rattle.amqp_method.specs.MessageView.{message_view};
+ghost use Rattle.amqp_model.specs.Asks as asks;
+ghost use Rattle.amqp_channel.specs.Messages.{message_of};
 ghost use Rattle.amqp_core.specs.AskView.{ask_view};
-ghost use Rattle.amqp_core.specs.Asked.{number_taken};
-ghost use Rattle.amqp_core.specs.Asking.{AcceptsAsk, RefusesAsk};
+ghost use Rattle.amqp_core.specs.EndAsks.{AnswersLowest, AnswersNumber};
 ghost use Rattle.amqp_core.specs.EndView.{endpoint_of};
+ghost use Rattle.amqp_io.specs.SessionAsks.{Asked};
 ghost use Rattle.amqp_io.specs.Sessions.{FeedsThose, Pulls, Pushes, Turns};
 ghost use Rattle.amqp_io.specs.Streams.{Marks};
 
@@ -15,6 +18,8 @@ use crate::stream::Stream;
 use crate::unfed::Unfed;
 use crate::writing::write_prefix;
 use amqp_core::{Ask, AskFault, End, Event, Role, Taken};
+use amqp_method::Message;
+use amqp_value::ShortStr;
 use std::alloc::Global;
 use std::collections::VecDeque;
 
@@ -145,18 +150,67 @@ impl<R: Role, S: Stream> Session<R, S> {
         }
     }
 
-    /// Asks something of the end, as [`End::ask`].
+    /// Asks something of the end, as [`End::ask`]. Nothing is written yet.
     pub fn ask(&mut self, ask: &Ask) -> Result<Option<u16>, AskFault>
-        ensures accepted { OnOk result (AcceptsAsk (role_in self.old) (config_in self.old) (ask_view ask.now) (endpoint_of (end_of self.old)) (endpoint_of (end_of self.new))) }
-        ensures refused { IfErr result (λ fault. RefusesAsk (role_in self.old) (ask_view ask.now) fault (endpoint_of (end_of self.old)) (endpoint_of (end_of self.new))) }
-        ensures number { IfOk result (λ number. number ≡ number_taken (endpoint_of (end_of self.old)).end (ask_view ask.now)) }
-        ensures settings { settings_in self.new ≡ settings_in self.old }
-        ensures stream { stream_of self.new ≡ stream_of self.old }
-        ensures unfed { unfed_in self.new ≡ unfed_in self.old }
-        ensures events { events_in self.new ≡ events_in self.old }
-        ensures room { room_in self.new ≡ room_in self.old }
+        ensures asked { Asked self.old (ask_view ask.now) result self.new }
+        ensures number { AnswersNumber (end_of self.old) (ask_view ask.now) result }
     {
         self.end.ask(ask)
+    }
+
+    /// Opens the lowest channel that is free, as [`End::open_channel`].
+    pub fn open_channel(&mut self) -> Result<u16, AskFault>
+        ensures asked { Asked self.old asks.Open result self.new }
+        ensures number { AnswersLowest (end_of self.old) result }
+    {
+        self.end.open_channel()
+    }
+
+    /// Sends a message on a channel, as [`End::send`].
+    pub fn send(&mut self, channel: u16, message: &Message) -> Result<(), AskFault>
+        ensures { Asked self.old (asks.Send channel (message_of (message_view message.now))) result self.new }
+    {
+        self.end.send(channel, message)
+    }
+
+    /// Asks the other end to send contents on a channel, or no more of them, as [`End::flow`].
+    pub fn flow(&mut self, channel: u16, active: bool) -> Result<(), AskFault>
+        ensures { Asked self.old (asks.Flow channel active) result self.new }
+    {
+        self.end.flow(channel, active)
+    }
+
+    /// Closes a channel, as [`End::close_channel`].
+    pub fn close_channel(
+        &mut self,
+        channel: u16,
+        code: u16,
+        text: &ShortStr,
+    ) -> Result<(), AskFault>
+        ensures { Asked self.old (asks.CloseChannel channel code text.now) result self.new }
+    {
+        self.end.close_channel(channel, code, text)
+    }
+
+    /// Closes the connection, as [`End::close`].
+    pub fn close(&mut self, code: u16, text: &ShortStr) -> Result<(), AskFault>
+        ensures { Asked self.old (asks.Close code text.now) result self.new }
+    {
+        self.end.close(code, text)
+    }
+
+    /// Says that the server takes no more contents, as [`End::blocked`].
+    pub fn blocked(&mut self, reason: &ShortStr) -> Result<(), AskFault>
+        ensures { Asked self.old (asks.Blocked reason.now) result self.new }
+    {
+        self.end.blocked(reason)
+    }
+
+    /// Says that the server takes contents again, as [`End::unblocked`].
+    pub fn unblocked(&mut self) -> Result<(), AskFault>
+        ensures { Asked self.old asks.Unblocked result self.new }
+    {
+        self.end.unblocked()
     }
 
     /// The oldest of the events that were not handed out yet.
@@ -221,6 +275,9 @@ impl<R: Role, S: Stream> Session<R, S> {
 
     /// Feeds the end what was read before and not fed. Then it reads once, at most as many octets as there is room for,
     /// and feeds all of them. It answers how many it read: at least 1. Nothing is written.
+    ///
+    /// Replies wait in the end's output, which has no limit: do not pull while `session.end().output()` is longer than a bound
+    /// of your own.
     pub fn pull(&mut self) -> Result<usize, IoFault>
         ensures pulled { Pulls (room_in self.old) (role_in self.old) (config_in self.old) result (intake_of self.old) (intake_of self.new) (S.to_give (stream_of self.old)) (S.to_give (stream_of self.new)) }
         ensures taken { S.taken (stream_of self.new) ≡ S.taken (stream_of self.old) }

@@ -27,7 +27,7 @@ const GO_ON: &str = "010001000000050014001401ce";
 const PAUSED_AND_GOING: &str = "010001000000050014001500ce 010001000000050014001501ce";
 
 /// Feeds an end the octets that these words stand for.
-fn feed(alloc: Global, end: &mut End<Client>, words: &str) -> Result<(), Fail> {
+pub(crate) fn feed(alloc: Global, end: &mut End<Client>, words: &str) -> Result<(), Fail> {
     let octets = octets_of(alloc, words)?;
     let mut rest = octets.as_slice();
     for _ in 0..20 {
@@ -51,7 +51,7 @@ fn run(alloc: Global, end: &mut End<Client>) -> Result<(), Fail> {
 }
 
 /// basic.qos: the server may send so many messages that are not acknowledged.
-fn qos(alloc: Global, count: u16) -> Result<Message, Fail> {
+pub(crate) fn qos(alloc: Global, count: u16) -> Result<Message, Fail> {
     let args = vec![in alloc; Arg::Long(0), Arg::Short(count), Arg::Bit(false)]?;
     Ok(Message::plain(Method::try_new(Kind::BasicQos, args)?))
 }
@@ -65,7 +65,7 @@ fn publish(alloc: Global) -> Result<Message, Fail> {
     Ok(Message::content(method, Properties::default(), Vec::new(alloc)))
 }
 
-fn assert_output(
+pub(crate) fn assert_output(
     rt: &impl Abort,
     alloc: Global,
     end: &End<Client>,

@@ -10,7 +10,7 @@ use Rattle.amqp_model.specs.Outputs.{output_octets}
 use Rattle.amqp_core.specs.Answering.{ran_out}
 use Rattle.amqp_core.specs.Asking.{AcceptsAsk}
 use Rattle.amqp_core.specs.Faults.{refusal_view}
-use Rattle.amqp_core.specs.Feeding.{IsFed}
+use Rattle.amqp_core.specs.Feeding.{IsFed, seen}
 use Rattle.amqp_core.specs.Tracing.{FedGrows, IsTraceOf, TraceGoesOn}
 use Rattle.amqp_core.specs.declared.taken.Taken.{Taken}
 use Rattle.amqp_core.specs.declared.faults.CoreFault.{CoreFault}
@@ -97,7 +97,7 @@ feeding_of set_up piece reader = after_feed set_up.0 set_up.1 reader.kept.endpoi
 -- it was the trace of.
 pub record FedBy (set_up : (role : Role) × Config role) (piece : List ℕ) (answer : Result Taken CoreFault) (reader after : Seated) : Type 0 where
   pub set_up_same : after.set_up ≡ reader.set_up
-  pub fed : IsFed answer reader.kept.endpoint (feeding_of set_up piece reader) after.kept.endpoint
+  pub fed : IsFed (seen answer) reader.kept.endpoint (feeding_of set_up piece reader) after.kept.endpoint
   pub octets_are : FedGrows (ran_out answer) piece (feeding_of set_up piece reader) reader.kept after.kept
   pub history : (history : History) → IsTraceOf set_up.0 set_up.1 reader.kept history
       → ∥ TraceGoesOn set_up.0 set_up.1 (ran_out answer) reader.kept.endpoint piece (feeding_of set_up piece reader) history after.kept ∥₁

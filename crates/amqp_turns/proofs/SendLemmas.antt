@@ -1,5 +1,5 @@
 -- What one sending more, or a refusal, says of the messages that wait.
-use Rattle.std.proofs.Common.{◌≡◌, ◌⊎◌, ◌<◌, List, [], ◌∷◌, length, drop, slice_index_or, Some, inl, inr, sym, ◌∙◌, ap, subst, arith}
+use Rattle.std.proofs.Common.{◌≡◌, ◌⊎◌, ◌<◌, List, [], ◌∷◌, length, drop, slice_index_or, Some, Result, Ok, Err, OnOk, IfErr, inl, inr, sym, ◌∙◌, ap, subst, arith}
 use Rattle.amqp_model.specs.Asks.{Send, Paused, ReplyPending}
 use Rattle.amqp_model.specs.Endpoint.{Endpoint}
 use Rattle.amqp_model.specs.Events.{Message}
@@ -55,3 +55,10 @@ pub advances_on : (old between new : Standing) → Advances old between → Adva
 advances_on old between new first none_sent = first
 advances_on old between new first (sends_next middle message rest endpoint later next accepted) =
     sends_next middle message rest endpoint (advances_on old between middle first later) next accepted
+
+-- what a relation on an answer says once the answer is known
+pub sent_ok : {A : Type 0} (result : Result A AskFault) (value : A) (P : Type 0) → result ≡ Ok value → OnOk result P → P
+sent_ok result value P is holds = subst (λ r. OnOk r P) is holds
+
+pub sent_err : {A : Type 0} (result : Result A AskFault) (fault : AskFault) (P : AskFault → Type 0) → result ≡ Err fault → IfErr result P → P fault
+sent_err result fault P is holds = subst (λ r. IfErr r P) is holds

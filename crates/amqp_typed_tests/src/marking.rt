@@ -1,4 +1,4 @@
-//! Marks between which requests for memory are counted (`beside/memory/count.c`, preloaded).
+//! Marks between which requests for memory are counted (`checks/memory/count.c`, preloaded).
 use std::alloc::Global;
 use std::process::Abort;
 use std::test::Fail;

@@ -8,7 +8,7 @@
 
 mod server;
 
-use amqp_core::{Ask, Client, ClientHello, Config, End, Event};
+use amqp_core::{Client, ClientHello, Config, End, Event};
 use amqp_io::{Session, Stream};
 use amqp_method::{Arg, Kind, Message, Method, Properties};
 use amqp_value::{ShortStr, Table};
@@ -41,11 +41,11 @@ fn publish<S: Stream>(rt: &impl Print, alloc: Global, stream: &mut S) -> Result<
         println!(rt; "{event}")?;
         match event {
             Event::Negotiated(_) => {
-                session.ask(&Ask::Open)?;
+                session.open_channel()?;
             }
             Event::Opened(channel) => {
-                session.ask(&Ask::Send(channel, greeting(alloc)?))?;
-                session.ask(&Ask::Close(200, ShortStr::new(alloc, b"bye")?))?;
+                session.send(channel, &greeting(alloc)?)?;
+                session.close(200, &ShortStr::new(alloc, b"bye")?)?;
             }
             Event::ConnectionClosed(_) => break,
             _ => {}

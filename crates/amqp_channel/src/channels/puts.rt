@@ -16,7 +16,7 @@ ghost use Rattle.amqp_channel.specs.Used.{is_open_at};
 
 use crate::channel::Channel;
 use crate::channels::Channels;
-use crate::verdict::Site;
+use crate::site::Site;
 use amqp_method::{Kind, Message, OutOfMemory};
 use std::alloc::Global;
 

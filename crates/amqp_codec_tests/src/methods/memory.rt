@@ -1,5 +1,5 @@
 //! What calls ask of the allocator. By themselves these tests compare answers; where requests are counted between the marks
-//! (`beside/memory/count.c`, preloaded), they show which call takes how much.
+//! (`checks/memory/count.c`, preloaded), they show which call takes how much.
 use crate::marking::mark;
 use crate::showing::{assert_same, assert_same_for};
 use amqp_method::{Method, read_method, write_method};

@@ -8,6 +8,7 @@ use Rattle.amqp_core.specs.EndView.{config_at, endpoint_of, role_played}
 use Rattle.amqp_core.specs.TracedFields.{kept_of}
 use Rattle.amqp_core.specs.NoteView.{item_there, telling_view}
 use Rattle.amqp_core.proofs.AskTrace.{accepted-grows, ask-kept, traced-asked}
+use Rattle.amqp_core.proofs.AnswerLemmas.{in_ok}
 use Rattle.amqp_core.proofs.tracing.put.Goals as goal
 
 pub returns-in-Ok-clause-history : goal.returns-in-Ok-clause-history
@@ -28,7 +29,7 @@ returns-in-Ok-clause-history g c = λ history traced.
     })
     (∥∥₁_map end.kept.writes (c.owed_read_back.ensures.all role config))
     (ask-kept (role_of ledger.side) role config ask (lent_view c.lent.result) c.args.place.channel c.args.place.frame_max old new (item_there c.args.item)
-    c.requires.plays c.lent.ensures c.requires.size c.requires.item c.in-Ok.ensures.accepted c.requires.place
+    c.requires.plays c.lent.ensures c.requires.size c.requires.item (in_ok c.ask.result _ _ c.in-Ok.is c.ask.ensures.asked.accepted) c.requires.place
     c.put.ensures.notes (λ i. map telling_view (c.put.ensures.told_same i).items) c.put.ensures.said
     (λ i. (c.put.ensures.fed_same i).items) (λ i. (c.put.ensures.written_same i).items))
     traced
@@ -38,5 +39,5 @@ returns-in-Ok-clause-grows g c =
     let end = c.args.end.now in
     let ask = ask_view c.args.ask.now in
     accepted-grows (role_played end) (config_at end) ask c.args.place.channel c.args.place.frame_max (endpoint_of end) (endpoint_of c.ask.new.self)
-    c.in-Ok.ensures.accepted c.requires.place c.requires.size c.requires.least
+    (in_ok c.ask.result _ _ c.in-Ok.is c.ask.ensures.asked.accepted) c.requires.place c.requires.size c.requires.least
     (c.frames_are_within.ensures.asked (role_played end) (endpoint_of end).end ask (frames_asked (endpoint_of end).end ask))

@@ -1,5 +1,11 @@
 -- What holds of the end holds of its endpoint.
-use Rattle.std.proofs.Common.{ap, ◌∙◌, arith}
+use Rattle.std.proofs.Common.{◌≡◌, Bool, ap, sym, ◌∙◌, subst, arith}
+use Rattle.amqp_model.specs.Endpoint.{after_feed}
+use Rattle.amqp_channel.specs.PartsView.{parts_there}
+use Rattle.amqp_core.specs.AccountView.{taken_by}
+use Rattle.amqp_core.specs.Answering.{ran_out}
+use Rattle.amqp_core.specs.Following.{GoesOn}
+use Rattle.amqp_core.proofs.FeedLemmas.{ran_with}
 use Rattle.amqp_core.specs.EndView.{config_at, endpoint_of, role_played}
 use Rattle.amqp_core.specs.EndpointView.{endpoint_view}
 use Rattle.amqp_core.proofs.FollowLemmas.{piece_goes_on}
@@ -14,11 +20,14 @@ feed-requires-clause-sound g c = kept_sound c.args.self.now.inner c.args.self.no
 pub returns-clause-history : goal.returns-clause-history
 returns-clause-history g c = λ history fed written stands.
     let old = c.args.self.now in
-    piece_goes_on (role_played old) (config_at old) c.feed.new.news c.feed.result (endpoint_of old) (endpoint_view c.feed.new.self) history fed written c.args.piece.now
+    let account = c.feed.new.account in
+    let ran : ran_out (taken_by c.feed.result account) ≡ ran_out c.feed.result = ran_with c.feed.result account.octets (parts_there account.parts) in
+    subst (λ (b : Bool). ∥ GoesOn (role_played old) (config_at old) b (endpoint_of old) history fed written c.args.piece.now (after_feed (role_played old) (config_at old) (endpoint_of old) c.args.piece.now) (endpoint_view c.feed.new.self) ∥₁) ran
+    (piece_goes_on (role_played old) (config_at old) (taken_by c.feed.result account) (endpoint_of old) (endpoint_view c.feed.new.self) history fed written c.args.piece.now
     (c.failed_follows.ensures.read (role_played old) (config_at old))
     (c.memory_runs_out.ensures.stands (role_played old) (config_at old) (endpoint_of old) history fed written)
     (c.octets_follow.ensures.feed (role_played old) (config_at old) (endpoint_of old) history fed written c.args.piece.now)
-    (λ i. omega (arith, c.type_inv.piece i)) old.kept.writes c.feed.ensures.memory c.feed.ensures.fed stands
+    (λ i. omega (arith, c.type_inv.piece i)) old.kept.writes (λ e. c.feed.ensures.memory (sym ran ∙ e)) c.feed.ensures.fed stands)
 
 pub invariant_of-self : goal.invariant_of-self
 invariant_of-self g c = record {

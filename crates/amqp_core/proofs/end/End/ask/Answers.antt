@@ -18,10 +18,12 @@ invariant_of-self g c = record {
   plays = ap (λ (s : Settings). role_for s) c.ask.ensures.settings ∙ c.args.self.now.plays;
 }
 
-pub returns-clause-accepted : goal.returns-clause-accepted
-returns-clause-accepted g c =
-    subst (λ (asked : Ask). OnOk c.ask.result (AcceptsAsk (role_played c.args.self.now) (config_at c.args.self.now) asked (endpoint_of c.args.self.now) (endpoint_view c.ask.new.self))) c.lent.ensures c.ask.ensures.accepted
-
-pub returns-clause-refused : goal.returns-clause-refused
-returns-clause-refused g c =
-    subst (λ (asked : Ask). IfErr c.ask.result (λ fault. RefusesAsk (role_played c.args.self.now) asked fault (endpoint_of c.args.self.now) (endpoint_view c.ask.new.self))) c.lent.ensures c.ask.ensures.refused
+pub returns-clause-asked : goal.returns-clause-asked
+returns-clause-asked g c =
+    let old = c.args.self.now in
+    let new = c.ask.new.self in
+    record {
+      accepted = subst (λ (asked : Ask). OnOk c.ask.result (AcceptsAsk (role_played old) (config_at old) asked (endpoint_of old) (endpoint_view new))) c.lent.ensures c.ask.ensures.accepted;
+      refused = subst (λ (asked : Ask). IfErr c.ask.result (λ fault. RefusesAsk (role_played old) asked fault (endpoint_of old) (endpoint_view new))) c.lent.ensures c.ask.ensures.refused;
+      settings = c.ask.ensures.settings;
+    }

@@ -1,48 +1,52 @@
--- What was heard is what is taken, with its event.
-use Rattle.std.proofs.Common.{suc, ◌≢◌, ◌<◌, ◌≤◌, [], length, ◌∙◌, subst}
-use Rattle.amqp_model.specs.Endpoint.{after_feed}
+-- What came of the piece is answered.
+use Rattle.std.proofs.Common.{◌≡◌, ◌≢◌, ◌<◌, ◌≤◌, Bool, [], length, suc, Result, IfOk, IsOk, ap, sym, ◌∙◌, subst}
 use Rattle.amqp_model.specs.Histories.{entries_on}
+use Rattle.amqp_channel.specs.PartsView.{parts_there}
+use Rattle.amqp_core.specs.Answering.{ran_out}
 use Rattle.amqp_core.specs.EndView.{config_at, endpoint_of, role_played}
+use Rattle.amqp_core.specs.Feeding.{IsFed, Seen, seen}
+use Rattle.amqp_core.specs.Feeds.{fed_to}
 use Rattle.amqp_core.specs.Following.{GoesOn}
-use Rattle.amqp_core.proofs.FeedFaultLemmas.{feed_faults}
+use Rattle.amqp_core.specs.declared.faults.CoreFault.{CoreFault}
+use Rattle.amqp_core.proofs.FeedFaultLemmas.{count_seen, feed_faults, ok_seen, ran_seen}
+use Rattle.amqp_core.proofs.FeedLemmas.{ok_with, ran_with}
 use Rattle.amqp_core.proofs.OfHistoryLemmas.{verdicts_are}
-use Rattle.amqp_core.proofs.TakenLemmas.{fed-told, octets-told, ok-told, ran-told}
 use Rattle.amqp_core.proofs.end.End.feed.Goals as goal
 
-pub returns-clause-fed : goal.returns-clause-fed
-returns-clause-fed g c =
+pub returns-clause-feeds : goal.returns-clause-feeds
+returns-clause-feeds g c =
     let old = c.args.self.now in
-    fed-told c.advance-answer.new.news c.advance-answer.result c.told.result (endpoint_of old) (after_feed (role_played old) (config_at old) (endpoint_of old) c.args.piece.now) (endpoint_of c.advance-answer.new.self) c.told.ensures c.advance-answer.ensures.fed
-
-pub returns-clause-within : goal.returns-clause-within
-returns-clause-within g c = octets-told (λ n. n ≤ length c.args.piece.now) c.advance-answer.new.news c.advance-answer.result c.told.result c.told.ensures c.advance-answer.ensures.within
-
-pub returns-clause-progress : goal.returns-clause-progress
-returns-clause-progress g c = octets-told (λ n. c.args.piece.now ≢ [] → 0 < n) c.advance-answer.new.news c.advance-answer.result c.told.result c.told.ensures c.advance-answer.ensures.progress
-
-pub returns-clause-in_place : goal.returns-clause-in_place
-returns-clause-in_place g c = λ drops. ok-told c.advance-answer.new.news c.advance-answer.result c.told.result c.told.ensures (c.advance-answer.ensures.in_place c.new-account.ensures.wanted drops)
-
-pub returns-clause-history : goal.returns-clause-history
-returns-clause-history g c = λ history fed written stands.
-    let old = c.args.self.now in
-    subst (λ b. ∥ GoesOn (role_played old) (config_at old) b (endpoint_of old) history fed written c.args.piece.now (after_feed (role_played old) (config_at old) (endpoint_of old) c.args.piece.now) (endpoint_of c.advance-answer.new.self) ∥₁)
-    (ran-told c.advance-answer.new.news c.advance-answer.result c.told.result c.told.ensures) (c.advance-answer.ensures.history history fed written stands)
-
-pub returns-clause-memory : goal.returns-clause-memory
-returns-clause-memory g c = λ ran. c.advance-answer.ensures.memory (ran-told c.advance-answer.new.news c.advance-answer.result c.told.result c.told.ensures ∙ ran)
-
-pub returns-clause-faults : goal.returns-clause-faults
-returns-clause-faults g c =
-    let old = c.args.self.now in
+    let new = c.advance-answer.new.self in
     let role = role_played old in
     let config = config_at old in
-    feed_faults role config c.told.result (endpoint_of old) (endpoint_of c.advance-answer.new.self) c.args.piece.now (returns-clause-fed g c)
-    (c.cut_changes_nothing.ensures.closed role config (endpoint_of old) c.args.piece.now) (c.cut_changes_nothing.ensures.failed role config (endpoint_of old) c.args.piece.now) (returns-clause-memory g c)
+    let piece = c.args.piece.now in
+    let account = c.advance-answer.new.account in
+    let result = c.taken.result in
+    let ran : ran_out result ≡ ran_out c.advance-answer.result =
+    sym (ran_seen result) ∙ (ap ran_out c.taken.ensures ∙ ran_with c.advance-answer.result account.octets (parts_there account.parts)) in
+    let fed : IsFed (seen result) (endpoint_of old) (fed_to old piece) (endpoint_of new) =
+    subst (λ (r : Result Seen CoreFault). IsFed r (endpoint_of old) (fed_to old piece) (endpoint_of new)) (sym c.taken.ensures) c.advance-answer.ensures.fed in
+    record {
+      fed = fed;
+      in_place = λ drops. ok_seen result (subst (λ (r : Result Seen CoreFault). IsOk r) (sym c.taken.ensures)
+          (ok_with c.advance-answer.result account.octets (parts_there account.parts) (c.advance-answer.ensures.in_place drops)));
+      history = λ history octets written stands.
+          subst (λ (b : Bool). ∥ GoesOn role config b (endpoint_of old) history octets written piece (fed_to old piece) (endpoint_of new) ∥₁) (sym ran)
+          (c.advance-answer.ensures.history history octets written stands);
+      memory = λ out. c.advance-answer.ensures.memory (sym ran ∙ out);
+      faults = feed_faults role config result (endpoint_of old) (endpoint_of new) piece fed
+          (c.cut_changes_nothing.ensures.closed role config (endpoint_of old) piece) (c.cut_changes_nothing.ensures.failed role config (endpoint_of old) piece)
+          (λ out. c.advance-answer.ensures.memory (sym ran ∙ out));
+      verdicts = λ history octets written stands.
+          let kept = (endpoint_of old).end in
+          verdicts_are role config kept history (λ n. c.record_reads.ensures.channel role (kept.channels (suc n)) (entries_on (suc n) history)) stands.stands;
+      settings = c.advance-answer.ensures.settings;
+    }
 
-pub returns-clause-verdicts : goal.returns-clause-verdicts
-returns-clause-verdicts g c = λ history fed written stands.
-    let old = c.args.self.now in
-    let role = role_played old in
-    let kept = (endpoint_of old).end in
-    verdicts_are role (config_at old) kept history (λ n. c.record_reads.ensures.channel role (kept.channels (suc n)) (entries_on (suc n) history)) stands.stands
+pub returns-clause-within : goal.returns-clause-within
+returns-clause-within g c = count_seen c.taken.result (λ n. n ≤ length c.args.piece.now)
+    (subst (λ (r : Result Seen CoreFault). IfOk r (λ taken. taken.octets ≤ length c.args.piece.now)) (sym c.taken.ensures) c.advance-answer.ensures.within)
+
+pub returns-clause-progress : goal.returns-clause-progress
+returns-clause-progress g c = count_seen c.taken.result (λ n. c.args.piece.now ≢ [] → 0 < n)
+    (subst (λ (r : Result Seen CoreFault). IfOk r (λ taken. c.args.piece.now ≢ [] → 0 < taken.octets)) (sym c.taken.ensures) c.advance-answer.ensures.progress)

@@ -22,7 +22,7 @@ pub returns-clause-history : goal.returns-clause-history
 returns-clause-history g c =
     let inner = c.in_ok-inner.inner in
     let role = role_at inner in
-    let config = config_view inner.core.settings in
+    let config = config_view inner.connection.settings in
     record {
       stands = subst (λ (e : Endpoint). EndpointStandsFor role config e [] [] []) (sym (returns-clause-begins g c)) (c.octets_follow.ensures.new role config);
       writes = c.in_ok-inner.ensures.sound.writes;

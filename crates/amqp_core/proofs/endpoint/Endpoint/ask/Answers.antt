@@ -1,7 +1,7 @@
--- What is asked of the core is asked of the end.
+-- What is asked of the connection is asked of the end.
 use Rattle.std.proofs.Common.{false, refl}
 use Rattle.amqp_core.specs.AskView.{lent_view}
-use Rattle.amqp_core.specs.CoreView.{core_end}
+use Rattle.amqp_core.specs.ConnectionView.{connection_end}
 use Rattle.amqp_core.specs.EndpointView.{endpoint_view, role_at}
 use Rattle.amqp_core.specs.Settings.{config_view}
 use Rattle.amqp_model.specs.Asks.{frames_asked}
@@ -10,27 +10,27 @@ use Rattle.amqp_core.proofs.endpoint.Endpoint.ask.Goals as goal
 
 pub returns-in-Ok-clause-accepted : goal.returns-in-Ok-clause-accepted
 returns-in-Ok-clause-accepted c =
-    let old = c.args.self.now in accepts old.core.settings (lent_view c.args.ask) (endpoint_view old) (core_end c.ask.new.self) old.outbox c.ask.new.outbox c.in-Ok.ensures.accepted refl c.requires.fields.agreed
-    (c.frames_fit.ensures.asked (role_at old) (core_end old.core) (lent_view c.args.ask) (frames_asked (core_end old.core) (lent_view c.args.ask)))
-    (λ history fed written. c.octets_follow.ensures.accepted (role_at old) (config_view old.core.settings) (endpoint_view old) history fed written (lent_view c.args.ask) (frames_asked (core_end old.core) (lent_view c.args.ask)))
-    (λ history. c.ask_is_of_history.ensures (role_at old) (config_view old.core.settings) false (core_end old.core) history (lent_view c.args.ask))
+    let old = c.args.self.now in accepts old.connection.settings (lent_view c.args.ask) (endpoint_view old) (connection_end c.ask.new.self) old.outbox c.ask.new.outbox c.in-Ok.ensures.accepted refl c.requires.fields.agreed
+    (c.frames_fit.ensures.asked (role_at old) (connection_end old.connection) (lent_view c.args.ask) (frames_asked (connection_end old.connection) (lent_view c.args.ask)))
+    (λ history fed written. c.octets_follow.ensures.accepted (role_at old) (config_view old.connection.settings) (endpoint_view old) history fed written (lent_view c.args.ask) (frames_asked (connection_end old.connection) (lent_view c.args.ask)))
+    (λ history. c.ask_is_of_history.ensures (role_at old) (config_view old.connection.settings) false (connection_end old.connection) history (lent_view c.args.ask))
 
 pub returns-in-Ok-clause-sound : goal.returns-in-Ok-clause-sound
 returns-in-Ok-clause-sound c =
     let old = c.args.self.now in
     let asked = lent_view c.args.ask in
-    accepted_sound asked old (record { core = c.ask.new.self; splitter = old.splitter; heard = old.heard; outbox = c.ask.new.outbox }) c.requires c.ask.ensures.settings refl refl c.in-Ok.ensures.accepted
-    (c.unfinished_is_held.ensures.ask (role_at old) (config_view old.core.settings) (endpoint_view old) asked)
-    (c.agreed_is_within.ensures.ask (role_at old) (config_view old.core.settings) (core_end old.core) asked (frames_asked (core_end old.core) asked))
+    accepted_sound asked old (record { connection = c.ask.new.self; splitter = old.splitter; heard = old.heard; outbox = c.ask.new.outbox }) c.requires c.ask.ensures.settings refl refl c.in-Ok.ensures.accepted
+    (c.unfinished_is_held.ensures.ask (role_at old) (config_view old.connection.settings) (endpoint_view old) asked)
+    (c.agreed_is_within.ensures.ask (role_at old) (config_view old.connection.settings) (connection_end old.connection) asked (frames_asked (connection_end old.connection) asked))
     (returns-in-Ok-clause-accepted c)
-    (c.ends_are_bounded.ensures.ask (role_at old) (config_view old.core.settings) (core_end old.core) asked (frames_asked (core_end old.core) asked))
+    (c.ends_are_bounded.ensures.ask (role_at old) (config_view old.connection.settings) (connection_end old.connection) asked (frames_asked (connection_end old.connection) asked))
 
 pub returns-in-Err-clause-refused : goal.returns-in-Err-clause-refused
 returns-in-Err-clause-refused c =
-    let old = c.args.self.now in refuses old.core.settings (lent_view c.args.ask) c.in-Err.fault (endpoint_view old) (core_end c.ask.new.self) old.outbox c.ask.new.outbox c.in-Err.ensures.refused refl
-    (λ config history. c.ask_is_of_history.ensures (role_at old) config false (core_end old.core) history (lent_view c.args.ask))
+    let old = c.args.self.now in refuses old.connection.settings (lent_view c.args.ask) c.in-Err.fault (endpoint_view old) (connection_end c.ask.new.self) old.outbox c.ask.new.outbox c.in-Err.ensures.refused refl
+    (λ config history. c.ask_is_of_history.ensures (role_at old) config false (connection_end old.connection) history (lent_view c.args.ask))
 
 pub returns-in-Err-clause-sound : goal.returns-in-Err-clause-sound
 returns-in-Err-clause-sound c =
     let old = c.args.self.now in
-    refused_sound (lent_view c.args.ask) c.in-Err.fault old (record { core = c.ask.new.self; splitter = old.splitter; heard = old.heard; outbox = c.ask.new.outbox }) c.requires c.ask.ensures.settings refl refl c.in-Err.ensures.refused (returns-in-Err-clause-refused c)
+    refused_sound (lent_view c.args.ask) c.in-Err.fault old (record { connection = c.ask.new.self; splitter = old.splitter; heard = old.heard; outbox = c.ask.new.outbox }) c.requires c.ask.ensures.settings refl refl c.in-Err.ensures.refused (returns-in-Err-clause-refused c)

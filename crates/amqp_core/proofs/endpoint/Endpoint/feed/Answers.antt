@@ -4,7 +4,8 @@ use Rattle.std.proofs.lemmas.Bool.{true≢false}
 use Rattle.amqp_model.specs.Channels.{Failed}
 use Rattle.amqp_model.specs.EndVerdict.{takes_octets}
 use Rattle.amqp_model.specs.Endpoint.{after_feed}
-use Rattle.amqp_core.specs.CoreView.{core_end}
+use Rattle.amqp_core.specs.AccountView.{taken_by}
+use Rattle.amqp_core.specs.ConnectionView.{connection_end}
 use Rattle.amqp_core.specs.EndpointView.{endpoint_view, role_at}
 use Rattle.amqp_core.specs.Settings.{config_view}
 use Rattle.amqp_core.proofs.DropLemmas.{takes_some}
@@ -13,6 +14,6 @@ use Rattle.amqp_core.proofs.endpoint.Endpoint.feed.Goals as goal
 pub returns-clause-progress : goal.returns-clause-progress
 returns-clause-progress c =
     let old = c.args.self.now in
-    let running : (core_end old.core).phase ≢ Failed = λ failed. true≢false (sym (c.if-is_failed.ensures.takes refl (c.if-is_closed.ensures.not refl)) ∙ ap takes_octets failed) in
-    takes_some c.read.new.news c.read.result (endpoint_view old) (after_feed (role_at old) (config_view old.core.settings) (endpoint_view old) c.args.piece.now) _ c.args.piece.now c.read.ensures.fed
-    (c.cut_changes_nothing.ensures.progress (role_at old) (config_view old.core.settings) (endpoint_view old) c.args.piece.now (c.if-is_closed.ensures.not refl) running)
+    let running : (connection_end old.connection).phase ≢ Failed = λ failed. true≢false (sym (c.if-is_failed.ensures.takes refl (c.if-is_closed.ensures.not refl)) ∙ ap takes_octets failed) in
+    takes_some (taken_by c.read.result c.read.new.account) (endpoint_view old) (after_feed (role_at old) (config_view old.connection.settings) (endpoint_view old) c.args.piece.now) _ c.args.piece.now c.read.ensures.fed
+    (c.cut_changes_nothing.ensures.progress (role_at old) (config_view old.connection.settings) (endpoint_view old) c.args.piece.now (c.if-is_closed.ensures.not refl) running)

@@ -1,158 +1,172 @@
 -- Each answer of the splitter is a law on pieces.
-use Rattle.std.proofs.Common.{◌≡◌, ◌<◌, ◌^◌, false, [], ◌++◌, refl, take, IfSome, IfNone, IsOk, sym, ap, ◌∙◌, subst, arith}
+use Rattle.std.proofs.Common.{◌≡◌, ◌<◌, ◌^◌, Option, None, [], ◌++◌, refl, take, IfSome, IfNone, IsOk, sym, ap, ◌∙◌, subst, arith}
 use Rattle.std.proofs.lemmas.Bool.{false≢true}
 use Rattle.amqp_frame.specs.Frame.{lent}
 use Rattle.amqp_frame.specs.Splitter.{Completes, Waits, after_feed_ref, place_after}
 use Rattle.amqp_frame.specs.Stream.{Stream}
-use Rattle.amqp_model.specs.EndVerdict.{facts_at}
+use Rattle.amqp_model.specs.EndVerdict.{end_verdict, facts_at}
+use Rattle.amqp_model.specs.Endpoint.{outcome_of}
 use Rattle.amqp_model.specs.Readings.{reading}
 use Rattle.amqp_outbox.specs.OutboxView.{Outgoing}
+use Rattle.amqp_channel.specs.PartsView.{parts_there}
+use Rattle.amqp_channel.specs.declared.parts.EventParts.{EventParts}
 use Rattle.amqp_core.specs.AccountView.{note_there}
 use Rattle.amqp_core.specs.Answering.{is_out_of_memory, ran_out}
-use Rattle.amqp_core.specs.CoreView.{core_end}
+use Rattle.amqp_core.specs.ConnectionView.{connection_end}
 use Rattle.amqp_core.specs.EndpointView.{endpoint_view, role_at, unfinished_of}
-use Rattle.amqp_core.specs.NoteView.{item_kept}
+use Rattle.amqp_core.specs.Feeding.{IsMessage}
 use Rattle.amqp_core.specs.Settings.{config_view}
-use Rattle.amqp_core.proofs.AccountLemmas.{account_of_frame, account_of_rest, account_of_stop, came_fresh, rest_of, whole_of}
+use Rattle.amqp_core.proofs.AccountLemmas.{account_of_frame, account_of_rest, account_of_stop, came_fresh, item_is, rest_of, whole_of}
 use Rattle.amqp_core.proofs.GrowthLemmas.{frame_grows, stop_grows}
 use Rattle.amqp_core.proofs.BoundLemmas.{bounded_failed, bounded_frame}
 use Rattle.amqp_core.proofs.DropLemmas.{none_pending, frame_there, given_dropped}
-use Rattle.amqp_core.proofs.FeedLemmas.{sound_with, reads, takes, fed_by, frame_fed, rest_fed, fault_fed, first_fault, ran_in_piece, stop_leaves, fed_holds, after_rest, after_frame, after_stop, fields_rest, fields_frame, fields_failed, frame_leaves, rest_unfinished, none_unfinished}
+use Rattle.amqp_core.proofs.FeedLemmas.{sound_with, reads, takes, fed_by, frame_fed, rest_fed, fault_fed, first_fault, alone_in, stop_leaves, fed_holds, after_rest, after_frame, after_stop, fields_rest, fields_frame, fields_failed, frame_leaves, rest_unfinished, none_unfinished}
 use Rattle.amqp_core.proofs.endpoint.Endpoint.read.Goals as goal
 
-pub answer-answer-requires-clause-taking : goal.answer-answer-requires-clause-taking
-answer-answer-requires-clause-taking c = takes (role_at c.args.self.now) (core_end c.args.self.now.core) c.args.self.now.heard c.args.self.now.splitter c.requires.sound.fields c.requires.reads
+pub receive-answer-requires-clause-taking : goal.receive-answer-requires-clause-taking
+receive-answer-requires-clause-taking c = takes (role_at c.args.self.now) (connection_end c.args.self.now.connection) c.args.self.now.heard c.args.self.now.splitter c.requires.sound.fields c.requires.reads
 
 pub tune-requires-clause-fits : goal.tune-requires-clause-fits
 tune-requires-clause-fits c =
     let old = c.args.self.now in
-    let r = reads (role_at old) (core_end old.core).phase c.requires.reads in
-    let left = frame_leaves (role_at old) (config_view old.core.settings) (core_end old.core) (core_end c.answer-answer.new.self) (lent c.in-Some.frame) (ran_out c.answer-answer.result) c.requires.sound.writes (c.agreed_is_within.ensures.frame (role_at old) (config_view old.core.settings) (core_end old.core) (lent c.in-Some.frame)) (c.requires.sound.fields.awaited r.opened) c.requires.sound.fields.agreed c.answer-answer.ensures.end in
+    let r = reads (role_at old) (connection_end old.connection).phase c.requires.reads in
+    let left = frame_leaves (role_at old) (config_view old.connection.settings) (connection_end old.connection) (connection_end c.receive-answer.new.self) (lent c.in-Some.frame) (ran_out c.receive-answer.result) c.requires.sound.writes (c.agreed_is_within.ensures.frame (role_at old) (config_view old.connection.settings) (connection_end old.connection) (lent c.in-Some.frame)) (c.requires.sound.fields.awaited r.opened) c.requires.sound.fields.agreed c.receive-answer.ensures.end in
     left.0
 
 pub returns-in_default-clause-fed : goal.returns-in_default-clause-fed
 returns-in_default-clause-fed c =
     let old = c.args.self.now in
-    let none : old.heard ≡ 0 = c.requires.sound.fields.opened (reads (role_at old) (core_end old.core).phase c.requires.reads).opened in
-    let by = fed_by (role_at old) (core_end old.core) old.heard old.splitter old.outbox.output c.args.piece.now c.requires.reads c.requires.sound.fields c.requires.sound.holds (λ i. omega (arith, c.type_inv.piece i)) in
+    let none : old.heard ≡ 0 = c.requires.sound.fields.opened (reads (role_at old) (connection_end old.connection).phase c.requires.reads).opened in
+    let by = fed_by (role_at old) (connection_end old.connection) old.heard old.splitter old.outbox.output c.args.piece.now c.requires.reads c.requires.sound.fields c.requires.sound.holds (λ i. omega (arith, c.type_inv.piece i)) in
     let after = after_rest old.splitter c.args.piece.now c.feed_ref.result c.in-Ok.fed c.feed_ref.follows.lender-at-none c.feed_ref.follows.holds-at-none c.in-Ok.is c.in_default.is in
     let waits : Waits old.splitter c.args.piece.now c.in-Ok.fed.taken = subst (λ o. IfNone o (Waits old.splitter c.args.piece.now c.in-Ok.fed.taken)) c.in_default.is c.in-Ok.ensures.rest in
-    rest_fed (role_at old) (config_view old.core.settings) (endpoint_view old) old.splitter c.args.piece.now c.in-Ok.fed.taken (unfinished_of old.heard c.feed_ref.follows.lender-at-none.pending) c.args.news.now (c.pieces_are_split.ensures.rest (role_at old) (config_view old.core.settings) (endpoint_view old) old.splitter c.args.piece.now c.in-Ok.fed.taken) by waits
-    (rest_unfinished old.heard (place_after old.splitter.taken c.in-Ok.fed.taken) old.splitter c.feed_ref.follows.lender-at-none c.args.piece.now none after) c.requires.none
+    rest_fed (role_at old) (config_view old.connection.settings) (endpoint_view old) old.splitter c.args.piece.now c.in-Ok.fed.taken (parts_there c.args.account.now.parts) (unfinished_of old.heard c.feed_ref.follows.lender-at-none.pending) (c.pieces_are_split.ensures.rest (role_at old) (config_view old.connection.settings) (endpoint_view old) old.splitter c.args.piece.now c.in-Ok.fed.taken) by waits
+    (rest_unfinished old.heard (place_after old.splitter.taken c.in-Ok.fed.taken) old.splitter c.feed_ref.follows.lender-at-none c.args.piece.now none after) (ap parts_there c.requires.fresh.parts)
 
 pub returns-in_default-clause-sound : goal.returns-in_default-clause-sound
 returns-in_default-clause-sound c =
     let old = c.args.self.now in
-    let by = fed_by (role_at old) (core_end old.core) old.heard old.splitter old.outbox.output c.args.piece.now c.requires.reads c.requires.sound.fields c.requires.sound.holds (λ i. omega (arith, c.type_inv.piece i)) in
+    let by = fed_by (role_at old) (connection_end old.connection) old.heard old.splitter old.outbox.output c.args.piece.now c.requires.reads c.requires.sound.fields c.requires.sound.holds (λ i. omega (arith, c.type_inv.piece i)) in
     let after = after_rest old.splitter c.args.piece.now c.feed_ref.result c.in-Ok.fed c.feed_ref.follows.lender-at-none c.feed_ref.follows.holds-at-none c.in-Ok.is c.in_default.is in
     record {
       writes = c.requires.sound.writes;
       staged = c.requires.sound.staged;
-      fields = fields_rest (role_at old) (core_end old.core) old.heard (place_after old.splitter.taken c.in-Ok.fed.taken) (old.splitter.pending ++ c.args.piece.now) old.splitter c.feed_ref.follows.lender-at-none c.requires.reads c.requires.sound.fields after;
-      holds = fed_holds (role_at old) (config_view old.core.settings) (endpoint_view old) _ old.splitter c.args.piece.now _ _ (c.unfinished_is_held.ensures.feed (role_at old) (config_view old.core.settings) (endpoint_view old) c.args.piece.now) by (returns-in_default-clause-fed c);
+      fields = fields_rest (role_at old) (connection_end old.connection) old.heard (place_after old.splitter.taken c.in-Ok.fed.taken) (old.splitter.pending ++ c.args.piece.now) old.splitter c.feed_ref.follows.lender-at-none c.requires.reads c.requires.sound.fields after;
+      holds = fed_holds (role_at old) (config_view old.connection.settings) (endpoint_view old) _ old.splitter c.args.piece.now _ (c.unfinished_is_held.ensures.feed (role_at old) (config_view old.connection.settings) (endpoint_view old) c.args.piece.now) by (returns-in_default-clause-fed c);
       bounded = c.requires.sound.bounded;
     }
 
 pub returns-clause-fed : goal.returns-clause-fed
 returns-clause-fed c =
     let old = c.args.self.now in
-    let none : old.heard ≡ 0 = c.requires.sound.fields.opened (reads (role_at old) (core_end old.core).phase c.requires.reads).opened in
-    let by = fed_by (role_at old) (core_end old.core) old.heard old.splitter old.outbox.output c.args.piece.now c.requires.reads c.requires.sound.fields c.requires.sound.holds (λ i. omega (arith, c.type_inv.piece i)) in
+    let none : old.heard ≡ 0 = c.requires.sound.fields.opened (reads (role_at old) (connection_end old.connection).phase c.requires.reads).opened in
+    let by = fed_by (role_at old) (connection_end old.connection) old.heard old.splitter old.outbox.output c.args.piece.now c.requires.reads c.requires.sound.fields c.requires.sound.holds (λ i. omega (arith, c.type_inv.piece i)) in
     let after = after_frame old.splitter c.args.piece.now c.feed_ref.result c.in-Ok.fed c.in-Some.frame c.feed_ref.follows.lender-at-none c.feed_ref.follows.holds-at-none c.in-Ok.is c.in-Some.is in
     let completes : Completes old.splitter (take c.in-Ok.fed.taken c.args.piece.now) (lent c.in-Some.frame) = subst (λ o. IfSome o (λ f. Completes old.splitter (take c.in-Ok.fed.taken c.args.piece.now) (lent f))) c.in-Some.is c.in-Ok.ensures.frame in
     let pending : c.tune.new.splitter.pending ≡ [] = ap (λ (s : Stream). s.pending) c.tune.ensures ∙ ap (λ (s : Stream). s.pending) after in
-    frame_fed (role_at old) (config_view old.core.settings) (endpoint_view old) old.splitter c.args.piece.now c.in-Ok.fed.taken (lent c.in-Some.frame) c.answer-answer.new.news c.answer-answer.result c.after_octets.result (core_end c.answer-answer.new.self) (unfinished_of old.heard c.tune.new.splitter.pending) c.answer-answer.new.outbox
-    (c.pieces_are_split.ensures.frame (role_at old) (config_view old.core.settings) (endpoint_view old) old.splitter c.args.piece.now c.in-Ok.fed.taken (lent c.in-Some.frame)) by c.in-Ok.ensures.within completes c.after_octets.ensures.piece c.answer-answer.ensures.said c.answer-answer.ensures.end (none_unfinished old.heard c.tune.new.splitter.pending none pending) c.answer-answer.ensures.output
+    frame_fed (role_at old) (config_view old.connection.settings) (endpoint_view old) old.splitter c.args.piece.now c.in-Ok.fed.taken c.receive-answer.new.account.octets (lent c.in-Some.frame) c.receive-answer.result (parts_there c.receive-answer.new.account.parts) (connection_end c.receive-answer.new.self) (unfinished_of old.heard c.tune.new.splitter.pending) c.receive-answer.new.outbox
+    (c.pieces_are_split.ensures.frame (role_at old) (config_view old.connection.settings) (endpoint_view old) old.splitter c.args.piece.now c.in-Ok.fed.taken (lent c.in-Some.frame)) by c.in-Ok.ensures.within completes c.receive-answer.ensures.octets c.receive-answer.ensures.said c.receive-answer.ensures.end (none_unfinished old.heard c.tune.new.splitter.pending none pending) c.receive-answer.ensures.output
 
 pub returns-clause-sound : goal.returns-clause-sound
 returns-clause-sound c =
     let old = c.args.self.now in
-    let r = reads (role_at old) (core_end old.core).phase c.requires.reads in
-    let by = fed_by (role_at old) (core_end old.core) old.heard old.splitter old.outbox.output c.args.piece.now c.requires.reads c.requires.sound.fields c.requires.sound.holds (λ i. omega (arith, c.type_inv.piece i)) in
+    let r = reads (role_at old) (connection_end old.connection).phase c.requires.reads in
+    let by = fed_by (role_at old) (connection_end old.connection) old.heard old.splitter old.outbox.output c.args.piece.now c.requires.reads c.requires.sound.fields c.requires.sound.holds (λ i. omega (arith, c.type_inv.piece i)) in
     let after = after_frame old.splitter c.args.piece.now c.feed_ref.result c.in-Ok.fed c.in-Some.frame c.feed_ref.follows.lender-at-none c.feed_ref.follows.holds-at-none c.in-Ok.is c.in-Some.is in
-    let left = frame_leaves (role_at old) (config_view old.core.settings) (core_end old.core) (core_end c.answer-answer.new.self) (lent c.in-Some.frame) (ran_out c.answer-answer.result) c.requires.sound.writes (c.agreed_is_within.ensures.frame (role_at old) (config_view old.core.settings) (core_end old.core) (lent c.in-Some.frame)) (c.requires.sound.fields.awaited r.opened) c.requires.sound.fields.agreed c.answer-answer.ensures.end in
-    sound_with old.core.settings (record { core = c.answer-answer.new.self; splitter = c.tune.new.splitter; heard = old.heard; outbox = c.answer-answer.new.outbox }) c.answer-answer.ensures.settings c.requires.sound.writes (ap (λ (o : Outgoing). o.staged) c.answer-answer.ensures.output)
-    (fields_frame (role_at old) (core_end old.core) (core_end c.answer-answer.new.self) old.heard old.splitter c.feed_ref.follows.lender-at-none c.tune.new.splitter (place_after old.splitter.taken c.in-Ok.fed.taken) c.requires.reads c.requires.sound.fields after c.tune.ensures left.0 left.1)
-    (fed_holds (role_at old) (config_view old.core.settings) (endpoint_view old) _ old.splitter c.args.piece.now _ _ (c.unfinished_is_held.ensures.feed (role_at old) (config_view old.core.settings) (endpoint_view old) c.args.piece.now) by (returns-clause-fed c))
-    (bounded_frame (role_at old) (config_view old.core.settings) (core_end old.core) (core_end c.answer-answer.new.self) (lent c.in-Some.frame) (ran_out c.answer-answer.result) (c.ends_are_bounded.ensures.frame (role_at old) (config_view old.core.settings) (core_end old.core) (lent c.in-Some.frame)) r.octets c.requires.sound.bounded c.answer-answer.ensures.end)
+    let left = frame_leaves (role_at old) (config_view old.connection.settings) (connection_end old.connection) (connection_end c.receive-answer.new.self) (lent c.in-Some.frame) (ran_out c.receive-answer.result) c.requires.sound.writes (c.agreed_is_within.ensures.frame (role_at old) (config_view old.connection.settings) (connection_end old.connection) (lent c.in-Some.frame)) (c.requires.sound.fields.awaited r.opened) c.requires.sound.fields.agreed c.receive-answer.ensures.end in
+    sound_with old.connection.settings (record { connection = c.receive-answer.new.self; splitter = c.tune.new.splitter; heard = old.heard; outbox = c.receive-answer.new.outbox }) c.receive-answer.ensures.settings c.requires.sound.writes (ap (λ (o : Outgoing). o.staged) c.receive-answer.ensures.output)
+    (fields_frame (role_at old) (connection_end old.connection) (connection_end c.receive-answer.new.self) old.heard old.splitter c.feed_ref.follows.lender-at-none c.tune.new.splitter (place_after old.splitter.taken c.in-Ok.fed.taken) c.requires.reads c.requires.sound.fields after c.tune.ensures left.0 left.1)
+    (fed_holds (role_at old) (config_view old.connection.settings) (endpoint_view old) _ old.splitter c.args.piece.now _ (c.unfinished_is_held.ensures.feed (role_at old) (config_view old.connection.settings) (endpoint_view old) c.args.piece.now) by (returns-clause-fed c))
+    (bounded_frame (role_at old) (config_view old.connection.settings) (connection_end old.connection) (connection_end c.receive-answer.new.self) (lent c.in-Some.frame) (ran_out c.receive-answer.result) (c.ends_are_bounded.ensures.frame (role_at old) (config_view old.connection.settings) (connection_end old.connection) (lent c.in-Some.frame)) r.octets c.requires.sound.bounded c.receive-answer.ensures.end)
 
 pub returns-in-Err-clause-fed : goal.returns-in-Err-clause-fed
 returns-in-Err-clause-fed c =
     let old = c.args.self.now in
-    let r = reads (role_at old) (core_end old.core).phase c.requires.reads in
+    let r = reads (role_at old) (connection_end old.connection).phase c.requires.reads in
     let none : old.heard ≡ 0 = c.requires.sound.fields.opened r.opened in
-    let by = fed_by (role_at old) (core_end old.core) old.heard old.splitter old.outbox.output c.args.piece.now c.requires.reads c.requires.sound.fields c.requires.sound.holds (λ i. omega (arith, c.type_inv.piece i)) in
+    let by = fed_by (role_at old) (connection_end old.connection) old.heard old.splitter old.outbox.output c.args.piece.now c.requires.reads c.requires.sound.fields c.requires.sound.holds (λ i. omega (arith, c.type_inv.piece i)) in
     let pending = after_stop old.splitter c.args.piece.now c.feed_ref.result c.in-Err.fault c.feed_ref.follows.lender-at-none c.feed_ref.follows.holds-at-none c.in-Err.is in
-    fault_fed (role_at old) (config_view old.core.settings) c.args.news.now (endpoint_view old) old.splitter c.args.piece.now c.in-Err.fault.kind c.in-Err.fault.at c.stop.result (core_end c.stop.new.self) (unfinished_of old.heard c.feed_ref.follows.lender-at-none.pending) c.stop.new.outbox
-    (c.pieces_are_split.ensures.fault (role_at old) (config_view old.core.settings) (endpoint_view old) old.splitter c.args.piece.now c.in-Err.fault.kind c.in-Err.fault.at) by
+    fault_fed (role_at old) (config_view old.connection.settings) (endpoint_view old) old.splitter c.args.piece.now c.in-Err.fault.kind c.in-Err.fault.at c.stop.result (connection_end c.stop.new.self) (unfinished_of old.heard c.feed_ref.follows.lender-at-none.pending) c.stop.new.outbox
+    (c.pieces_are_split.ensures.fault (role_at old) (config_view old.connection.settings) (endpoint_view old) old.splitter c.args.piece.now c.in-Err.fault.kind c.in-Err.fault.at) by
     (first_fault old.splitter c.args.piece.now c.in-Err.fault (c.requires.sound.fields.ready r.octets).running c.in-Err.ensures.fault) c.stop.ensures.memory c.stop.ensures.said c.stop.ensures.end (none_unfinished old.heard c.feed_ref.follows.lender-at-none.pending none pending) c.stop.ensures.output
 
 pub returns-in-Err-clause-sound : goal.returns-in-Err-clause-sound
 returns-in-Err-clause-sound c =
     let old = c.args.self.now in
-    let r = reads (role_at old) (core_end old.core).phase c.requires.reads in
-    let by = fed_by (role_at old) (core_end old.core) old.heard old.splitter old.outbox.output c.args.piece.now c.requires.reads c.requires.sound.fields c.requires.sound.holds (λ i. omega (arith, c.type_inv.piece i)) in
-    let left = stop_leaves (role_at old) (config_view old.core.settings) (core_end old.core) (core_end c.stop.new.self) c.in-Err.fault.kind (is_out_of_memory c.stop.result) c.stop.ensures.end c.requires.sound.fields.agreed in
-    sound_with old.core.settings (record { core = c.stop.new.self; splitter = c.feed_ref.follows.lender-at-none; heard = old.heard; outbox = c.stop.new.outbox }) c.stop.ensures.settings c.requires.sound.writes (ap (λ (o : Outgoing). o.staged) c.stop.ensures.output)
-    (fields_failed (role_at old) (core_end c.stop.new.self) old.heard c.feed_ref.follows.lender-at-none left.0 left.1 (c.requires.sound.fields.opened r.opened)
+    let r = reads (role_at old) (connection_end old.connection).phase c.requires.reads in
+    let by = fed_by (role_at old) (connection_end old.connection) old.heard old.splitter old.outbox.output c.args.piece.now c.requires.reads c.requires.sound.fields c.requires.sound.holds (λ i. omega (arith, c.type_inv.piece i)) in
+    let left = stop_leaves (role_at old) (config_view old.connection.settings) (connection_end old.connection) (connection_end c.stop.new.self) c.in-Err.fault.kind (is_out_of_memory c.stop.result) c.stop.ensures.end c.requires.sound.fields.agreed in
+    sound_with old.connection.settings (record { connection = c.stop.new.self; splitter = c.feed_ref.follows.lender-at-none; heard = old.heard; outbox = c.stop.new.outbox }) c.stop.ensures.settings c.requires.sound.writes (ap (λ (o : Outgoing). o.staged) c.stop.ensures.output)
+    (fields_failed (role_at old) (connection_end c.stop.new.self) old.heard c.feed_ref.follows.lender-at-none left.0 left.1 (c.requires.sound.fields.opened r.opened)
     (after_stop old.splitter c.args.piece.now c.feed_ref.result c.in-Err.fault c.feed_ref.follows.lender-at-none c.feed_ref.follows.holds-at-none c.in-Err.is))
-    (fed_holds (role_at old) (config_view old.core.settings) (endpoint_view old) _ old.splitter c.args.piece.now _ _ (c.unfinished_is_held.ensures.feed (role_at old) (config_view old.core.settings) (endpoint_view old) c.args.piece.now) by (returns-in-Err-clause-fed c))
-    (bounded_failed (role_at old) (config_view old.core.settings) (core_end c.stop.new.self) left.0)
+    (fed_holds (role_at old) (config_view old.connection.settings) (endpoint_view old) _ old.splitter c.args.piece.now _ (c.unfinished_is_held.ensures.feed (role_at old) (config_view old.connection.settings) (endpoint_view old) c.args.piece.now) by (returns-in-Err-clause-fed c))
+    (bounded_failed (role_at old) (config_view old.connection.settings) (connection_end c.stop.new.self) left.0)
 
 pub returns-clause-in_place : goal.returns-clause-in_place
-returns-clause-in_place c = λ unwanted drops.
+returns-clause-in_place c = λ drops.
     let old = c.args.self.now in
     let completes : Completes old.splitter (take c.in-Ok.fed.taken c.args.piece.now) (lent c.in-Some.frame) = subst (λ o. IfSome o (λ f. Completes old.splitter (take c.in-Ok.fed.taken c.args.piece.now) (lent f))) c.in-Some.is c.in-Ok.ensures.frame in
-    let none = none_pending (role_at old) (core_end old.core) old.heard old.splitter old.outbox.output c.args.piece.now c.requires.sound.fields drops in
-    c.after_octets.ensures.ok (c.answer-answer.ensures.alone unwanted (given_dropped (role_at old) (endpoint_view old) old.splitter c.args.piece.now c.in-Ok.fed.taken (lent c.in-Some.frame) c.one_frame_at_start.ensures drops none completes))
+    let none = none_pending (role_at old) (connection_end old.connection) old.heard old.splitter old.outbox.output c.args.piece.now c.requires.sound.fields drops in
+    c.receive-answer.ensures.alone (given_dropped (role_at old) (endpoint_view old) old.splitter c.args.piece.now c.in-Ok.fed.taken (lent c.in-Some.frame) c.one_frame_at_start.ensures drops none completes)
 
 pub returns-in-Err-clause-in_place : goal.returns-in-Err-clause-in_place
-returns-in-Err-clause-in_place c = λ unwanted drops.
+returns-in-Err-clause-in_place c = λ drops.
     let old = c.args.self.now in
-    let none = none_pending (role_at old) (core_end old.core) old.heard old.splitter old.outbox.output c.args.piece.now c.requires.sound.fields drops in
-    let running = (c.requires.sound.fields.ready (reads (role_at old) (core_end old.core).phase c.requires.reads).octets).running in
-    absurd (false≢true (subst (λ r. IsOk r) c.in-Err.is (c.feed_ref.ensures.in_place running none (frame_there (role_at old) (core_end old.core) old.heard old.splitter old.outbox.output c.args.piece.now c.requires.sound.fields drops))))
+    let none = none_pending (role_at old) (connection_end old.connection) old.heard old.splitter old.outbox.output c.args.piece.now c.requires.sound.fields drops in
+    let running = (c.requires.sound.fields.ready (reads (role_at old) (connection_end old.connection).phase c.requires.reads).octets).running in
+    absurd (false≢true (subst (λ r. IsOk r) c.in-Err.is (c.feed_ref.ensures.in_place running none (frame_there (role_at old) (connection_end old.connection) old.heard old.splitter old.outbox.output c.args.piece.now c.requires.sound.fields drops))))
 
 pub returns-in_default-clause-account : goal.returns-in_default-clause-account
-returns-in_default-clause-account c = λ wanted ran.
+returns-in_default-clause-account c = λ ran.
     let old = c.args.self.now in
-    let by = fed_by (role_at old) (core_end old.core) old.heard old.splitter old.outbox.output c.args.piece.now c.requires.reads c.requires.sound.fields c.requires.sound.holds (λ i. omega (arith, c.type_inv.piece i)) in
+    let by = fed_by (role_at old) (connection_end old.connection) old.heard old.splitter old.outbox.output c.args.piece.now c.requires.reads c.requires.sound.fields c.requires.sound.holds (λ i. omega (arith, c.type_inv.piece i)) in
     let waits : Waits old.splitter c.args.piece.now c.in-Ok.fed.taken = subst (λ o. IfNone o (Waits old.splitter c.args.piece.now c.in-Ok.fed.taken)) c.in_default.is c.in-Ok.ensures.rest in
-    account_of_rest (role_at old) (config_view old.core.settings) (endpoint_view old) c.args.piece.now _ c.in-Ok.fed.taken _ _ c.judged_is_said.ensures.one c.requires.reads
-    (c.pieces_are_split.ensures.rest (role_at old) (config_view old.core.settings) (endpoint_view old) old.splitter c.args.piece.now c.in-Ok.fed.taken by waits) waits.all
-    (rest_of old.splitter (endpoint_view old) c.args.piece.now c.in-Ok.fed.taken by.splits waits) refl (came_fresh old.core.settings c.args.account.now c.requires.fresh)
+    account_of_rest (role_at old) (config_view old.connection.settings) (endpoint_view old) c.args.piece.now _ c.in-Ok.fed.taken _ _ c.judged_is_said.ensures.one c.requires.reads
+    (c.pieces_are_split.ensures.rest (role_at old) (config_view old.connection.settings) (endpoint_view old) old.splitter c.args.piece.now c.in-Ok.fed.taken by waits) waits.all
+    (rest_of old.splitter (endpoint_view old) c.args.piece.now c.in-Ok.fed.taken by.splits waits) refl (came_fresh old.connection.settings c.args.account.now (parts_there c.args.account.now.parts) c.requires.fresh (ap parts_there c.requires.fresh.parts))
 
 pub returns-clause-account : goal.returns-clause-account
-returns-clause-account c = λ wanted ran.
+returns-clause-account c = λ ran.
     let old = c.args.self.now in
-    let by = fed_by (role_at old) (core_end old.core) old.heard old.splitter old.outbox.output c.args.piece.now c.requires.reads c.requires.sound.fields c.requires.sound.holds (λ i. omega (arith, c.type_inv.piece i)) in
+    let by = fed_by (role_at old) (connection_end old.connection) old.heard old.splitter old.outbox.output c.args.piece.now c.requires.reads c.requires.sound.fields c.requires.sound.holds (λ i. omega (arith, c.type_inv.piece i)) in
     let completes : Completes old.splitter (take c.in-Ok.fed.taken c.args.piece.now) (lent c.in-Some.frame) = subst (λ o. IfSome o (λ f. Completes old.splitter (take c.in-Ok.fed.taken c.args.piece.now) (lent f))) c.in-Some.is c.in-Ok.ensures.frame in
-    let lasts : ran_out c.answer-answer.result ≡ false = sym (ran_in_piece c.in-Ok.fed.taken c.answer-answer.result c.after_octets.result c.after_octets.ensures.piece) ∙ ran in
-    account_of_frame (role_at old) (config_view old.core.settings) (endpoint_view old) c.args.piece.now _ c.in-Ok.fed.taken _ (lent c.in-Some.frame) _ c.judged_is_said.ensures.one c.requires.reads
-    (c.pieces_are_split.ensures.frame (role_at old) (config_view old.core.settings) (endpoint_view old) old.splitter c.args.piece.now c.in-Ok.fed.taken (lent c.in-Some.frame) by c.in-Ok.ensures.within completes)
-    (whole_of old.splitter (endpoint_view old) (take c.in-Ok.fed.taken c.args.piece.now) (lent c.in-Some.frame) by.splits completes) c.answer-answer.ensures.octets
-    (λ i. record { took = c.answer-answer.ensures.took wanted lasts i; item = c.answer-answer.ensures.item wanted lasts i; owed = c.answer-answer.ensures.owed lasts i })
+    let item = item_is c.receive-answer.result c.receive-answer.new.account.octets (parts_there c.receive-answer.new.account.parts)
+    (outcome_of (facts_at (config_view old.connection.settings) (connection_end old.connection) (lent c.in-Some.frame).channel) (end_verdict (config_view old.connection.settings) (connection_end old.connection) (lent c.in-Some.frame)))
+    c.receive-answer.ensures.said ran in
+    account_of_frame (role_at old) (config_view old.connection.settings) (endpoint_view old) c.args.piece.now _ c.in-Ok.fed.taken _ (lent c.in-Some.frame) _ c.judged_is_said.ensures.one c.requires.reads
+    (c.pieces_are_split.ensures.frame (role_at old) (config_view old.connection.settings) (endpoint_view old) old.splitter c.args.piece.now c.in-Ok.fed.taken (lent c.in-Some.frame) by c.in-Ok.ensures.within completes)
+    (whole_of old.splitter (endpoint_view old) (take c.in-Ok.fed.taken c.args.piece.now) (lent c.in-Some.frame) by.splits completes) c.receive-answer.ensures.octets
+    (λ i. record { took = c.receive-answer.ensures.took i; item = item i; owed = c.receive-answer.ensures.owed ran i })
 
 pub returns-clause-grows : goal.returns-clause-grows
 returns-clause-grows c =
     let old = c.args.self.now in
-    frame_grows old.core.settings (core_end old.core) (lent c.in-Some.frame) c.answer-answer.result c.answer-answer.new.account.owed old.outbox.output c.answer-answer.new.outbox c.requires.sound.writes
-    (c.frames_are_within.ensures.verdict (role_at old) (facts_at (config_view old.core.settings) (core_end old.core) (lent c.in-Some.frame).channel) (reading (lent c.in-Some.frame))) c.answer-answer.ensures.owed c.answer-answer.ensures.output
+    frame_grows old.connection.settings (connection_end old.connection) (lent c.in-Some.frame) c.receive-answer.result c.receive-answer.new.account.owed old.outbox.output c.receive-answer.new.outbox c.requires.sound.writes
+    (c.frames_are_within.ensures.verdict (role_at old) (facts_at (config_view old.connection.settings) (connection_end old.connection) (lent c.in-Some.frame).channel) (reading (lent c.in-Some.frame))) c.receive-answer.ensures.owed c.receive-answer.ensures.output
 
 pub returns-in-Err-clause-account : goal.returns-in-Err-clause-account
-returns-in-Err-clause-account c = λ wanted ran.
+returns-in-Err-clause-account c = λ ran.
     let old = c.args.self.now in
-    let r = reads (role_at old) (core_end old.core).phase c.requires.reads in
-    let by = fed_by (role_at old) (core_end old.core) old.heard old.splitter old.outbox.output c.args.piece.now c.requires.reads c.requires.sound.fields c.requires.sound.holds (λ i. omega (arith, c.type_inv.piece i)) in
+    let r = reads (role_at old) (connection_end old.connection).phase c.requires.reads in
+    let by = fed_by (role_at old) (connection_end old.connection) old.heard old.splitter old.outbox.output c.args.piece.now c.requires.reads c.requires.sound.fields c.requires.sound.holds (λ i. omega (arith, c.type_inv.piece i)) in
     let short : c.stop.new.account.octets < 2 ^ 64 = omega (arith, c.stop.ensures.octets, c.taken_to_fault-account.type_inv) in
     let after = ap (λ (s : Stream). s.taken_to_fault) (c.feed_ref.follows.holds-at-none ∙ ap (after_feed_ref old.splitter c.args.piece.now) c.in-Err.is) in
-    account_of_stop (role_at old) (config_view old.core.settings) (endpoint_view old) old.splitter c.args.piece.now c.in-Err.fault.kind c.in-Err.fault.at _ _ c.judged_is_said.ensures.one
-    (c.pieces_are_split.ensures.fault (role_at old) (config_view old.core.settings) (endpoint_view old) (record old.splitter { taken = 0 }) c.args.piece.now) c.faults_are_judged.ensures.judged by short (λ e. false≢true (sym ran ∙ c.stop.ensures.memory e))
+    account_of_stop (role_at old) (config_view old.connection.settings) (endpoint_view old) old.splitter c.args.piece.now c.in-Err.fault.kind c.in-Err.fault.at _ _ c.judged_is_said.ensures.one
+    (c.pieces_are_split.ensures.fault (role_at old) (config_view old.connection.settings) (endpoint_view old) (record old.splitter { taken = 0 }) c.args.piece.now) c.faults_are_judged.ensures.judged by short (λ e. false≢true (sym ran ∙ c.stop.ensures.memory e))
     (first_fault old.splitter c.args.piece.now c.in-Err.fault (c.requires.sound.fields.ready r.octets).running c.in-Err.ensures.fault) (c.stop.ensures.octets ∙ (c.taken_to_fault-account.ensures ∙ after))
-    (λ i. record { took = (ap note_there c.stop.ensures.took ∙ ap note_there c.requires.fresh.took) i; item = (ap item_kept c.stop.ensures.item ∙ ap item_kept c.requires.fresh.item) i; owed = c.stop.ensures.owed ran i })
+    (λ i. record { took = (ap note_there c.stop.ensures.took ∙ ap note_there c.requires.fresh.took) i; item = None; owed = c.stop.ensures.owed ran i })
 
 pub returns-in-Err-clause-grows : goal.returns-in-Err-clause-grows
 returns-in-Err-clause-grows c =
     let old = c.args.self.now in
-    stop_grows old.core.settings (core_end old.core) c.in-Err.fault.kind c.stop.result c.stop.new.account.owed old.outbox.output c.stop.new.outbox
-    (c.frames_are_within.ensures.too_large (role_at old) (facts_at (config_view old.core.settings) (core_end old.core) 0)) c.stop.ensures.owed c.stop.ensures.output
+    stop_grows old.connection.settings (connection_end old.connection) c.in-Err.fault.kind c.stop.result c.stop.new.account.owed old.outbox.output c.stop.new.outbox
+    (c.frames_are_within.ensures.too_large (role_at old) (facts_at (config_view old.connection.settings) (connection_end old.connection) 0)) c.stop.ensures.owed c.stop.ensures.output
+
+pub returns-in_default-clause-message : goal.returns-in_default-clause-message
+returns-in_default-clause-message c = λ is. absurd (subst (λ (e : Option EventParts). IsMessage (parts_there e)) c.requires.fresh.parts is)
+
+pub returns-clause-message : goal.returns-clause-message
+returns-clause-message c =
+    let old = c.args.self.now in
+    alone_in c.receive-answer.result (IsMessage (parts_there c.receive-answer.new.account.parts)) (connection_end old.connection) (connection_end c.receive-answer.new.self) [] []
+    (unfinished_of old.heard old.splitter.pending) (unfinished_of old.heard c.tune.new.splitter.pending) old.outbox.output c.receive-answer.new.outbox.output c.receive-answer.ensures.message

@@ -2,7 +2,7 @@
 use Rattle.std.proofs.Common.{refl, sym, ap, subst}
 use Rattle.amqp_model.specs.Channels.{End}
 use Rattle.amqp_model.specs.Fitting.{IfAgreedFits}
-use Rattle.amqp_core.specs.CoreView.{core_end}
+use Rattle.amqp_core.specs.ConnectionView.{connection_end}
 use Rattle.amqp_core.specs.EndpointView.{endpoint_view, role_at}
 use Rattle.amqp_core.proofs.BoundLemmas.{bounded_failed}
 use Rattle.amqp_core.specs.Settings.{config_view}
@@ -21,7 +21,7 @@ pub returns-clause-sound : goal.returns-clause-sound
 returns-clause-sound c =
     let old = c.args.self.now in
     let failed = sym (ap (λ (e : End). e.phase) c.fail.ensures.end) in
-    sound_with old.core.settings (record { core = c.fail.new.self; splitter = c.new.result; heard = 0; outbox = old.outbox }) c.fail.ensures.settings c.requires.sound.writes c.requires.sound.staged
-    (fields_failed (role_at old) (core_end c.fail.new.self) 0 c.new.result failed (subst IfAgreedFits (sym (ap (λ (e : End). e.agreed) c.fail.ensures.end)) c.requires.sound.fields.agreed) refl c.new.ensures.pending)
-    (holds_failed (role_at old) (endpoint_view (record { core = c.fail.new.self; splitter = c.new.result; heard = 0; outbox = old.outbox })) failed)
-    (bounded_failed (role_at old) (config_view old.core.settings) (core_end c.fail.new.self) failed)
+    sound_with old.connection.settings (record { connection = c.fail.new.self; splitter = c.new.result; heard = 0; outbox = old.outbox }) c.fail.ensures.settings c.requires.sound.writes c.requires.sound.staged
+    (fields_failed (role_at old) (connection_end c.fail.new.self) 0 c.new.result failed (subst IfAgreedFits (sym (ap (λ (e : End). e.agreed) c.fail.ensures.end)) c.requires.sound.fields.agreed) refl c.new.ensures.pending)
+    (holds_failed (role_at old) (endpoint_view (record { connection = c.fail.new.self; splitter = c.new.result; heard = 0; outbox = old.outbox })) failed)
+    (bounded_failed (role_at old) (config_view old.connection.settings) (connection_end c.fail.new.self) failed)

@@ -1,5 +1,5 @@
 -- The lists go on with what came of the piece, or, out of memory, stay as they are.
-use Rattle.std.proofs.Common.{suc, Err, ◌≡◌, ◌≢◌, ◌+◌, ◌<◌, ◌≤◌, [], length, vec_len, vec_capacity, refl, ap, sym, ◌∙◌, subst, arith}
+use Rattle.std.proofs.Common.{suc, Err, ◌≡◌, ◌+◌, ◌≤◌, length, vec_len, vec_capacity, refl, ap, sym, ◌∙◌, subst, arith}
 use Rattle.amqp_model.specs.Endpoint.{after_feed}
 use Rattle.amqp_model.specs.Histories.{entries_on}
 use Rattle.amqp_model.specs.Outputs.{Output, output_octets}
@@ -8,13 +8,11 @@ use Rattle.amqp_core.specs.Answering.{ran_out}
 use Rattle.amqp_core.specs.EndView.{config_at, endpoint_of, role_played, settings_at}
 use Rattle.amqp_core.specs.Settings.{role_for}
 use Rattle.amqp_core.specs.TracedFields.{kept_of}
-use Rattle.amqp_core.specs.Tracing.{TraceGoesOn}
 use Rattle.amqp_core.specs.declared.faults.CoreFault.TheVariants as core
 use Rattle.amqp_core.specs.declared.settings.Settings.{Settings}
 use Rattle.amqp_core.proofs.FeedFaultLemmas.{feed_faults, over_memory}
 use Rattle.amqp_core.proofs.OfHistoryLemmas.{verdicts_are}
 use Rattle.amqp_core.proofs.QueryLemmas.{unfailed_stands}
-use Rattle.amqp_core.proofs.TakenLemmas.{fed-told, octets-told, ran-told}
 use Rattle.amqp_core.proofs.TracedLemmas.{not-err, over-feed, traced-out, traced-same, traces-kept, traces-on, traces-same}
 use Rattle.amqp_core.proofs.traced.Traced.feed.Goals as goal
 
@@ -79,38 +77,22 @@ invariant_of-self-2 g c =
     let config = config_at end in
     let old = kept_of end self.ledger in
     let ready = kept_of end c.make_room-room.new.ledger in
-    let new = kept_of c.take-answer.new.end c.take-answer.new.ledger in
+    let new = kept_of c.take.new.end c.take.new.ledger in
     let lists = c.make_room-room.ensures.same in
     let fits = not-err c.make_room-room.result (sym c.is_err.ensures.value ∙ c.if-is_err.false) c.make_room-room.ensures.written in
     record {
-      plays = ap role_of (c.take-answer.ensures.side ∙ c.make_room-room.ensures.side) ∙ (self.plays ∙ sym (ap (λ (s : Settings). role_for s) c.take-answer.ensures.settings));
-      room = subst (λ w. vec_len w + length (output_octets (endpoint_of c.take-answer.new.end).output) ≤ vec_capacity w) (sym c.take-answer.ensures.written) (omega (arith, fits, c.take-answer.ensures.grows));
-      traces = traces-kept (settings_at end) (settings_at c.take-answer.new.end) new c.take-answer.ensures.settings
-          (traces-on role config (ran_out c.take-answer.result) ready new c.args.piece.now (after_feed role config (endpoint_of end) c.args.piece.now)
-          (traces-same role config old ready (λ history traced. traced-same role config old ready history refl lists traced) self.traces) c.take-answer.ensures.history);
+      plays = ap role_of (c.take.ensures.side ∙ c.make_room-room.ensures.side) ∙ (self.plays ∙ sym (ap (λ (s : Settings). role_for s) c.take.ensures.settings));
+      room = subst (λ w. vec_len w + length (output_octets (endpoint_of c.take.new.end).output) ≤ vec_capacity w) (sym c.take.ensures.written) (omega (arith, fits, c.take.ensures.grows));
+      traces = traces-kept (settings_at end) (settings_at c.take.new.end) new c.take.ensures.settings
+          (traces-on role config (ran_out c.take.result) ready new c.args.piece.now (after_feed role config (endpoint_of end) c.args.piece.now)
+          (traces-same role config old ready (λ history traced. traced-same role config old ready history refl lists traced) self.traces) c.take.ensures.history);
     }
-
-pub returns-clause-fed : goal.returns-clause-fed
-returns-clause-fed g c =
-    let self = c.args.self.now in
-    let old = endpoint_of self.end in
-    fed-told c.take-answer.new.news c.take-answer.result c.told.result old (after_feed (role_played self.end) (config_at self.end) old c.args.piece.now) (endpoint_of c.take-answer.new.end) c.told.ensures c.take-answer.ensures.fed
-
-pub returns-clause-within : goal.returns-clause-within
-returns-clause-within g c = octets-told (λ n. n ≤ length c.args.piece.now) c.take-answer.new.news c.take-answer.result c.told.result c.told.ensures c.take-answer.ensures.within
-
-pub returns-clause-progress : goal.returns-clause-progress
-returns-clause-progress g c = octets-told (λ n. c.args.piece.now ≢ [] → 0 < n) c.take-answer.new.news c.take-answer.result c.told.result c.told.ensures c.take-answer.ensures.progress
 
 pub returns-clause-history : goal.returns-clause-history
 returns-clause-history g c = λ history traced.
     let self = c.args.self.now in
-    let role = role_played self.end in
-    let config = config_at self.end in
-    let old = endpoint_of self.end in
-    subst (λ b. ∥ TraceGoesOn role config b old c.args.piece.now (after_feed role config old c.args.piece.now) history (kept_of c.take-answer.new.end c.take-answer.new.ledger) ∥₁)
-    (ran-told c.take-answer.new.news c.take-answer.result c.told.result c.told.ensures)
-    (c.take-answer.ensures.history history (traced-same role config (kept_of self.end self.ledger) (kept_of self.end c.make_room-room.new.ledger) history refl c.make_room-room.ensures.same traced))
+    c.take.ensures.history history
+    (traced-same (role_played self.end) (config_at self.end) (kept_of self.end self.ledger) (kept_of self.end c.make_room-room.new.ledger) history refl c.make_room-room.ensures.same traced)
 
 pub returns-in-Some-clause-faults : goal.returns-in-Some-clause-faults
 returns-in-Some-clause-faults g c =
@@ -133,7 +115,7 @@ pub returns-clause-faults : goal.returns-clause-faults
 returns-clause-faults g c =
     let end = c.args.self.now.end in
     let laws = c.cut_changes_nothing.ensures in
-    feed_faults (role_played end) (config_at end) c.told.result (endpoint_of end) (endpoint_of c.take-answer.new.end) c.args.piece.now (returns-clause-fed g c)
+    feed_faults (role_played end) (config_at end) c.take.result (endpoint_of end) (endpoint_of c.take.new.end) c.args.piece.now c.take.ensures.fed
     (laws.closed (role_played end) (config_at end) (endpoint_of end) c.args.piece.now) (laws.failed (role_played end) (config_at end) (endpoint_of end) c.args.piece.now)
     (λ ran. c.in_default.ensures)
 

@@ -1,8 +1,9 @@
 -- Each feed is one of the octets that are left, of an end set up as at first, and takes some of them.
-use Rattle.std.proofs.Common.{◌≡◌, ◌<◌, length, ◌++◌, option_to_list, ◌∙◌, ap, refl, arith}
+use Rattle.std.proofs.Common.{◌≡◌, ◌<◌, length, ◌++◌, option_to_list, Ok, Err, ◌∙◌, ap, refl, subst, arith}
 use Rattle.std.proofs.lemmas.List.{length-drop}
 use Rattle.std.proofs.lemmas.Bool.Decides.{nat_tests}
 use Rattle.amqp_core.specs.EndView.{endpoint_of, settings_at}
+use Rattle.amqp_core.specs.Feeds.{Feeds}
 use Rattle.amqp_io.specs.Intakes.{not_yet}
 use Rattle.amqp_io.specs.SessionView.{intake_of, settings_in}
 use Rattle.amqp_io.proofs.FeedingLemmas.{feeds_as, fed_further}
@@ -21,12 +22,14 @@ returns-in-Err-clause-fed g c =
     let old = endpoint_of end in
     let new = endpoint_of c.feed.new.self in
     let some : 0 < length unfed = grind (arith, nat_tests) in
+    let feeds_ill : Feeds end c.octets.result.now (Err c.in-Err.fault) c.feed.new.self =
+    subst (λ r. Feeds end c.octets.result.now r c.feed.new.self) c.in-Err.is c.feed.ensures.feeds in
     record {
       before = intake_of c.loop-self.self;
       fed = c.loop-self.invariant.fed;
       some_left = some;
       found = feeds_as (settings_in c.args.self.now) (settings_at end) _ old new unfed c.octets.result.now c.loop-self.invariant.settings
-          c.octets.ensures (record { answered = c.in-Err.ensures.fed; follows = c.in-Err.ensures.history });
+          c.octets.ensures (record { answered = feeds_ill.fed; follows = feeds_ill.history });
       dropped = ap (λ unfed. unfed.octets) c.clear.ensures;
       events_stay = c.try_reserve.ensures.items;
     }
@@ -47,12 +50,14 @@ loop-self-preserved g c =
     let old = endpoint_of end in
     let new = endpoint_of c.feed.new.self in
     let some : 0 < length unfed = grind (arith, nat_tests) in
+    let feeds_well : Feeds end c.octets.result.now (Ok c.in-Ok-feed.taken) c.feed.new.self =
+    subst (λ r. Feeds end c.octets.result.now r c.feed.new.self) c.in-Ok-feed.is c.feed.ensures.feeds in
     let feeds = feeds_as (settings_in c.args.self.now) (settings_at end) _ old new unfed c.octets.result.now c.loop-self.invariant.settings
-    c.octets.ensures (record { answered = c.in-Ok-feed.ensures.fed; follows = c.in-Ok-feed.ensures.history }) in
+    c.octets.ensures (record { answered = feeds_well.fed; follows = feeds_well.history }) in
     record {
       fed = fed_further _ _ _ (intake_of c.loop-self.self) _ c.in-Ok-feed.taken c.loop-self.invariant.fed some feeds (ap (λ unfed. unfed.octets) c.fed.ensures)
           (c.keep.ensures ∙ ap (λ events. events ++ option_to_list c.in-Ok-feed.taken.event) c.try_reserve.ensures.items);
-      settings = c.feed.ensures.settings ∙ c.loop-self.invariant.settings;
+      settings = c.feed.ensures.feeds.settings ∙ c.loop-self.invariant.settings;
       stream = c.loop-self.invariant.stream;
       room = ap (λ unfed. unfed.room) c.fed.ensures ∙ c.loop-self.invariant.room;
     }

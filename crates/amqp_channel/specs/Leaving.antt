@@ -1,0 +1,31 @@
+-- What a frame leaves of its channel, and what the verdict on it rests on.
+use Rattle.std.specs.Prelude.{◌≡◌, ℕ, List, [], ◌∷◌, Some}
+use Rattle.amqp_model.specs.Channels.{Channel, Running}
+use Rattle.amqp_model.specs.Closes.{Owed, ContentTooLarge, channel_close, frame_of}
+use Rattle.amqp_model.specs.Events.{FrameVerdict, Proceeds, RefusesContent, Faults}
+use Rattle.amqp_model.specs.Frame.{Frame}
+use Rattle.amqp_model.specs.FrameVerdict.{Facts}
+use Rattle.amqp_model.specs.Histories.{PutHere, TookHere}
+use Rattle.amqp_model.specs.Machine.{channel_after}
+use Rattle.amqp_model.specs.Negotiation.{Config}
+use Rattle.amqp_model.specs.Notes.{Role}
+use Rattle.amqp_model.specs.Readings.{Reading, Calls}
+use Rattle.amqp_channel.specs.Roles.{role_of}
+use Rattle.amqp_channel.specs.declared.site.Site.{Site}
+
+-- the channel after the methods that are owed on it
+abbrev pub after_owed : Role → List Owed → Channel → Channel
+after_owed role [] channel = channel
+after_owed role (owed ∷ later) channel = after_owed role later (channel_after role (PutHere (Calls owed.method) (frame_of owed)) channel)
+
+-- Where the end goes on, the channel is left as the frame taken and the methods owed leave it. Of an end that has found
+-- fault no channel is looked at any more.
+abbrev pub LeavesAfter : Role → (number : ℕ) → Frame → Reading → FrameVerdict → (before after : Channel) → Type 0
+LeavesAfter role number frame reading (Proceeds event owed) before after = after ≡ after_owed role owed (channel_after role (TookHere reading frame) before)
+LeavesAfter role number frame reading RefusesContent before after = after ≡ after_owed role (channel_close number ContentTooLarge ∷ []) (channel_after role (TookHere reading frame) before)
+LeavesAfter role number frame reading (Faults fault) before after = Unit {0}
+
+-- The verdict on a frame of this channel, on a connection that is Running, whatever else was agreed and configured.
+abbrev pub facts_here : (site : Site) → Config (role_of site.side) → (frame_max : ℕ) → Channel → Facts (role_of site.side)
+facts_here site config frame_max channel =
+    record { config = config; phase = Running; agreed = Some (record { channel_max = site.channel_max; frame_max = frame_max }); number = site.number; channel = channel }

@@ -1,0 +1,31 @@
+-- The parts of an event, as the event that they make, in the words of the model.
+use Rattle.std.specs.Prelude.{Option, Some, None}
+use Rattle.amqp_method.specs.MethodView.{method_view}
+use Rattle.amqp_model.specs.Events as model
+use Rattle.amqp_model.specs.Methods.{Method}
+use Rattle.amqp_channel.specs.ContentView.{content_view}
+use Rattle.amqp_channel.specs.EventView.{agreed_view, reason_there}
+use Rattle.amqp_channel.specs.declared.parts.EventParts.{EventParts}
+use Rattle.amqp_channel.specs.declared.parts.EventParts.TheVariants as parts
+use Rattle.amqp_channel.specs.declared.parts.PlainMethod.{PlainMethod}
+
+abbrev pub plain_view : PlainMethod → Method
+plain_view plain = method_view plain.method
+
+abbrev pub parts_view : EventParts → model.Event
+parts_view (parts.Negotiated agreed) = model.Negotiated (agreed_view agreed)
+parts_view (parts.Opened channel) = model.Opened channel
+parts_view (parts.Method channel plain) = model.Told channel (model.Plain (plain_view plain))
+parts_view (parts.Content channel content) = model.Told channel (model.Whole (content_view content.value))
+parts_view (parts.Flow channel active) = model.Flow channel active
+parts_view (parts.FlowOk channel active) = model.FlowOk channel active
+parts_view (parts.ChannelClosed reason channel) = model.ChannelClosed channel (reason_there reason)
+parts_view (parts.ConnectionClosed reason) = model.ConnectionClosed (reason_there reason)
+parts_view (parts.Discarded channel) = model.Discarded channel
+parts_view (parts.Blocked reason) = model.Blocked reason
+parts_view parts.Unblocked = model.Unblocked
+parts_view parts.Quiet = model.Quiet
+
+abbrev pub parts_there : Option EventParts → Option model.Event
+parts_there None = None
+parts_there (Some parts) = Some (parts_view parts)

@@ -1,0 +1,16 @@
+-- What a frame says, in the words of the model.
+use Rattle.amqp_method.specs.HeaderRefView.{lent_header}
+use Rattle.amqp_method.specs.MethodRefView.{lent_call}
+use Rattle.amqp_model.specs.Readings as model
+use Rattle.amqp_model.specs.Readings.{Calls, UnknownMethod, MalformedMethod, HeaderOf, MalformedHeader, BodyOf, Beat}
+use Rattle.amqp_channel.specs.declared.reading.Reading.{Reading}
+use Rattle.amqp_channel.specs.declared.reading.Reading.TheVariants as read
+
+abbrev pub reading_view : Reading → model.Reading
+reading_view (read.Method method) = Calls (lent_call method)
+reading_view read.UnknownMethod = UnknownMethod
+reading_view read.MalformedMethod = MalformedMethod
+reading_view (read.Header header) = HeaderOf (lent_header header).body_size (lent_header header).properties
+reading_view read.MalformedHeader = MalformedHeader
+reading_view (read.Body octets) = BodyOf octets.now
+reading_view (read.Heartbeat empty) = Beat empty

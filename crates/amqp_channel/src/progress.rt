@@ -1,0 +1,53 @@
+//! How far a content has come that is under way on a channel.
+ghost use Rattle.std.specs.Prelude.{◌≡◌};
+ghost use Rattle.amqp_model.specs.Streaming.{is_streaming, streamed};
+ghost use Rattle.amqp_channel.specs.GatheringView.{gathering_view};
+ghost use Rattle.amqp_channel.specs.ProgressView.{progress_view};
+
+use crate::gathering::Gathering;
+use amqp_method::Kind;
+
+/// How far a content has come: all that the rules look at.
+#[derive(Clone, Copy)]
+pub enum Progress {
+    NoContent,
+    /// The method was taken, and the header is due.
+    AwaitsHeader(Kind),
+    /// The header was taken too, and so many octets of the body.
+    AwaitsBody { kind: Kind, size: u64, came: u64 },
+}
+
+impl Progress {
+    /// Whether a content is under way.
+    pub fn is_under_way(self) -> bool
+        ensures { result ≡ is_streaming (progress_view self) }
+    {
+        match self {
+            Progress::NoContent => false,
+            Progress::AwaitsHeader(_) => true,
+            Progress::AwaitsBody { .. } => true,
+        }
+    }
+}
+
+impl Gathering {
+    /// How far the content under way has come.
+    pub fn progress(&self) -> Progress
+        ensures { progress_view result ≡ streamed (gathering_view self.now) }
+    {
+        match self {
+            Gathering::Nothing => Progress::NoContent,
+            Gathering::HeaderDue(content) => Progress::AwaitsHeader(content.kind()),
+            Gathering::BodyDue(content) => Progress::AwaitsBody {
+                kind: content.kind(),
+                size: content.header.body_size,
+                came: content.body.len() as u64,
+            },
+            Gathering::Deferred(deferred) => Progress::AwaitsBody {
+                kind: deferred.content.kind(),
+                size: deferred.size(),
+                came: deferred.content.body.len() as u64,
+            },
+        }
+    }
+}

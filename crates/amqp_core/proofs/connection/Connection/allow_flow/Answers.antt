@@ -1,0 +1,14 @@
+use Rattle.std.proofs.lemmas.Result.{err_from_is_err_and}
+use Rattle.amqp_model.specs.Asks as asks
+use Rattle.amqp_core.specs.Settings.{role_for}
+use Rattle.amqp_core.proofs.connection.Connection.allow_flow.Goals as goal
+
+pub returns-in_err-agreed-clause-refused : goal.returns-in_err-agreed-clause-refused
+returns-in_err-agreed-clause-refused c =
+    let p = err_from_is_err_and c.from_residual.result c.from_residual.ensures.1 in
+    rw (p.1, p.2) (λ active. c.in_err-agreed.ensures.refused (role_for c.args.self.now.settings) (asks.Flow c.args.number active))
+
+pub returns-in_err-life-clause-refused : goal.returns-in_err-life-clause-refused
+returns-in_err-life-clause-refused c =
+    let p = err_from_is_err_and c.from_residual-in_err-life.result c.from_residual-in_err-life.ensures.1 in
+    rw (p.1, p.2) (λ active. c.in_err-life.ensures.refused _)

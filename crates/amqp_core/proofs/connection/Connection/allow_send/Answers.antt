@@ -1,0 +1,60 @@
+use Rattle.std.proofs.Common.{◌≡◌, ℕ, ap, sym, ◌∙◌}
+use Rattle.std.proofs.lemmas.Result.{err_from_is_err_and}
+use Rattle.amqp_method.specs.MessageView.{message_view}
+use Rattle.amqp_model.specs.Asks as asks
+use Rattle.amqp_model.specs.Asks.{refusal}
+use Rattle.amqp_model.specs.Channels.{Life}
+use Rattle.amqp_model.specs.Events.{Message}
+use Rattle.amqp_channel.specs.EventView.{agreed_view}
+use Rattle.amqp_channel.specs.LifeView.{life_view}
+use Rattle.amqp_channel.specs.Messages.{message_of}
+use Rattle.amqp_channel.specs.Roles.{role_of}
+use Rattle.amqp_channel.specs.declared.events.Agreed.{Agreed}
+use Rattle.amqp_channel.specs.declared.side.Side.{Side}
+use Rattle.amqp_core.specs.ConnectionView.{connection_end}
+use Rattle.amqp_core.specs.Refusals.{IsOpenIn, refusal_in}
+use Rattle.amqp_core.specs.Settings.{role_for, side_in}
+use Rattle.amqp_core.specs.Stages.{agreed_at}
+use Rattle.amqp_core.specs.declared.connection.Connection.{Connection}
+use Rattle.amqp_core.specs.declared.stage.Stage.TheVariants as stages
+use Rattle.amqp_core.proofs.RefusalLemmas.{message_refusal, sent_is_other, sent_has_room}
+use Rattle.amqp_core.proofs.connection.Connection.allow_send.Goals as goal
+
+here : (connection : Connection) (agreed : Agreed) (number : ℕ) (side : Side) (life : Life) (message : Message) → connection.stage ≡ stages.Running agreed
+    → side ≡ side_in connection.settings.hello → IsOpenIn (connection_end connection) number life
+    → refusal (role_for connection.settings) (connection_end connection) (asks.Send number message) ≡ refusal_in (role_of side) agreed.frame_max life message
+here connection agreed number side life message stage_is side_is open_is =
+    message_refusal (role_for connection.settings) (connection_end connection) (agreed_view agreed) number life message (ap agreed_at stage_is) open_is
+    ∙ ap (λ s. refusal_in (role_of s) agreed.frame_max life message) (sym side_is)
+
+pub returns-in_err-agreed-clause-refused : goal.returns-in_err-agreed-clause-refused
+returns-in_err-agreed-clause-refused c =
+    let p = err_from_is_err_and c.from_residual.result c.from_residual.ensures.1 in
+    rw (p.1, p.2) (c.in_err-agreed.ensures.refused (role_for c.args.self.now.settings)
+    (asks.Send c.args.number (message_of (message_view c.args.message.now))))
+
+pub returns-in_err-life-clause-refused : goal.returns-in_err-life-clause-refused
+returns-in_err-life-clause-refused c =
+    let p = err_from_is_err_and c.from_residual-in_err-life.result c.from_residual-in_err-life.ensures.1 in
+    rw (p.1, p.2) (c.in_err-life.ensures.refused _)
+
+pub returns-in-Some-clause-refused : goal.returns-in-Some-clause-refused
+returns-in-Some-clause-refused c = c.in-Some.ensures ∙ sym
+    (here c.args.self.now c.in_ok-agreed.agreed c.args.number c.side-side.result _ (message_of (message_view c.args.message.now))
+    c.in_ok-agreed.ensures.running c.side-side.ensures c.in_ok-life.ensures.open)
+
+pub returns-in-None-clause-allowed : goal.returns-in-None-clause-allowed
+returns-in-None-clause-allowed c = here c.args.self.now c.in_ok-agreed.agreed c.args.number c.side-side.result _
+    (message_of (message_view c.args.message.now)) c.in_ok-agreed.ensures.running c.side-side.ensures c.in_ok-life.ensures.open ∙ sym c.in-None.ensures
+
+pub returns-in-None-clause-other : goal.returns-in-None-clause-other
+returns-in-None-clause-other c =
+    let letter = message_view c.args.message.now in
+    sent_is_other (role_of c.side-side.result) c.in_ok-agreed.agreed.frame_max (life_view c.in_ok-life.life.now) letter.call letter.properties letter.body
+    (sym c.in-None.ensures)
+
+pub returns-in-None-clause-room : goal.returns-in-None-clause-room
+returns-in-None-clause-room c =
+    let letter = message_view c.args.message.now in
+    sent_has_room (role_of c.side-side.result) c.in_ok-agreed.agreed.frame_max (life_view c.in_ok-life.life.now) letter.call letter.properties letter.body
+    (sym c.in-None.ensures)

@@ -1,9 +1,0 @@
-use Rattle.std.proofs.lemmas.Result.{err_from_is_err_and}
-use Rattle.amqp_model.specs.Asks as asks
-use Rattle.amqp_core.specs.Settings.{role_for}
-use Rattle.amqp_core.proofs.one_end.Core.allow_open.Goals as goal
-
-pub returns-in_err-agreed-clause-refused : goal.returns-in_err-agreed-clause-refused
-returns-in_err-agreed-clause-refused c =
-    let p = err_from_is_err_and c.from_residual.result c.from_residual.ensures.1 in
-    rw (p.1, p.2) (c.in_err-agreed.ensures.refused (role_for c.args.self.now.settings) asks.Open)

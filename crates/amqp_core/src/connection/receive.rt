@@ -1,0 +1,706 @@
+//! The rules for a frame that an end takes, in their order: the first that applies decides. They only look.
+//!
+//! An end that has put connection.close drops all but the other end's close and close-ok. A heartbeat is empty and
+//! stands on channel 0. A method has to be one that there is. Until the handshake is over nothing but its next method
+//! is taken. What is left is for the channel, or for the connection.
+ghost use Rattle.std.specs.Prelude.{◌≡◌, true, false, ℕ, [], map, Some, None, Option, IfOk, IsOk, OnErr, OnOk};
+ghost use Rattle.amqp_method.specs.MethodRefView.{lent_call};
+ghost use Rattle.amqp_model.specs.Asks.{is_free};
+ghost use Rattle.amqp_model.specs.Channels.{Channel, Free};
+ghost use Rattle.amqp_model.specs.Contents as contents;
+ghost use Rattle.amqp_model.specs.EndVerdict.{takes_frames};
+ghost use Rattle.amqp_model.specs.Readings as readings;
+ghost use Rattle.amqp_channel.specs.ChannelsView.{channels_view};
+ghost use Rattle.amqp_model.specs.Readings.{Beat, Calls};
+ghost use Rattle.amqp_channel.specs.ContentView.{content_there};
+ghost use Rattle.amqp_channel.specs.PartsView.{parts_there};
+ghost use Rattle.amqp_channel.specs.ReadingView.{reading_view};
+ghost use Rattle.amqp_channel.specs.VerdictView.{verdict_view as channel_verdict, Drops};
+ghost use Rattle.amqp_channel.specs.declared.channels.Channels.{Channels};
+ghost use Rattle.amqp_model.specs.Events as events;
+ghost use Rattle.amqp_core.specs.Answering.{answer_with, ran_out, AnswersFrame};
+ghost use Rattle.amqp_core.specs.Dropping.{DropsReading, IsDropped};
+ghost use Rattle.amqp_core.specs.Handshakes.{answered_in, awaits_at, is_in_handshake};
+ghost use Rattle.amqp_core.specs.Settings.{role_for, side_in};
+ghost use Rattle.amqp_core.specs.Stages.{leaves, phase_at};
+ghost use Rattle.amqp_core.specs.Outcomes.{owed_by};
+ghost use Rattle.amqp_core.specs.OwedView.{owed_view, IsNothing};
+ghost use Rattle.amqp_core.specs.VerdictView.{end_at, event_by, fault_by, fault_there, noticed, outcome_with, verdict_view, FitsEventOf, FitsNotice, FrameRules, IsLight, IsLightNotice};
+ghost use Rattle.amqp_core.specs.declared.settings.Settings.{Settings};
+
+use crate::account::Account;
+use crate::connection::Connection;
+use crate::connection::handshake::{is_too_small, is_within, smaller};
+use crate::connection::reply::{owed_at, put_owed};
+use crate::faults::{CoreFault, OutOfMemory};
+use crate::notes::Note;
+use crate::owed::Owed;
+use crate::settings::Settings;
+use crate::stage::Stage;
+use crate::verdict::{Fault, Notice, Verdict};
+use amqp_channel::words::{lent_number_at, same};
+use amqp_channel::{
+    Agreed, Aligned, CloseCode, EventParts, Reading, Side, Unread, Verdict as ChannelVerdict,
+    lent_blocked_reason, lent_reason,
+};
+use amqp_frame::FrameRef;
+use amqp_method::{Content, Kind, MethodRef};
+use amqp_outbox::Outbox;
+use std::alloc::Global;
+
+/// The frame is dropped.
+fn drops(stage: Stage) -> Verdict
+    ensures { result ≡ Verdict.Proceeds Notice.Discarded stage Owed.Nothing }
+{
+    Verdict::Proceeds {
+        notice: Notice::Discarded,
+        stage,
+        owed: Owed::Nothing,
+    }
+}
+
+/// The other end broke the protocol.
+fn closes_with(code: CloseCode) -> Verdict
+    ensures { result ≡ Verdict.Faults (Fault.Peer code) }
+{
+    Verdict::Faults(Fault::Peer(code))
+}
+
+/// A method on channel 0, where this end has put connection.close: it answers a close that crosses its own, and
+/// close-ok ends the connection.
+#[tactic(auto, using(crate::proofs::VerdictLemmas::leaving_rules))]
+fn judge_leaving_call(agreed: Option<Agreed>, method: MethodRef<'_>) -> Verdict
+    ensures { (settings : Settings) (channels : Channels)
+        → FrameRules settings (end_at (Stage.Closing agreed) channels) 0 (Calls (lent_call method.entry)) result }
+{
+    let kind = method.kind();
+    if same(kind, Kind::ConnectionClose) {
+        return Verdict::Proceeds {
+            notice: Notice::Quiet,
+            stage: Stage::Closing(agreed),
+            owed: Owed::CloseOk,
+        };
+    }
+    if same(kind, Kind::ConnectionCloseOk) {
+        return Verdict::Proceeds {
+            notice: Notice::ClosedByUs,
+            stage: Stage::Closed(agreed),
+            owed: Owed::Nothing,
+        };
+    }
+    drops(Stage::Closing(agreed))
+}
+
+/// A frame, where this end has put connection.close.
+#[inline(never)]
+#[tactic(auto, using(crate::proofs::VerdictLemmas::dropping_rules))]
+fn judge_leaving(agreed: Option<Agreed>, number: u16, reading: Reading<'_>) -> Verdict
+    ensures rules { (settings : Settings) (channels : Channels)
+        → FrameRules settings (end_at (Stage.Closing agreed) channels) number (reading_view reading.entry) result }
+    ensures light { (channel : Channel)
+        → DropsReading (phase_at (Stage.Closing agreed)) channel number (reading_view reading.entry) → IsLight channel result }
+{
+    if number != 0 {
+        return drops(Stage::Closing(agreed));
+    }
+    match reading {
+        Reading::Method(method) => judge_leaving_call(agreed, method),
+        Reading::UnknownMethod => drops(Stage::Closing(agreed)),
+        Reading::MalformedMethod => drops(Stage::Closing(agreed)),
+        Reading::Header(_) => drops(Stage::Closing(agreed)),
+        Reading::MalformedHeader => drops(Stage::Closing(agreed)),
+        Reading::Body(_) => drops(Stage::Closing(agreed)),
+        Reading::Heartbeat { .. } => drops(Stage::Closing(agreed)),
+    }
+}
+
+/// The other end closes the connection.
+#[tactic(auto, using(crate::proofs::VerdictLemmas::close_rules))]
+fn judge_close(stage: Stage, method: MethodRef<'_>) -> Verdict
+    requires stays { leaves (phase_at stage) ≡ false }
+    requires going { takes_frames (phase_at stage) ≡ true }
+    requires close { (lent_call method).kind ≡ Kind.ConnectionClose }
+    ensures { (settings : Settings) (channels : Channels)
+        → FrameRules settings (end_at stage channels) 0 (Calls (lent_call method.entry)) result }
+{
+    Verdict::Proceeds {
+        notice: Notice::ClosedByPeer,
+        stage: Stage::Closed(stage.agreed()),
+        owed: Owed::CloseOk,
+    }
+}
+
+/// A client answers start with start-ok.
+#[tactic(auto, using(crate::proofs::VerdictLemmas::start_rules))]
+fn judge_start(settings: &Settings, method: MethodRef<'_>) -> Verdict
+    requires side { side_in settings.now.hello ≡ Side.Client }
+    requires kind { (lent_call method).kind ≡ Kind.ConnectionStart }
+    ensures { (channels : Channels)
+        → FrameRules settings.now (end_at Stage.AwaitsStart channels) 0 (Calls (lent_call method.entry)) result }
+{
+    Verdict::Proceeds {
+        notice: Notice::Quiet,
+        stage: Stage::AwaitsTune,
+        owed: Owed::StartOk,
+    }
+}
+
+/// A server answers start-ok with tune.
+#[tactic(auto, using(crate::proofs::VerdictLemmas::start_ok_rules))]
+fn judge_start_ok(settings: &Settings, method: MethodRef<'_>) -> Verdict
+    requires side { side_in settings.now.hello ≡ Side.Server }
+    requires kind { (lent_call method).kind ≡ Kind.ConnectionStartOk }
+    ensures { (channels : Channels)
+        → FrameRules settings.now (end_at Stage.AwaitsStartOk channels) 0 (Calls (lent_call method.entry)) result }
+{
+    Verdict::Proceeds {
+        notice: Notice::Quiet,
+        stage: Stage::AwaitsTuneOk,
+        owed: Owed::Tune,
+    }
+}
+
+/// A client settles on the smaller of its own limits and the server's, and opens the connection at once.
+#[tactic(auto, using(crate::proofs::VerdictLemmas::tune_rules))]
+fn judge_tune(settings: &Settings, method: MethodRef<'_>) -> Verdict
+    requires side { side_in settings.now.hello ≡ Side.Client }
+    requires kind { (lent_call method).kind ≡ Kind.ConnectionTune }
+    ensures { (channels : Channels)
+        → FrameRules settings.now (end_at Stage.AwaitsTune channels) 0 (Calls (lent_call method.entry)) result }
+{
+    let channels = lent_number_at(0, method);
+    let frame = lent_number_at(1, method);
+    if is_too_small(frame) {
+        return closes_with(CloseCode::FrameError);
+    }
+    let agreed = Agreed {
+        channel_max: smaller(settings.channel_max as u64, channels) as u16,
+        frame_max: smaller(settings.frame_max as u64, frame) as u32,
+    };
+    Verdict::Proceeds {
+        notice: Notice::Quiet,
+        stage: Stage::AwaitsOpenOk(agreed),
+        owed: Owed::TuneOkAndOpen(agreed),
+    }
+}
+
+/// A server takes a tune-ok within its own limits.
+#[tactic(auto, using(crate::proofs::VerdictLemmas::tune_ok_rules))]
+fn judge_tune_ok(settings: &Settings, method: MethodRef<'_>) -> Verdict
+    requires side { side_in settings.now.hello ≡ Side.Server }
+    requires kind { (lent_call method).kind ≡ Kind.ConnectionTuneOk }
+    ensures { (channels : Channels)
+        → FrameRules settings.now (end_at Stage.AwaitsTuneOk channels) 0 (Calls (lent_call method.entry)) result }
+{
+    let channels = lent_number_at(0, method);
+    let frame = lent_number_at(1, method);
+    if !is_within(settings, channels, frame) {
+        return Verdict::Faults(Fault::Fatal);
+    }
+    Verdict::Proceeds {
+        notice: Notice::Quiet,
+        stage: Stage::AwaitsOpen(Agreed {
+            channel_max: channels as u16,
+            frame_max: frame as u32,
+        }),
+        owed: Owed::Nothing,
+    }
+}
+
+/// A server answers open with open-ok, and the connection is Running.
+#[tactic(auto, using(crate::proofs::VerdictLemmas::open_rules))]
+fn judge_open(settings: &Settings, agreed: Agreed, method: MethodRef<'_>) -> Verdict
+    requires side { side_in settings.now.hello ≡ Side.Server }
+    requires kind { (lent_call method).kind ≡ Kind.ConnectionOpen }
+    ensures { (channels : Channels)
+        → FrameRules settings.now (end_at (Stage.AwaitsOpen agreed) channels) 0 (Calls (lent_call method.entry)) result }
+{
+    Verdict::Proceeds {
+        notice: Notice::Negotiated(agreed),
+        stage: Stage::Running(agreed),
+        owed: Owed::OpenOk,
+    }
+}
+
+/// At a client the connection is Running with open-ok.
+#[tactic(auto, using(crate::proofs::VerdictLemmas::open_ok_rules))]
+fn judge_open_ok(settings: &Settings, agreed: Agreed, method: MethodRef<'_>) -> Verdict
+    requires side { side_in settings.now.hello ≡ Side.Client }
+    requires kind { (lent_call method).kind ≡ Kind.ConnectionOpenOk }
+    ensures { (channels : Channels)
+        → FrameRules settings.now (end_at (Stage.AwaitsOpenOk agreed) channels) 0 (Calls (lent_call method.entry)) result }
+{
+    Verdict::Proceeds {
+        notice: Notice::Negotiated(agreed),
+        stage: Stage::Running(agreed),
+        owed: Owed::Nothing,
+    }
+}
+
+/// The method that the stage awaits.
+#[tactic(auto, using(crate::proofs::KindLemmas::same_is))]
+fn judge_awaited(settings: &Settings, stage: Stage, method: MethodRef<'_>) -> Verdict
+    requires awaited { awaits_at stage (lent_call method).kind ≡ true }
+    requires answered { answered_in (role_for settings.now) (phase_at stage) ≡ true }
+    ensures { (channels : Channels)
+        → FrameRules settings.now (end_at stage channels) 0 (Calls (lent_call method.entry)) result }
+{
+    match stage {
+        Stage::AwaitsStart => judge_start(settings, method),
+        Stage::AwaitsStartOk => judge_start_ok(settings, method),
+        Stage::AwaitsTune => judge_tune(settings, method),
+        Stage::AwaitsTuneOk => judge_tune_ok(settings, method),
+        Stage::AwaitsOpen(agreed) => judge_open(settings, agreed, method),
+        Stage::AwaitsOpenOk(agreed) => judge_open_ok(settings, agreed, method),
+        Stage::AwaitsProtocolHeader => unreachable!(),
+        Stage::Running(_) => unreachable!(),
+        Stage::Closing(_) => unreachable!(),
+        Stage::Closed(_) => unreachable!(),
+        Stage::Failed(_) => unreachable!(),
+    }
+}
+
+/// A method of the handshake on channel 0.
+#[tactic(auto, using(crate::proofs::VerdictLemmas::step_rules))]
+fn judge_step(settings: &Settings, stage: Stage, method: MethodRef<'_>) -> Verdict
+    requires handshake { is_in_handshake (phase_at stage) ≡ true }
+    requires going { takes_frames (phase_at stage) ≡ true }
+    ensures { (channels : Channels)
+        → FrameRules settings.now (end_at stage channels) 0 (Calls (lent_call method.entry)) result }
+{
+    let kind = method.kind();
+    if same(kind, Kind::ConnectionClose) {
+        return judge_close(stage, method);
+    }
+    let side = settings.hello.side();
+    if side.is_client() && same(kind, Kind::ConnectionSecure) {
+        return closes_with(CloseCode::NotImplemented);
+    }
+    if !stage.awaits(kind) {
+        return closes_with(CloseCode::CommandInvalid);
+    }
+    if !stage.is_answered_by(side) {
+        return closes_with(CloseCode::CommandInvalid);
+    }
+    judge_awaited(settings, stage, method)
+}
+
+/// A heartbeat, which is to be empty and to stand on channel 0.
+#[tactic(auto, using(crate::proofs::VerdictLemmas::beat_rules))]
+fn judge_beat(stage: Stage, number: u16, empty: bool) -> Verdict
+    requires stays { leaves (phase_at stage) ≡ false }
+    requires going { takes_frames (phase_at stage) ≡ true }
+    ensures rules { (settings : Settings) (channels : Channels)
+        → FrameRules settings (end_at stage channels) number (Beat empty) result }
+    ensures light { (channel : Channel) → DropsReading (phase_at stage) channel number (Beat empty) → IsLight channel result }
+{
+    if number == 0 && empty {
+        return Verdict::Proceeds {
+            notice: Notice::Quiet,
+            stage,
+            owed: Owed::Nothing,
+        };
+    }
+    closes_with(CloseCode::FrameError)
+}
+
+/// A frame, until the handshake is over: nothing but its next method is taken.
+#[inline(never)]
+#[tactic(auto, using(crate::proofs::VerdictLemmas::handshake_rules))]
+fn judge_handshake(settings: &Settings, stage: Stage, number: u16, reading: Reading<'_>) -> Verdict
+    requires handshake { is_in_handshake (phase_at stage) ≡ true }
+    requires going { takes_frames (phase_at stage) ≡ true }
+    ensures rules { (channels : Channels) → is_free (channels_view channels number) ≡ true
+        → FrameRules settings.now (end_at stage channels) number (reading_view reading.entry) result }
+    ensures light { (channel : Channel) → is_free channel ≡ true
+        → DropsReading (phase_at stage) channel number (reading_view reading.entry) → IsLight channel result }
+{
+    match reading {
+        Reading::Method(method) => {
+            if number != 0 {
+                return closes_with(CloseCode::CommandInvalid);
+            }
+            judge_step(settings, stage, method)
+        }
+        Reading::UnknownMethod => closes_with(Unread::UnknownMethod.code()),
+        Reading::MalformedMethod => closes_with(Unread::MalformedMethod.code()),
+        Reading::Header(_) => closes_with(CloseCode::CommandInvalid),
+        Reading::MalformedHeader => closes_with(CloseCode::CommandInvalid),
+        Reading::Body(_) => closes_with(CloseCode::CommandInvalid),
+        Reading::Heartbeat { empty } => judge_beat(stage, number, empty),
+    }
+}
+
+/// A method on channel 0 of a connection that is Running: the other end's close, and the server's blocked and
+/// unblocked.
+#[tactic(auto, using(crate::proofs::KindLemmas::same_is))]
+fn judge_connection(settings: &Settings, agreed: Agreed, method: MethodRef<'_>) -> Verdict
+    ensures { (channels : Channels)
+        → FrameRules settings.now (end_at (Stage.Running agreed) channels) 0 (Calls (lent_call method.entry)) result }
+{
+    let stage = Stage::Running(agreed);
+    let kind = method.kind();
+    if same(kind, Kind::ConnectionClose) {
+        return judge_close(stage, method);
+    }
+    let side = settings.hello.side();
+    if side.is_client() && same(kind, Kind::ConnectionSecure) {
+        return closes_with(CloseCode::NotImplemented);
+    }
+    if side.is_client() && same(kind, Kind::ConnectionBlocked) {
+        return Verdict::Proceeds {
+            notice: Notice::Blocked,
+            stage,
+            owed: Owed::Nothing,
+        };
+    }
+    if side.is_client() && same(kind, Kind::ConnectionUnblocked) {
+        return Verdict::Proceeds {
+            notice: Notice::Unblocked,
+            stage,
+            owed: Owed::Nothing,
+        };
+    }
+    if method.class_id() == 10 || !side.may_take(kind) {
+        return closes_with(CloseCode::CommandInvalid);
+    }
+    closes_with(CloseCode::ChannelError)
+}
+
+/// A frame on channel 0 of a connection that is Running.
+#[inline(never)]
+#[tactic(auto, using(crate::proofs::VerdictLemmas::zero_rules))]
+fn judge_zero(settings: &Settings, agreed: Agreed, reading: Reading<'_>) -> Verdict
+    ensures rules { (channels : Channels)
+        → FrameRules settings.now (end_at (Stage.Running agreed) channels) 0 (reading_view reading.entry) result }
+    ensures light { DropsReading (phase_at (Stage.Running agreed)) Free 0 (reading_view reading.entry) → IsLight Free result }
+{
+    match reading {
+        Reading::Method(method) => judge_connection(settings, agreed, method),
+        Reading::UnknownMethod => closes_with(CloseCode::NotImplemented),
+        Reading::MalformedMethod => closes_with(CloseCode::SyntaxError),
+        Reading::Header(_) => closes_with(CloseCode::ChannelError),
+        Reading::MalformedHeader => closes_with(CloseCode::ChannelError),
+        Reading::Body(_) => closes_with(CloseCode::ChannelError),
+        Reading::Heartbeat { empty } => judge_beat(Stage::Running(agreed), 0, empty),
+    }
+}
+
+/// What an end owes by a channel's verdict.
+fn owed_of(verdict: ChannelVerdict, closing: bool, number: u16) -> Owed
+    ensures owed { (settings : Settings) (reading : readings.Reading) (whole : Option contents.Content)
+        → owed_view settings result ≡ owed_by closing number (channel_verdict number reading whole verdict) }
+    ensures light { Drops verdict → IsNothing result }
+{
+    match verdict {
+        ChannelVerdict::Proceeds(_, None) => Owed::Nothing,
+        ChannelVerdict::Proceeds(_, Some(reply)) => Owed::OnChannel(number, reply),
+        ChannelVerdict::RefusesContent => Owed::ChannelClose(number, CloseCode::ContentTooLarge),
+        ChannelVerdict::Faults(code) => owed_at(closing, Fault::Peer(code)),
+    }
+}
+
+impl Verdict {
+    /// What the end owes, which is leaving the connection or is not.
+    fn owed(self, closing: bool, number: u16) -> Owed
+        ensures owed { (settings : Settings) (reading : readings.Reading) (whole : Option contents.Content)
+            → owed_view settings result ≡ owed_by closing number (verdict_view settings number reading whole self) }
+        ensures light { (channel : Channel) → IsLight channel self → IsNothing result }
+    {
+        match self {
+            Verdict::OnChannel(said) => owed_of(said, closing, number),
+            Verdict::Proceeds { owed, .. } => owed,
+            Verdict::Faults(fault) => owed_at(closing, fault),
+        }
+    }
+
+    /// The fault that the end finds, if it finds one.
+    fn fault(self) -> Option<Fault>
+        ensures fault { (settings : Settings) (number : ℕ) (reading : readings.Reading) (whole : Option contents.Content)
+            → fault_there result ≡ fault_by (verdict_view settings number reading whole self) }
+        ensures light { (channel : Channel) → IsLight channel self → result ≡ None }
+    {
+        match self {
+            Verdict::OnChannel(ChannelVerdict::Proceeds(_, _)) => None,
+            Verdict::OnChannel(ChannelVerdict::RefusesContent) => None,
+            Verdict::OnChannel(ChannelVerdict::Faults(code)) => Some(Fault::Peer(code)),
+            Verdict::Proceeds { .. } => None,
+            Verdict::Faults(fault) => Some(fault),
+        }
+    }
+}
+
+/// What a frame tells of the connection, where the caller has room for it.
+#[inline(never)]
+fn tell_notice(
+    alloc: Global,
+    number: u16,
+    reading: Reading<'_>,
+    notice: Notice,
+    place: &mut Option<EventParts>,
+) -> Result<(), OutOfMemory>
+    requires fits { FitsNotice (reading_view reading) notice }
+    requires none { place.old ≡ None }
+    ensures event { OnOk result (parts_there place.new ≡ noticed number (reading_view reading.entry) notice) }
+    ensures light { IsLightNotice notice → IsOk result }
+{
+    match notice {
+        Notice::Quiet => EventParts::Quiet.put_in(place),
+        Notice::Discarded => EventParts::Discarded(Aligned::new(number)).put_in(place),
+        Notice::Negotiated(agreed) => EventParts::Negotiated(Aligned::new(agreed)).put_in(place),
+        Notice::ClosedByPeer => {
+            let Reading::Method(method) = reading else {
+                unreachable!()
+            };
+            let reason = lent_reason(alloc, method)?;
+            EventParts::ConnectionClosed(Some(reason)).put_in(place);
+        }
+        Notice::ClosedByUs => EventParts::ConnectionClosed(None).put_in(place),
+        Notice::Blocked => {
+            let Reading::Method(method) = reading else {
+                unreachable!()
+            };
+            let reason = lent_blocked_reason(alloc, method)?;
+            EventParts::Blocked(reason).put_in(place);
+        }
+        Notice::Unblocked => EventParts::Unblocked.put_in(place),
+    }
+    Ok(())
+}
+
+/// What a frame with this verdict tells, where the caller has room for it. The frame makes this content whole, if any.
+fn tell_event(
+    alloc: Global,
+    number: u16,
+    reading: Reading<'_>,
+    verdict: Verdict,
+    content: Option<Box<Content>>,
+    place: &mut Option<EventParts>,
+) -> Result<(), OutOfMemory>
+    requires fits { FitsEventOf (reading_view reading) verdict }
+    requires none { place.old ≡ None }
+    ensures event { OnOk result ((settings : Settings) → parts_there place.new
+        ≡ event_by number (verdict_view settings number (reading_view reading.entry) (content_there content) verdict)) }
+    ensures light { (channel : Channel) → IsLight channel verdict → IsOk result }
+{
+    match verdict {
+        Verdict::OnChannel(ChannelVerdict::Proceeds(told, _)) => {
+            EventParts::tell(alloc, number, reading, told, content, place)?;
+        }
+        Verdict::OnChannel(ChannelVerdict::RefusesContent) => {
+            EventParts::Discarded(Aligned::new(number)).put_in(place);
+        }
+        Verdict::OnChannel(ChannelVerdict::Faults(_)) => {}
+        Verdict::Proceeds { notice, .. } => tell_notice(alloc, number, reading, notice, place)?,
+        Verdict::Faults(_) => {}
+    }
+    Ok(())
+}
+
+/// What is answered to a frame with which this fault is found, if any, whatever it tells.
+fn report(fault: Option<Fault>) -> Result<(), CoreFault>
+    ensures says { (event : Option events.Event)
+        → AnswersFrame (answer_with result event) (outcome_with event (fault_there fault)) }
+    ensures memory { ran_out result ≡ false }
+    ensures ok { fault ≡ None → IsOk result }
+{
+    match fault {
+        None => Ok(()),
+        Some(fault) => Err(fault.reported()),
+    }
+}
+
+impl Connection {
+    ghost use Rattle.amqp_core.specs.ConnectionView.{connection_end};
+    ghost use Rattle.amqp_frame.specs.Frame.{lent};
+    ghost use Rattle.amqp_model.specs.Closes.{frame_of};
+    ghost use Rattle.amqp_model.specs.EndVerdict.{end_puts, end_verdict, facts_at};
+    ghost use Rattle.amqp_model.specs.Endpoint.{outcome_of};
+    ghost use Rattle.amqp_model.specs.FrameVerdict.{methods_put};
+    ghost use Rattle.amqp_model.specs.Traces.{IsTaken, noted};
+    ghost use Rattle.amqp_core.specs.AccountView.{note_there};
+    ghost use Rattle.amqp_core.specs.Feeding.{IsMessage, SameButChannels};
+    ghost use Rattle.amqp_model.specs.Machine.{end_after_taken};
+    ghost use Rattle.amqp_model.specs.Outputs.{after_puts};
+    ghost use Rattle.amqp_model.specs.Readings.{reading as says};
+    ghost use Rattle.amqp_outbox.specs.OutboxView.{only};
+    ghost use Rattle.amqp_core.specs.Answering.{EndsAs, PutsAs};
+    ghost use Rattle.amqp_core.specs.Settings.{config_view};
+    ghost use Rattle.amqp_core.specs.VerdictView.{content_of, end_left, ended_if, verdict_here, FitsVerdict};
+
+    /// Leaves the end as a frame with this verdict does. What is answered is the content that the frame makes whole.
+    /// Out of memory, nothing that was agreed is lost.
+    #[tactic(auto, using(crate::proofs::ReceiveLemmas::with_channel_is))]
+    fn apply(
+        &mut self,
+        number: u16,
+        reading: Reading<'_>,
+        verdict: Verdict,
+    ) -> Result<Option<Box<Content>>, OutOfMemory>
+        requires { FitsVerdict (connection_end self.old) number (reading_view reading) verdict }
+        ensures content { IfOk result (λ content. content_there content
+            ≡ content_of verdict (channels_view self.old.channels number) (reading_view reading.entry)) }
+        ensures left { OnOk result (connection_end self.new
+            ≡ end_left (role_for self.old.settings) number (reading_view reading.entry) verdict (connection_end self.old)) }
+        ensures settings { self.new.settings ≡ self.old.settings }
+        ensures err { OnErr result (self.new.stage ≡ self.old.stage) }
+        ensures light { IsLight (channels_view self.old.channels number) verdict → IsOk result }
+    {
+        match verdict {
+            Verdict::OnChannel(said) => {
+                let side = self.settings.hello.side();
+                Ok(
+                    self.channels
+                        .apply(self.alloc, side, number, reading, said)?,
+                )
+            }
+            Verdict::Proceeds { stage, .. } => {
+                self.stage = stage;
+                Ok(None)
+            }
+            Verdict::Faults(_) => Ok(None),
+        }
+    }
+
+    /// A frame on a connection that is Running.
+    #[tactic(auto, using(crate::proofs::VerdictLemmas::channel_rules))]
+    fn judge_running(&self, agreed: Agreed, number: u16, reading: Reading<'_>) -> Verdict
+        ensures rules { FrameRules self.now.settings (end_at (Stage.Running agreed) self.now.channels) number
+            (reading_view reading.entry) result }
+        ensures light { DropsReading (phase_at (Stage.Running agreed)) (channels_view self.now.channels number) number
+            (reading_view reading.entry) → IsLight (channels_view self.now.channels number) result }
+    {
+        if number == 0 {
+            return judge_zero(&self.settings, agreed, reading);
+        }
+        let site = self.site(number, agreed.channel_max);
+        Verdict::OnChannel(self.channels.judge(site, reading))
+    }
+
+    /// What the rules say of a frame.
+    pub(crate) fn judge(&self, number: u16, reading: Reading<'_>) -> Verdict
+        requires taking { takes_frames (phase_at self.now.stage) ≡ true }
+        ensures rules { FrameRules self.now.settings (connection_end self.now) number (reading_view reading.entry) result }
+        ensures light { DropsReading (phase_at self.now.stage) (channels_view self.now.channels number) number
+            (reading_view reading.entry) → IsLight (channels_view self.now.channels number) result }
+    {
+        match self.stage {
+            Stage::Running(agreed) => self.judge_running(agreed, number, reading),
+            Stage::Closing(agreed) => judge_leaving(agreed, number, reading),
+            Stage::AwaitsStart
+            | Stage::AwaitsStartOk
+            | Stage::AwaitsTune
+            | Stage::AwaitsTuneOk
+            | Stage::AwaitsOpen(_)
+            | Stage::AwaitsOpenOk(_) => judge_handshake(
+                &self.settings,
+                self.stage,
+                number,
+                reading,
+            ),
+            Stage::AwaitsProtocolHeader => unreachable!(),
+            Stage::Closed(_) => unreachable!(),
+            Stage::Failed(_) => unreachable!(),
+        }
+    }
+
+    /// Does what the rules say of a frame: the end is left as it leaves it, its event is told, and what is owed is
+    /// put. Out of memory, nothing is put.
+    fn carry_out(
+        &mut self,
+        outbox: &mut Outbox,
+        number: u16,
+        reading: Reading<'_>,
+        verdict: Verdict,
+        account: &mut Account,
+    ) -> Result<(), OutOfMemory>
+        requires fits { FitsVerdict (connection_end self.old) number (reading_view reading) verdict }
+        requires staged { outbox.old.staged ≡ [] }
+        requires none { account.old.parts ≡ None }
+        ensures event { OnOk result (parts_there account.new.parts
+            ≡ event_by number (verdict_here self.old.settings (connection_end self.old) number (reading_view reading.entry) verdict)) }
+        ensures left { OnOk result (connection_end self.new
+            ≡ end_left (role_for self.old.settings) number (reading_view reading.entry) verdict (connection_end self.old)) }
+        ensures put { OnOk result (outbox.new ≡ only (after_puts (map frame_of (owed_by (leaves (phase_at self.old.stage)) number
+            (verdict_here self.old.settings (connection_end self.old) number (reading_view reading.entry) verdict))) outbox.old.output)) }
+        ensures kept { OnErr result (outbox.new ≡ only outbox.old.output) }
+        ensures owed { OnOk result (owed_view self.old.settings account.new.owed ≡ owed_by (leaves (phase_at self.old.stage)) number
+            (verdict_here self.old.settings (connection_end self.old) number (reading_view reading.entry) verdict)) }
+        ensures octets { account.new.octets ≡ account.old.octets }
+        ensures took { account.new.took ≡ account.old.took }
+        ensures light { IsLight (channels_view self.old.channels number) verdict → IsOk result }
+        ensures settings { self.new.settings ≡ self.old.settings }
+    {
+        let closing = self.stage.is_closing();
+        let content = self.apply(number, reading, verdict)?;
+        tell_event(
+            self.alloc,
+            number,
+            reading,
+            verdict,
+            content,
+            &mut account.parts,
+        )?;
+        let owed = verdict.owed(closing, number);
+        put_owed(self.alloc, &self.settings, owed, outbox)?;
+        account.owed = owed;
+        Ok(())
+    }
+
+    /// Takes a frame. What the end owes is put, and what came of the frame, its event too, is accounted for. Out of
+    /// memory, the end fails, and nothing is put.
+    pub(crate) fn receive(
+        &mut self,
+        outbox: &mut Outbox,
+        frame: FrameRef<'_>,
+        account: &mut Account,
+    ) -> Result<(), CoreFault>
+        requires taking { takes_frames (phase_at self.old.stage) ≡ true }
+        requires staged { outbox.old.staged ≡ [] }
+        requires none { account.old.parts ≡ None }
+        ensures said { AnswersFrame (answer_with result (parts_there account.new.parts)) (outcome_of
+            (facts_at (config_view self.old.settings) (connection_end self.old) (lent frame.entry).channel)
+            (end_verdict (config_view self.old.settings) (connection_end self.old) (lent frame.entry))) }
+        ensures end { EndsAs result (connection_end self.old)
+            (end_after_taken (role_for self.old.settings) (config_view self.old.settings) (connection_end self.old)
+            (says (lent frame.entry)) (lent frame.entry)) (connection_end self.new) }
+        ensures output { PutsAs result outbox.old.output
+            (after_puts (end_puts (config_view self.old.settings) (connection_end self.old) (lent frame.entry)) outbox.old.output)
+            outbox.new }
+        // A frame that is dropped takes no memory.
+        ensures alone { IsDropped (phase_at self.old.stage) (channels_view self.old.channels (lent frame.entry).channel)
+            (lent frame.entry).channel (lent frame.entry).kind (lent frame.entry).payload → IsOk result }
+        // A message that is told is not answered, and leaves all but its channel as it was.
+        ensures message { OnOk result (IsMessage (parts_there account.new.parts) → SameButChannels
+            (record { end = connection_end self.old; unfinished = []; output = outbox.old.output })
+            (record { end = connection_end self.new; unfinished = []; output = outbox.new.output })) }
+        ensures octets { account.new.octets ≡ account.old.octets }
+        ensures took { note_there account.new.took ≡ Some (noted IsTaken (lent frame.entry)) }
+        ensures owed { ran_out result ≡ false → owed_view self.old.settings account.new.owed ≡ methods_put
+            (facts_at (config_view self.old.settings) (connection_end self.old) (lent frame.entry).channel)
+            (end_verdict (config_view self.old.settings) (connection_end self.old) (lent frame.entry)) }
+        ensures settings { self.new.settings ≡ self.old.settings }
+    {
+        let before = self.stage;
+        let reading = Reading::of(frame);
+        let verdict = self.judge(frame.channel, reading);
+        account.took = Some(Note::taken(frame.channel, reading));
+        let Ok(()) = self.carry_out(outbox, frame.channel, reading, verdict, account) else {
+            self.fail_at(before);
+            return Err(CoreFault::OutOfMemory);
+        };
+        let fault = verdict.fault();
+        self.fail_by(fault);
+        report(fault)
+    }
+
+    /// An end that has found fault fails.
+    fn fail_by(&mut self, fault: Option<Fault>)
+        ensures end { connection_end self.new ≡ ended_if (fault_there fault) (connection_end self.old) }
+        ensures settings { self.new.settings ≡ self.old.settings }
+    {
+        if let Some(_) = fault {
+            self.fail();
+        }
+    }
+}

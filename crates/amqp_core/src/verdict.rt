@@ -1,0 +1,63 @@
+//! What the rules say of a frame that an end takes.
+ghost use Rattle.std.specs.Prelude.{◌≡◌, false};
+ghost use Rattle.amqp_model.specs.Endpoint.{Found};
+
+use crate::faults::CoreFault;
+use crate::owed::Owed;
+use crate::stage::Stage;
+use amqp_channel::{Agreed, CloseCode, Verdict as ChannelVerdict};
+
+/// Why an end can't go on with what it took.
+#[derive(Clone, Copy)]
+pub(crate) enum Fault {
+    /// The connection is closed with this code.
+    Peer(CloseCode),
+    /// There is no answer.
+    Fatal,
+}
+
+/// What a frame tells of the connection.
+#[derive(Clone, Copy)]
+pub(crate) enum Notice {
+    /// A step of the handshake, a heartbeat, or a close that crosses this end's own.
+    Quiet,
+    Discarded,
+    /// The handshake is over.
+    Negotiated(Agreed),
+    /// The other end's close, which is the frame, ended the connection.
+    ClosedByPeer,
+    /// This end's close, which is answered, ended the connection.
+    ClosedByUs,
+    Blocked,
+    Unblocked,
+}
+
+/// What the rules say of a frame.
+#[derive(Clone, Copy)]
+pub(crate) enum Verdict {
+    /// It is its channel's: what the channel's rules say.
+    OnChannel(ChannelVerdict),
+    /// The end goes on: what is told, where the connection stands then, and what the end owes.
+    Proceeds {
+        notice: Notice,
+        stage: Stage,
+        owed: Owed,
+    },
+    Faults(Fault),
+}
+
+impl Fault {
+    ghost use Rattle.amqp_core.specs.Answering.{Reports, is_out_of_memory};
+    ghost use Rattle.amqp_core.specs.ConnectionView.{fault_of};
+
+    /// The fault, as the application sees it.
+    pub(crate) fn reported(self) -> CoreFault
+        ensures says { Reports result (Found (fault_of self)) }
+        ensures fault { is_out_of_memory result ≡ false }
+    {
+        match self {
+            Fault::Peer(code) => CoreFault::Peer(code),
+            Fault::Fatal => CoreFault::Fatal,
+        }
+    }
+}
