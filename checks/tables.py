@@ -275,16 +275,16 @@ def faults():
 
 
 def refusals():
-    specs = text_of("crates/amqp_model/specs/Asks.antt")
+    specs = text_of("crates/amqp_model/specs/End/Asks.antt")
     found = [(number, name) for name, number in re.findall(r"^refusal_number (\w+) = (\d+)$", specs, re.M)]
     compare("refusals", documented("| Number | Refusal |", 10), found, "the definition")
-    specs = text_of("crates/amqp_model/specs/Fitting.antt")
+    specs = text_of("crates/amqp_model/specs/End/Fitting.antt")
     found = [(number, name) for name, number in re.findall(r"^config_fault_number (\w+) = (\d+)$", specs, re.M)]
     compare("configuration faults", documented("| Number | Fault |", 3), found, "the definition")
 
 
 def closes():
-    specs = text_of("crates/amqp_model/specs/Closes.antt")
+    specs = text_of("crates/amqp_model/specs/End/Closes.antt")
     numbers = re.findall(r"^number_of (\w+) = (\d+)$", specs, re.M)
     texts = dict(re.findall(r'^text_of (\w+) = codes "([^"]+)"$', specs, re.M))
     found = [(number, name, texts.get(name, "")) for name, number in numbers]
@@ -325,14 +325,14 @@ def frames():
 CONSTANTS = (
     ("end octet", "crates/amqp_frame/src/frames.rt", r"const END: u8 = (\w+);"),
     ("end octet", "crates/amqp_frame/specs/Frame.antt", r"^END = (\d+)$"),
-    ("protocol header", "crates/amqp_model/specs/Negotiation.antt", r"^PROTOCOL_HEADER = ([\d ∷]+) ∷ \[\]$"),
+    ("protocol header", "crates/amqp_model/specs/History/Negotiation.antt", r"^PROTOCOL_HEADER = ([\d ∷]+) ∷ \[\]$"),
     ("greatest frame that `show` reads", "crates/amqp_text/src/listing.rt", r"const LIMIT: u32 = ([\d_]+);"),
     ("greatest frame that `show` reads", "crates/amqp_command/src/help.rt", r"A frame has at most (\d+) octets"),
-    ("least agreed frame size", "crates/amqp_model/specs/Negotiation.antt", r"^FRAME_MIN = (\d+)$"),
-    ("greatest agreed frame size", "crates/amqp_model/specs/Fitting.antt", r"^FRAME_MOST = (\d+)$"),
+    ("least agreed frame size", "crates/amqp_model/specs/History/Negotiation.antt", r"^FRAME_MIN = (\d+)$"),
+    ("greatest agreed frame size", "crates/amqp_model/specs/End/Fitting.antt", r"^FRAME_MOST = (\d+)$"),
     ("deepest field table", "crates/amqp_value/src/tables.rt", r"const MAX_DEPTH: usize = (\d+);"),
     ("deepest field table", "crates/amqp_value/specs/Encoding.antt", r"table_depth pairs ≤ (\d+)\)"),
-    ("requests kept on a channel", "crates/amqp_model/specs/FrameVerdict.antt", r"^MOST_REQUESTS = (\d+)$"),
+    ("requests kept on a channel", "crates/amqp_model/specs/End/FrameVerdict.antt", r"^MOST_REQUESTS = (\d+)$"),
 )
 
 

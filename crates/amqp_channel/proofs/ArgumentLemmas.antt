@@ -5,7 +5,7 @@ use Rattle.amqp_method.specs.declared.fields.Arg.{Arg}
 use Rattle.amqp_method.specs.declared.fields.FieldKind.TheVariants.{Short, ShortStr}
 use Rattle.amqp_method.specs.declared.kinds.Kind.TheVariants as kinds
 use Rattle.amqp_method.specs.Views.{arg_view, args_view}
-use Rattle.amqp_model.specs.Methods.{MethodKind, argument_at}
+use Rattle.amqp_model.specs.Wire.Methods.{MethodKind, argument_at}
 use Rattle.amqp_channel.specs.Reasons.{IsClose, AreOfClose, BeginsWithText}
 
 -- the argument at a place where there is one

@@ -1,8 +1,8 @@
 -- The lowest channel that is free.
 use Rattle.std.proofs.Common.{◌≡◌, ◌≢◌, ◌<◌, ◌≤◌, ◌+◌, Bool, true, false, eqb, ℕ, zero, suc, Some, None, refl, ap, sym, ◌∙◌, arith}
 use Rattle.std.proofs.lemmas.Bool.{false≢true, eqb-true, eqb-false}
-use Rattle.amqp_model.specs.Asks.{is_free, first_free}
-use Rattle.amqp_model.specs.Channels.{Channel, Free, Opening, Closing, Open}
+use Rattle.amqp_model.specs.End.Asks.{is_free, first_free}
+use Rattle.amqp_model.specs.End.Channels.{Channel, Free, Opening, Closing, Open}
 use Rattle.amqp_channel.specs.Used.{Used, used_view, NoneFreeBelow}
 
 -- a number that is free stands at the end, one that is taken before it

@@ -7,7 +7,7 @@ use Rattle.std.specs.Cmp.{nat_eq_equiv}
 use Rattle.std.specs.HashMap.{get}
 use Rattle.indexmap.specs.IndexMap.{with_value_at, IsUnique}
 use Rattle.indexmap.proofs.CallerLemmas.{updates-with_value_at}
-use Rattle.amqp_model.specs.Asks.{is_free}
+use Rattle.amqp_model.specs.End.Asks.{is_free}
 use Rattle.amqp_channel.specs.ChannelView.{channel_view}
 use Rattle.amqp_channel.specs.Used.{Used, kept_at, used_view, HoldsAt, KeepsEntriesAt, KeepsOthersAt, NoneElseFree, NoneFreeBelow, NoneKeptFree, WritesAt}
 use Rattle.amqp_channel.specs.declared.channel.Channel.{Channel}

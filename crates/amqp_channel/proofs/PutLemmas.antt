@@ -1,16 +1,16 @@
 -- What a message that is put leaves of a channel: of a content only the method changes it.
 use Rattle.std.proofs.Common.{◌≡◌, ℕ, List, [], ◌∷◌, map, length, Result, Ok, Err, OnOk, Option, Some, None, refl, ap, sym, ◌∙◌}
 use Rattle.amqp_method.specs.Messages.{Letter}
-use Rattle.amqp_model.specs.Asks.{payload_frame, message_payloads}
-use Rattle.amqp_model.specs.Channels.{Life, Channel, Open}
-use Rattle.amqp_model.specs.Contents as contents
-use Rattle.amqp_model.specs.Contents.{pieces, room_in}
-use Rattle.amqp_model.specs.Frame.{Frame}
-use Rattle.amqp_model.specs.Histories.{PutHere}
-use Rattle.amqp_model.specs.Machine.{channel_after}
-use Rattle.amqp_model.specs.Methods.{Method, Properties}
-use Rattle.amqp_model.specs.Notes.{Role, Client, Server}
-use Rattle.amqp_model.specs.Readings.{Reading, Calls, HeaderOf, MalformedHeader, BodyOf}
+use Rattle.amqp_model.specs.End.Asks.{payload_frame, message_payloads}
+use Rattle.amqp_model.specs.End.Channels.{Life, Channel, Open}
+use Rattle.amqp_model.specs.Wire.Contents as contents
+use Rattle.amqp_model.specs.Wire.Contents.{pieces, room_in}
+use Rattle.amqp_model.specs.Wire.Frame.{Frame}
+use Rattle.amqp_model.specs.History.Histories.{PutHere}
+use Rattle.amqp_model.specs.End.Machine.{channel_after}
+use Rattle.amqp_model.specs.Wire.Methods.{Method, Properties}
+use Rattle.amqp_model.specs.Wire.Notes.{Role, Client, Server}
+use Rattle.amqp_model.specs.Wire.Readings.{Reading, Calls, HeaderOf, MalformedHeader, BodyOf}
 use Rattle.amqp_channel.specs.VerdictView.{IsPart}
 use Rattle.amqp_channel.specs.Messages.{message_by, message_of}
 use Rattle.amqp_channel.specs.Puts.{after_payloads}

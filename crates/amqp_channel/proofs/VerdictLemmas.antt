@@ -1,28 +1,28 @@
 -- How the rules for a method on a channel come down to those of its state.
 use Rattle.std.proofs.Common.{◌≡◌, ℕ, ◌<◌, ◌≤◌, ◌==◌, ◌||◌, ◌&&◌, nat_lt, cond, not, drop, List, Bool, true, false, Option, Some, None, [], ◌∷◌, refl, arith, sym, ap, ◌∙◌}
 use Rattle.std.proofs.lemmas.Bool.Decides.{nat_tests}
-use Rattle.amqp_model.specs.Gathering.{Gathering, Nothing, HeaderDue, step, remains}
-use Rattle.amqp_model.specs.Histories.{ChannelEntry, TookHere}
-use Rattle.amqp_model.specs.Machine.{paused_by, hears_flow_ok, life_after, open_after_taking, channel_after}
-use Rattle.amqp_model.specs.Replies.{one_if}
-use Rattle.amqp_model.specs.Notes as notes
+use Rattle.amqp_model.specs.Wire.Gathering.{Gathering, Nothing, HeaderDue, step, remains}
+use Rattle.amqp_model.specs.History.Histories.{ChannelEntry, TookHere}
+use Rattle.amqp_model.specs.End.Machine.{paused_by, hears_flow_ok, life_after, open_after_taking, channel_after}
+use Rattle.amqp_model.specs.History.Replies.{one_if}
+use Rattle.amqp_model.specs.Wire.Notes as notes
 use Rattle.amqp_channel.specs.LifeView.{IsOther}
 use Rattle.amqp_channel.specs.declared.verdict.Told.{Told}
 use Rattle.amqp_channel.specs.declared.verdict.Told.TheVariants as told
-use Rattle.amqp_model.specs.Channels.{Life, Channel, Free, Opening, Closing, Open}
-use Rattle.amqp_model.specs.Events.{FrameVerdict}
-use Rattle.amqp_model.specs.Frame.{Frame}
-use Rattle.amqp_model.specs.FrameVerdict.{first_of, by_state, on_open, on_matched, verdict_on}
-use Rattle.amqp_model.specs.Methods.{Method, MethodKind, class_of, sends, carries_content, is_reply}
-use Rattle.amqp_model.specs.Negotiation.{Config}
-use Rattle.amqp_model.specs.Notes.{Role, Client, Server, is_client}
-use Rattle.amqp_model.specs.Readings.{Reading, Calls, kind_of}
+use Rattle.amqp_model.specs.End.Channels.{Life, Channel, Free, Opening, Closing, Open}
+use Rattle.amqp_model.specs.End.Events.{FrameVerdict}
+use Rattle.amqp_model.specs.Wire.Frame.{Frame}
+use Rattle.amqp_model.specs.End.FrameVerdict.{first_of, by_state, on_open, on_matched, verdict_on}
+use Rattle.amqp_model.specs.Wire.Methods.{Method, MethodKind, class_of, sends, carries_content, is_reply}
+use Rattle.amqp_model.specs.History.Negotiation.{Config}
+use Rattle.amqp_model.specs.Wire.Notes.{Role, Client, Server, is_client}
+use Rattle.amqp_model.specs.Wire.Readings.{Reading, Calls, kind_of}
 use Rattle.amqp_channel.specs.Roles.{role_of}
 use Rattle.amqp_channel.specs.VerdictView.{Fits, FitsEvent, FitsTold, IsUnanswered, Rules, RulesByState, MessageRules, TellsMessage, SentOnChannel, verdict_view, whole_now, left_by, told_on, whole_of}
 use Rattle.amqp_channel.specs.Leaving.{LeavesAfter, facts_here}
 use Rattle.amqp_channel.specs.declared.verdict.Verdict.{Verdict}
 use Rattle.amqp_channel.specs.declared.verdict.Verdict.TheVariants.{Proceeds, Faults}
-use Rattle.amqp_model.specs.Contents.{Content, Calls as PayloadCalls}
+use Rattle.amqp_model.specs.Wire.Contents.{Content, Calls as PayloadCalls}
 use Rattle.amqp_channel.specs.declared.site.Site.{Site}
 
 no_rule : (b c d : Bool) (x y z last : FrameVerdict) → b ≡ false → c ≡ true → d ≡ false → first_of (cond b (Some x) None ∷ cond c None (Some y) ∷ cond d (Some z) None ∷ []) last ≡ last

@@ -1,6 +1,6 @@
 -- What the code keeps of a channel stands for this in the model.
 use Rattle.std.specs.Prelude.{◌≡◌}
-use Rattle.amqp_model.specs.Channels as model
+use Rattle.amqp_model.specs.End.Channels as model
 use Rattle.amqp_channel.specs.LifeView.{life_view}
 use Rattle.amqp_channel.specs.declared.channel.Channel.{Channel}
 use Rattle.amqp_channel.specs.declared.channel.Channel.TheVariants.{Free, Opening, Closing, Open}

@@ -1,6 +1,6 @@
 -- What the code keeps of the channels of a connection, in the words of the model.
 use Rattle.std.specs.Prelude.{◌≡◌, ◌≢◌, ℕ}
-use Rattle.amqp_model.specs.Channels as model
+use Rattle.amqp_model.specs.End.Channels as model
 use Rattle.amqp_channel.specs.Used.{used_view}
 use Rattle.amqp_channel.specs.declared.channels.Channels.{Channels}
 

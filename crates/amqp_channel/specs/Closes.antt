@@ -1,5 +1,5 @@
 -- The codes of closes, in the words of the model.
-use Rattle.amqp_model.specs.Closes as model
+use Rattle.amqp_model.specs.End.Closes as model
 use Rattle.amqp_channel.specs.declared.codes.CloseCode.{CloseCode}
 use Rattle.amqp_channel.specs.declared.codes.CloseCode.TheVariants.{ContentTooLarge, FrameError, SyntaxError, CommandInvalid, ChannelError, UnexpectedFrame, ResourceError, NotImplemented}
 

@@ -1,7 +1,7 @@
 -- What is kept of a content whose header is kept as its octets.
 use Rattle.std.specs.Prelude.{◌≡◌, ℕ, List, [], Bool, true, false}
-use Rattle.amqp_model.specs.Methods.{Properties, header_at}
-use Rattle.amqp_model.specs.Readings.{Reading, HeaderOf, header_reading}
+use Rattle.amqp_model.specs.Wire.Methods.{Properties, header_at}
+use Rattle.amqp_model.specs.Wire.Readings.{Reading, HeaderOf, header_reading}
 
 abbrev pub is_header : Reading → Bool
 is_header (HeaderOf size properties) = true

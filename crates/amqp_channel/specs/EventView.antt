@@ -1,8 +1,8 @@
 -- The events of the code, in the words of the model.
 use Rattle.std.specs.Prelude.{Option, Some, None}
 use Rattle.amqp_method.specs.MessageView.{message_view}
-use Rattle.amqp_model.specs.Channels as channels
-use Rattle.amqp_model.specs.Events as model
+use Rattle.amqp_model.specs.End.Channels as channels
+use Rattle.amqp_model.specs.End.Events as model
 use Rattle.amqp_channel.specs.Messages.{message_of}
 use Rattle.amqp_channel.specs.Reasons.{reason_view}
 use Rattle.amqp_channel.specs.declared.events.Agreed.{Agreed}

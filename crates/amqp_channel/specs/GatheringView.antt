@@ -1,6 +1,6 @@
 -- What the code keeps of a content stands for this in the model.
 use Rattle.amqp_method.specs.CarrierView.{carrier_view}
-use Rattle.amqp_model.specs.Gathering as model
+use Rattle.amqp_model.specs.Wire.Gathering as model
 use Rattle.amqp_channel.specs.ContentView.{content_view}
 use Rattle.amqp_channel.specs.DeferredView.{properties_of}
 use Rattle.amqp_channel.specs.declared.gathering.Gathering.{Gathering}

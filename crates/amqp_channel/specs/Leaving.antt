@@ -1,15 +1,15 @@
 -- What a frame leaves of its channel, and what the verdict on it rests on.
 use Rattle.std.specs.Prelude.{◌≡◌, ℕ, List, [], ◌∷◌, Some}
-use Rattle.amqp_model.specs.Channels.{Channel, Running}
-use Rattle.amqp_model.specs.Closes.{Owed, ContentTooLarge, channel_close, frame_of}
-use Rattle.amqp_model.specs.Events.{FrameVerdict, Proceeds, RefusesContent, Faults}
-use Rattle.amqp_model.specs.Frame.{Frame}
-use Rattle.amqp_model.specs.FrameVerdict.{Facts}
-use Rattle.amqp_model.specs.Histories.{PutHere, TookHere}
-use Rattle.amqp_model.specs.Machine.{channel_after}
-use Rattle.amqp_model.specs.Negotiation.{Config}
-use Rattle.amqp_model.specs.Notes.{Role}
-use Rattle.amqp_model.specs.Readings.{Reading, Calls}
+use Rattle.amqp_model.specs.End.Channels.{Channel, Running}
+use Rattle.amqp_model.specs.End.Closes.{Owed, ContentTooLarge, channel_close, frame_of}
+use Rattle.amqp_model.specs.End.Events.{FrameVerdict, Proceeds, RefusesContent, Faults}
+use Rattle.amqp_model.specs.Wire.Frame.{Frame}
+use Rattle.amqp_model.specs.End.FrameVerdict.{Facts}
+use Rattle.amqp_model.specs.History.Histories.{PutHere, TookHere}
+use Rattle.amqp_model.specs.End.Machine.{channel_after}
+use Rattle.amqp_model.specs.History.Negotiation.{Config}
+use Rattle.amqp_model.specs.Wire.Notes.{Role}
+use Rattle.amqp_model.specs.Wire.Readings.{Reading, Calls}
 use Rattle.amqp_channel.specs.Roles.{role_of}
 use Rattle.amqp_channel.specs.declared.site.Site.{Site}
 

@@ -1,8 +1,8 @@
 -- What the code keeps of an Open channel stands for this in the model.
 use Rattle.std.specs.Prelude.{◌≡◌}
-use Rattle.amqp_model.specs.Channels as model
-use Rattle.amqp_model.specs.Gathering as gathering
-use Rattle.amqp_model.specs.Notes.{Kind, Other}
+use Rattle.amqp_model.specs.End.Channels as model
+use Rattle.amqp_model.specs.Wire.Gathering as gathering
+use Rattle.amqp_model.specs.Wire.Notes.{Kind, Other}
 use Rattle.amqp_channel.specs.GatheringView.{gathering_view}
 use Rattle.amqp_channel.specs.StandingView.{awaits_in, paused_in, requests_in}
 use Rattle.amqp_channel.specs.declared.life.Life.{Life}

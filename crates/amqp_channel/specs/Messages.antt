@@ -1,8 +1,8 @@
 -- Messages of the code, in the words of the model.
 use Rattle.std.specs.Prelude.{ℕ, List, Option, Some, None}
 use Rattle.amqp_method.specs.Messages.{Letter}
-use Rattle.amqp_model.specs.Events.{Message, Plain, Whole}
-use Rattle.amqp_model.specs.Methods.{Method, Properties}
+use Rattle.amqp_model.specs.End.Events.{Message, Plain, Whole}
+use Rattle.amqp_model.specs.Wire.Methods.{Method, Properties}
 
 abbrev pub message_by : Method → Option Properties → List ℕ → Message
 message_by method None body = Plain method

@@ -1,8 +1,8 @@
 -- The parts of an event, as the event that they make, in the words of the model.
 use Rattle.std.specs.Prelude.{Option, Some, None}
 use Rattle.amqp_method.specs.MethodView.{method_view}
-use Rattle.amqp_model.specs.Events as model
-use Rattle.amqp_model.specs.Methods.{Method}
+use Rattle.amqp_model.specs.End.Events as model
+use Rattle.amqp_model.specs.Wire.Methods.{Method}
 use Rattle.amqp_channel.specs.ContentView.{content_view}
 use Rattle.amqp_channel.specs.EventView.{agreed_view, reason_there}
 use Rattle.amqp_channel.specs.declared.parts.EventParts.{EventParts}

@@ -1,5 +1,5 @@
 -- How far a content has come, in the words of the model.
-use Rattle.amqp_model.specs.Streaming.{Streaming, NoContent, AwaitsHeader, AwaitsBody}
+use Rattle.amqp_model.specs.Lent.Streaming.{Streaming, NoContent, AwaitsHeader, AwaitsBody}
 use Rattle.amqp_channel.specs.declared.progress.Progress.{Progress}
 use Rattle.amqp_channel.specs.declared.progress.Progress.TheVariants as code
 

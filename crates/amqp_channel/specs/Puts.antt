@@ -1,13 +1,13 @@
 -- What the payloads that an end puts leave of a channel.
 use Rattle.std.specs.Prelude.{ℕ, true, List, [], ◌∷◌}
-use Rattle.amqp_model.specs.Asks.{payload_frame}
-use Rattle.amqp_model.specs.Channels.{Channel}
-use Rattle.amqp_model.specs.Contents as contents
-use Rattle.amqp_model.specs.Contents.{Payload, Unread}
-use Rattle.amqp_model.specs.Histories.{PutHere}
-use Rattle.amqp_model.specs.Machine.{channel_after}
-use Rattle.amqp_model.specs.Notes.{Role}
-use Rattle.amqp_model.specs.Readings.{Reading, Calls, HeaderOf, BodyOf, Beat}
+use Rattle.amqp_model.specs.End.Asks.{payload_frame}
+use Rattle.amqp_model.specs.End.Channels.{Channel}
+use Rattle.amqp_model.specs.Wire.Contents as contents
+use Rattle.amqp_model.specs.Wire.Contents.{Payload, Unread}
+use Rattle.amqp_model.specs.History.Histories.{PutHere}
+use Rattle.amqp_model.specs.End.Machine.{channel_after}
+use Rattle.amqp_model.specs.Wire.Notes.{Role}
+use Rattle.amqp_model.specs.Wire.Readings.{Reading, Calls, HeaderOf, BodyOf, Beat}
 
 -- what the frame of a payload says
 abbrev pub reading_as : Payload → Reading

@@ -1,8 +1,8 @@
 -- What a frame says, in the words of the model.
 use Rattle.amqp_method.specs.HeaderRefView.{lent_header}
 use Rattle.amqp_method.specs.MethodRefView.{lent_call}
-use Rattle.amqp_model.specs.Readings as model
-use Rattle.amqp_model.specs.Readings.{Calls, UnknownMethod, MalformedMethod, HeaderOf, MalformedHeader, BodyOf, Beat}
+use Rattle.amqp_model.specs.Wire.Readings as model
+use Rattle.amqp_model.specs.Wire.Readings.{Calls, UnknownMethod, MalformedMethod, HeaderOf, MalformedHeader, BodyOf, Beat}
 use Rattle.amqp_channel.specs.declared.reading.Reading.{Reading}
 use Rattle.amqp_channel.specs.declared.reading.Reading.TheVariants as read
 

@@ -2,7 +2,7 @@
 use Rattle.std.specs.Prelude.{Bool, true, false}
 use Rattle.amqp_method.specs.HeaderView.{properties_view}
 use Rattle.amqp_method.specs.declared.headers.Header.{Header}
-use Rattle.amqp_model.specs.Readings.{Reading, HeaderOf, MalformedHeader}
+use Rattle.amqp_model.specs.Wire.Readings.{Reading, HeaderOf, MalformedHeader}
 
 -- a header that was read, or the payload that is none
 abbrev pub header_seen : Bool → Header → Reading

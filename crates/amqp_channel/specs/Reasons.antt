@@ -5,8 +5,8 @@ use Rattle.amqp_method.specs.Views.{arg_view}
 use Rattle.amqp_method.specs.declared.fields.Arg.{Arg}
 use Rattle.amqp_method.specs.declared.fields.FieldKind.TheVariants.{Short, ShortStr}
 use Rattle.amqp_method.specs.declared.kinds.Kind.TheVariants as kinds
-use Rattle.amqp_model.specs.Events as model
-use Rattle.amqp_model.specs.Methods.{MethodKind}
+use Rattle.amqp_model.specs.End.Events as model
+use Rattle.amqp_model.specs.Wire.Methods.{MethodKind}
 use Rattle.amqp_channel.specs.declared.events.Reason.{Reason}
 
 abbrev pub reason_view : Reason → model.Reason

@@ -1,7 +1,7 @@
 -- The roles of the code, in the words of the model, and which methods each may put and take.
 use Rattle.std.specs.Prelude.{◌≡◌, Bool, not}
-use Rattle.amqp_model.specs.Notes.{Role, Client, Server, other_end, is_client}
-use Rattle.amqp_model.specs.Methods.{MethodKind, sends}
+use Rattle.amqp_model.specs.Wire.Notes.{Role, Client, Server, other_end, is_client}
+use Rattle.amqp_model.specs.Wire.Methods.{MethodKind, sends}
 use Rattle.amqp_channel.specs.declared.side.Side.{Side}
 use Rattle.amqp_channel.specs.declared.side.Side.TheVariants as side
 

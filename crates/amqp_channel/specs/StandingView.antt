@@ -1,6 +1,6 @@
 -- How a channel stands, in the words of the model.
 use Rattle.std.specs.Prelude.{Bool, List, []}
-use Rattle.amqp_model.specs.Methods.{MethodKind}
+use Rattle.amqp_model.specs.Wire.Methods.{MethodKind}
 use Rattle.amqp_channel.specs.declared.standing.Standing.{Standing}
 use Rattle.amqp_channel.specs.declared.standing.Standing.TheVariants.{Quiet, Asked}
 

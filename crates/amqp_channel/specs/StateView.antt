@@ -1,5 +1,5 @@
 -- The states of a channel, as an application is told of them.
-use Rattle.amqp_model.specs.States.{State}
+use Rattle.amqp_model.specs.History.States.{State}
 use Rattle.amqp_channel.specs.declared.states.ChannelState.{ChannelState}
 use Rattle.amqp_channel.specs.declared.states.ChannelState.TheVariants.{Free, Opening, Open, Closing}
 

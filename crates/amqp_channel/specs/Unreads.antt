@@ -1,6 +1,6 @@
 -- Methods that can't be read, in the words of the model.
-use Rattle.amqp_model.specs.Closes.{CloseCode, NotImplemented, SyntaxError}
-use Rattle.amqp_model.specs.Readings as model
+use Rattle.amqp_model.specs.End.Closes.{CloseCode, NotImplemented, SyntaxError}
+use Rattle.amqp_model.specs.Wire.Readings as model
 use Rattle.amqp_channel.specs.declared.reading.Unread.{Unread}
 use Rattle.amqp_channel.specs.declared.reading.Unread.TheVariants.{UnknownMethod, MalformedMethod}
 

@@ -4,8 +4,8 @@ use Rattle.std.specs.declared.hash.FoldHasher.{FoldHasher}
 use Rattle.std.specs.declared.hash.BuildHasherDefault.{BuildHasherDefault}
 use Rattle.std.specs.HashMap.{get, values, HashMap}
 use Rattle.indexmap.specs.IndexMap.{with_value_at}
-use Rattle.amqp_model.specs.Asks.{is_free}
-use Rattle.amqp_model.specs.Channels as model
+use Rattle.amqp_model.specs.End.Asks.{is_free}
+use Rattle.amqp_model.specs.End.Channels as model
 use Rattle.amqp_channel.specs.ChannelView.{channel_view}
 use Rattle.amqp_channel.specs.declared.channel.Channel.{Channel}
 

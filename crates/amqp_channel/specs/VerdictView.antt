@@ -2,22 +2,22 @@
 use Rattle.std.specs.Prelude.{◌≡◌, ◌==◌, ◌<◌, ◌≤◌, ◌++◌, Bool, true, false, not, ℕ, drop, List, [], map, Option, Some, None}
 use Rattle.amqp_method.specs.HeaderView.{properties_view}
 use Rattle.amqp_method.specs.declared.kinds.Kind.TheVariants as kinds
-use Rattle.amqp_model.specs.Channels.{Life, Channel, Free, Closing, Open, new_life}
-use Rattle.amqp_model.specs.Closes.{reply_to}
-use Rattle.amqp_model.specs.Contents.{Content, Body}
-use Rattle.amqp_model.specs.Events as events
-use Rattle.amqp_model.specs.Events.{Event, Plain, Whole, Reason, reason_in, Peer, FrameVerdict}
-use Rattle.amqp_model.specs.Frame.{Frame}
-use Rattle.amqp_model.specs.FrameVerdict.{on_channel, on_matched, by_state, verdict_on}
-use Rattle.amqp_model.specs.Gathering.{Gathering, Nothing, HeaderDue, BodyDue, Step, Keeps, Completes, Breaks, step}
-use Rattle.amqp_model.specs.Machine.{with_asked}
-use Rattle.amqp_model.specs.Methods.{MethodKind, Method, class_of, is_reply, carries_content}
-use Rattle.amqp_model.specs.Negotiation.{Config}
-use Rattle.amqp_model.specs.Notes as notes
-use Rattle.amqp_model.specs.Notes.{Role, Client, Server}
-use Rattle.amqp_model.specs.Readings as model
-use Rattle.amqp_model.specs.Readings.{Calls, HeaderOf, BodyOf, payload_of}
-use Rattle.amqp_model.specs.Replies.{one_if, request_made}
+use Rattle.amqp_model.specs.End.Channels.{Life, Channel, Free, Closing, Open, new_life}
+use Rattle.amqp_model.specs.End.Closes.{reply_to}
+use Rattle.amqp_model.specs.Wire.Contents.{Content, Body}
+use Rattle.amqp_model.specs.End.Events as events
+use Rattle.amqp_model.specs.End.Events.{Event, Plain, Whole, Reason, reason_in, Peer, FrameVerdict}
+use Rattle.amqp_model.specs.Wire.Frame.{Frame}
+use Rattle.amqp_model.specs.End.FrameVerdict.{on_channel, on_matched, by_state, verdict_on}
+use Rattle.amqp_model.specs.Wire.Gathering.{Gathering, Nothing, HeaderDue, BodyDue, Step, Keeps, Completes, Breaks, step}
+use Rattle.amqp_model.specs.End.Machine.{with_asked}
+use Rattle.amqp_model.specs.Wire.Methods.{MethodKind, Method, class_of, is_reply, carries_content}
+use Rattle.amqp_model.specs.History.Negotiation.{Config}
+use Rattle.amqp_model.specs.Wire.Notes as notes
+use Rattle.amqp_model.specs.Wire.Notes.{Role, Client, Server}
+use Rattle.amqp_model.specs.Wire.Readings as model
+use Rattle.amqp_model.specs.Wire.Readings.{Calls, HeaderOf, BodyOf, payload_of}
+use Rattle.amqp_model.specs.History.Replies.{one_if, request_made}
 use Rattle.amqp_channel.specs.Closes.{code_view}
 use Rattle.amqp_channel.specs.Leaving.{LeavesAfter, facts_here}
 use Rattle.amqp_channel.specs.Roles.{role_of, taken_by}

@@ -10,9 +10,9 @@
 ghost use Rattle.std.specs.Prelude.{◌≡◌, ◌<◌, ◌≤◌, ◌==◌, true, false, ℕ, List, IfOk, IsOk, OnOk, OnErr};
 ghost use Rattle.amqp_method.specs.HeaderRefView.{lent_header};
 ghost use Rattle.amqp_method.specs.MethodRefView.{lent_call};
-ghost use Rattle.amqp_model.specs.Channels.{Closing, Free, Opening};
-ghost use Rattle.amqp_model.specs.Frame.{Frame};
-ghost use Rattle.amqp_model.specs.Readings.{BodyOf, Calls, HeaderOf, MalformedHeader, kind_of};
+ghost use Rattle.amqp_model.specs.End.Channels.{Closing, Free, Opening};
+ghost use Rattle.amqp_model.specs.Wire.Frame.{Frame};
+ghost use Rattle.amqp_model.specs.Wire.Readings.{BodyOf, Calls, HeaderOf, MalformedHeader, kind_of};
 ghost use Rattle.amqp_channel.specs.ChannelView.{channel_view, IsFree, IsOpen};
 ghost use Rattle.amqp_channel.specs.ContentView.{content_there};
 ghost use Rattle.amqp_channel.specs.LifeView.{IsOther};
@@ -42,13 +42,13 @@ pub enum Channel {
 }
 
 impl Channel {
-    ghost use Rattle.amqp_model.specs.Asks.{is_free};
-    ghost use Rattle.amqp_model.specs.Closes.{close_as, flow_as, without_arguments};
-    ghost use Rattle.amqp_model.specs.Histories.{PutHere};
-    ghost use Rattle.amqp_model.specs.Machine.{channel_after};
-    ghost use Rattle.amqp_model.specs.Notes.{Client};
+    ghost use Rattle.amqp_model.specs.End.Asks.{is_free};
+    ghost use Rattle.amqp_model.specs.End.Closes.{close_as, flow_as, without_arguments};
+    ghost use Rattle.amqp_model.specs.History.Histories.{PutHere};
+    ghost use Rattle.amqp_model.specs.End.Machine.{channel_after};
+    ghost use Rattle.amqp_model.specs.Wire.Notes.{Client};
     ghost use Rattle.amqp_method.specs.MessageView.{message_view};
-    ghost use Rattle.amqp_model.specs.Asks.{message_payloads};
+    ghost use Rattle.amqp_model.specs.End.Asks.{message_payloads};
     ghost use Rattle.amqp_channel.specs.Messages.{message_of};
     ghost use Rattle.amqp_channel.specs.Puts.{after_payloads};
 

@@ -3,8 +3,8 @@
 //! A channel is kept from its open to its end, and none that is Free is kept: memory is bounded by the channels in use,
 //! whatever their numbers are.
 ghost use Rattle.std.specs.Prelude.{◌≡◌, ◌≢◌, ◌+◌, ◌<◌, ◌≤◌, true, false, not, ℕ, suc, IsOk, IfOk, IfNone, IfSome, OnErr, OnOk, MatchOption, None};
-ghost use Rattle.amqp_model.specs.Asks.{is_free, first_free};
-ghost use Rattle.amqp_model.specs.Channels.{Free};
+ghost use Rattle.amqp_model.specs.End.Asks.{is_free, first_free};
+ghost use Rattle.amqp_model.specs.End.Channels.{Free};
 ghost use Rattle.amqp_channel.specs.ChannelView.{channel_view};
 ghost use Rattle.amqp_channel.specs.ContentView.{content_there};
 ghost use Rattle.amqp_channel.specs.Used.{is_closing_at, used_view, HoldsAt, KeepsEntriesAt, KeepsOthersAt, NoneElseFree, NoneFreeBelow, NoneKeptFree, WritesAt};

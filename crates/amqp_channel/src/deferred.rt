@@ -6,8 +6,8 @@
 ghost use Rattle.std.specs.Prelude.{◌≡◌, ◌++◌, ◌+◌, length, IfOk, IfErr, OnOk, OnErr};
 ghost use Rattle.amqp_method.specs.CarrierView.{carrier_view};
 ghost use Rattle.amqp_method.specs.HeaderView.{properties_view};
-ghost use Rattle.amqp_model.specs.Methods.{header_at};
-ghost use Rattle.amqp_model.specs.Readings.{HeaderOf, header_reading};
+ghost use Rattle.amqp_model.specs.Wire.Methods.{header_at};
+ghost use Rattle.amqp_model.specs.Wire.Readings.{HeaderOf, header_reading};
 ghost use Rattle.amqp_channel.specs.ContentView.{content_view};
 ghost use Rattle.amqp_channel.specs.DeferredView.{properties_of, IsHeaderOf};
 

@@ -3,10 +3,10 @@ ghost use Rattle.std.specs.Prelude.{◌≡◌, Some, IfOk};
 ghost use Rattle.amqp_method.specs.Arguments.{kind_of};
 ghost use Rattle.amqp_method.specs.Views.{arg_view, args_view};
 ghost use Rattle.amqp_method.specs.Places.{number_in, octets_in};
-ghost use Rattle.amqp_model.specs.Methods.{octets_at};
+ghost use Rattle.amqp_model.specs.Wire.Methods.{octets_at};
 ghost use Rattle.amqp_method.specs.MethodRefView.{lent_call};
 ghost use Rattle.amqp_method.specs.MethodView.{method_view};
-ghost use Rattle.amqp_model.specs.Events.{reason_in};
+ghost use Rattle.amqp_model.specs.End.Events.{reason_in};
 ghost use Rattle.amqp_channel.specs.EventView.{event_view, reason_there};
 ghost use Rattle.amqp_channel.specs.Reasons.{reason_view, IsClose, AreOfClose, BeginsWithText};
 

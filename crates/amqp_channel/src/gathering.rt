@@ -1,10 +1,10 @@
 //! The content under way on a channel.
 ghost use Rattle.std.specs.Prelude.{◌≡◌, ◌+◌, ◌++◌, Some, IfOk, OnOk, OnErr};
 ghost use Rattle.amqp_method.specs.CarrierView.{carrier_view};
-ghost use Rattle.amqp_model.specs.FrameVerdict.{is_gathering};
-ghost use Rattle.amqp_model.specs.Gathering.{Nothing, HeaderDue};
-ghost use Rattle.amqp_model.specs.Methods.{header_at};
-ghost use Rattle.amqp_model.specs.Readings.{BodyOf, header_reading};
+ghost use Rattle.amqp_model.specs.End.FrameVerdict.{is_gathering};
+ghost use Rattle.amqp_model.specs.Wire.Gathering.{Nothing, HeaderDue};
+ghost use Rattle.amqp_model.specs.Wire.Methods.{header_at};
+ghost use Rattle.amqp_model.specs.Wire.Readings.{BodyOf, header_reading};
 ghost use Rattle.amqp_channel.specs.ContentView.{content_view};
 ghost use Rattle.amqp_channel.specs.Filling.{filling_of};
 ghost use Rattle.amqp_channel.specs.GatheringKept.{IsBodyDue, IsKeptIn};

@@ -4,15 +4,15 @@ ghost use Rattle.std.specs.Prelude.{◌≡◌, ◌≢◌, ◌<◌, ◌≤◌, tr
 ghost use Rattle.amqp_method.specs.HeaderRefView.{lent_header};
 ghost use Rattle.amqp_method.specs.MethodRefView.{lent_call};
 ghost use Rattle.amqp_method.specs.MethodView.{method_view};
-ghost use Rattle.amqp_model.specs.Channels.{Open, new_life};
-ghost use Rattle.amqp_model.specs.Frame.{Frame};
-ghost use Rattle.amqp_model.specs.FrameVerdict.{on_message};
-ghost use Rattle.amqp_model.specs.Histories.{PutHere};
-ghost use Rattle.amqp_model.specs.Machine.{channel_after};
-ghost use Rattle.amqp_model.specs.Methods.{carries_content as content_follows, header_at};
-ghost use Rattle.amqp_model.specs.Notes.{Client, Server};
-ghost use Rattle.amqp_model.specs.Readings as readings;
-ghost use Rattle.amqp_model.specs.Readings.{Calls, BodyOf, HeaderOf, header_reading, kind_of};
+ghost use Rattle.amqp_model.specs.End.Channels.{Open, new_life};
+ghost use Rattle.amqp_model.specs.Wire.Frame.{Frame};
+ghost use Rattle.amqp_model.specs.End.FrameVerdict.{on_message};
+ghost use Rattle.amqp_model.specs.History.Histories.{PutHere};
+ghost use Rattle.amqp_model.specs.End.Machine.{channel_after};
+ghost use Rattle.amqp_model.specs.Wire.Methods.{carries_content as content_follows, header_at};
+ghost use Rattle.amqp_model.specs.Wire.Notes.{Client, Server};
+ghost use Rattle.amqp_model.specs.Wire.Readings as readings;
+ghost use Rattle.amqp_model.specs.Wire.Readings.{Calls, BodyOf, HeaderOf, header_reading, kind_of};
 ghost use Rattle.amqp_channel.specs.ContentView.{content_there, content_view};
 ghost use Rattle.amqp_channel.specs.LifeView.{life_view, IsIdle, IsOther};
 ghost use Rattle.amqp_channel.specs.ReadingView.{reading_view};
@@ -93,7 +93,7 @@ fn tell_message(method: MethodRef<'_>) -> Verdict
 }
 
 /// The payload of a header, which reads as the header.
-#[tactic(auto, unfolding(amqp_model::specs::Methods::header_at))]
+#[tactic(auto, unfolding(amqp_model::specs::Wire::Methods::header_at))]
 fn payload_of<'a>(header: HeaderRef<'a>) -> &'a [u8]
     ensures { header_reading (header_at result.now)
         ≡ HeaderOf (lent_header header.entry).body_size (lent_header header.entry).properties }

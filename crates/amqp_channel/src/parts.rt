@@ -47,7 +47,7 @@ impl PlainMethod {
     ghost use Rattle.amqp_method.specs.Kinds.{has_content};
     ghost use Rattle.amqp_method.specs.MessageView.{message_view};
     ghost use Rattle.amqp_method.specs.MethodView.{method_view};
-    ghost use Rattle.amqp_model.specs.Events.{Plain};
+    ghost use Rattle.amqp_model.specs.End.Events.{Plain};
     ghost use Rattle.amqp_channel.specs.Messages.{message_of};
     ghost use Rattle.amqp_channel.specs.PartsView.{plain_view};
 

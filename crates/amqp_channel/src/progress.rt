@@ -1,6 +1,6 @@
 //! How far a content has come that is under way on a channel.
 ghost use Rattle.std.specs.Prelude.{◌≡◌};
-ghost use Rattle.amqp_model.specs.Streaming.{is_streaming, streamed};
+ghost use Rattle.amqp_model.specs.Lent.Streaming.{is_streaming, streamed};
 ghost use Rattle.amqp_channel.specs.GatheringView.{gathering_view};
 ghost use Rattle.amqp_channel.specs.ProgressView.{progress_view};
 

@@ -1,14 +1,14 @@
 //! The payload of a header frame, read where a content is kept.
 ghost use Rattle.std.specs.Prelude.{◌≡◌, IfOk};
-ghost use Rattle.amqp_model.specs.Methods.{header_at};
-ghost use Rattle.amqp_model.specs.Readings.{header_reading};
+ghost use Rattle.amqp_model.specs.Wire.Methods.{header_at};
+ghost use Rattle.amqp_model.specs.Wire.Readings.{header_reading};
 ghost use Rattle.amqp_channel.specs.Reads.{header_seen};
 
 use amqp_method::{Header, MethodFaultKind, OutOfMemory, read_header_into};
 use std::alloc::Global;
 
 /// Reads the header of a content where it is kept, and answers whether the payload encodes one.
-#[tactic(auto, unfolding(amqp_model::specs::Methods::header_at))]
+#[tactic(auto, unfolding(amqp_model::specs::Wire::Methods::header_at))]
 pub(crate) fn read_content_header(
     alloc: Global,
     payload: &[u8],

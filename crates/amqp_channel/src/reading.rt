@@ -1,8 +1,8 @@
 //! What a frame says, as its payload is read once.
 ghost use Rattle.std.specs.Prelude.{◌≡◌};
 ghost use Rattle.amqp_frame.specs.Frame.{lent};
-ghost use Rattle.amqp_model.specs.Methods.{header_at, method_at};
-ghost use Rattle.amqp_model.specs.Readings.{header_reading, method_reading, reading};
+ghost use Rattle.amqp_model.specs.Wire.Methods.{header_at, method_at};
+ghost use Rattle.amqp_model.specs.Wire.Readings.{header_reading, method_reading, reading};
 ghost use Rattle.amqp_channel.specs.ReadingView.{reading_view};
 
 use crate::codes::CloseCode;
@@ -38,7 +38,7 @@ impl<'a> Reading<'a> {
     }
 
     /// What the payload of a method frame says.
-    #[tactic(auto, unfolding(amqp_model::specs::Methods::method_at))]
+    #[tactic(auto, unfolding(amqp_model::specs::Wire::Methods::method_at))]
     fn of_method(payload: &'a [u8]) -> Reading<'a>
         ensures { reading_view result ≡ method_reading (method_at payload.now) }
     {
@@ -56,7 +56,7 @@ impl<'a> Reading<'a> {
     }
 
     /// What the payload of a header frame says.
-    #[tactic(auto, unfolding(amqp_model::specs::Methods::header_at))]
+    #[tactic(auto, unfolding(amqp_model::specs::Wire::Methods::header_at))]
     fn of_header(payload: &'a [u8]) -> Reading<'a>
         ensures { reading_view result ≡ header_reading (header_at payload.now) }
     {

@@ -1,6 +1,6 @@
 //! The two sides of a connection, and which methods each may put and take.
 ghost use Rattle.std.specs.Prelude.{◌≡◌};
-ghost use Rattle.amqp_model.specs.Notes.{is_client as is_client_role};
+ghost use Rattle.amqp_model.specs.Wire.Notes.{is_client as is_client_role};
 ghost use Rattle.amqp_channel.specs.Roles.{role_of, sent_by, taken_by};
 
 use amqp_method::{Kind, sends};

@@ -4,8 +4,8 @@
 //! A connection has up to tens of thousands of channels, most of them idle. So the marks stand in each variant, beside its tag,
 //! and the requests in a box, which is there from the first request on.
 ghost use Rattle.std.specs.Prelude.{◌≡◌, ◌++◌, ◌∷◌, false, [], drop, length, IfOk, OnOk, OnErr};
-ghost use Rattle.amqp_model.specs.Answers.{first_of};
-ghost use Rattle.amqp_model.specs.FrameVerdict.{answers_first};
+ghost use Rattle.amqp_model.specs.End.Answers.{first_of};
+ghost use Rattle.amqp_model.specs.End.FrameVerdict.{answers_first};
 ghost use Rattle.amqp_channel.specs.StandingView.{awaits_in, paused_in, requests_in};
 
 use amqp_method::{Kind, OutOfMemory};

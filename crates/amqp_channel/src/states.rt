@@ -1,8 +1,8 @@
 //! What a channel answers when it is asked: its state, how much is kept of it, and what is due on it.
 ghost use Rattle.std.specs.Prelude.{◌≡◌, length};
-ghost use Rattle.amqp_model.specs.Answers.{due_by, kept_by};
-ghost use Rattle.amqp_model.specs.Channels.{state_of};
-ghost use Rattle.amqp_model.specs.Gathering.{kept};
+ghost use Rattle.amqp_model.specs.End.Answers.{due_by, kept_by};
+ghost use Rattle.amqp_model.specs.End.Channels.{state_of};
+ghost use Rattle.amqp_model.specs.Wire.Gathering.{kept};
 ghost use Rattle.amqp_channel.specs.ChannelView.{channel_view};
 ghost use Rattle.amqp_channel.specs.GatheringView.{gathering_view};
 ghost use Rattle.amqp_channel.specs.StateView.{state_view};

@@ -1,7 +1,7 @@
 //! What is asked of a method, in the words of the model: a bit or a number by its place, 0 where there is none.
 ghost use Rattle.std.specs.Prelude.{◌≡◌};
 ghost use Rattle.amqp_method.specs.MethodRefView.{lent_call};
-ghost use Rattle.amqp_model.specs.Methods.{bit_at as bit_held, number_at as number_held, same_kind};
+ghost use Rattle.amqp_model.specs.Wire.Methods.{bit_at as bit_held, number_at as number_held, same_kind};
 
 use amqp_method::{ArgRef, Kind, MethodRef};
 

@@ -11,17 +11,17 @@ use Rattle.amqp_frame.specs.Splitting.{IsRest, Tells, TellsFirst}
 use Rattle.amqp_frame.specs.Stream.{Stream}
 use Rattle.amqp_frame.specs.declared.faults.FrameFaultKind.{FrameFaultKind}
 use Rattle.amqp_frame.specs.declared.faults.FrameFaultKind.TheVariants as kinds
-use Rattle.amqp_model.specs.Endpoint.{Endpoint, Feeding, Outcome, Unfinished, Finished, Found, Judgement, Begun, Whole, Wrong, after_judged, after_feed, awaits_opening, goes_on_with, greeting, outcome_of, owed_at_fault}
-use Rattle.amqp_model.specs.EndVerdict.{end_verdict, facts_at, takes_frames}
-use Rattle.amqp_model.specs.Events.{Event, Quiet, WrongProtocolHeader, FrameVerdict, Proceeds, RefusesContent, Faults}
-use Rattle.amqp_model.specs.Channels.{Phase, Handshake, AwaitsProtocolHeader}
-use Rattle.amqp_model.specs.Frame.{Frame}
-use Rattle.amqp_model.specs.FrameVerdict.{Facts}
-use Rattle.amqp_model.specs.Negotiation.{Config, frame_limit}
-use Rattle.amqp_model.specs.Notes.{Role, Client, Server}
-use Rattle.amqp_model.specs.OctetLaws.{OneIsSaid, IsWhole, TellsLast}
-use Rattle.amqp_model.specs.Pieces.{IsFedBy, SplitsFor, FeedFindsFault, with_taken, reads_frames}
-use Rattle.amqp_model.specs.Traces.{item_in_event}
+use Rattle.amqp_model.specs.Stream.Endpoint.{Endpoint, Feeding, Outcome, Unfinished, Finished, Found, Judgement, Begun, Whole, Wrong, after_judged, after_feed, awaits_opening, goes_on_with, greeting, outcome_of, owed_at_fault}
+use Rattle.amqp_model.specs.End.EndVerdict.{end_verdict, facts_at, takes_frames}
+use Rattle.amqp_model.specs.End.Events.{Event, Quiet, WrongProtocolHeader, FrameVerdict, Proceeds, RefusesContent, Faults}
+use Rattle.amqp_model.specs.End.Channels.{Phase, Handshake, AwaitsProtocolHeader}
+use Rattle.amqp_model.specs.Wire.Frame.{Frame}
+use Rattle.amqp_model.specs.End.FrameVerdict.{Facts}
+use Rattle.amqp_model.specs.History.Negotiation.{Config, frame_limit}
+use Rattle.amqp_model.specs.Wire.Notes.{Role, Client, Server}
+use Rattle.amqp_model.specs.Laws.OctetLaws.{OneIsSaid, IsWhole, TellsLast}
+use Rattle.amqp_model.specs.Stream.Pieces.{IsFedBy, SplitsFor, FeedFindsFault, with_taken, reads_frames}
+use Rattle.amqp_model.specs.Stream.Traces.{item_in_event}
 use Rattle.amqp_core.specs.AccountView.{Came, IsAccount, IsFresh, came_by, came_of_frame, item_in_outcome, note_there, puts_alone}
 use Rattle.amqp_core.specs.Answering.{answer_with, AnswersFrame, Reports, Tells as TellsEvent, ran_out}
 use Rattle.amqp_core.specs.Feeding.{IsFed, event_in, taken_with}

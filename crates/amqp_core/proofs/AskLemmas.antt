@@ -10,21 +10,21 @@ use Rattle.amqp_method.specs.Sorts.{sort_alone}
 use Rattle.amqp_method.specs.declared.kinds.Kind.TheVariants as kinds
 use Rattle.amqp_method.specs.declared.messages.Form.{Form}
 use Rattle.amqp_method.specs.declared.messages.Form.TheVariants as form
-use Rattle.amqp_model.specs.Asks.{Ask, Open, Send, Close, Blocked, Unblocked, frames_asked, is_made, message_payloads, lowest_free, method_asked, is_running, opens_on, payload_frame, refusal}
-use Rattle.amqp_model.specs.Channels.{Channel, End, Running}
-use Rattle.amqp_model.specs.Closes.{method_frame, without_arguments}
-use Rattle.amqp_model.specs.Contents as contents
-use Rattle.amqp_model.specs.Contents.{Payload, pieces, room_in}
-use Rattle.amqp_model.specs.Events.{Message, Plain, Whole}
-use Rattle.amqp_model.specs.Frame.{Frame}
-use Rattle.amqp_model.specs.Histories.{ChannelEntry, PutHere}
-use Rattle.amqp_model.specs.Machine.{set_channel, channel_after, end_after, end_after_put}
-use Rattle.amqp_model.specs.Methods.{Method, MethodKind, MethodRead, ReadsBack, carries_content, begins_content}
-use Rattle.amqp_model.specs.Negotiation.{Config}
-use Rattle.amqp_model.specs.Notes.{Role, Client, Server}
-use Rattle.amqp_model.specs.Outputs.{after_puts}
-use Rattle.amqp_model.specs.ReadingBack.{AskReadsBack}
-use Rattle.amqp_model.specs.Readings.{Calls, payload_of, method_reading, header_reading, reading}
+use Rattle.amqp_model.specs.End.Asks.{Ask, Open, Send, Close, Blocked, Unblocked, frames_asked, is_made, message_payloads, lowest_free, method_asked, is_running, opens_on, payload_frame, refusal}
+use Rattle.amqp_model.specs.End.Channels.{Channel, End, Running}
+use Rattle.amqp_model.specs.End.Closes.{method_frame, without_arguments}
+use Rattle.amqp_model.specs.Wire.Contents as contents
+use Rattle.amqp_model.specs.Wire.Contents.{Payload, pieces, room_in}
+use Rattle.amqp_model.specs.End.Events.{Message, Plain, Whole}
+use Rattle.amqp_model.specs.Wire.Frame.{Frame}
+use Rattle.amqp_model.specs.History.Histories.{ChannelEntry, PutHere}
+use Rattle.amqp_model.specs.End.Machine.{set_channel, channel_after, end_after, end_after_put}
+use Rattle.amqp_model.specs.Wire.Methods.{Method, MethodKind, MethodRead, ReadsBack, carries_content, begins_content}
+use Rattle.amqp_model.specs.History.Negotiation.{Config}
+use Rattle.amqp_model.specs.Wire.Notes.{Role, Client, Server}
+use Rattle.amqp_model.specs.Output.Outputs.{after_puts}
+use Rattle.amqp_model.specs.End.ReadingBack.{AskReadsBack}
+use Rattle.amqp_model.specs.Wire.Readings.{Calls, payload_of, method_reading, header_reading, reading}
 use Rattle.amqp_outbox.specs.OutboxView.{Outgoing, only, with_staged, all_put}
 use Rattle.amqp_channel.specs.ChannelsView.{OnlyAt}
 use Rattle.amqp_channel.specs.EventView.{agreed_view}

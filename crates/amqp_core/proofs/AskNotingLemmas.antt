@@ -2,24 +2,24 @@
 use Rattle.std.proofs.Common.{◌≡◌, ◌≤◌, ◌+◌, ◌*◌, ◌-◌, ◌/◌, Bool, true, false, not, ℕ, zero, suc, List, [], ◌∷◌, drop, length, map, replicate, Option, Some, None, refl, ap, sym, ◌∙◌, subst, arith}
 use Rattle.std.proofs.lemmas.List.{length-map}
 use Rattle.amqp_frame.specs.Splitting.{stream}
-use Rattle.amqp_model.specs.Asks.{Ask, Refusal, BadChannel, NotSendable, Send, CloseChannel, Close, Blocked, Unblocked, bad_channel, first_refusal, flow_pending, frames_asked, message_payloads, frame_max, no_free_channel, no_such_request, not_running, opens_on, paused, not_open, not_sendable, payload_frame, refusal, reply_pending, too_large, when, is_sendable}
-use Rattle.amqp_model.specs.Channels.{End}
-use Rattle.amqp_model.specs.Closes.{method_frame}
-use Rattle.amqp_model.specs.Contents as contents
-use Rattle.amqp_model.specs.Contents.{Payload, first_pieces, pieces, room_in}
-use Rattle.amqp_model.specs.Events.{Message, Plain, Whole, method_of}
-use Rattle.amqp_model.specs.FittingLaws.{AllWithin}
-use Rattle.amqp_model.specs.Frame.{Frame}
-use Rattle.amqp_model.specs.Histories.{History}
-use Rattle.amqp_model.specs.Items.{Item}
-use Rattle.amqp_model.specs.Methods.{Header, Method, ReadsBack, bit_at, header_at}
-use Rattle.amqp_model.specs.Notes.{Kind, Role}
-use Rattle.amqp_model.specs.Outputs.{Output, after_puts, output_octets}
-use Rattle.amqp_model.specs.ReadingBack.{AskReadsBack}
-use Rattle.amqp_model.specs.Readings.{Calls, header_reading, kind_of, method_reading}
-use Rattle.amqp_model.specs.Sent.{life_on}
-use Rattle.amqp_model.specs.Traces as traces
-use Rattle.amqp_model.specs.Traces.{IsPut, Noted, Other, noted, said_by_ask, telling_at, trace, word_of}
+use Rattle.amqp_model.specs.End.Asks.{Ask, Refusal, BadChannel, NotSendable, Send, CloseChannel, Close, Blocked, Unblocked, bad_channel, first_refusal, flow_pending, frames_asked, message_payloads, frame_max, no_free_channel, no_such_request, not_running, opens_on, paused, not_open, not_sendable, payload_frame, refusal, reply_pending, too_large, when, is_sendable}
+use Rattle.amqp_model.specs.End.Channels.{End}
+use Rattle.amqp_model.specs.End.Closes.{method_frame}
+use Rattle.amqp_model.specs.Wire.Contents as contents
+use Rattle.amqp_model.specs.Wire.Contents.{Payload, first_pieces, pieces, room_in}
+use Rattle.amqp_model.specs.End.Events.{Message, Plain, Whole, method_of}
+use Rattle.amqp_model.specs.Laws.FittingLaws.{AllWithin}
+use Rattle.amqp_model.specs.Wire.Frame.{Frame}
+use Rattle.amqp_model.specs.History.Histories.{History}
+use Rattle.amqp_model.specs.Wire.Items.{Item}
+use Rattle.amqp_model.specs.Wire.Methods.{Header, Method, ReadsBack, bit_at, header_at}
+use Rattle.amqp_model.specs.Wire.Notes.{Kind, Role}
+use Rattle.amqp_model.specs.Output.Outputs.{Output, after_puts, output_octets}
+use Rattle.amqp_model.specs.End.ReadingBack.{AskReadsBack}
+use Rattle.amqp_model.specs.Wire.Readings.{Calls, header_reading, kind_of, method_reading}
+use Rattle.amqp_model.specs.Pair.Sent.{life_on}
+use Rattle.amqp_model.specs.Stream.Traces as traces
+use Rattle.amqp_model.specs.Stream.Traces.{IsPut, Noted, Other, noted, said_by_ask, telling_at, trace, word_of}
 use Rattle.amqp_channel.specs.LifeView.{IsOther}
 use Rattle.amqp_core.specs.AskNoting.{GrowsByFrames, IsChannelOf, frames_of_message, item_asked, notes_asked}
 use Rattle.amqp_core.specs.Noting.{lives_in}

@@ -1,23 +1,23 @@
 -- An ask of an end that is kept with its history.
 use Rattle.std.proofs.Common.{◌≡◌, ◌≤◌, false, ℕ, List, ◌++◌, map, Option, Some, None, ap, sym, ◌∙◌, subst}
 use Rattle.std.proofs.Math.Logic.{∥∥₁_map}
-use Rattle.amqp_model.specs.Asks.{Ask, AskVerdict, Puts, ask_verdict, frame_max, frames_asked, refused_or_put}
-use Rattle.amqp_model.specs.Channels.{Agreed, End}
-use Rattle.amqp_model.specs.EndLaws.{AskOfHistory}
-use Rattle.amqp_model.specs.EndVerdict.{takes_octets}
-use Rattle.amqp_model.specs.Endpoint.{Endpoint, after_answer}
-use Rattle.amqp_model.specs.FittingLaws.{AllWithin, AskedAreWithin}
-use Rattle.amqp_model.specs.Frame.{Frame}
-use Rattle.amqp_model.specs.Histories.{History}
-use Rattle.amqp_model.specs.Items.{Item}
-use Rattle.amqp_model.specs.LawfulHistories.{end_of, then_put}
-use Rattle.amqp_model.specs.Negotiation.{Config, FRAME_MIN}
-use Rattle.amqp_model.specs.Notes.{Role}
-use Rattle.amqp_model.specs.OctetLaws.{EndpointStandsFor}
-use Rattle.amqp_model.specs.Outputs.{after_puts}
-use Rattle.amqp_model.specs.ReadingBack.{WritesReadBack}
-use Rattle.amqp_model.specs.Sent.{told, said}
-use Rattle.amqp_model.specs.Traces.{IsPut, SaysAsk, PutsTellNothing, TracePuts, noted, telling_at, trace}
+use Rattle.amqp_model.specs.End.Asks.{Ask, AskVerdict, Puts, ask_verdict, frame_max, frames_asked, refused_or_put}
+use Rattle.amqp_model.specs.End.Channels.{Agreed, End}
+use Rattle.amqp_model.specs.Laws.EndLaws.{AskOfHistory}
+use Rattle.amqp_model.specs.End.EndVerdict.{takes_octets}
+use Rattle.amqp_model.specs.Stream.Endpoint.{Endpoint, after_answer}
+use Rattle.amqp_model.specs.Laws.FittingLaws.{AllWithin, AskedAreWithin}
+use Rattle.amqp_model.specs.Wire.Frame.{Frame}
+use Rattle.amqp_model.specs.History.Histories.{History}
+use Rattle.amqp_model.specs.Wire.Items.{Item}
+use Rattle.amqp_model.specs.End.LawfulHistories.{end_of, then_put}
+use Rattle.amqp_model.specs.History.Negotiation.{Config, FRAME_MIN}
+use Rattle.amqp_model.specs.Wire.Notes.{Role}
+use Rattle.amqp_model.specs.Laws.OctetLaws.{EndpointStandsFor}
+use Rattle.amqp_model.specs.Output.Outputs.{after_puts}
+use Rattle.amqp_model.specs.End.ReadingBack.{WritesReadBack}
+use Rattle.amqp_model.specs.Pair.Sent.{told, said}
+use Rattle.amqp_model.specs.Stream.Traces.{IsPut, SaysAsk, PutsTellNothing, TracePuts, noted, telling_at, trace}
 use Rattle.amqp_core.specs.AskNoting.{GrowsByFrames, IsChannelOf, IsSizeOf, count_asked, item_asked, notes_asked, word_asked}
 use Rattle.amqp_core.specs.Asking.{AcceptsAsk}
 use Rattle.amqp_core.specs.NoteView.{noted_as}

@@ -3,23 +3,23 @@ use Rattle.std.proofs.Common.{◌≡◌, Bool, true, false, not, ℕ, List, ◌�
 use Rattle.std.proofs.Math.Logic.{∥∥₁_map}
 use Rattle.std.proofs.lemmas.Bool.{true≢false, false≢true}
 use Rattle.amqp_frame.specs.Stream.{Stream}
-use Rattle.amqp_model.specs.Asks.{Ask, Refusal, ask_verdict, first_refusal, frames_asked, is_running, refusal, refused_or_put, when, NotRunning, Puts, Refused}
-use Rattle.amqp_model.specs.Bounds.{AskStaysWithin, EndIsWithin}
-use Rattle.amqp_model.specs.Channels.{Agreed, End, Phase, Handshake, AwaitsProtocolHeader, AwaitsStart, AwaitsStartOk, AwaitsTune, AwaitsTuneOk, AwaitsOpen, AwaitsOpenOk, Running, Closing, Closed, Failed}
-use Rattle.amqp_model.specs.EndLaws.{AskOfHistory}
-use Rattle.amqp_model.specs.EndVerdict.{takes_octets}
-use Rattle.amqp_model.specs.Endpoint as model
-use Rattle.amqp_model.specs.Endpoint.{after_answer, after_ask, awaits_opening}
-use Rattle.amqp_model.specs.Fitting.{AgreedFits, IfAgreedFits}
-use Rattle.amqp_model.specs.FittingLaws.{AskKeepsAgreed, AskedFit}
-use Rattle.amqp_model.specs.Histories.{History}
-use Rattle.amqp_model.specs.LawfulHistories.{then_put}
-use Rattle.amqp_model.specs.Machine.{end_after_put}
-use Rattle.amqp_model.specs.Negotiation.{Config, frame_limit}
-use Rattle.amqp_model.specs.Notes.{Role, Client, Server}
-use Rattle.amqp_model.specs.OctetLaws.{AcceptedFollows, EndpointStandsFor}
-use Rattle.amqp_model.specs.Outputs.{Output, after_puts}
-use Rattle.amqp_model.specs.Pieces.{AskHolds, HoldsUnfinished}
+use Rattle.amqp_model.specs.End.Asks.{Ask, Refusal, ask_verdict, first_refusal, frames_asked, is_running, refusal, refused_or_put, when, NotRunning, Puts, Refused}
+use Rattle.amqp_model.specs.End.Bounds.{AskStaysWithin, EndIsWithin}
+use Rattle.amqp_model.specs.End.Channels.{Agreed, End, Phase, Handshake, AwaitsProtocolHeader, AwaitsStart, AwaitsStartOk, AwaitsTune, AwaitsTuneOk, AwaitsOpen, AwaitsOpenOk, Running, Closing, Closed, Failed}
+use Rattle.amqp_model.specs.Laws.EndLaws.{AskOfHistory}
+use Rattle.amqp_model.specs.End.EndVerdict.{takes_octets}
+use Rattle.amqp_model.specs.Stream.Endpoint as model
+use Rattle.amqp_model.specs.Stream.Endpoint.{after_answer, after_ask, awaits_opening}
+use Rattle.amqp_model.specs.End.Fitting.{AgreedFits, IfAgreedFits}
+use Rattle.amqp_model.specs.Laws.FittingLaws.{AskKeepsAgreed, AskedFit}
+use Rattle.amqp_model.specs.History.Histories.{History}
+use Rattle.amqp_model.specs.End.LawfulHistories.{then_put}
+use Rattle.amqp_model.specs.End.Machine.{end_after_put}
+use Rattle.amqp_model.specs.History.Negotiation.{Config, frame_limit}
+use Rattle.amqp_model.specs.Wire.Notes.{Role, Client, Server}
+use Rattle.amqp_model.specs.Laws.OctetLaws.{AcceptedFollows, EndpointStandsFor}
+use Rattle.amqp_model.specs.Output.Outputs.{Output, after_puts}
+use Rattle.amqp_model.specs.Stream.Pieces.{AskHolds, HoldsUnfinished}
 use Rattle.amqp_outbox.specs.OutboxView.{Outgoing}
 use Rattle.amqp_core.specs.Asked.{IsAccepted, IsRefused}
 use Rattle.amqp_core.specs.Asking.{AcceptsAsk, AskIsOfHistory, RefusesAsk}

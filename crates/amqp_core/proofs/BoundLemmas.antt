@@ -3,16 +3,16 @@ use Rattle.std.proofs.Common.{◌≡◌, ◌≢◌, ◌≤◌, Bool, true, false
 use Rattle.std.proofs.Math.Logic.{∥∥₁_map, ∥∥₁_elim}
 use Rattle.std.proofs.lemmas.Bool.{true≢false, false≢true}
 use Rattle.std.specs.Coded.{le_prop}
-use Rattle.amqp_model.specs.Answers.{gathered}
-use Rattle.amqp_model.specs.Bounds.{ChannelIsWithin, EndIsWithin, FrameStaysWithin, GatheredIsWithin}
-use Rattle.amqp_model.specs.Channels.{Channel, End, Phase, Handshake, Running, Closing, Closed, Failed}
-use Rattle.amqp_model.specs.EndVerdict.{end_verdict, goes_on, takes_octets}
-use Rattle.amqp_model.specs.Events.{FrameVerdict, Proceeds, RefusesContent, Faults}
-use Rattle.amqp_model.specs.Frame.{Frame}
-use Rattle.amqp_model.specs.Machine.{as_failed, end_after_taken, failed_by}
-use Rattle.amqp_model.specs.Negotiation.{Config}
-use Rattle.amqp_model.specs.Notes.{Role}
-use Rattle.amqp_model.specs.Readings.{reading}
+use Rattle.amqp_model.specs.End.Answers.{gathered}
+use Rattle.amqp_model.specs.End.Bounds.{ChannelIsWithin, EndIsWithin, FrameStaysWithin, GatheredIsWithin}
+use Rattle.amqp_model.specs.End.Channels.{Channel, End, Phase, Handshake, Running, Closing, Closed, Failed}
+use Rattle.amqp_model.specs.End.EndVerdict.{end_verdict, goes_on, takes_octets}
+use Rattle.amqp_model.specs.End.Events.{FrameVerdict, Proceeds, RefusesContent, Faults}
+use Rattle.amqp_model.specs.Wire.Frame.{Frame}
+use Rattle.amqp_model.specs.End.Machine.{as_failed, end_after_taken, failed_by}
+use Rattle.amqp_model.specs.History.Negotiation.{Config}
+use Rattle.amqp_model.specs.Wire.Notes.{Role}
+use Rattle.amqp_model.specs.Wire.Readings.{reading}
 use Rattle.amqp_core.specs.Bounded.{IsBounded}
 use Rattle.amqp_core.specs.Outcomes.{SameEnd}
 

@@ -3,17 +3,17 @@ use Rattle.std.proofs.Common.{◌≡◌, ◌<◌, ◌==◌, ◌&&◌, Bool, true
 use Rattle.std.proofs.lemmas.Bool.{eqb-true, eqb-false}
 use Rattle.std.proofs.lemmas.Bool.Decides.{nat_tests}
 use Rattle.amqp_method.specs.declared.kinds.Kind.TheVariants as kinds
-use Rattle.amqp_model.specs.Channels.{Channel, End, Phase, Handshake, Running, Closing, Closed, Failed, Agreed}
-use Rattle.amqp_model.specs.Closes.{FrameError}
-use Rattle.amqp_model.specs.EndVerdict.{takes_frames}
-use Rattle.amqp_model.specs.Events.{Fault, Proceeds, Faults, Discarded, Quiet}
-use Rattle.amqp_model.specs.FrameVerdict.{fault, leaving_on, verdict_on}
-use Rattle.amqp_model.specs.Histories.{TookHere}
-use Rattle.amqp_model.specs.Machine.{set_channel, taken_verdict, end_after}
-use Rattle.amqp_model.specs.Negotiation.{Config}
-use Rattle.amqp_model.specs.Frame.{Frame}
-use Rattle.amqp_model.specs.Notes.{Role}
-use Rattle.amqp_model.specs.Readings.{Reading, Beat}
+use Rattle.amqp_model.specs.End.Channels.{Channel, End, Phase, Handshake, Running, Closing, Closed, Failed, Agreed}
+use Rattle.amqp_model.specs.End.Closes.{FrameError}
+use Rattle.amqp_model.specs.End.EndVerdict.{takes_frames}
+use Rattle.amqp_model.specs.End.Events.{Fault, Proceeds, Faults, Discarded, Quiet}
+use Rattle.amqp_model.specs.End.FrameVerdict.{fault, leaving_on, verdict_on}
+use Rattle.amqp_model.specs.History.Histories.{TookHere}
+use Rattle.amqp_model.specs.End.Machine.{set_channel, taken_verdict, end_after}
+use Rattle.amqp_model.specs.History.Negotiation.{Config}
+use Rattle.amqp_model.specs.Wire.Frame.{Frame}
+use Rattle.amqp_model.specs.Wire.Notes.{Role}
+use Rattle.amqp_model.specs.Wire.Readings.{Reading, Beat}
 use Rattle.amqp_channel.specs.ChannelsView.{OnlyAt}
 use Rattle.amqp_core.specs.ConnectionView.{EndLeft, frame_at}
 use Rattle.amqp_core.specs.Stages.{leaves}

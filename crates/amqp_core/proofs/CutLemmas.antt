@@ -2,15 +2,15 @@
 use Rattle.std.proofs.Common.{◌≡◌, Bool, true, false, ℕ, List, [], ◌∷◌, ◌++◌, drop, Option, Some, None, refl, sym, ap, ◌∙◌}
 use Rattle.std.proofs.lemmas.Bool.{true≢false, false≢true}
 use Rattle.std.specs.List.{concat}
-use Rattle.amqp_model.specs.Channels as channels
-use Rattle.amqp_model.specs.EndVerdict.{facts_at, end_verdict}
-use Rattle.amqp_model.specs.Endpoint.{Begun, Comparison, Differs, Endpoint, Feeding, Finished, Found, Judgement, Outcome, Prefix, Same, Unfinished, Whole, Wrong, after_feed, after_judged, after_octet, after_octets, after_opening, awaits_opening, compared, fed_after, judged, outcome_of, refusal_in, unless_over}
-use Rattle.amqp_model.specs.Events as events
-use Rattle.amqp_model.specs.Events.{Event, Fault, FrameVerdict}
-use Rattle.amqp_model.specs.FrameVerdict.{Facts}
-use Rattle.amqp_model.specs.Negotiation.{Config, frame_limit}
-use Rattle.amqp_model.specs.Notes.{Role}
-use Rattle.amqp_model.specs.Octets.{opening_read}
+use Rattle.amqp_model.specs.End.Channels as channels
+use Rattle.amqp_model.specs.End.EndVerdict.{facts_at, end_verdict}
+use Rattle.amqp_model.specs.Stream.Endpoint.{Begun, Comparison, Differs, Endpoint, Feeding, Finished, Found, Judgement, Outcome, Prefix, Same, Unfinished, Whole, Wrong, after_feed, after_judged, after_octet, after_octets, after_opening, awaits_opening, compared, fed_after, judged, outcome_of, refusal_in, unless_over}
+use Rattle.amqp_model.specs.End.Events as events
+use Rattle.amqp_model.specs.End.Events.{Event, Fault, FrameVerdict}
+use Rattle.amqp_model.specs.End.FrameVerdict.{Facts}
+use Rattle.amqp_model.specs.History.Negotiation.{Config, frame_limit}
+use Rattle.amqp_model.specs.Wire.Notes.{Role}
+use Rattle.amqp_model.specs.Stream.Octets.{opening_read}
 use Rattle.amqp_core.specs.Cuts as cuts
 use Rattle.amqp_core.specs.Cuts.{CutsChangeNothing, IsFedPieces}
 

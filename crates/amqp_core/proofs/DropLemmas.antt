@@ -5,13 +5,13 @@ use Rattle.amqp_frame.specs.Frame.{frame_length, octets}
 use Rattle.amqp_frame.specs.Laws.{OneFrameAtStart}
 use Rattle.amqp_frame.specs.Splitter.{Completes, HasFrameAtStart}
 use Rattle.amqp_frame.specs.Stream.{Stream}
-use Rattle.amqp_model.specs.Channels.{End, Phase, Closed, Failed}
-use Rattle.amqp_model.specs.Endpoint as model
-use Rattle.amqp_model.specs.Endpoint.{Feeding}
-use Rattle.amqp_model.specs.Frame.{Frame}
-use Rattle.amqp_model.specs.Notes.{Role, Client, Server}
-use Rattle.amqp_model.specs.Outputs.{Output}
-use Rattle.amqp_model.specs.Pieces.{reads_frames}
+use Rattle.amqp_model.specs.End.Channels.{End, Phase, Closed, Failed}
+use Rattle.amqp_model.specs.Stream.Endpoint as model
+use Rattle.amqp_model.specs.Stream.Endpoint.{Feeding}
+use Rattle.amqp_model.specs.Wire.Frame.{Frame}
+use Rattle.amqp_model.specs.Wire.Notes.{Role, Client, Server}
+use Rattle.amqp_model.specs.Output.Outputs.{Output}
+use Rattle.amqp_model.specs.Stream.Pieces.{reads_frames}
 use Rattle.amqp_core.specs.Dropping.{DropsInPlace, IsDropped}
 use Rattle.amqp_core.specs.EndpointView.{FieldsFit, unfinished_of}
 use Rattle.amqp_core.specs.Feeding.{IsFed, Seen}

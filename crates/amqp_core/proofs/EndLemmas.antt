@@ -3,16 +3,16 @@ use Rattle.std.proofs.Common.{◌≡◌, ◌<◌, ◌==◌, Bool, true, false, c
 use Rattle.std.proofs.lemmas.Bool.{eq-eqb, false≢true}
 use Rattle.amqp_frame.specs.declared.frames.FrameKind.{FrameKind}
 use Rattle.amqp_method.specs.declared.kinds.Kind.TheVariants as kinds
-use Rattle.amqp_model.specs.Channels.{Channel}
-use Rattle.amqp_model.specs.Closes.{ContentTooLarge, close_as, number_of, text_of, reply_to, frame_of}
-use Rattle.amqp_model.specs.Events.{FrameVerdict}
-use Rattle.amqp_model.specs.FrameVerdict.{on_channel, methods_put}
-use Rattle.amqp_model.specs.Histories.{ChannelEntry, PutHere, TookHere}
-use Rattle.amqp_model.specs.EndVerdict.{facts_at}
-use Rattle.amqp_model.specs.Machine.{set_channel, channel_after, end_after, end_after_owed, failed_by}
-use Rattle.amqp_model.specs.Methods.{Method}
-use Rattle.amqp_model.specs.Negotiation.{Config}
-use Rattle.amqp_model.specs.Readings.{Reading, Calls}
+use Rattle.amqp_model.specs.End.Channels.{Channel}
+use Rattle.amqp_model.specs.End.Closes.{ContentTooLarge, close_as, number_of, text_of, reply_to, frame_of}
+use Rattle.amqp_model.specs.End.Events.{FrameVerdict}
+use Rattle.amqp_model.specs.End.FrameVerdict.{on_channel, methods_put}
+use Rattle.amqp_model.specs.History.Histories.{ChannelEntry, PutHere, TookHere}
+use Rattle.amqp_model.specs.End.EndVerdict.{facts_at}
+use Rattle.amqp_model.specs.End.Machine.{set_channel, channel_after, end_after, end_after_owed, failed_by}
+use Rattle.amqp_model.specs.Wire.Methods.{Method}
+use Rattle.amqp_model.specs.History.Negotiation.{Config}
+use Rattle.amqp_model.specs.Wire.Readings.{Reading, Calls}
 use Rattle.amqp_channel.specs.Roles.{role_of}
 use Rattle.amqp_channel.specs.Leaving.{after_owed}
 use Rattle.amqp_channel.specs.VerdictView.{reply_there}

@@ -2,12 +2,12 @@
 use Rattle.std.proofs.Common.{◌≡◌, ℕ, List, [], None, refl, sym, ap, ◌∙◌, subst, arith}
 use Rattle.std.proofs.lemmas.Bool.{true≢false}
 use Rattle.amqp_frame.specs.Stream.{Stream}
-use Rattle.amqp_model.specs.Channels.{End}
-use Rattle.amqp_model.specs.Endpoint.{new_endpoint, output_of}
-use Rattle.amqp_model.specs.Machine.{new_end}
-use Rattle.amqp_model.specs.Notes.{Role, Client, Server}
-use Rattle.amqp_model.specs.Octets.{opening_written}
-use Rattle.amqp_model.specs.Outputs.{Output}
+use Rattle.amqp_model.specs.End.Channels.{End}
+use Rattle.amqp_model.specs.Stream.Endpoint.{new_endpoint, output_of}
+use Rattle.amqp_model.specs.End.Machine.{new_end}
+use Rattle.amqp_model.specs.Wire.Notes.{Role, Client, Server}
+use Rattle.amqp_model.specs.Stream.Octets.{opening_written}
+use Rattle.amqp_model.specs.Output.Outputs.{Output}
 use Rattle.amqp_core.specs.EndpointView.{FieldsFit, unfinished_of}
 
 pub new_is : (role : Role) (end : End) (pending : List ℕ) (output : Output) → end ≡ new_end role → pending ≡ [] → output ≡ output_of (opening_written role) → record { end = end; unfinished = unfinished_of 0 pending; output = output } ≡ new_endpoint role

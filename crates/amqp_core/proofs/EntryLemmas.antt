@@ -2,16 +2,16 @@
 use Rattle.std.proofs.Common.{◌≡◌, ◌<◌, ◌==◌, Bool, true, false, cond, ℕ, zero, suc, List, [], ◌∷◌, map, Option, refl, ap, sym, ◌∙◌, arith}
 use Rattle.std.proofs.lemmas.Bool.{eq-eqb, eqb-true}
 use Rattle.amqp_method.specs.declared.kinds.Kind.TheVariants as kinds
-use Rattle.amqp_model.specs.Channels.{Channel, End, Phase, Handshake, Running, Closing, Closed, Failed, Agreed}
-use Rattle.amqp_model.specs.Closes.{frame_of}
-use Rattle.amqp_model.specs.FrameVerdict.{on_channel}
-use Rattle.amqp_model.specs.Histories.{ChannelEntry, PutHere, TookHere}
-use Rattle.amqp_model.specs.Machine.{set_channel, channel_after, unless_leaving, end_after, end_after_owed, phase_taken, agreed_after}
-use Rattle.amqp_model.specs.Methods.{Method, MethodKind}
-use Rattle.amqp_model.specs.Negotiation.{Config}
-use Rattle.amqp_model.specs.Notes.{Role, Client, Server}
-use Rattle.amqp_model.specs.Frame.{Frame}
-use Rattle.amqp_model.specs.Readings.{Reading, Calls, UnknownMethod, MalformedMethod, HeaderOf, MalformedHeader, BodyOf, Beat, is_call}
+use Rattle.amqp_model.specs.End.Channels.{Channel, End, Phase, Handshake, Running, Closing, Closed, Failed, Agreed}
+use Rattle.amqp_model.specs.End.Closes.{frame_of}
+use Rattle.amqp_model.specs.End.FrameVerdict.{on_channel}
+use Rattle.amqp_model.specs.History.Histories.{ChannelEntry, PutHere, TookHere}
+use Rattle.amqp_model.specs.End.Machine.{set_channel, channel_after, unless_leaving, end_after, end_after_owed, phase_taken, agreed_after}
+use Rattle.amqp_model.specs.Wire.Methods.{Method, MethodKind}
+use Rattle.amqp_model.specs.History.Negotiation.{Config}
+use Rattle.amqp_model.specs.Wire.Notes.{Role, Client, Server}
+use Rattle.amqp_model.specs.Wire.Frame.{Frame}
+use Rattle.amqp_model.specs.Wire.Readings.{Reading, Calls, UnknownMethod, MalformedMethod, HeaderOf, MalformedHeader, BodyOf, Beat, is_call}
 use Rattle.amqp_channel.specs.Leaving.{after_owed}
 use Rattle.amqp_core.specs.Stages.{leaves}
 

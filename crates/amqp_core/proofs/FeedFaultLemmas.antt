@@ -1,18 +1,18 @@
 -- A fault that octets show leaves an end that has failed.
 use Rattle.std.proofs.Common.{◌≡◌, inl, inr, Bool, true, false, cond, ℕ, List, [], ◌∷◌, ◌++◌, Result, Ok, Err, IfErr, IfOk, IsOk, refl, sym, ap, ◌∙◌, subst}
 use Rattle.std.proofs.lemmas.Bool.{true≢false, false≢true}
-use Rattle.amqp_model.specs.Channels as channels
-use Rattle.amqp_model.specs.Channels.{End}
-use Rattle.amqp_model.specs.EndVerdict.{facts_at, end_verdict, takes_octets}
-use Rattle.amqp_model.specs.Endpoint.{Begun, Comparison, Differs, Endpoint, Feeding, Finished, Found, Judgement, Outcome, Prefix, Same, Unfinished, Whole, Wrong, after_feed, after_judged, after_octet, after_octets, after_opening, awaits_opening, compared, fault_told, fed_after, judged, outcome_of, refusal_in, unless_over}
-use Rattle.amqp_model.specs.Events as events
-use Rattle.amqp_model.specs.Events.{FrameVerdict}
-use Rattle.amqp_model.specs.FrameVerdict.{Facts}
-use Rattle.amqp_model.specs.Machine.{failed_by}
-use Rattle.amqp_model.specs.Negotiation.{Config, frame_limit}
-use Rattle.amqp_model.specs.Notes.{Role}
-use Rattle.amqp_model.specs.OctetLaws.{FeedStaysClosed, FeedStaysFailed, nothing_taken}
-use Rattle.amqp_model.specs.Octets.{opening_read}
+use Rattle.amqp_model.specs.End.Channels as channels
+use Rattle.amqp_model.specs.End.Channels.{End}
+use Rattle.amqp_model.specs.End.EndVerdict.{facts_at, end_verdict, takes_octets}
+use Rattle.amqp_model.specs.Stream.Endpoint.{Begun, Comparison, Differs, Endpoint, Feeding, Finished, Found, Judgement, Outcome, Prefix, Same, Unfinished, Whole, Wrong, after_feed, after_judged, after_octet, after_octets, after_opening, awaits_opening, compared, fault_told, fed_after, judged, outcome_of, refusal_in, unless_over}
+use Rattle.amqp_model.specs.End.Events as events
+use Rattle.amqp_model.specs.End.Events.{FrameVerdict}
+use Rattle.amqp_model.specs.End.FrameVerdict.{Facts}
+use Rattle.amqp_model.specs.End.Machine.{failed_by}
+use Rattle.amqp_model.specs.History.Negotiation.{Config, frame_limit}
+use Rattle.amqp_model.specs.Wire.Notes.{Role}
+use Rattle.amqp_model.specs.Laws.OctetLaws.{FeedStaysClosed, FeedStaysFailed, nothing_taken}
+use Rattle.amqp_model.specs.Stream.Octets.{opening_read}
 use Rattle.amqp_core.specs.Answering.{Reports, ran_out, is_out_of_memory}
 use Rattle.amqp_core.specs.FeedFaults.{FeedFaults, IsRefused, FailsAfter}
 use Rattle.amqp_core.specs.Feeding.{AnswersPiece, IsFed, seen, SameEndpoint, ran_out_of}

@@ -11,24 +11,24 @@ use Rattle.amqp_frame.specs.declared.faults.FrameFaultKind.TheVariants as kinds
 use Rattle.amqp_frame.specs.declared.faults.FrameFaultKind.TheVariants.{UnknownType, TooLarge, BadEnd, OutOfMemory}
 use Rattle.amqp_frame.specs.declared.frames.FrameRef.{FrameRef}
 use Rattle.amqp_frame.specs.declared.splitting.FedRef.{FedRef}
-use Rattle.amqp_model.specs.Channels.{End, Phase, Handshake, Running, Closing, Closed, Failed, AwaitsProtocolHeader, AwaitsStart, AwaitsStartOk, AwaitsTune, AwaitsTuneOk, AwaitsOpen, AwaitsOpenOk, Agreed}
-use Rattle.amqp_model.specs.Closes.{frame_of}
-use Rattle.amqp_model.specs.EndVerdict.{end_puts, end_verdict, facts_at, takes_frames, takes_octets}
-use Rattle.amqp_model.specs.Endpoint as model
-use Rattle.amqp_model.specs.Endpoint.{Feeding, Outcome, Unfinished, Finished, Found, Whole, Wrong, after_feed, after_judged, awaits_opening, fault_told, goes_on_with, outcome_of, owed_at_fault}
-use Rattle.amqp_model.specs.Fitting.{ConfigWrites, IfAgreedFits}
-use Rattle.amqp_model.specs.FittingLaws.{AgreedStaysWithin}
-use Rattle.amqp_model.specs.Frame.{Frame}
-use Rattle.amqp_model.specs.Machine.{as_failed, end_after_taken}
-use Rattle.amqp_model.specs.Negotiation.{Config, frame_limit}
-use Rattle.amqp_model.specs.Notes.{Role, Client, Server}
-use Rattle.amqp_model.specs.OctetLaws.{IsOctet}
-use Rattle.amqp_model.specs.Octets.{opening_read}
-use Rattle.amqp_model.specs.Outputs.{Output, after_puts}
-use Rattle.amqp_model.specs.Pieces.{AreBegun, IsFedBy, IsProperPrefixOf, HoldsUnfinished, FaultFed, FeedHolds, FeedGivesFrame, FeedWaits, FeedFindsFault, reads_frames}
-use Rattle.amqp_model.specs.Readings.{reading}
+use Rattle.amqp_model.specs.End.Channels.{End, Phase, Handshake, Running, Closing, Closed, Failed, AwaitsProtocolHeader, AwaitsStart, AwaitsStartOk, AwaitsTune, AwaitsTuneOk, AwaitsOpen, AwaitsOpenOk, Agreed}
+use Rattle.amqp_model.specs.End.Closes.{frame_of}
+use Rattle.amqp_model.specs.End.EndVerdict.{end_puts, end_verdict, facts_at, takes_frames, takes_octets}
+use Rattle.amqp_model.specs.Stream.Endpoint as model
+use Rattle.amqp_model.specs.Stream.Endpoint.{Feeding, Outcome, Unfinished, Finished, Found, Whole, Wrong, after_feed, after_judged, awaits_opening, fault_told, goes_on_with, outcome_of, owed_at_fault}
+use Rattle.amqp_model.specs.End.Fitting.{ConfigWrites, IfAgreedFits}
+use Rattle.amqp_model.specs.Laws.FittingLaws.{AgreedStaysWithin}
+use Rattle.amqp_model.specs.Wire.Frame.{Frame}
+use Rattle.amqp_model.specs.End.Machine.{as_failed, end_after_taken}
+use Rattle.amqp_model.specs.History.Negotiation.{Config, frame_limit}
+use Rattle.amqp_model.specs.Wire.Notes.{Role, Client, Server}
+use Rattle.amqp_model.specs.Laws.OctetLaws.{IsOctet}
+use Rattle.amqp_model.specs.Stream.Octets.{opening_read}
+use Rattle.amqp_model.specs.Output.Outputs.{Output, after_puts}
+use Rattle.amqp_model.specs.Stream.Pieces.{AreBegun, IsFedBy, IsProperPrefixOf, HoldsUnfinished, FaultFed, FeedHolds, FeedGivesFrame, FeedWaits, FeedFindsFault, reads_frames}
+use Rattle.amqp_model.specs.Wire.Readings.{reading}
 use Rattle.amqp_outbox.specs.OutboxView.{Outgoing, only}
-use Rattle.amqp_model.specs.Events.{Event}
+use Rattle.amqp_model.specs.End.Events.{Event}
 use Rattle.amqp_core.specs.Answering.{answer_with, AnswersFrame, EndsAs, PutsAs, Reports, ran_out, is_out_of_memory, stopped}
 use Rattle.amqp_core.specs.EndpointView.{FieldsFit, IsSound, endpoint_view, is_opened, unfinished_of}
 use Rattle.amqp_core.specs.Feeding.{IsFed, SameButChannels, SameEndpoint, ran_out_of, taken_with, Seen}

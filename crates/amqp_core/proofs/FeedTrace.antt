@@ -1,17 +1,17 @@
 -- A piece that goes on: the lists are those of the history that follows.
 use Rattle.std.proofs.Common.{◌≡◌, cond, Bool, true, false, ℕ, zero, suc, List, [], ◌∷◌, ◌++◌, length, map, Option, Some, None, refl, ap, sym, ◌∙◌, subst, arith}
 use Rattle.std.proofs.lemmas.List.{length-append}
-use Rattle.amqp_model.specs.Closes as closes
-use Rattle.amqp_model.specs.Closes.{AllReadBack, frame_of}
-use Rattle.amqp_model.specs.Frame.{Frame}
-use Rattle.amqp_model.specs.Histories.{Took, History}
-use Rattle.amqp_model.specs.Items.{Item}
-use Rattle.amqp_model.specs.LawfulHistories.{then_put}
-use Rattle.amqp_model.specs.Methods.{Method}
-use Rattle.amqp_model.specs.Negotiation.{Config}
-use Rattle.amqp_model.specs.Notes.{Role, Client, Server}
-use Rattle.amqp_model.specs.Sent.{Telling, life_on, told, said, told_at, goes_on_with}
-use Rattle.amqp_model.specs.Traces.{IsTaken, Noted, noted, trace, PutsTellNothing, SaysMethod, TracePuts, telling_at, telling_above}
+use Rattle.amqp_model.specs.End.Closes as closes
+use Rattle.amqp_model.specs.End.Closes.{AllReadBack, frame_of}
+use Rattle.amqp_model.specs.Wire.Frame.{Frame}
+use Rattle.amqp_model.specs.History.Histories.{Took, History}
+use Rattle.amqp_model.specs.Wire.Items.{Item}
+use Rattle.amqp_model.specs.End.LawfulHistories.{then_put}
+use Rattle.amqp_model.specs.Wire.Methods.{Method}
+use Rattle.amqp_model.specs.History.Negotiation.{Config}
+use Rattle.amqp_model.specs.Wire.Notes.{Role, Client, Server}
+use Rattle.amqp_model.specs.Pair.Sent.{Telling, life_on, told, said, told_at, goes_on_with}
+use Rattle.amqp_model.specs.Stream.Traces.{IsTaken, Noted, noted, trace, PutsTellNothing, SaysMethod, TracePuts, telling_at, telling_above}
 use Rattle.amqp_channel.specs.EventView.{agreed_view}
 use Rattle.amqp_channel.specs.declared.verdict.Reply.TheVariants as replies
 use Rattle.amqp_core.specs.Noting.{item_of_reply, lives_in, noted_owed, notes_owed, said_by_owed, told_by}

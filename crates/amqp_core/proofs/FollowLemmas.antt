@@ -3,21 +3,21 @@ use Rattle.std.proofs.Common.{◌≡◌, ◌≢◌, ◌<◌, Bool, true, false, 
 use Rattle.std.proofs.Math.Logic.{∥∥₁_map}
 use Rattle.std.proofs.lemmas.Bool.{true≢false}
 use Rattle.amqp_method.specs.declared.kinds.Kind.TheVariants as kinds
-use Rattle.amqp_model.specs.Channels.{End, Phase, Handshake, Running, Closing, Closed, Failed}
-use Rattle.amqp_model.specs.Departures.{IsOutputOf}
-use Rattle.amqp_model.specs.EndLaws.{FailedIsRead}
-use Rattle.amqp_model.specs.EndVerdict.{takes_octets}
-use Rattle.amqp_model.specs.Endpoint.{Endpoint, Feeding, Found, after_feed}
-use Rattle.amqp_model.specs.Events.{AlreadyClosed}
-use Rattle.amqp_model.specs.Fitting.{ConfigWrites}
-use Rattle.amqp_model.specs.Histories.{History, ChannelEntry, entries_on}
-use Rattle.amqp_model.specs.Negotiation.{Config}
-use Rattle.amqp_model.specs.Notes.{Role}
-use Rattle.amqp_model.specs.OctetLaws.{IsOctet, EndpointStandsFor, FeedFollows, Follows, HasFailed, waits, greets, takes, faults, tells, differs, refuses}
-use Rattle.amqp_model.specs.Octets.{frames_put, opening_written}
-use Rattle.amqp_model.specs.Outputs.{Output}
-use Rattle.amqp_model.specs.RunningOut.{RunsOut}
-use Rattle.amqp_model.specs.StateFromHistory.{has_put, is_closed, is_negotiated, phase_from, step_from}
+use Rattle.amqp_model.specs.End.Channels.{End, Phase, Handshake, Running, Closing, Closed, Failed}
+use Rattle.amqp_model.specs.Output.Departures.{IsOutputOf}
+use Rattle.amqp_model.specs.Laws.EndLaws.{FailedIsRead}
+use Rattle.amqp_model.specs.End.EndVerdict.{takes_octets}
+use Rattle.amqp_model.specs.Stream.Endpoint.{Endpoint, Feeding, Found, after_feed}
+use Rattle.amqp_model.specs.End.Events.{AlreadyClosed}
+use Rattle.amqp_model.specs.End.Fitting.{ConfigWrites}
+use Rattle.amqp_model.specs.History.Histories.{History, ChannelEntry, entries_on}
+use Rattle.amqp_model.specs.History.Negotiation.{Config}
+use Rattle.amqp_model.specs.Wire.Notes.{Role}
+use Rattle.amqp_model.specs.Laws.OctetLaws.{IsOctet, EndpointStandsFor, FeedFollows, Follows, HasFailed, waits, greets, takes, faults, tells, differs, refuses}
+use Rattle.amqp_model.specs.Stream.Octets.{frames_put, opening_written}
+use Rattle.amqp_model.specs.Output.Outputs.{Output}
+use Rattle.amqp_model.specs.Stream.RunningOut.{RunsOut}
+use Rattle.amqp_model.specs.End.StateFromHistory.{has_put, is_closed, is_negotiated, phase_from, step_from}
 use Rattle.amqp_core.specs.Answering.{ran_out}
 use Rattle.amqp_core.specs.Feeding.{IsFed, SameEndpoint, ran_out_of, Seen}
 use Rattle.amqp_core.specs.Following.{GoesOn, KeepsHistory}

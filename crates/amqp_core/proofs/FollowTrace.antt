@@ -6,28 +6,28 @@ use Rattle.amqp_frame.specs.Frame.{octets as frame_octets}
 use Rattle.amqp_frame.specs.Splitting.{stream}
 use Rattle.amqp_frame.specs.declared.faults.FrameFaultKind.{FrameFaultKind}
 use Rattle.amqp_frame.specs.declared.faults.FrameFaultKind.TheVariants as kinds
-use Rattle.amqp_model.specs.Channels.{End, Phase, Closed}
-use Rattle.amqp_model.specs.Closes as closes
-use Rattle.amqp_model.specs.Closes.{AllReadBack, frame_of}
-use Rattle.amqp_model.specs.EndLaws.{VerdictOfHistory}
-use Rattle.amqp_model.specs.EndVerdict.{end_puts, end_verdict, facts_at, goes_on}
-use Rattle.amqp_model.specs.Endpoint.{Endpoint, Feeding, awaits_opening, fault_told, greeting, owed_at_fault, outcome_of}
-use Rattle.amqp_model.specs.Events.{Fault, Faults}
-use Rattle.amqp_model.specs.Frame.{Frame}
-use Rattle.amqp_model.specs.FrameVerdict.{Facts, methods_put}
-use Rattle.amqp_model.specs.Histories.{Took, History}
-use Rattle.amqp_model.specs.Items.{Item}
-use Rattle.amqp_model.specs.LawfulHistories.{then_put, then_taken}
-use Rattle.amqp_model.specs.Methods.{Method}
-use Rattle.amqp_model.specs.Negotiation.{Config, frame_limit}
-use Rattle.amqp_model.specs.Notes.{Role, Client, Server}
-use Rattle.amqp_model.specs.OctetLaws as octets
-use Rattle.amqp_model.specs.OctetLaws.{EndpointStandsFor, HasFailed, Follows, TellsLast}
-use Rattle.amqp_model.specs.Octets.{FedAs, frames_taken, has_opened, in_frames, in_opening, opening_read}
-use Rattle.amqp_model.specs.ReadingBack.{WritesReadBack, GreetingReadsBack}
-use Rattle.amqp_model.specs.Readings.{reading}
-use Rattle.amqp_model.specs.Sent.{life_on, told}
-use Rattle.amqp_model.specs.Traces.{IsTaken, Noted, noted, PutsTellNothing, SaysMethod, TellsEvent, TracePuts, telling_at}
+use Rattle.amqp_model.specs.End.Channels.{End, Phase, Closed}
+use Rattle.amqp_model.specs.End.Closes as closes
+use Rattle.amqp_model.specs.End.Closes.{AllReadBack, frame_of}
+use Rattle.amqp_model.specs.Laws.EndLaws.{VerdictOfHistory}
+use Rattle.amqp_model.specs.End.EndVerdict.{end_puts, end_verdict, facts_at, goes_on}
+use Rattle.amqp_model.specs.Stream.Endpoint.{Endpoint, Feeding, awaits_opening, fault_told, greeting, owed_at_fault, outcome_of}
+use Rattle.amqp_model.specs.End.Events.{Fault, Faults}
+use Rattle.amqp_model.specs.Wire.Frame.{Frame}
+use Rattle.amqp_model.specs.End.FrameVerdict.{Facts, methods_put}
+use Rattle.amqp_model.specs.History.Histories.{Took, History}
+use Rattle.amqp_model.specs.Wire.Items.{Item}
+use Rattle.amqp_model.specs.End.LawfulHistories.{then_put, then_taken}
+use Rattle.amqp_model.specs.Wire.Methods.{Method}
+use Rattle.amqp_model.specs.History.Negotiation.{Config, frame_limit}
+use Rattle.amqp_model.specs.Wire.Notes.{Role, Client, Server}
+use Rattle.amqp_model.specs.Laws.OctetLaws as octets
+use Rattle.amqp_model.specs.Laws.OctetLaws.{EndpointStandsFor, HasFailed, Follows, TellsLast}
+use Rattle.amqp_model.specs.Stream.Octets.{FedAs, frames_taken, has_opened, in_frames, in_opening, opening_read}
+use Rattle.amqp_model.specs.End.ReadingBack.{WritesReadBack, GreetingReadsBack}
+use Rattle.amqp_model.specs.Wire.Readings.{reading}
+use Rattle.amqp_model.specs.Pair.Sent.{life_on, told}
+use Rattle.amqp_model.specs.Stream.Traces.{IsTaken, Noted, noted, PutsTellNothing, SaysMethod, TellsEvent, TracePuts, telling_at}
 use Rattle.amqp_core.specs.AccountView.{Came, IsAccount, item_in_outcome, puts_alone, came_of_frame}
 use Rattle.amqp_core.specs.FaultShown as shows
 use Rattle.amqp_core.specs.FaultShown.{ShowsFault}
@@ -35,7 +35,7 @@ use Rattle.amqp_core.specs.Noting.{lives_in, notes_owed, said_by_owed, told_by}
 use Rattle.amqp_core.specs.OwedView.{owed_view}
 use Rattle.amqp_core.specs.Settings.{config_view, role_for}
 use Rattle.amqp_core.specs.Tracing as tracing
-use Rattle.amqp_model.specs.Grown as grown
+use Rattle.amqp_model.specs.Stream.Grown as grown
 use Rattle.amqp_core.specs.Tracing.{Kept, IsTraceOf, Stands, OpensWith, TraceGrows}
 use Rattle.amqp_core.specs.declared.owed.Owed.{Owed}
 use Rattle.amqp_core.specs.declared.settings.Settings.{Settings}

@@ -1,10 +1,10 @@
 -- The greeting of settings and how long it is, by the hello that they have.
 use Rattle.std.proofs.Common.{◌≡◌, ℕ, refl}
 use Rattle.amqp_value.specs.Lengths.{capped}
-use Rattle.amqp_model.specs.Fitting.{greeting}
-use Rattle.amqp_model.specs.Methods.{Method}
-use Rattle.amqp_model.specs.Negotiation.{Config}
-use Rattle.amqp_model.specs.Notes.{Role}
+use Rattle.amqp_model.specs.End.Fitting.{greeting}
+use Rattle.amqp_model.specs.Wire.Methods.{Method}
+use Rattle.amqp_model.specs.History.Negotiation.{Config}
+use Rattle.amqp_model.specs.Wire.Notes.{Role}
 use Rattle.amqp_core.specs.HandshakeMethods.{IsStart, IsStartOk, IsStartLength, IsStartOkLength, greeting_length}
 use Rattle.amqp_core.specs.Settings.{role_for, config_view}
 use Rattle.amqp_core.specs.declared.settings.ClientHello.{ClientHello}

@@ -2,9 +2,9 @@
 use Rattle.std.proofs.Common.{◌≡◌, ℕ, ◌+◌, List, length, sym, subst, arith, length-append}
 use Rattle.amqp_value.specs.Plain.{plain_table}
 use Rattle.amqp_value.specs.Values.{Pairs}
-use Rattle.amqp_model.specs.Methods.{plain_method}
-use Rattle.amqp_model.specs.Negotiation.{Hello, OfClient, OfServer, Config}
-use Rattle.amqp_model.specs.Notes.{Role, Client, Server}
+use Rattle.amqp_model.specs.Wire.Methods.{plain_method}
+use Rattle.amqp_model.specs.History.Negotiation.{Hello, OfClient, OfServer, Config}
+use Rattle.amqp_model.specs.Wire.Notes.{Role, Client, Server}
 use Rattle.amqp_core.specs.HandshakeMethods.{greeting_length}
 
 -- a configuration of a hello: a greeting needs no more

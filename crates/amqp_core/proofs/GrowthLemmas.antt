@@ -7,20 +7,20 @@ use Rattle.amqp_frame.specs.Frame.{octets, frame_length}
 use Rattle.amqp_frame.specs.Splitting.{stream}
 use Rattle.amqp_frame.specs.declared.faults.FrameFaultKind.{FrameFaultKind}
 use Rattle.amqp_frame.specs.declared.faults.FrameFaultKind.TheVariants as kinds
-use Rattle.amqp_model.specs.Arrangement.{turn, last_after, placed}
-use Rattle.amqp_model.specs.Channels.{Agreed, End}
-use Rattle.amqp_model.specs.Closes as closes
-use Rattle.amqp_model.specs.Closes.{frame_of}
-use Rattle.amqp_model.specs.Endpoint.{greeting, owed_at_fault}
-use Rattle.amqp_model.specs.EndVerdict.{end_puts, end_verdict, facts_at}
-use Rattle.amqp_model.specs.Fitting.{ConfigWrites}
-use Rattle.amqp_model.specs.FittingLaws.{AllWithin, OwedAreShort, CloseIsShort}
-use Rattle.amqp_model.specs.Frame.{Frame}
-use Rattle.amqp_model.specs.FrameVerdict.{methods_put}
-use Rattle.amqp_model.specs.Negotiation.{Config, FRAME_MIN}
-use Rattle.amqp_model.specs.Notes.{Role, Client, Server}
-use Rattle.amqp_model.specs.Outputs.{Output, output_octets, after_put, after_puts}
-use Rattle.amqp_model.specs.Readings.{reading}
+use Rattle.amqp_model.specs.Output.Arrangement.{turn, last_after, placed}
+use Rattle.amqp_model.specs.End.Channels.{Agreed, End}
+use Rattle.amqp_model.specs.End.Closes as closes
+use Rattle.amqp_model.specs.End.Closes.{frame_of}
+use Rattle.amqp_model.specs.Stream.Endpoint.{greeting, owed_at_fault}
+use Rattle.amqp_model.specs.End.EndVerdict.{end_puts, end_verdict, facts_at}
+use Rattle.amqp_model.specs.End.Fitting.{ConfigWrites}
+use Rattle.amqp_model.specs.Laws.FittingLaws.{AllWithin, OwedAreShort, CloseIsShort}
+use Rattle.amqp_model.specs.Wire.Frame.{Frame}
+use Rattle.amqp_model.specs.End.FrameVerdict.{methods_put}
+use Rattle.amqp_model.specs.History.Negotiation.{Config, FRAME_MIN}
+use Rattle.amqp_model.specs.Wire.Notes.{Role, Client, Server}
+use Rattle.amqp_model.specs.Output.Outputs.{Output, output_octets, after_put, after_puts}
+use Rattle.amqp_model.specs.Wire.Readings.{reading}
 use Rattle.amqp_outbox.specs.OutboxView.{Outgoing, only}
 use Rattle.amqp_channel.specs.EventView.{agreed_view}
 use Rattle.amqp_channel.specs.declared.verdict.Reply.TheVariants as replies

@@ -1,18 +1,18 @@
 -- The steps of the handshake, one by one.
 use Rattle.std.proofs.Common.{◌≡◌, ◌<◌, ◌==◌, ◌&&◌, Bool, true, false, ℕ, [], ◌∷◌, Option, Some, None, refl, sym, arith}
 use Rattle.amqp_method.specs.declared.kinds.Kind.TheVariants as kinds
-use Rattle.amqp_model.specs.Channels as channels
-use Rattle.amqp_model.specs.Channels.{Channel, End, Phase, Handshake, Running, Closing, Closed, Failed, HandshakeStep, AwaitsProtocolHeader, AwaitsStart, AwaitsStartOk, AwaitsTune, AwaitsTuneOk, AwaitsOpen, AwaitsOpenOk, Agreed}
-use Rattle.amqp_model.specs.Closes.{FrameError, CommandInvalid, NotImplemented, connection_close_ok}
-use Rattle.amqp_model.specs.EndVerdict.{takes_frames}
-use Rattle.amqp_model.specs.Events.{Event, Fault, FrameVerdict, Proceeds, Faults, Fatal, Quiet, Negotiated}
-use Rattle.amqp_model.specs.FrameVerdict.{on_zero, fault, closed_by, is_awaited, verdict_on}
-use Rattle.amqp_model.specs.Methods.{Method, MethodKind, same_kind, number_at}
-use Rattle.amqp_model.specs.Negotiation.{Hello, OfClient, Config, smaller, agreed_in, tunes_too_small, connection_open_ok}
-use Rattle.amqp_model.specs.Notes.{Role, Client, Server, is_client}
-use Rattle.amqp_model.specs.StateFromHistory.{awaits_tune_ok}
-use Rattle.amqp_model.specs.Histories.{TookHere}
-use Rattle.amqp_model.specs.Readings.{Reading, Calls}
+use Rattle.amqp_model.specs.End.Channels as channels
+use Rattle.amqp_model.specs.End.Channels.{Channel, End, Phase, Handshake, Running, Closing, Closed, Failed, HandshakeStep, AwaitsProtocolHeader, AwaitsStart, AwaitsStartOk, AwaitsTune, AwaitsTuneOk, AwaitsOpen, AwaitsOpenOk, Agreed}
+use Rattle.amqp_model.specs.End.Closes.{FrameError, CommandInvalid, NotImplemented, connection_close_ok}
+use Rattle.amqp_model.specs.End.EndVerdict.{takes_frames}
+use Rattle.amqp_model.specs.End.Events.{Event, Fault, FrameVerdict, Proceeds, Faults, Fatal, Quiet, Negotiated}
+use Rattle.amqp_model.specs.End.FrameVerdict.{on_zero, fault, closed_by, is_awaited, verdict_on}
+use Rattle.amqp_model.specs.Wire.Methods.{Method, MethodKind, same_kind, number_at}
+use Rattle.amqp_model.specs.History.Negotiation.{Hello, OfClient, Config, smaller, agreed_in, tunes_too_small, connection_open_ok}
+use Rattle.amqp_model.specs.Wire.Notes.{Role, Client, Server, is_client}
+use Rattle.amqp_model.specs.End.StateFromHistory.{awaits_tune_ok}
+use Rattle.amqp_model.specs.History.Histories.{TookHere}
+use Rattle.amqp_model.specs.Wire.Readings.{Reading, Calls}
 use Rattle.amqp_channel.specs.Used.{is_closing_at}
 use Rattle.amqp_core.specs.ConnectionView.{EndLeft, frame_at}
 use Rattle.amqp_core.specs.Handshakes.{within, is_in_handshake, awaited_in, answers_at, answered_in}

@@ -4,18 +4,18 @@ use Rattle.std.proofs.Math.Seq.{take-length}
 use Rattle.std.proofs.lemmas.Bool.{true≢false, false≢true}
 use Rattle.std.proofs.lemmas.List.{append-nil, length-drop, length-take-le, take-append-drop}
 use Rattle.amqp_frame.specs.Stream.{Stream}
-use Rattle.amqp_model.specs.Channels.{Channel, End, Phase, Handshake, AwaitsStartOk, Running, Closing, Closed, Failed}
-use Rattle.amqp_model.specs.Closes.{frame_of}
-use Rattle.amqp_model.specs.Endpoint as model
-use Rattle.amqp_model.specs.Endpoint.{Differs, Feeding, after_feed, after_opening, awaits_opening, greeting, output_of}
-use Rattle.amqp_model.specs.EndVerdict.{takes_octets}
-use Rattle.amqp_model.specs.Events.{Event, Quiet}
-use Rattle.amqp_model.specs.Machine.{as_failed, end_after_owed}
-use Rattle.amqp_model.specs.Negotiation.{Config, PROTOCOL_HEADER, frame_limit}
-use Rattle.amqp_model.specs.Notes.{Role, Client, Server}
-use Rattle.amqp_model.specs.Octets.{opening_read}
-use Rattle.amqp_model.specs.Outputs.{Output, after_puts}
-use Rattle.amqp_model.specs.Pieces.{IsProperPrefixOf, HoldsUnfinished, FeedBeginsOpening, FeedEndsOpening, FeedHolds, FeedLeavesOpening, with_taken}
+use Rattle.amqp_model.specs.End.Channels.{Channel, End, Phase, Handshake, AwaitsStartOk, Running, Closing, Closed, Failed}
+use Rattle.amqp_model.specs.End.Closes.{frame_of}
+use Rattle.amqp_model.specs.Stream.Endpoint as model
+use Rattle.amqp_model.specs.Stream.Endpoint.{Differs, Feeding, after_feed, after_opening, awaits_opening, greeting, output_of}
+use Rattle.amqp_model.specs.End.EndVerdict.{takes_octets}
+use Rattle.amqp_model.specs.End.Events.{Event, Quiet}
+use Rattle.amqp_model.specs.End.Machine.{as_failed, end_after_owed}
+use Rattle.amqp_model.specs.History.Negotiation.{Config, PROTOCOL_HEADER, frame_limit}
+use Rattle.amqp_model.specs.Wire.Notes.{Role, Client, Server}
+use Rattle.amqp_model.specs.Stream.Octets.{opening_read}
+use Rattle.amqp_model.specs.Output.Outputs.{Output, after_puts}
+use Rattle.amqp_model.specs.Stream.Pieces.{IsProperPrefixOf, HoldsUnfinished, FeedBeginsOpening, FeedEndsOpening, FeedHolds, FeedLeavesOpening, with_taken}
 use Rattle.amqp_core.specs.Answering.{ran_out}
 use Rattle.amqp_core.specs.EndpointView.{FieldsFit, unfinished_of}
 use Rattle.amqp_core.specs.Feeding.{IsFed, Seen}

@@ -2,14 +2,14 @@
 use Rattle.std.proofs.Common.{◌≡◌, ◌<◌, ◌≤◌, ◌+◌, Bool, true, false, Option, Some, None, ℕ, List, [], ◌∷◌, length, refl, sym, ap, subst, arith}
 use Rattle.std.proofs.lemmas.Bool.{true≢false}
 use Rattle.amqp_frame.specs.Stream.{Stream}
-use Rattle.amqp_model.specs.Channels.{Agreed, End, Phase, Handshake, Running, Closing, Closed, Failed}
-use Rattle.amqp_model.specs.EndVerdict.{takes_octets}
-use Rattle.amqp_model.specs.Endpoint.{awaits_opening}
-use Rattle.amqp_model.specs.Fitting.{IfAgreedFits}
-use Rattle.amqp_model.specs.Negotiation.{frame_limit}
-use Rattle.amqp_model.specs.Notes.{Role, Client, Server}
-use Rattle.amqp_model.specs.Outputs.{Output}
-use Rattle.amqp_model.specs.Pieces.{AreBegun, HoldsUnfinished, reads_frames}
+use Rattle.amqp_model.specs.End.Channels.{Agreed, End, Phase, Handshake, Running, Closing, Closed, Failed}
+use Rattle.amqp_model.specs.End.EndVerdict.{takes_octets}
+use Rattle.amqp_model.specs.Stream.Endpoint.{awaits_opening}
+use Rattle.amqp_model.specs.End.Fitting.{IfAgreedFits}
+use Rattle.amqp_model.specs.History.Negotiation.{frame_limit}
+use Rattle.amqp_model.specs.Wire.Notes.{Role, Client, Server}
+use Rattle.amqp_model.specs.Output.Outputs.{Output}
+use Rattle.amqp_model.specs.Stream.Pieces.{AreBegun, HoldsUnfinished, reads_frames}
 use Rattle.amqp_core.specs.ConnectionView.{connection_end}
 use Rattle.amqp_core.specs.EndpointView.{FieldsFit, IsSound, role_at, unfinished_of}
 use Rattle.amqp_core.specs.Kept.{IsKept}

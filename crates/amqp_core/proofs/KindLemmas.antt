@@ -2,7 +2,7 @@
 use Rattle.std.proofs.Common.{◌≡◌, ◌==◌, ◌&&◌, Bool, true, false, refl}
 use Rattle.std.proofs.lemmas.Bool.{eqb-true}
 use Rattle.amqp_method.proofs.KindLemmas.{ids_distinct}
-use Rattle.amqp_model.specs.Methods.{MethodKind, class_of, id_of, same_kind}
+use Rattle.amqp_model.specs.Wire.Methods.{MethodKind, class_of, id_of, same_kind}
 
 both : (a b : Bool) → (a && b) ≡ true → (a ≡ true) × (b ≡ true)
 both true true h = (refl, refl)

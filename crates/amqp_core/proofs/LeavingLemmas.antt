@@ -1,14 +1,14 @@
 -- What an end that has put connection.close does with a method on channel 0.
 use Rattle.std.proofs.Common.{◌≡◌, ◌&&◌, Bool, true, false, ℕ, [], ◌∷◌, Option, Some, None, refl, ◌∙◌}
 use Rattle.amqp_method.specs.declared.kinds.Kind.TheVariants as kinds
-use Rattle.amqp_model.specs.Channels.{Channel, End, Phase, Handshake, Running, Closing, Closed, Failed, Agreed}
-use Rattle.amqp_model.specs.Closes.{connection_close_ok}
-use Rattle.amqp_model.specs.Events.{Proceeds, Quiet, ConnectionClosed, Discarded}
-use Rattle.amqp_model.specs.Machine.{taken_verdict}
-use Rattle.amqp_model.specs.Methods.{Method, same_kind}
-use Rattle.amqp_model.specs.Negotiation.{Config}
-use Rattle.amqp_model.specs.Notes.{Role, Client, Server}
-use Rattle.amqp_model.specs.Readings.{Calls}
+use Rattle.amqp_model.specs.End.Channels.{Channel, End, Phase, Handshake, Running, Closing, Closed, Failed, Agreed}
+use Rattle.amqp_model.specs.End.Closes.{connection_close_ok}
+use Rattle.amqp_model.specs.End.Events.{Proceeds, Quiet, ConnectionClosed, Discarded}
+use Rattle.amqp_model.specs.End.Machine.{taken_verdict}
+use Rattle.amqp_model.specs.Wire.Methods.{Method, same_kind}
+use Rattle.amqp_model.specs.History.Negotiation.{Config}
+use Rattle.amqp_model.specs.Wire.Notes.{Role, Client, Server}
+use Rattle.amqp_model.specs.Wire.Readings.{Calls}
 use Rattle.amqp_core.specs.ConnectionView.{EndLeft}
 use Rattle.amqp_core.specs.Stages.{leaves}
 use Rattle.amqp_core.proofs.ConnectionLemmas.{leaving_verdict}

@@ -1,9 +1,9 @@
 -- What is pushed onto the lists of a ledger, in the words of the model.
 use Rattle.std.proofs.Common.{◌≡◌, ◌<◌, ◌==◌, cond, Bool, true, false, ℕ, zero, suc, List, [], ◌∷◌, ◌++◌, map, replicate, Option, refl, ap, sym, ◌∙◌, arith}
 use Rattle.std.proofs.lemmas.List.{append_assoc, map-append}
-use Rattle.amqp_model.specs.Items.{Item}
-use Rattle.amqp_model.specs.Notes.{Role}
-use Rattle.amqp_model.specs.Traces.{IsPut, Noted, Other, telling_above, telling_at}
+use Rattle.amqp_model.specs.Wire.Items.{Item}
+use Rattle.amqp_model.specs.Wire.Notes.{Role}
+use Rattle.amqp_model.specs.Stream.Traces.{IsPut, Noted, Other, telling_above, telling_at}
 use Rattle.amqp_channel.specs.Roles.{role_of}
 use Rattle.amqp_channel.specs.declared.side.Side.{Side}
 use Rattle.amqp_core.specs.CountView.{lives_view}

@@ -1,14 +1,14 @@
 -- What is counted of the notes of a history is what the lives of its channels are.
 use Rattle.std.proofs.Common.{◌≡◌, ◌≤◌, ◌+◌, ◌==◌, cond, Bool, true, false, ℕ, suc, List, [], ◌∷◌, ◌++◌, length, refl, ap, ◌∙◌, arith}
 use Rattle.std.proofs.lemmas.Bool.Decides.{nat_tests}
-use Rattle.amqp_model.specs.Frame.{Frame}
-use Rattle.amqp_model.specs.Histories.{Put, Took, History, closes_connection}
-use Rattle.amqp_model.specs.Lives.{lives, waits}
-use Rattle.amqp_model.specs.EndLaws.{notes_on}
-use Rattle.amqp_model.specs.Notes.{Role, Kind, Note}
-use Rattle.amqp_model.specs.Readings.{reading, kind_of}
-use Rattle.amqp_model.specs.Sent.{life_on}
-use Rattle.amqp_model.specs.Traces.{Word, Other, IsPut, IsTaken, Noted, noted, trace, word_of}
+use Rattle.amqp_model.specs.Wire.Frame.{Frame}
+use Rattle.amqp_model.specs.History.Histories.{Put, Took, History, closes_connection}
+use Rattle.amqp_model.specs.History.Lives.{lives, waits}
+use Rattle.amqp_model.specs.Laws.EndLaws.{notes_on}
+use Rattle.amqp_model.specs.Wire.Notes.{Role, Kind, Note}
+use Rattle.amqp_model.specs.Wire.Readings.{reading, kind_of}
+use Rattle.amqp_model.specs.Pair.Sent.{life_on}
+use Rattle.amqp_model.specs.Stream.Traces.{Word, Other, IsPut, IsTaken, Noted, noted, trace, word_of}
 use Rattle.amqp_core.specs.LifeCounts.{LifeCount, nothing_counted, begins_life, after_word, counted_with, counted_from, counted}
 
 -- what the notes of a channel count to, the newest first

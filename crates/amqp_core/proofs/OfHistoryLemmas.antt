@@ -1,20 +1,20 @@
 -- What a verdict rests on is what the history counts.
 use Rattle.std.proofs.Common.{◌≡◌, false, ℕ, zero, suc, map, refl, sym, ap}
-use Rattle.amqp_model.specs.Channels.{End}
-use Rattle.amqp_model.specs.Closes.{frame_of}
-use Rattle.amqp_model.specs.Endpoint.{fault_told}
-use Rattle.amqp_model.specs.EndLaws.{ReadsChannel}
-use Rattle.amqp_model.specs.EndVerdict.{end_puts, facts_at}
-use Rattle.amqp_model.specs.Events.{Faults}
-use Rattle.amqp_model.specs.FrameVerdict.{Facts, event_told, methods_put, verdict_on}
-use Rattle.amqp_model.specs.Frame.{Frame}
-use Rattle.amqp_model.specs.Histories.{History, entries_on}
-use Rattle.amqp_model.specs.LawfulHistories.{end_of}
-use Rattle.amqp_model.specs.Machine.{StandsFor}
-use Rattle.amqp_model.specs.Negotiation.{Config}
-use Rattle.amqp_model.specs.Notes.{Role}
-use Rattle.amqp_model.specs.Readings.{reading}
-use Rattle.amqp_model.specs.StateFromHistory.{channel_at}
+use Rattle.amqp_model.specs.End.Channels.{End}
+use Rattle.amqp_model.specs.End.Closes.{frame_of}
+use Rattle.amqp_model.specs.Stream.Endpoint.{fault_told}
+use Rattle.amqp_model.specs.Laws.EndLaws.{ReadsChannel}
+use Rattle.amqp_model.specs.End.EndVerdict.{end_puts, facts_at}
+use Rattle.amqp_model.specs.End.Events.{Faults}
+use Rattle.amqp_model.specs.End.FrameVerdict.{Facts, event_told, methods_put, verdict_on}
+use Rattle.amqp_model.specs.Wire.Frame.{Frame}
+use Rattle.amqp_model.specs.History.Histories.{History, entries_on}
+use Rattle.amqp_model.specs.End.LawfulHistories.{end_of}
+use Rattle.amqp_model.specs.End.Machine.{StandsFor}
+use Rattle.amqp_model.specs.History.Negotiation.{Config}
+use Rattle.amqp_model.specs.Wire.Notes.{Role}
+use Rattle.amqp_model.specs.Wire.Readings.{reading}
+use Rattle.amqp_model.specs.End.StateFromHistory.{channel_at}
 use Rattle.amqp_core.specs.OfHistory.{VerdictsAreOf}
 
 -- the record of each channel is what the channel's entries count to

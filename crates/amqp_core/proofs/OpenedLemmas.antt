@@ -2,17 +2,17 @@
 use Rattle.std.proofs.Common.{◌≡◌, Bool, true, false, cond, ℕ, zero, suc, List, [], ◌∷◌, refl}
 use Rattle.std.proofs.lemmas.Bool.{false≢true}
 use Rattle.amqp_method.specs.declared.kinds.Kind.TheVariants as kinds
-use Rattle.amqp_model.specs.Channels.{End, Phase, Handshake, Running, Closing, Closed, Failed, HandshakeStep, AwaitsProtocolHeader, AwaitsStart, AwaitsStartOk, AwaitsTune, AwaitsTuneOk, AwaitsOpen, AwaitsOpenOk}
-use Rattle.amqp_model.specs.Closes.{Owed, frame_of}
-use Rattle.amqp_model.specs.EndVerdict.{facts_at, takes_octets}
-use Rattle.amqp_model.specs.Events.{FrameVerdict, Proceeds, RefusesContent, Faults}
-use Rattle.amqp_model.specs.Frame.{Frame}
-use Rattle.amqp_model.specs.FrameVerdict.{methods_put}
-use Rattle.amqp_model.specs.Histories.{PutHere, TookHere}
-use Rattle.amqp_model.specs.Machine.{after_start, after_start_ok, after_start_put, end_after, end_after_owed, end_after_put, end_after_taken, failed_by, phase_put, phase_taken, step_put, step_taken, taken_verdict, taken_ends_handshake, put_ends_handshake}
-use Rattle.amqp_model.specs.Negotiation.{Config}
-use Rattle.amqp_model.specs.Notes.{Role, Client, Server}
-use Rattle.amqp_model.specs.Readings.{Reading, Calls, is_call, reading as reading_of}
+use Rattle.amqp_model.specs.End.Channels.{End, Phase, Handshake, Running, Closing, Closed, Failed, HandshakeStep, AwaitsProtocolHeader, AwaitsStart, AwaitsStartOk, AwaitsTune, AwaitsTuneOk, AwaitsOpen, AwaitsOpenOk}
+use Rattle.amqp_model.specs.End.Closes.{Owed, frame_of}
+use Rattle.amqp_model.specs.End.EndVerdict.{facts_at, takes_octets}
+use Rattle.amqp_model.specs.End.Events.{FrameVerdict, Proceeds, RefusesContent, Faults}
+use Rattle.amqp_model.specs.Wire.Frame.{Frame}
+use Rattle.amqp_model.specs.End.FrameVerdict.{methods_put}
+use Rattle.amqp_model.specs.History.Histories.{PutHere, TookHere}
+use Rattle.amqp_model.specs.End.Machine.{after_start, after_start_ok, after_start_put, end_after, end_after_owed, end_after_put, end_after_taken, failed_by, phase_put, phase_taken, step_put, step_taken, taken_verdict, taken_ends_handshake, put_ends_handshake}
+use Rattle.amqp_model.specs.History.Negotiation.{Config}
+use Rattle.amqp_model.specs.Wire.Notes.{Role, Client, Server}
+use Rattle.amqp_model.specs.Wire.Readings.{Reading, Calls, is_call, reading as reading_of}
 use Rattle.amqp_core.specs.EndpointView.{is_opened}
 
 either : (b : Bool) (one other : Phase) → is_opened one ≡ true → is_opened other ≡ true → is_opened (cond b one other) ≡ true

@@ -3,11 +3,11 @@ use Rattle.std.proofs.Common.{◌≡◌, ◌≢◌, ◌<◌, ◌≤◌, ◌+◌,
 use Rattle.std.proofs.Math.Seq.{take-add}
 use Rattle.std.proofs.lemmas.List.{length-drop, get_or-drop, take_all}
 use Rattle.std.proofs.lemmas.Bool.{false≢true}
-use Rattle.amqp_model.specs.Channels.{Channel, Phase, Handshake, Running, Closing, Closed, Failed, AwaitsProtocolHeader, AwaitsStart, AwaitsStartOk, AwaitsTune, AwaitsTuneOk, AwaitsOpen, AwaitsOpenOk, Agreed}
-use Rattle.amqp_model.specs.Endpoint.{awaits_opening, greeting}
-use Rattle.amqp_model.specs.Machine.{end_after_owed}
-use Rattle.amqp_model.specs.Negotiation.{Config, Hello, OfServer, PROTOCOL_HEADER}
-use Rattle.amqp_model.specs.Notes.{Role, Client, Server}
+use Rattle.amqp_model.specs.End.Channels.{Channel, Phase, Handshake, Running, Closing, Closed, Failed, AwaitsProtocolHeader, AwaitsStart, AwaitsStartOk, AwaitsTune, AwaitsTuneOk, AwaitsOpen, AwaitsOpenOk, Agreed}
+use Rattle.amqp_model.specs.Stream.Endpoint.{awaits_opening, greeting}
+use Rattle.amqp_model.specs.End.Machine.{end_after_owed}
+use Rattle.amqp_model.specs.History.Negotiation.{Config, Hello, OfServer, PROTOCOL_HEADER}
+use Rattle.amqp_model.specs.Wire.Notes.{Role, Client, Server}
 use Rattle.amqp_core.specs.Stages.{phase_at, agreed_at}
 use Rattle.amqp_core.specs.declared.stage.Stage.{Stage}
 use Rattle.amqp_core.specs.declared.stage.Stage.TheVariants as code

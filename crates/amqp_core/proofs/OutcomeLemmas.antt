@@ -2,16 +2,16 @@
 use Rattle.std.proofs.Common.{◌≡◌, ◌==◌, Bool, true, false, ℕ, zero, suc, List, Option, refl, ap, sym, ◌∙◌, subst, arith}
 use Rattle.std.proofs.lemmas.Bool.Decides.{nat_tests}
 use Rattle.amqp_frame.specs.declared.frames.FrameKind.{FrameKind}
-use Rattle.amqp_model.specs.Channels.{Channel, End, Phase, Handshake, Running, Closing, Closed, Failed, Agreed}
-use Rattle.amqp_model.specs.EndVerdict.{facts_at}
-use Rattle.amqp_model.specs.Endpoint.{outcome_of}
-use Rattle.amqp_model.specs.Events.{Fault, Peer, Fatal, WrongProtocolHeader, AlreadyClosed, AlreadyFailed, FrameVerdict, Proceeds, RefusesContent, Faults}
-use Rattle.amqp_model.specs.FrameVerdict.{methods_put}
-use Rattle.amqp_model.specs.Histories.{ChannelEntry, TookHere}
-use Rattle.amqp_model.specs.Machine.{end_after, end_after_owed, end_after_taken, taken_verdict, failed_by}
-use Rattle.amqp_model.specs.Negotiation.{Config}
-use Rattle.amqp_model.specs.Notes.{Role, Client, Server}
-use Rattle.amqp_model.specs.Readings.{Reading}
+use Rattle.amqp_model.specs.End.Channels.{Channel, End, Phase, Handshake, Running, Closing, Closed, Failed, Agreed}
+use Rattle.amqp_model.specs.End.EndVerdict.{facts_at}
+use Rattle.amqp_model.specs.Stream.Endpoint.{outcome_of}
+use Rattle.amqp_model.specs.End.Events.{Fault, Peer, Fatal, WrongProtocolHeader, AlreadyClosed, AlreadyFailed, FrameVerdict, Proceeds, RefusesContent, Faults}
+use Rattle.amqp_model.specs.End.FrameVerdict.{methods_put}
+use Rattle.amqp_model.specs.History.Histories.{ChannelEntry, TookHere}
+use Rattle.amqp_model.specs.End.Machine.{end_after, end_after_owed, end_after_taken, taken_verdict, failed_by}
+use Rattle.amqp_model.specs.History.Negotiation.{Config}
+use Rattle.amqp_model.specs.Wire.Notes.{Role, Client, Server}
+use Rattle.amqp_model.specs.Wire.Readings.{Reading}
 use Rattle.amqp_core.specs.ConnectionView.{EndLeft, frame_at}
 use Rattle.amqp_core.specs.Outcomes.{owed_for, owed_by, told_by, ended_by, SameEnd}
 use Rattle.amqp_core.specs.Stages.{leaves}

@@ -1,17 +1,17 @@
 -- The order of an output, and what a write makes of the histories that an end stands for.
 use Rattle.std.proofs.Common.{◌≡◌, ◌≤◌, inl, Bool, true, false, ℕ, List, ◌++◌, length, take, refl, sym, subst}
 use Rattle.std.proofs.Math.Logic.{∥∥₁_map}
-use Rattle.amqp_model.specs.ArrangementLaws.{OutputAfterWrite, OutputFollowsRules, WriteLeaves}
-use Rattle.amqp_model.specs.Endpoint.{Endpoint, after_wrote}
-use Rattle.amqp_model.specs.Fitting.{ConfigWrites}
-use Rattle.amqp_model.specs.FittingLaws.{AllReadsBack}
-use Rattle.amqp_model.specs.Histories.{History}
-use Rattle.amqp_model.specs.LeavingLaws.{ClosesArePutLast, OctetsArePutAs}
-use Rattle.amqp_model.specs.Negotiation.{Config}
-use Rattle.amqp_model.specs.Notes.{Role}
-use Rattle.amqp_model.specs.OctetLaws.{EndpointStandsFor, FailedWrites, HasFailed, WroteFollows}
-use Rattle.amqp_model.specs.Octets.{frames_put, opening_written}
-use Rattle.amqp_model.specs.Outputs.{Output, after_writing, output_octets}
+use Rattle.amqp_model.specs.Laws.ArrangementLaws.{OutputAfterWrite, OutputFollowsRules, WriteLeaves}
+use Rattle.amqp_model.specs.Stream.Endpoint.{Endpoint, after_wrote}
+use Rattle.amqp_model.specs.End.Fitting.{ConfigWrites}
+use Rattle.amqp_model.specs.Laws.FittingLaws.{AllReadsBack}
+use Rattle.amqp_model.specs.History.Histories.{History}
+use Rattle.amqp_model.specs.Laws.LeavingLaws.{ClosesArePutLast, OctetsArePutAs}
+use Rattle.amqp_model.specs.History.Negotiation.{Config}
+use Rattle.amqp_model.specs.Wire.Notes.{Role}
+use Rattle.amqp_model.specs.Laws.OctetLaws.{EndpointStandsFor, FailedWrites, HasFailed, WroteFollows}
+use Rattle.amqp_model.specs.Stream.Octets.{frames_put, opening_written}
+use Rattle.amqp_model.specs.Output.Outputs.{Output, after_writing, output_octets}
 use Rattle.amqp_core.specs.Following.{KeepsHistory}
 use Rattle.amqp_core.specs.OutputOrder.{OutputInOrder, WroteGoesOn}
 use Rattle.amqp_core.specs.Tracing as tracing

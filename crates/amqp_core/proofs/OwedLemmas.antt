@@ -1,14 +1,14 @@
 -- What an end owes in the handshake, by the hello of its settings.
 use Rattle.std.proofs.Common.{◌≡◌, List, [], ◌∷◌, ◌++◌, map, refl, sym, ap, ◌∙◌, append_assoc}
 use Rattle.amqp_frame.specs.Frame.{Frame}
-use Rattle.amqp_model.specs.Channels.{Agreed}
-use Rattle.amqp_model.specs.Closes as closes
-use Rattle.amqp_model.specs.Closes.{frame_of}
-use Rattle.amqp_model.specs.Fitting.{greeting}
-use Rattle.amqp_model.specs.FrameVerdict.{on_zero}
-use Rattle.amqp_model.specs.Methods.{Method}
-use Rattle.amqp_model.specs.Negotiation.{Config, tune_ok}
-use Rattle.amqp_model.specs.Notes.{Role}
+use Rattle.amqp_model.specs.End.Channels.{Agreed}
+use Rattle.amqp_model.specs.End.Closes as closes
+use Rattle.amqp_model.specs.End.Closes.{frame_of}
+use Rattle.amqp_model.specs.End.Fitting.{greeting}
+use Rattle.amqp_model.specs.End.FrameVerdict.{on_zero}
+use Rattle.amqp_model.specs.Wire.Methods.{Method}
+use Rattle.amqp_model.specs.History.Negotiation.{Config, tune_ok}
+use Rattle.amqp_model.specs.Wire.Notes.{Role}
 use Rattle.amqp_outbox.specs.OutboxView.{Outgoing, with_staged}
 use Rattle.amqp_core.specs.HandshakeMethods.{IsOpen, IsTune}
 use Rattle.amqp_core.specs.OwedView.{starts, answers_start, tunes, answers_tune}

@@ -4,11 +4,11 @@ use Rattle.std.proofs.Math.Nat.{add-div_right, div-eq_of_lt}
 use Rattle.std.proofs.lemmas.Bool.Decides.{nat_tests}
 use Rattle.std.proofs.lemmas.List.{take_min}
 use Rattle.amqp_method.specs.Properties.{header}
-use Rattle.amqp_model.specs.Asks.{payload_frame, message_payloads}
-use Rattle.amqp_model.specs.Closes.{method_frame}
-use Rattle.amqp_model.specs.Contents.{Body, first_pieces, pieces, room_in}
-use Rattle.amqp_model.specs.Frame.{Frame}
-use Rattle.amqp_model.specs.Methods.{Method, Properties}
+use Rattle.amqp_model.specs.End.Asks.{payload_frame, message_payloads}
+use Rattle.amqp_model.specs.End.Closes.{method_frame}
+use Rattle.amqp_model.specs.Wire.Contents.{Body, first_pieces, pieces, room_in}
+use Rattle.amqp_model.specs.Wire.Frame.{Frame}
+use Rattle.amqp_model.specs.Wire.Methods.{Method, Properties}
 use Rattle.amqp_outbox.specs.OutboxFrames.{header_frame, body_frame}
 use Rattle.amqp_outbox.specs.OutboxView.{Outgoing, with_staged}
 use Rattle.amqp_channel.specs.Messages.{message_by}

@@ -1,14 +1,14 @@
 -- What is put on a channel is what the end puts: payload by payload.
 use Rattle.std.proofs.Common.{◌≡◌, ◌<◌, ℕ, List, [], ◌∷◌, map, refl, ap, ◌∙◌}
-use Rattle.amqp_model.specs.Asks.{payload_frame}
-use Rattle.amqp_model.specs.Channels.{Channel}
-use Rattle.amqp_model.specs.Contents as contents
-use Rattle.amqp_model.specs.Contents.{Payload, Unread}
-use Rattle.amqp_model.specs.Histories.{PutHere}
-use Rattle.amqp_model.specs.Machine.{set_channel, channel_after, end_after, end_after_put}
-use Rattle.amqp_model.specs.Methods.{Method, Properties}
-use Rattle.amqp_model.specs.Negotiation.{Config}
-use Rattle.amqp_model.specs.Readings.{Reading, Calls, UnknownMethod, MalformedMethod, HeaderOf, MalformedHeader, BodyOf, Beat, payload_of, reading as reading_of}
+use Rattle.amqp_model.specs.End.Asks.{payload_frame}
+use Rattle.amqp_model.specs.End.Channels.{Channel}
+use Rattle.amqp_model.specs.Wire.Contents as contents
+use Rattle.amqp_model.specs.Wire.Contents.{Payload, Unread}
+use Rattle.amqp_model.specs.History.Histories.{PutHere}
+use Rattle.amqp_model.specs.End.Machine.{set_channel, channel_after, end_after, end_after_put}
+use Rattle.amqp_model.specs.Wire.Methods.{Method, Properties}
+use Rattle.amqp_model.specs.History.Negotiation.{Config}
+use Rattle.amqp_model.specs.Wire.Readings.{Reading, Calls, UnknownMethod, MalformedMethod, HeaderOf, MalformedHeader, BodyOf, Beat, payload_of, reading as reading_of}
 use Rattle.amqp_channel.specs.Puts.{reading_as, after_payloads}
 use Rattle.amqp_channel.specs.Roles.{role_of}
 use Rattle.amqp_channel.specs.declared.site.Site.{Site}

@@ -8,33 +8,33 @@ use Rattle.amqp_method.specs.Kinds.{kind_with}
 use Rattle.amqp_method.specs.Methods.{row}
 use Rattle.amqp_method.specs.declared.kinds.Kind.TheVariants as kinds
 use Rattle.amqp_method.proofs.KindLemmas.{kind_with-own}
-use Rattle.amqp_model.specs.Answers as answers
-use Rattle.amqp_model.specs.Answers.{channel_state, first_of}
-use Rattle.amqp_model.specs.AnswersInWords.{GatheredIsUnderWay, NoneIsGathered, StateIsOfNotes, taken_on}
-use Rattle.amqp_model.specs.Asks.{channel_max}
-use Rattle.amqp_model.specs.Channels as channels
-use Rattle.amqp_model.specs.Channels.{Agreed, Channel, End, Free, Opening, Closing, Life, Handshake, HandshakeStep, Running, Closed, state_of}
-use Rattle.amqp_model.specs.Contents.{Payload, UnderWay, body_octets}
-use Rattle.amqp_model.specs.EndLaws.{AnswersOfHistory, ReadsChannel, ReadsState, notes_on}
-use Rattle.amqp_model.specs.EndVerdict.{takes_octets}
-use Rattle.amqp_model.specs.Endpoint.{Endpoint}
-use Rattle.amqp_model.specs.Fitting.{ConfigWrites}
-use Rattle.amqp_model.specs.FittingLaws.{AllReadsBack}
-use Rattle.amqp_model.specs.Gathering.{Nothing, Gathers}
-use Rattle.amqp_model.specs.Histories.{History, entries_on}
-use Rattle.amqp_model.specs.InTurn.{DueIsFirst, life_here, unanswered_at}
-use Rattle.amqp_model.specs.LawfulHistories.{Lawful}
-use Rattle.amqp_model.specs.Lives as lives
-use Rattle.amqp_model.specs.Machine.{StandsFor}
-use Rattle.amqp_model.specs.Methods.{MethodKind}
-use Rattle.amqp_model.specs.Negotiation.{Config, frame_limit}
-use Rattle.amqp_model.specs.Notes.{Role}
-use Rattle.amqp_model.specs.OctetLaws.{EndpointStandsFor}
-use Rattle.amqp_model.specs.Octets.{FedAs}
-use Rattle.amqp_model.specs.ReadingBack.{WritesReadBack}
-use Rattle.amqp_model.specs.StateFromHistory.{has_put, is_closed, is_negotiated, step_from}
-use Rattle.amqp_model.specs.States as states
-use Rattle.amqp_model.specs.States.{State}
+use Rattle.amqp_model.specs.End.Answers as answers
+use Rattle.amqp_model.specs.End.Answers.{channel_state, first_of}
+use Rattle.amqp_model.specs.Laws.AnswersInWords.{GatheredIsUnderWay, NoneIsGathered, StateIsOfNotes, taken_on}
+use Rattle.amqp_model.specs.End.Asks.{channel_max}
+use Rattle.amqp_model.specs.End.Channels as channels
+use Rattle.amqp_model.specs.End.Channels.{Agreed, Channel, End, Free, Opening, Closing, Life, Handshake, HandshakeStep, Running, Closed, state_of}
+use Rattle.amqp_model.specs.Wire.Contents.{Payload, UnderWay, body_octets}
+use Rattle.amqp_model.specs.Laws.EndLaws.{AnswersOfHistory, ReadsChannel, ReadsState, notes_on}
+use Rattle.amqp_model.specs.End.EndVerdict.{takes_octets}
+use Rattle.amqp_model.specs.Stream.Endpoint.{Endpoint}
+use Rattle.amqp_model.specs.End.Fitting.{ConfigWrites}
+use Rattle.amqp_model.specs.Laws.FittingLaws.{AllReadsBack}
+use Rattle.amqp_model.specs.Wire.Gathering.{Nothing, Gathers}
+use Rattle.amqp_model.specs.History.Histories.{History, entries_on}
+use Rattle.amqp_model.specs.Pair.InTurn.{DueIsFirst, life_here, unanswered_at}
+use Rattle.amqp_model.specs.End.LawfulHistories.{Lawful}
+use Rattle.amqp_model.specs.History.Lives as lives
+use Rattle.amqp_model.specs.End.Machine.{StandsFor}
+use Rattle.amqp_model.specs.Wire.Methods.{MethodKind}
+use Rattle.amqp_model.specs.History.Negotiation.{Config, frame_limit}
+use Rattle.amqp_model.specs.Wire.Notes.{Role}
+use Rattle.amqp_model.specs.Laws.OctetLaws.{EndpointStandsFor}
+use Rattle.amqp_model.specs.Stream.Octets.{FedAs}
+use Rattle.amqp_model.specs.End.ReadingBack.{WritesReadBack}
+use Rattle.amqp_model.specs.End.StateFromHistory.{has_put, is_closed, is_negotiated, step_from}
+use Rattle.amqp_model.specs.History.States as states
+use Rattle.amqp_model.specs.History.States.{State}
 use Rattle.amqp_core.specs.Counted.{AgreedIs, DueIs, GatheredIs, IsOpenBy, PendingIs, PhaseIs, StateIs, agreed_counted, is_failed, phase_counted}
 use Rattle.amqp_core.specs.Stages.{phase_name}
 use Rattle.amqp_core.specs.Tracing as tracing

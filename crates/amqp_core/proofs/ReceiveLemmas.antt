@@ -2,17 +2,17 @@
 use Rattle.std.proofs.Common.{◌≡◌, ◌⊎◌, inl, inr, Bool, true, ℕ, List, [], ◌∷◌, map, Option, Some, None, Result, Ok, Err, OnOk, refl, ap, sym, ◌∙◌, subst}
 use Rattle.amqp_frame.specs.declared.frames.FrameKind.{FrameKind}
 use Rattle.amqp_frame.specs.declared.frames.FrameKind.TheVariants as kinds
-use Rattle.amqp_model.specs.Channels.{Channel, End, Phase}
-use Rattle.amqp_model.specs.Closes.{frame_of, reply_to}
-use Rattle.amqp_model.specs.EndVerdict.{end_puts, end_verdict, facts_at}
-use Rattle.amqp_model.specs.Endpoint.{outcome_of}
-use Rattle.amqp_model.specs.Events as events
-use Rattle.amqp_model.specs.Events.{FrameVerdict}
-use Rattle.amqp_model.specs.FrameVerdict.{methods_put, on_channel}
-use Rattle.amqp_model.specs.Machine.{end_after_taken, set_channel, taken_verdict}
-use Rattle.amqp_model.specs.Methods.{Header, header_at}
-use Rattle.amqp_model.specs.Outputs.{after_puts, Output}
-use Rattle.amqp_model.specs.Readings.{Reading, Calls, header_reading, reading as says}
+use Rattle.amqp_model.specs.End.Channels.{Channel, End, Phase}
+use Rattle.amqp_model.specs.End.Closes.{frame_of, reply_to}
+use Rattle.amqp_model.specs.End.EndVerdict.{end_puts, end_verdict, facts_at}
+use Rattle.amqp_model.specs.Stream.Endpoint.{outcome_of}
+use Rattle.amqp_model.specs.End.Events as events
+use Rattle.amqp_model.specs.End.Events.{FrameVerdict}
+use Rattle.amqp_model.specs.End.FrameVerdict.{methods_put, on_channel}
+use Rattle.amqp_model.specs.End.Machine.{end_after_taken, set_channel, taken_verdict}
+use Rattle.amqp_model.specs.Wire.Methods.{Header, header_at}
+use Rattle.amqp_model.specs.Output.Outputs.{after_puts, Output}
+use Rattle.amqp_model.specs.Wire.Readings.{Reading, Calls, header_reading, reading as says}
 use Rattle.amqp_outbox.specs.OutboxView.{Outgoing, only}
 use Rattle.amqp_channel.specs.Used.{is_closing_at}
 use Rattle.amqp_channel.specs.VerdictView.{reply_there}

@@ -2,13 +2,13 @@
 use Rattle.std.proofs.Common.{◌≡◌, ◌<◌, ◌≤◌, ◌+◌, ◌==◌, ◌&&◌, ◌||◌, Bool, true, false, not, nat_lt, ℕ, List, [], ◌∷◌, length, Option, Some, None, refl, ap, ◌∙◌, arith}
 use Rattle.std.proofs.lemmas.Bool.Decides.{nat_tests}
 use Rattle.amqp_method.specs.declared.kinds.Kind.TheVariants as kinds
-use Rattle.amqp_model.specs.Asks.{Refusal, Paused, NotSendable, TooLarge, Send, when, first_refusal, refusal, channel_max, is_sendable, is_pausable}
-use Rattle.amqp_model.specs.Channels.{Channel, Life, Open, Agreed, End, Running}
-use Rattle.amqp_model.specs.Events.{Message, Plain, Whole, method_of}
-use Rattle.amqp_model.specs.Methods.{MethodKind, Method, Properties, bit_at, sends, plain_method, plain_header}
-use Rattle.amqp_model.specs.Notes.{Role, Client, Server, is_client}
-use Rattle.amqp_model.specs.Readings.{Calls, kind_of, kind_of_method}
-use Rattle.amqp_model.specs.ReadingBack.{header_of}
+use Rattle.amqp_model.specs.End.Asks.{Refusal, Paused, NotSendable, TooLarge, Send, when, first_refusal, refusal, channel_max, is_sendable, is_pausable}
+use Rattle.amqp_model.specs.End.Channels.{Channel, Life, Open, Agreed, End, Running}
+use Rattle.amqp_model.specs.End.Events.{Message, Plain, Whole, method_of}
+use Rattle.amqp_model.specs.Wire.Methods.{MethodKind, Method, Properties, bit_at, sends, plain_method, plain_header}
+use Rattle.amqp_model.specs.Wire.Notes.{Role, Client, Server, is_client}
+use Rattle.amqp_model.specs.Wire.Readings.{Calls, kind_of, kind_of_method}
+use Rattle.amqp_model.specs.End.ReadingBack.{header_of}
 use Rattle.amqp_channel.specs.LifeView.{IsOther}
 use Rattle.amqp_channel.specs.Messages.{message_by}
 use Rattle.amqp_core.specs.Refusals.{IsOpenIn, passes, is_too_large, by_pause, by_kind, by_size, reply_refusal, refusal_in}

@@ -1,10 +1,10 @@
 -- The configuration that settings say, by the hello that they have.
 use Rattle.std.proofs.Common.{◌≡◌, sym, ap, subst}
 use Rattle.amqp_method.specs.Fitting.{FitsShort}
-use Rattle.amqp_model.specs.Fitting.{HostFits}
-use Rattle.amqp_model.specs.Negotiation as model
-use Rattle.amqp_model.specs.Negotiation.{Config}
-use Rattle.amqp_model.specs.Notes.{Role}
+use Rattle.amqp_model.specs.End.Fitting.{HostFits}
+use Rattle.amqp_model.specs.History.Negotiation as model
+use Rattle.amqp_model.specs.History.Negotiation.{Config}
+use Rattle.amqp_model.specs.Wire.Notes.{Role}
 use Rattle.amqp_core.specs.Configs.{said_in, set_up_as}
 use Rattle.amqp_core.specs.Settings.{role_in, hello_view, role_for, config_view}
 use Rattle.amqp_core.specs.declared.settings.ClientHello.{ClientHello}

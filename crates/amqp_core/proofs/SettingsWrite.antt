@@ -7,10 +7,10 @@ use Rattle.amqp_method.specs.Encoding.{EncodesMethod}
 use Rattle.amqp_method.specs.Fitting.{AreOctets}
 use Rattle.amqp_method.specs.Laws.{MethodIsRead}
 use Rattle.amqp_method.specs.Plain as plain
-use Rattle.amqp_model.specs.Fitting.{FrameMax, ChannelMax, HelloTooLong, ConfigWrites, FRAME_MOST, HostFits, config_fault, greeting}
-use Rattle.amqp_model.specs.Methods.{Method, ReadsBack, method_at, method_read, plain_method}
-use Rattle.amqp_model.specs.Negotiation.{Config, FRAME_MIN}
-use Rattle.amqp_model.specs.Notes.{Role}
+use Rattle.amqp_model.specs.End.Fitting.{FrameMax, ChannelMax, HelloTooLong, ConfigWrites, FRAME_MOST, HostFits, config_fault, greeting}
+use Rattle.amqp_model.specs.Wire.Methods.{Method, ReadsBack, method_at, method_read, plain_method}
+use Rattle.amqp_model.specs.History.Negotiation.{Config, FRAME_MIN}
+use Rattle.amqp_model.specs.Wire.Notes.{Role}
 use Rattle.amqp_core.specs.HandshakeMethods.{greeting_length}
 
 -- numbers below 256 are octets

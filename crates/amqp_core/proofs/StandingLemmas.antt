@@ -1,19 +1,19 @@
 -- What becomes of the standing of an end that is kept with its history: of its octets, as it writes, and out of memory.
 use Rattle.std.proofs.Common.{◌≡◌, ◌≤◌, true, ℕ, List, ◌++◌, length, take, refl, ap, sym, ◌∙◌, subst}
 use Rattle.std.proofs.lemmas.Bool.{false≢true}
-use Rattle.amqp_model.specs.Channels.{End, Phase, Failed}
-use Rattle.amqp_model.specs.Departures.{IsOutputOf}
-use Rattle.amqp_model.specs.EndLaws.{FailedIsRead}
-use Rattle.amqp_model.specs.Endpoint.{Endpoint, after_wrote}
-use Rattle.amqp_model.specs.EndVerdict.{takes_octets}
-use Rattle.amqp_model.specs.Histories.{History}
-use Rattle.amqp_model.specs.Machine.{as_failed}
-use Rattle.amqp_model.specs.Negotiation.{Config, frame_limit}
-use Rattle.amqp_model.specs.Notes.{Role}
-use Rattle.amqp_model.specs.OctetLaws.{EndpointStandsFor, HasFailed, WroteFollows, FailedWrites}
-use Rattle.amqp_model.specs.Octets.{FedAs, frames_put, opening_written}
-use Rattle.amqp_model.specs.Outputs.{Output, output_octets}
-use Rattle.amqp_model.specs.RunningOut.{RanOut, RunsOut, RanOutWrites, out_of_memory}
+use Rattle.amqp_model.specs.End.Channels.{End, Phase, Failed}
+use Rattle.amqp_model.specs.Output.Departures.{IsOutputOf}
+use Rattle.amqp_model.specs.Laws.EndLaws.{FailedIsRead}
+use Rattle.amqp_model.specs.Stream.Endpoint.{Endpoint, after_wrote}
+use Rattle.amqp_model.specs.End.EndVerdict.{takes_octets}
+use Rattle.amqp_model.specs.History.Histories.{History}
+use Rattle.amqp_model.specs.End.Machine.{as_failed}
+use Rattle.amqp_model.specs.History.Negotiation.{Config, frame_limit}
+use Rattle.amqp_model.specs.Wire.Notes.{Role}
+use Rattle.amqp_model.specs.Laws.OctetLaws.{EndpointStandsFor, HasFailed, WroteFollows, FailedWrites}
+use Rattle.amqp_model.specs.Stream.Octets.{FedAs, frames_put, opening_written}
+use Rattle.amqp_model.specs.Output.Outputs.{Output, output_octets}
+use Rattle.amqp_model.specs.Stream.RunningOut.{RanOut, RunsOut, RanOutWrites, out_of_memory}
 use Rattle.amqp_core.specs.FaultShown.{ShowsFault}
 use Rattle.amqp_core.specs.Feeding.{SameEndpoint, ran_out_of}
 use Rattle.amqp_core.specs.Tracing as tracing

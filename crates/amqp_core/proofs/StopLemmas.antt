@@ -1,13 +1,13 @@
 -- What octets that show a fault leave of an end: the close that it puts changes neither what was agreed nor any channel.
 use Rattle.std.proofs.Common.{◌≡◌, ℕ, List, ap, sym, ◌∙◌}
 use Rattle.amqp_frame.specs.declared.faults.FrameFaultKind.{FrameFaultKind}
-use Rattle.amqp_model.specs.Channels.{Channel, End}
-use Rattle.amqp_model.specs.Closes.{Owed}
-use Rattle.amqp_model.specs.Endpoint.{fault_told, owed_at_fault}
-use Rattle.amqp_model.specs.Events.{Faults}
-use Rattle.amqp_model.specs.Machine.{end_after_owed}
-use Rattle.amqp_model.specs.Negotiation.{Config}
-use Rattle.amqp_model.specs.Notes.{Role}
+use Rattle.amqp_model.specs.End.Channels.{Channel, End}
+use Rattle.amqp_model.specs.End.Closes.{Owed}
+use Rattle.amqp_model.specs.Stream.Endpoint.{fault_told, owed_at_fault}
+use Rattle.amqp_model.specs.End.Events.{Faults}
+use Rattle.amqp_model.specs.End.Machine.{end_after_owed}
+use Rattle.amqp_model.specs.History.Negotiation.{Config}
+use Rattle.amqp_model.specs.Wire.Notes.{Role}
 use Rattle.amqp_core.specs.Outcomes.{owed_for}
 use Rattle.amqp_core.specs.Stages.{leaves}
 use Rattle.amqp_core.proofs.OutcomeLemmas.{owed_is, close_agreed, close_channels}

@@ -2,31 +2,31 @@
 use Rattle.std.proofs.Common.{◌≡◌, cond, ◌==◌, true, false, ℕ, zero, suc, List, [], ◌∷◌, ◌++◌, map, None, refl, ap, sym, ◌∙◌}
 use Rattle.std.proofs.lemmas.Bool.{false≢true}
 use Rattle.std.proofs.lemmas.List.{append-nil, append_assoc}
-use Rattle.amqp_model.specs.Channels.{End}
-use Rattle.amqp_model.specs.Closes as closes
-use Rattle.amqp_model.specs.Closes.{AllReadBack, frame_of, method_frame}
-use Rattle.amqp_model.specs.EndLaws.{VerdictOfHistory}
-use Rattle.amqp_model.specs.EndVerdict.{end_puts, end_verdict, facts_at, goes_on}
-use Rattle.amqp_model.specs.Endpoint.{outcome_of}
-use Rattle.amqp_model.specs.Events.{FrameVerdict, Proceeds, RefusesContent, Faults}
-use Rattle.amqp_model.specs.Frame.{Frame}
-use Rattle.amqp_model.specs.FrameVerdict.{event_told}
-use Rattle.amqp_model.specs.Histories.{Took, History}
-use Rattle.amqp_model.specs.LawfulHistories.{Lawful, end_of, then_put, then_taken}
-use Rattle.amqp_model.specs.Machine.{StandsFor}
-use Rattle.amqp_model.specs.Methods.{Method}
-use Rattle.amqp_model.specs.Negotiation.{Config}
-use Rattle.amqp_model.specs.Notes.{Role, Client, Server}
-use Rattle.amqp_model.specs.ReadingBack.{WritesReadBack}
-use Rattle.amqp_model.specs.Readings.{kind_of, method_reading}
-use Rattle.amqp_model.specs.Sent.{Telling, life_on, told, said, told_at, goes_on_with}
-use Rattle.amqp_model.specs.Traces.{Other, IsPut, IsTaken, noted, trace, word_of, TracePuts, TellsEvent, PutsTellNothing, SaysMethod, item_in_event, telling_at, telling_above}
+use Rattle.amqp_model.specs.End.Channels.{End}
+use Rattle.amqp_model.specs.End.Closes as closes
+use Rattle.amqp_model.specs.End.Closes.{AllReadBack, frame_of, method_frame}
+use Rattle.amqp_model.specs.Laws.EndLaws.{VerdictOfHistory}
+use Rattle.amqp_model.specs.End.EndVerdict.{end_puts, end_verdict, facts_at, goes_on}
+use Rattle.amqp_model.specs.Stream.Endpoint.{outcome_of}
+use Rattle.amqp_model.specs.End.Events.{FrameVerdict, Proceeds, RefusesContent, Faults}
+use Rattle.amqp_model.specs.Wire.Frame.{Frame}
+use Rattle.amqp_model.specs.End.FrameVerdict.{event_told}
+use Rattle.amqp_model.specs.History.Histories.{Took, History}
+use Rattle.amqp_model.specs.End.LawfulHistories.{Lawful, end_of, then_put, then_taken}
+use Rattle.amqp_model.specs.End.Machine.{StandsFor}
+use Rattle.amqp_model.specs.Wire.Methods.{Method}
+use Rattle.amqp_model.specs.History.Negotiation.{Config}
+use Rattle.amqp_model.specs.Wire.Notes.{Role, Client, Server}
+use Rattle.amqp_model.specs.End.ReadingBack.{WritesReadBack}
+use Rattle.amqp_model.specs.Wire.Readings.{kind_of, method_reading}
+use Rattle.amqp_model.specs.Pair.Sent.{Telling, life_on, told, said, told_at, goes_on_with}
+use Rattle.amqp_model.specs.Stream.Traces.{Other, IsPut, IsTaken, noted, trace, word_of, TracePuts, TellsEvent, PutsTellNothing, SaysMethod, item_in_event, telling_at, telling_above}
 use Rattle.amqp_channel.specs.EventView.{agreed_view}
 use Rattle.amqp_core.specs.AccountView.{item_in_outcome}
 use Rattle.amqp_core.specs.Noting.{noted_owed, said_by_owed}
 use Rattle.amqp_core.specs.OwedView.{owed_view, starts, answers_start, tunes, answers_tune}
 use Rattle.amqp_core.specs.Settings.{config_view, role_for}
-use Rattle.amqp_model.specs.Channels as channels
+use Rattle.amqp_model.specs.End.Channels as channels
 use Rattle.amqp_channel.specs.declared.verdict.Reply.TheVariants as replies
 use Rattle.amqp_core.specs.declared.owed.Owed.{Owed}
 use Rattle.amqp_core.specs.declared.owed.Owed.TheVariants as code

@@ -3,24 +3,24 @@ use Rattle.std.proofs.Common.{◌≡◌, ◌≤◌, ◌+◌, arith, Result, Ok, 
 use Rattle.std.proofs.Math.Logic.{∥∥₁_elim, ∥∥₁_map, ∥∥₁_map₂, ∥∥₁_prop}
 use Rattle.std.proofs.lemmas.Bool.{false≢true}
 use Rattle.std.proofs.lemmas.List.{append-nil}
-use Rattle.amqp_model.specs.Channels.{End, Phase, Closed}
-use Rattle.amqp_model.specs.EndLaws.{FailedIsRead, VerdictOfHistory}
-use Rattle.amqp_model.specs.EndVerdict.{takes_octets}
-use Rattle.amqp_model.specs.Asks.{Ask}
-use Rattle.amqp_model.specs.Endpoint.{Endpoint, Feeding, after_feed, after_wrote, new_endpoint, refusal_in}
-use Rattle.amqp_model.specs.Events.{Fault, AlreadyClosed, AlreadyFailed}
-use Rattle.amqp_model.specs.Fitting.{ConfigWrites}
-use Rattle.amqp_model.specs.FittingLaws.{AllReadsBack}
-use Rattle.amqp_model.specs.Frame.{Frame}
-use Rattle.amqp_model.specs.Methods.{Method}
-use Rattle.amqp_model.specs.Histories.{History}
-use Rattle.amqp_model.specs.Items.{Item}
-use Rattle.amqp_model.specs.Negotiation.{Config}
-use Rattle.amqp_model.specs.Notes.{Role}
-use Rattle.amqp_model.specs.OctetLaws.{EndpointStandsFor, FeedStaysClosed, FeedStaysFailed, Follows, NewStands, WroteFollows, FailedWrites, nothing_taken}
-use Rattle.amqp_model.specs.Outputs.{output_octets}
-use Rattle.amqp_model.specs.RunningOut.{RunsOut, RanOutWrites}
-use Rattle.amqp_model.specs.Traces.{Noted, PutsTellNothing, SaysMethod, TellsEvent, TracePuts}
+use Rattle.amqp_model.specs.End.Channels.{End, Phase, Closed}
+use Rattle.amqp_model.specs.Laws.EndLaws.{FailedIsRead, VerdictOfHistory}
+use Rattle.amqp_model.specs.End.EndVerdict.{takes_octets}
+use Rattle.amqp_model.specs.End.Asks.{Ask}
+use Rattle.amqp_model.specs.Stream.Endpoint.{Endpoint, Feeding, after_feed, after_wrote, new_endpoint, refusal_in}
+use Rattle.amqp_model.specs.End.Events.{Fault, AlreadyClosed, AlreadyFailed}
+use Rattle.amqp_model.specs.End.Fitting.{ConfigWrites}
+use Rattle.amqp_model.specs.Laws.FittingLaws.{AllReadsBack}
+use Rattle.amqp_model.specs.Wire.Frame.{Frame}
+use Rattle.amqp_model.specs.Wire.Methods.{Method}
+use Rattle.amqp_model.specs.History.Histories.{History}
+use Rattle.amqp_model.specs.Wire.Items.{Item}
+use Rattle.amqp_model.specs.History.Negotiation.{Config}
+use Rattle.amqp_model.specs.Wire.Notes.{Role}
+use Rattle.amqp_model.specs.Laws.OctetLaws.{EndpointStandsFor, FeedStaysClosed, FeedStaysFailed, Follows, NewStands, WroteFollows, FailedWrites, nothing_taken}
+use Rattle.amqp_model.specs.Output.Outputs.{output_octets}
+use Rattle.amqp_model.specs.Stream.RunningOut.{RunsOut, RanOutWrites}
+use Rattle.amqp_model.specs.Stream.Traces.{Noted, PutsTellNothing, SaysMethod, TellsEvent, TracePuts}
 use Rattle.amqp_core.specs.AccountView.{IsAccount}
 use Rattle.amqp_core.specs.Asking.{RefusesAsk}
 use Rattle.amqp_core.specs.Answering.{Reports, is_out_of_memory, ran_out}
@@ -31,7 +31,7 @@ use Rattle.amqp_core.specs.Overs.{IsOver}
 use Rattle.amqp_core.specs.OwedView.{owed_view}
 use Rattle.amqp_core.specs.Settings.{config_view, role_for}
 use Rattle.amqp_core.specs.Tracing as tracing
-use Rattle.amqp_model.specs.Grown as grown
+use Rattle.amqp_model.specs.Stream.Grown as grown
 use Rattle.amqp_core.specs.Tracing.{FedGrows, Kept, IsTraceOf, Stands, SameLists, TraceGoesOn, TraceGrows}
 use Rattle.amqp_core.specs.declared.faults.AskFault.{AskFault}
 use Rattle.amqp_core.specs.declared.faults.CoreFault.{CoreFault}

@@ -4,19 +4,19 @@ use Rattle.std.proofs.lemmas.Bool.Decides.{nat_tests}
 use Rattle.std.proofs.Common.{◌≡◌, ◌<◌, ◌==◌, ◌&&◌, Bool, true, false, cond, ℕ, zero, suc, List, [], ◌∷◌, Option, Some, None, refl, ap, sym, ◌∙◌, subst, arith}
 use Rattle.amqp_frame.specs.declared.frames.FrameKind.{FrameKind}
 use Rattle.amqp_method.specs.declared.kinds.Kind.TheVariants as kinds
-use Rattle.amqp_model.specs.Channels as model
-use Rattle.amqp_model.specs.Asks.{is_free}
-use Rattle.amqp_model.specs.Closes.{connection_close_ok, CloseCode, CommandInvalid, ContentTooLarge, FrameError, NotImplemented, SyntaxError, close_as, number_of, text_of, reply_to}
-use Rattle.amqp_model.specs.EndVerdict.{takes_frames}
-use Rattle.amqp_model.specs.Events as events
-use Rattle.amqp_model.specs.FrameVerdict.{fault, verdict_on}
-use Rattle.amqp_model.specs.Histories.{TookHere}
-use Rattle.amqp_model.specs.Machine.{taken_verdict}
-use Rattle.amqp_model.specs.Methods.{Method, Properties, number_at, same_kind}
-use Rattle.amqp_model.specs.Negotiation as negotiation
-use Rattle.amqp_model.specs.Negotiation.{Config, agreed_in, tunes_too_small}
-use Rattle.amqp_model.specs.Notes.{Role, is_client}
-use Rattle.amqp_model.specs.Readings.{Reading, Calls, UnknownMethod, MalformedMethod, HeaderOf, MalformedHeader, BodyOf, Beat}
+use Rattle.amqp_model.specs.End.Channels as model
+use Rattle.amqp_model.specs.End.Asks.{is_free}
+use Rattle.amqp_model.specs.End.Closes.{connection_close_ok, CloseCode, CommandInvalid, ContentTooLarge, FrameError, NotImplemented, SyntaxError, close_as, number_of, text_of, reply_to}
+use Rattle.amqp_model.specs.End.EndVerdict.{takes_frames}
+use Rattle.amqp_model.specs.End.Events as events
+use Rattle.amqp_model.specs.End.FrameVerdict.{fault, verdict_on}
+use Rattle.amqp_model.specs.History.Histories.{TookHere}
+use Rattle.amqp_model.specs.End.Machine.{taken_verdict}
+use Rattle.amqp_model.specs.Wire.Methods.{Method, Properties, number_at, same_kind}
+use Rattle.amqp_model.specs.History.Negotiation as negotiation
+use Rattle.amqp_model.specs.History.Negotiation.{Config, agreed_in, tunes_too_small}
+use Rattle.amqp_model.specs.Wire.Notes.{Role, is_client}
+use Rattle.amqp_model.specs.Wire.Readings.{Reading, Calls, UnknownMethod, MalformedMethod, HeaderOf, MalformedHeader, BodyOf, Beat}
 use Rattle.amqp_channel.specs.ChannelsView.{channels_view}
 use Rattle.amqp_channel.specs.Closes.{code_view}
 use Rattle.amqp_channel.specs.EventView.{agreed_view}

@@ -1,19 +1,19 @@
 -- What came of a piece beside the answer to it, in the words of the model.
 use Rattle.std.specs.Prelude.{◌≡◌, true, ℕ, List, [], Option, Some, None, Result}
 use Rattle.amqp_frame.specs.declared.faults.FrameFaultKind.{FrameFaultKind}
-use Rattle.amqp_model.specs.Channels.{End}
-use Rattle.amqp_model.specs.Closes.{Owed}
-use Rattle.amqp_model.specs.EndVerdict.{end_verdict, facts_at, takes_frames}
-use Rattle.amqp_model.specs.Endpoint.{Endpoint, Feeding, Outcome, Unfinished, Finished, Found, awaits_opening, greeting, outcome_of, owed_at_fault}
-use Rattle.amqp_model.specs.Events.{Quiet, WrongProtocolHeader}
-use Rattle.amqp_model.specs.Frame.{Frame}
-use Rattle.amqp_model.specs.FrameVerdict.{methods_put}
-use Rattle.amqp_model.specs.Items.{Item}
-use Rattle.amqp_model.specs.Negotiation.{Config}
-use Rattle.amqp_model.specs.Notes.{Role}
-use Rattle.amqp_model.specs.OctetLaws.{CompletesFrame, ShowsFault}
-use Rattle.amqp_model.specs.Traces.{Noted, IsTaken, noted, item_in_event}
-use Rattle.amqp_model.specs.Events as events
+use Rattle.amqp_model.specs.End.Channels.{End}
+use Rattle.amqp_model.specs.End.Closes.{Owed}
+use Rattle.amqp_model.specs.End.EndVerdict.{end_verdict, facts_at, takes_frames}
+use Rattle.amqp_model.specs.Stream.Endpoint.{Endpoint, Feeding, Outcome, Unfinished, Finished, Found, awaits_opening, greeting, outcome_of, owed_at_fault}
+use Rattle.amqp_model.specs.End.Events.{Quiet, WrongProtocolHeader}
+use Rattle.amqp_model.specs.Wire.Frame.{Frame}
+use Rattle.amqp_model.specs.End.FrameVerdict.{methods_put}
+use Rattle.amqp_model.specs.Wire.Items.{Item}
+use Rattle.amqp_model.specs.History.Negotiation.{Config}
+use Rattle.amqp_model.specs.Wire.Notes.{Role}
+use Rattle.amqp_model.specs.Laws.OctetLaws.{CompletesFrame, ShowsFault}
+use Rattle.amqp_model.specs.Stream.Traces.{Noted, IsTaken, noted, item_in_event}
+use Rattle.amqp_model.specs.End.Events as events
 use Rattle.amqp_channel.specs.PartsView.{parts_there}
 use Rattle.amqp_core.specs.Feeding.{Seen, taken_with}
 use Rattle.amqp_core.specs.NoteView.{note_view}

@@ -1,13 +1,13 @@
 -- What an end answers to what it takes, beside what the definitions say comes of it.
 use Rattle.std.specs.Prelude.{◌≡◌, ◌⊎◌, Bool, true, false, cond, Option, None, Result, Ok, Err}
 use Rattle.amqp_frame.specs.declared.faults.FrameFaultKind.{FrameFaultKind}
-use Rattle.amqp_model.specs.Channels.{End}
-use Rattle.amqp_model.specs.Endpoint.{Outcome, Unfinished, Finished, Found, fault_told, owed_at_fault}
-use Rattle.amqp_model.specs.Events as events
-use Rattle.amqp_model.specs.Machine.{as_failed, end_after_owed, failed_by}
-use Rattle.amqp_model.specs.Negotiation.{Config}
-use Rattle.amqp_model.specs.Notes.{Role}
-use Rattle.amqp_model.specs.Outputs.{Output}
+use Rattle.amqp_model.specs.End.Channels.{End}
+use Rattle.amqp_model.specs.Stream.Endpoint.{Outcome, Unfinished, Finished, Found, fault_told, owed_at_fault}
+use Rattle.amqp_model.specs.End.Events as events
+use Rattle.amqp_model.specs.End.Machine.{as_failed, end_after_owed, failed_by}
+use Rattle.amqp_model.specs.History.Negotiation.{Config}
+use Rattle.amqp_model.specs.Wire.Notes.{Role}
+use Rattle.amqp_model.specs.Output.Outputs.{Output}
 use Rattle.amqp_outbox.specs.OutboxView.{Outgoing, only}
 use Rattle.amqp_channel.specs.Closes.{code_view}
 use Rattle.amqp_core.specs.Outcomes.{SameEnd}

@@ -1,13 +1,13 @@
 -- What an accepted ask adds to the lists of an end that is kept with its history.
 use Rattle.std.specs.Prelude.{◌≡◌, ◌+◌, ◌-◌, ◌/◌, ◌≤◌, ◌*◌, ℕ, suc, List, replicate, length, Option, Some, None}
-use Rattle.amqp_model.specs.Asks.{Ask, Send, CloseChannel, Close, Blocked, Unblocked, lowest_free}
-use Rattle.amqp_model.specs.Channels.{Agreed, End}
-use Rattle.amqp_model.specs.Contents.{room_in}
-use Rattle.amqp_model.specs.Events.{Message, Plain, Whole}
-use Rattle.amqp_model.specs.Items.{Item, FlowItem}
-use Rattle.amqp_model.specs.Outputs.{Output, output_octets}
-use Rattle.amqp_model.specs.Traces.{IsPut, Noted, Other, Word, item_of_message}
-use Rattle.amqp_model.specs.Traces as traces
+use Rattle.amqp_model.specs.End.Asks.{Ask, Send, CloseChannel, Close, Blocked, Unblocked, lowest_free}
+use Rattle.amqp_model.specs.End.Channels.{Agreed, End}
+use Rattle.amqp_model.specs.Wire.Contents.{room_in}
+use Rattle.amqp_model.specs.End.Events.{Message, Plain, Whole}
+use Rattle.amqp_model.specs.Wire.Items.{Item, FlowItem}
+use Rattle.amqp_model.specs.Output.Outputs.{Output, output_octets}
+use Rattle.amqp_model.specs.Stream.Traces.{IsPut, Noted, Other, Word, item_of_message}
+use Rattle.amqp_model.specs.Stream.Traces as traces
 use Rattle.amqp_core.specs.NoteView.{noted_as}
 
 -- the frames of the ask are on this channel

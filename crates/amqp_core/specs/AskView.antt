@@ -1,6 +1,6 @@
 -- The asks of the code, in the words of the model.
 use Rattle.amqp_method.specs.MessageView.{message_view}
-use Rattle.amqp_model.specs.Asks as model
+use Rattle.amqp_model.specs.End.Asks as model
 use Rattle.amqp_channel.specs.Messages.{message_of}
 use Rattle.amqp_core.specs.declared.asks.Ask.{Ask}
 use Rattle.amqp_core.specs.declared.asks.LentAsk.{LentAsk}

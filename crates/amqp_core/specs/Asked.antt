@@ -1,10 +1,10 @@
 -- What comes of an ask: it is accepted, and its frames are put; or it is refused, and nothing changes.
 use Rattle.std.specs.Prelude.{◌≡◌, true, ℕ, Option, None}
-use Rattle.amqp_model.specs.Asks.{Ask, Open, refusal, frames_asked, lowest_free, is_made}
-use Rattle.amqp_model.specs.Channels.{End}
-use Rattle.amqp_model.specs.Machine.{end_after_put}
-use Rattle.amqp_model.specs.Outputs.{after_puts}
-use Rattle.amqp_model.specs.ReadingBack.{AskReadsBack}
+use Rattle.amqp_model.specs.End.Asks.{Ask, Open, refusal, frames_asked, lowest_free, is_made}
+use Rattle.amqp_model.specs.End.Channels.{End}
+use Rattle.amqp_model.specs.End.Machine.{end_after_put}
+use Rattle.amqp_model.specs.Output.Outputs.{after_puts}
+use Rattle.amqp_model.specs.End.ReadingBack.{AskReadsBack}
 use Rattle.amqp_outbox.specs.OutboxView.{Outgoing, only}
 use Rattle.amqp_core.specs.Faults.{refusal_view}
 use Rattle.amqp_core.specs.Settings.{config_view, role_for}

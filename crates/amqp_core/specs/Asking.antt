@@ -1,13 +1,13 @@
 -- What an ask makes of an end.
 use Rattle.std.specs.Prelude.{◌≡◌, true, ℕ, List, Some, None}
-use Rattle.amqp_model.specs.Asks.{Ask, AskVerdict, Puts, Refusal, Refused, ask_verdict, frames_asked, is_made, refusal}
-use Rattle.amqp_model.specs.Endpoint.{Endpoint, after_ask}
-use Rattle.amqp_model.specs.Histories.{History}
-use Rattle.amqp_model.specs.LawfulHistories.{end_of, then_put}
-use Rattle.amqp_model.specs.Negotiation.{Config}
-use Rattle.amqp_model.specs.Notes.{Role}
-use Rattle.amqp_model.specs.OctetLaws.{EndpointStandsFor}
-use Rattle.amqp_model.specs.ReadingBack.{AskReadsBack}
+use Rattle.amqp_model.specs.End.Asks.{Ask, AskVerdict, Puts, Refusal, Refused, ask_verdict, frames_asked, is_made, refusal}
+use Rattle.amqp_model.specs.Stream.Endpoint.{Endpoint, after_ask}
+use Rattle.amqp_model.specs.History.Histories.{History}
+use Rattle.amqp_model.specs.End.LawfulHistories.{end_of, then_put}
+use Rattle.amqp_model.specs.History.Negotiation.{Config}
+use Rattle.amqp_model.specs.Wire.Notes.{Role}
+use Rattle.amqp_model.specs.Laws.OctetLaws.{EndpointStandsFor}
+use Rattle.amqp_model.specs.End.ReadingBack.{AskReadsBack}
 use Rattle.amqp_core.specs.Faults.{refusal_view}
 use Rattle.amqp_core.specs.declared.faults.AskFault.{AskFault}
 

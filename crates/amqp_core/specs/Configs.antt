@@ -1,6 +1,6 @@
 -- Hellos and configurations of either role, each with the role that it is of.
-use Rattle.amqp_model.specs.Negotiation as model
-use Rattle.amqp_model.specs.Notes.{Role}
+use Rattle.amqp_model.specs.History.Negotiation as model
+use Rattle.amqp_model.specs.Wire.Notes.{Role}
 use Rattle.amqp_core.specs.Settings.{role_in, hello_view, role_for, config_view}
 use Rattle.amqp_core.specs.declared.config.Config.{Config}
 use Rattle.amqp_core.specs.declared.settings.Hello.{Hello}

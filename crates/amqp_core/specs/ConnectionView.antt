@@ -1,16 +1,16 @@
 -- What the code keeps of a connection, in the words of the model, and what a frame leaves of it.
 use Rattle.std.specs.Prelude.{◌≡◌, ℕ, List, [], ◌∷◌}
 use Rattle.amqp_frame.specs.declared.frames.FrameKind.{FrameKind}
-use Rattle.amqp_model.specs.Channels.{End}
-use Rattle.amqp_model.specs.Closes.{ContentTooLarge, channel_close}
-use Rattle.amqp_model.specs.Events as events
-use Rattle.amqp_model.specs.Events.{FrameVerdict, Proceeds, RefusesContent, Faults}
-use Rattle.amqp_model.specs.Frame.{Frame}
-use Rattle.amqp_model.specs.Histories.{TookHere}
-use Rattle.amqp_model.specs.Machine.{end_after, end_after_owed}
-use Rattle.amqp_model.specs.Negotiation.{Config}
-use Rattle.amqp_model.specs.Notes.{Role}
-use Rattle.amqp_model.specs.Readings.{Reading}
+use Rattle.amqp_model.specs.End.Channels.{End}
+use Rattle.amqp_model.specs.End.Closes.{ContentTooLarge, channel_close}
+use Rattle.amqp_model.specs.End.Events as events
+use Rattle.amqp_model.specs.End.Events.{FrameVerdict, Proceeds, RefusesContent, Faults}
+use Rattle.amqp_model.specs.Wire.Frame.{Frame}
+use Rattle.amqp_model.specs.History.Histories.{TookHere}
+use Rattle.amqp_model.specs.End.Machine.{end_after, end_after_owed}
+use Rattle.amqp_model.specs.History.Negotiation.{Config}
+use Rattle.amqp_model.specs.Wire.Notes.{Role}
+use Rattle.amqp_model.specs.Wire.Readings.{Reading}
 use Rattle.amqp_channel.specs.ChannelsView.{channels_view}
 use Rattle.amqp_channel.specs.Closes.{code_view}
 use Rattle.amqp_channel.specs.declared.site.Site.{Site}

@@ -3,25 +3,25 @@
 -- A history says nothing of a failure, since a wrong end octet or out of memory leaves it as it was: whether the end
 -- has failed stands beside it.
 use Rattle.std.specs.Prelude.{◌≡◌, ◌<◌, ◌≤◌, Bool, true, false, ℕ, List, length, Option}
-use Rattle.amqp_model.specs.Answers as answers
-use Rattle.amqp_model.specs.Answers.{channel_state, first_of}
-use Rattle.amqp_model.specs.AnswersInWords.{taken_on}
-use Rattle.amqp_model.specs.Asks.{channel_max}
-use Rattle.amqp_model.specs.Channels as channels
-use Rattle.amqp_model.specs.Channels.{Agreed, Running, Failed}
-use Rattle.amqp_model.specs.Contents.{Payload, UnderWay, body_octets}
-use Rattle.amqp_model.specs.EndLaws.{notes_on}
-use Rattle.amqp_model.specs.EndVerdict.{takes_octets}
-use Rattle.amqp_model.specs.Gathering.{Nothing, Gathers}
-use Rattle.amqp_model.specs.Histories.{History, entries_on}
-use Rattle.amqp_model.specs.InTurn.{life_here, unanswered_at}
-use Rattle.amqp_model.specs.Lives as lives
-use Rattle.amqp_model.specs.Methods.{MethodKind}
-use Rattle.amqp_model.specs.Negotiation.{Config, frame_limit}
-use Rattle.amqp_model.specs.Notes.{Role}
-use Rattle.amqp_model.specs.Octets.{FedAs}
-use Rattle.amqp_model.specs.StateFromHistory.{agreed_from, end_from, phase_from}
-use Rattle.amqp_model.specs.States.{State, Open}
+use Rattle.amqp_model.specs.End.Answers as answers
+use Rattle.amqp_model.specs.End.Answers.{channel_state, first_of}
+use Rattle.amqp_model.specs.Laws.AnswersInWords.{taken_on}
+use Rattle.amqp_model.specs.End.Asks.{channel_max}
+use Rattle.amqp_model.specs.End.Channels as channels
+use Rattle.amqp_model.specs.End.Channels.{Agreed, Running, Failed}
+use Rattle.amqp_model.specs.Wire.Contents.{Payload, UnderWay, body_octets}
+use Rattle.amqp_model.specs.Laws.EndLaws.{notes_on}
+use Rattle.amqp_model.specs.End.EndVerdict.{takes_octets}
+use Rattle.amqp_model.specs.Wire.Gathering.{Nothing, Gathers}
+use Rattle.amqp_model.specs.History.Histories.{History, entries_on}
+use Rattle.amqp_model.specs.Pair.InTurn.{life_here, unanswered_at}
+use Rattle.amqp_model.specs.History.Lives as lives
+use Rattle.amqp_model.specs.Wire.Methods.{MethodKind}
+use Rattle.amqp_model.specs.History.Negotiation.{Config, frame_limit}
+use Rattle.amqp_model.specs.Wire.Notes.{Role}
+use Rattle.amqp_model.specs.Stream.Octets.{FedAs}
+use Rattle.amqp_model.specs.End.StateFromHistory.{agreed_from, end_from, phase_from}
+use Rattle.amqp_model.specs.History.States.{State, Open}
 use Rattle.amqp_core.specs.Stages.{phase_name}
 use Rattle.amqp_core.specs.declared.stage.Phase.{Phase}
 

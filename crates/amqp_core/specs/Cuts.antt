@@ -1,10 +1,10 @@
 -- How octets are cut into pieces changes nothing. AMQP 0-9-1 specification, section 2.3.4, "Delimiting Frames".
 use Rattle.std.specs.Prelude.{◌≡◌, ℕ, List, [], ◌∷◌, drop, Option}
 use Rattle.std.specs.List.{concat}
-use Rattle.amqp_model.specs.Endpoint.{Endpoint, Outcome, Unfinished, Finished, Found, after_feed}
-use Rattle.amqp_model.specs.Events.{Event, Fault}
-use Rattle.amqp_model.specs.Negotiation.{Config}
-use Rattle.amqp_model.specs.Notes.{Role}
+use Rattle.amqp_model.specs.Stream.Endpoint.{Endpoint, Outcome, Unfinished, Finished, Found, after_feed}
+use Rattle.amqp_model.specs.End.Events.{Event, Fault}
+use Rattle.amqp_model.specs.History.Negotiation.{Config}
+use Rattle.amqp_model.specs.Wire.Notes.{Role}
 
 -- An end is fed pieces, and what was not taken of a piece before the next one. The reports are what came of them, in
 -- order: of each frame, and of the protocol header, an event or none; and last the fault, where one is found.

@@ -3,13 +3,13 @@ use Rattle.std.specs.Prelude.{◌≡◌, ◌≤◌, ◌⊎◌, true, ℕ, List, 
 use Rattle.amqp_frame.specs.Frame.{Fits, frame_length, octets}
 use Rattle.amqp_frame.specs.declared.frames.FrameKind.{FrameKind}
 use Rattle.amqp_frame.specs.declared.frames.FrameKind.TheVariants.{Method, Header, Body, Heartbeat}
-use Rattle.amqp_model.specs.Channels as model
-use Rattle.amqp_model.specs.Endpoint.{Endpoint}
-use Rattle.amqp_model.specs.Frame.{Frame}
-use Rattle.amqp_model.specs.Negotiation.{frame_limit}
-use Rattle.amqp_model.specs.Notes.{Role}
-use Rattle.amqp_model.specs.Pieces.{reads_frames}
-use Rattle.amqp_model.specs.Readings.{Reading, HeaderOf, MalformedHeader, BodyOf, Beat}
+use Rattle.amqp_model.specs.End.Channels as model
+use Rattle.amqp_model.specs.Stream.Endpoint.{Endpoint}
+use Rattle.amqp_model.specs.Wire.Frame.{Frame}
+use Rattle.amqp_model.specs.History.Negotiation.{frame_limit}
+use Rattle.amqp_model.specs.Wire.Notes.{Role}
+use Rattle.amqp_model.specs.Stream.Pieces.{reads_frames}
+use Rattle.amqp_model.specs.Wire.Readings.{Reading, HeaderOf, MalformedHeader, BodyOf, Beat}
 use Rattle.amqp_channel.specs.Used.{is_closing_at}
 use Rattle.amqp_core.specs.Stages.{leaves}
 

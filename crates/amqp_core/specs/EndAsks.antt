@@ -1,6 +1,6 @@
 -- What an ask of an end does. Read before: what comes of an ask (`Asking`).
 use Rattle.std.specs.Prelude.{◌≡◌, Option, Result, IfOk, IfErr, OnOk, ℕ, Some}
-use Rattle.amqp_model.specs.Asks.{Ask, lowest_free}
+use Rattle.amqp_model.specs.End.Asks.{Ask, lowest_free}
 use Rattle.amqp_core.specs.Asked.{number_taken}
 use Rattle.amqp_core.specs.Asking.{AcceptsAsk, RefusesAsk}
 use Rattle.amqp_core.specs.EndView.{config_at, endpoint_of, role_played, settings_at}

@@ -1,13 +1,13 @@
 -- What an end keeps between two calls, in the words of the model.
 use Rattle.std.specs.Prelude.{◌≡◌, ◌<◌, Bool, true, false, ℕ, List, [], ◌++◌, take, None}
-use Rattle.amqp_model.specs.Channels as model
-use Rattle.amqp_model.specs.Endpoint as endpoint
-use Rattle.amqp_model.specs.Endpoint.{awaits_opening}
-use Rattle.amqp_model.specs.EndVerdict.{takes_octets}
-use Rattle.amqp_model.specs.Fitting.{ConfigWrites, IfAgreedFits}
-use Rattle.amqp_model.specs.Negotiation.{PROTOCOL_HEADER, frame_limit}
-use Rattle.amqp_model.specs.Notes.{Role}
-use Rattle.amqp_model.specs.Pieces.{HoldsUnfinished}
+use Rattle.amqp_model.specs.End.Channels as model
+use Rattle.amqp_model.specs.Stream.Endpoint as endpoint
+use Rattle.amqp_model.specs.Stream.Endpoint.{awaits_opening}
+use Rattle.amqp_model.specs.End.EndVerdict.{takes_octets}
+use Rattle.amqp_model.specs.End.Fitting.{ConfigWrites, IfAgreedFits}
+use Rattle.amqp_model.specs.History.Negotiation.{PROTOCOL_HEADER, frame_limit}
+use Rattle.amqp_model.specs.Wire.Notes.{Role}
+use Rattle.amqp_model.specs.Stream.Pieces.{HoldsUnfinished}
 use Rattle.amqp_frame.specs.Stream.{Stream}
 use Rattle.amqp_core.specs.Bounded.{IsBounded}
 use Rattle.amqp_core.specs.ConnectionView.{connection_end}

@@ -2,16 +2,16 @@
 use Rattle.std.specs.Prelude.{◌≡◌, false, ℕ, List, [], ◌++◌, map}
 use Rattle.amqp_frame.specs.Frame.{octets}
 use Rattle.amqp_frame.specs.declared.faults.FrameFaultKind.{FrameFaultKind}
-use Rattle.amqp_model.specs.Closes.{frame_of}
-use Rattle.amqp_model.specs.Endpoint.{owed_at_fault}
-use Rattle.amqp_model.specs.EndVerdict.{end_verdict}
-use Rattle.amqp_model.specs.Events.{Fault, Faults}
-use Rattle.amqp_model.specs.Frame.{Frame}
-use Rattle.amqp_model.specs.Histories.{History}
-use Rattle.amqp_model.specs.LawfulHistories.{Lawful, end_of, then_put, then_taken}
-use Rattle.amqp_model.specs.Negotiation.{Config}
-use Rattle.amqp_model.specs.Notes.{Role}
-use Rattle.amqp_model.specs.OctetLaws.{TellsLast}
+use Rattle.amqp_model.specs.End.Closes.{frame_of}
+use Rattle.amqp_model.specs.Stream.Endpoint.{owed_at_fault}
+use Rattle.amqp_model.specs.End.EndVerdict.{end_verdict}
+use Rattle.amqp_model.specs.End.Events.{Fault, Faults}
+use Rattle.amqp_model.specs.Wire.Frame.{Frame}
+use Rattle.amqp_model.specs.History.Histories.{History}
+use Rattle.amqp_model.specs.End.LawfulHistories.{Lawful, end_of, then_put, then_taken}
+use Rattle.amqp_model.specs.History.Negotiation.{Config}
+use Rattle.amqp_model.specs.Wire.Notes.{Role}
+use Rattle.amqp_model.specs.Laws.OctetLaws.{TellsLast}
 
 -- The history that was lawful before the fault, and what the fault made of it. By the history before, the end puts what
 -- the verdict owes, and nothing else follows.

@@ -1,9 +1,9 @@
 -- The faults and the refusals of the code, in the words of the model, and their numbers.
 use Rattle.std.specs.Prelude.{ℕ, Option, Some, None}
-use Rattle.amqp_model.specs.Asks as asks
-use Rattle.amqp_model.specs.Asks.{Refusal, refusal_number}
-use Rattle.amqp_model.specs.Events as events
-use Rattle.amqp_model.specs.Fitting as fitting
+use Rattle.amqp_model.specs.End.Asks as asks
+use Rattle.amqp_model.specs.End.Asks.{Refusal, refusal_number}
+use Rattle.amqp_model.specs.End.Events as events
+use Rattle.amqp_model.specs.End.Fitting as fitting
 use Rattle.amqp_channel.specs.Closes.{code_view}
 use Rattle.amqp_core.specs.declared.faults.CoreFault.{CoreFault}
 use Rattle.amqp_core.specs.declared.faults.CoreFault.TheVariants as core

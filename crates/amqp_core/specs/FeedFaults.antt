@@ -1,7 +1,7 @@
 -- What a fault means for the end that answers it.
 use Rattle.std.specs.Prelude.{◌≡◌, Result, Err, IfErr}
-use Rattle.amqp_model.specs.Channels as channels
-use Rattle.amqp_model.specs.Endpoint.{Endpoint}
+use Rattle.amqp_model.specs.End.Channels as channels
+use Rattle.amqp_model.specs.Stream.Endpoint.{Endpoint}
 use Rattle.amqp_core.specs.Feeding.{SameEndpoint}
 use Rattle.amqp_core.specs.declared.faults.CoreFault.{CoreFault}
 use Rattle.amqp_core.specs.declared.faults.CoreFault.TheVariants as core

@@ -1,9 +1,9 @@
 -- What comes of a piece that an end is fed, beside what the definitions say.
 use Rattle.std.specs.Prelude.{◌≡◌, cond, ℕ, [], Option, Some, None, Result, Ok, Err}
-use Rattle.amqp_model.specs.Endpoint as model
-use Rattle.amqp_model.specs.Endpoint.{Outcome, Feeding}
-use Rattle.amqp_model.specs.Events as events
-use Rattle.amqp_model.specs.Machine.{as_failed}
+use Rattle.amqp_model.specs.Stream.Endpoint as model
+use Rattle.amqp_model.specs.Stream.Endpoint.{Outcome, Feeding}
+use Rattle.amqp_model.specs.End.Events as events
+use Rattle.amqp_model.specs.End.Machine.{as_failed}
 use Rattle.amqp_channel.specs.EventView.{event_there}
 use Rattle.amqp_core.specs.Answering.{Tells, Reports, ran_out}
 use Rattle.amqp_core.specs.Outcomes.{SameEnd}

@@ -1,10 +1,10 @@
 -- What a feed of an end does. Read before: what a piece comes to (`Feeding`), and what an end stands for (`Following`).
 use Rattle.std.specs.Prelude.{◌≡◌, true, ℕ, List, Result, IsOk}
-use Rattle.amqp_model.specs.Endpoint as model
-use Rattle.amqp_model.specs.Endpoint.{after_feed}
-use Rattle.amqp_model.specs.EndVerdict.{takes_octets}
-use Rattle.amqp_model.specs.Histories.{History}
-use Rattle.amqp_model.specs.OctetLaws.{EndpointStandsFor}
+use Rattle.amqp_model.specs.Stream.Endpoint as model
+use Rattle.amqp_model.specs.Stream.Endpoint.{after_feed}
+use Rattle.amqp_model.specs.End.EndVerdict.{takes_octets}
+use Rattle.amqp_model.specs.History.Histories.{History}
+use Rattle.amqp_model.specs.Laws.OctetLaws.{EndpointStandsFor}
 use Rattle.amqp_core.specs.Answering.{ran_out}
 use Rattle.amqp_core.specs.Dropping.{DropsInPlace}
 use Rattle.amqp_core.specs.EndView.{config_at, endpoint_of, role_played, settings_at}

@@ -1,14 +1,14 @@
 -- What a piece, and a write, make of each history that an end stands for.
 use Rattle.std.specs.Prelude.{Bool, true, false, ℕ, List}
-use Rattle.amqp_model.specs.Departures.{IsOutputOf}
-use Rattle.amqp_model.specs.Endpoint.{Endpoint, Feeding}
-use Rattle.amqp_model.specs.Histories.{History}
-use Rattle.amqp_model.specs.LawfulHistories.{Lawful}
-use Rattle.amqp_model.specs.Machine.{StandsFor}
-use Rattle.amqp_model.specs.Negotiation.{Config}
-use Rattle.amqp_model.specs.Notes.{Role}
-use Rattle.amqp_model.specs.OctetLaws.{Follows}
-use Rattle.amqp_model.specs.Octets.{frames_put, opening_written}
+use Rattle.amqp_model.specs.Output.Departures.{IsOutputOf}
+use Rattle.amqp_model.specs.Stream.Endpoint.{Endpoint, Feeding}
+use Rattle.amqp_model.specs.History.Histories.{History}
+use Rattle.amqp_model.specs.End.LawfulHistories.{Lawful}
+use Rattle.amqp_model.specs.End.Machine.{StandsFor}
+use Rattle.amqp_model.specs.History.Negotiation.{Config}
+use Rattle.amqp_model.specs.Wire.Notes.{Role}
+use Rattle.amqp_model.specs.Laws.OctetLaws.{Follows}
+use Rattle.amqp_model.specs.Stream.Octets.{frames_put, opening_written}
 
 -- An end that ran out of memory has failed with the history that it had, and what it has to write is what was put and not
 -- written.

@@ -1,6 +1,6 @@
 -- Until the handshake is over no channel is in use.
 use Rattle.std.specs.Prelude.{◌≡◌, true, ℕ}
-use Rattle.amqp_model.specs.Asks.{is_free}
+use Rattle.amqp_model.specs.End.Asks.{is_free}
 use Rattle.amqp_channel.specs.ChannelsView.{channels_view}
 use Rattle.amqp_channel.specs.declared.channels.Channels.{Channels}
 use Rattle.amqp_core.specs.Handshakes.{is_in_handshake}

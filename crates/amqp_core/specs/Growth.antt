@@ -1,6 +1,6 @@
 -- How much longer an output gets by what an end puts of itself.
 use Rattle.std.specs.Prelude.{ℕ, ◌+◌, ◌≤◌, length}
-use Rattle.amqp_model.specs.Outputs.{Output, output_octets}
+use Rattle.amqp_model.specs.Output.Outputs.{Output, output_octets}
 
 -- two frames of 4096 octets
 abbrev pub MOST_PUT : ℕ

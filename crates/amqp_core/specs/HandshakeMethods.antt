@@ -2,12 +2,12 @@
 use Rattle.std.specs.Prelude.{◌≡◌, ℕ}
 use Rattle.amqp_frame.specs.Frame.{frame_length}
 use Rattle.amqp_value.specs.Lengths.{capped}
-use Rattle.amqp_model.specs.Closes.{method_frame}
-use Rattle.amqp_model.specs.Fitting.{greeting}
-use Rattle.amqp_model.specs.Methods.{Method}
-use Rattle.amqp_model.specs.Negotiation as negotiation
-use Rattle.amqp_model.specs.Negotiation.{Config}
-use Rattle.amqp_model.specs.Notes.{Role, Client, Server}
+use Rattle.amqp_model.specs.End.Closes.{method_frame}
+use Rattle.amqp_model.specs.End.Fitting.{greeting}
+use Rattle.amqp_model.specs.Wire.Methods.{Method}
+use Rattle.amqp_model.specs.History.Negotiation as negotiation
+use Rattle.amqp_model.specs.History.Negotiation.{Config}
+use Rattle.amqp_model.specs.Wire.Notes.{Role, Client, Server}
 use Rattle.amqp_core.specs.Settings.{client_hello_view, server_hello_view}
 use Rattle.amqp_core.specs.declared.settings.ClientHello.{ClientHello}
 use Rattle.amqp_core.specs.declared.settings.ServerHello.{ServerHello}

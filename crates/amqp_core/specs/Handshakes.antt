@@ -1,10 +1,10 @@
 -- What a stage of the handshake awaits, in the words of the model.
 use Rattle.std.specs.Prelude.{Bool, true, false, ◌&&◌, nat_lt, nat_le, ℕ}
-use Rattle.amqp_model.specs.Channels.{Phase, Handshake, HandshakeStep, AwaitsStart, AwaitsStartOk, AwaitsTune, AwaitsTuneOk, AwaitsOpen, AwaitsOpenOk, Agreed}
-use Rattle.amqp_model.specs.Notes.{Role, Client, Server}
-use Rattle.amqp_model.specs.FrameVerdict.{is_awaited}
-use Rattle.amqp_model.specs.Methods.{MethodKind}
-use Rattle.amqp_model.specs.Negotiation.{FRAME_MIN}
+use Rattle.amqp_model.specs.End.Channels.{Phase, Handshake, HandshakeStep, AwaitsStart, AwaitsStartOk, AwaitsTune, AwaitsTuneOk, AwaitsOpen, AwaitsOpenOk, Agreed}
+use Rattle.amqp_model.specs.Wire.Notes.{Role, Client, Server}
+use Rattle.amqp_model.specs.End.FrameVerdict.{is_awaited}
+use Rattle.amqp_model.specs.Wire.Methods.{MethodKind}
+use Rattle.amqp_model.specs.History.Negotiation.{FRAME_MIN}
 use Rattle.amqp_core.specs.Stages.{phase_at}
 use Rattle.amqp_core.specs.declared.stage.Stage.{Stage}
 

@@ -1,10 +1,10 @@
 -- What is known of an end between two calls, as a fact that can be known in one way only.
 use Rattle.std.specs.Coded.{Unit-prop, le_prop}
 use Rattle.std.specs.Prelude.{◌≡◌, true, length, Option, Some, None}
-use Rattle.amqp_model.specs.Channels.{Agreed}
-use Rattle.amqp_model.specs.Fitting.{ConfigWrites, IfAgreedFits, SettledFits}
-use Rattle.amqp_model.specs.Negotiation.{frame_limit}
-use Rattle.amqp_model.specs.Pieces.{AreBegun, reads_frames}
+use Rattle.amqp_model.specs.End.Channels.{Agreed}
+use Rattle.amqp_model.specs.End.Fitting.{ConfigWrites, IfAgreedFits, SettledFits}
+use Rattle.amqp_model.specs.History.Negotiation.{frame_limit}
+use Rattle.amqp_model.specs.Stream.Pieces.{AreBegun, reads_frames}
 use Rattle.amqp_core.specs.Bounded.{IsBounded}
 use Rattle.amqp_core.specs.ConnectionView.{connection_end}
 use Rattle.amqp_core.specs.EndpointView.{FieldsFit, role_at}

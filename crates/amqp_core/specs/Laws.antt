@@ -1,14 +1,14 @@
 -- What is decided and left on one channel is what the whole end decides and keeps: the statement.
 use Rattle.std.specs.Prelude.{◌≡◌, ◌<◌, true, ℕ, List, [], ◌∷◌, map, Some}
 use Rattle.amqp_frame.specs.declared.frames.FrameKind.{FrameKind}
-use Rattle.amqp_model.specs.Asks.{payload_frame}
-use Rattle.amqp_model.specs.Channels.{Channel, Running, End}
-use Rattle.amqp_model.specs.Contents.{Payload, Unread}
-use Rattle.amqp_model.specs.Frame.{Frame}
-use Rattle.amqp_model.specs.EndVerdict.{goes_on}
-use Rattle.amqp_model.specs.Machine.{set_channel, taken_verdict, end_after_taken, end_after_put}
-use Rattle.amqp_model.specs.Negotiation.{Config}
-use Rattle.amqp_model.specs.Readings.{Reading, payload_of, reading}
+use Rattle.amqp_model.specs.End.Asks.{payload_frame}
+use Rattle.amqp_model.specs.End.Channels.{Channel, Running, End}
+use Rattle.amqp_model.specs.Wire.Contents.{Payload, Unread}
+use Rattle.amqp_model.specs.Wire.Frame.{Frame}
+use Rattle.amqp_model.specs.End.EndVerdict.{goes_on}
+use Rattle.amqp_model.specs.End.Machine.{set_channel, taken_verdict, end_after_taken, end_after_put}
+use Rattle.amqp_model.specs.History.Negotiation.{Config}
+use Rattle.amqp_model.specs.Wire.Readings.{Reading, payload_of, reading}
 use Rattle.amqp_channel.specs.Puts.{after_payloads}
 use Rattle.amqp_channel.specs.Roles.{role_of}
 use Rattle.amqp_channel.specs.VerdictView.{left_by, verdict_view, whole_now, Rules}

@@ -1,8 +1,8 @@
 -- What the code keeps of an end's history, in the words of the model, and the room that it has for more.
 use Rattle.std.specs.Prelude.{◌+◌, ◌≤◌, ℕ, List, map, vec_len, vec_capacity}
 use Rattle.std.specs.HashMap.{spare}
-use Rattle.amqp_model.specs.Sent.{Telling}
-use Rattle.amqp_model.specs.Traces.{Noted}
+use Rattle.amqp_model.specs.Pair.Sent.{Telling}
+use Rattle.amqp_model.specs.Stream.Traces.{Noted}
 use Rattle.amqp_core.specs.NoteView.{note_view, telling_view}
 use Rattle.amqp_core.specs.declared.ledger.Ledger.{Ledger}
 

@@ -1,7 +1,7 @@
 -- The lives of a channel, counted by what is noted, the oldest note first. It comes to what the notes of a history count to.
 use Rattle.std.specs.Prelude.{Bool, true, false, cond, not, ◌&&◌, ◌==◌, ℕ, suc, List, [], ◌∷◌}
-use Rattle.amqp_model.specs.Notes.{Role, is_client, is_server}
-use Rattle.amqp_model.specs.Traces.{Word, Open, Close, CloseOk, Direction, IsPut, IsTaken, Noted}
+use Rattle.amqp_model.specs.Wire.Notes.{Role, is_client, is_server}
+use Rattle.amqp_model.specs.Stream.Traces.{Word, Open, Close, CloseOk, Direction, IsPut, IsTaken, Noted}
 
 -- how many lives began, and whether the end put close and has taken no close-ok since
 pub record LifeCount : Type 0 where

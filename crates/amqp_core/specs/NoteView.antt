@@ -1,10 +1,10 @@
 -- Notes and items of the code, in the words of the model.
 use Rattle.std.specs.Prelude.{cond, ◌==◌, ℕ, Option, Some, None}
 use Rattle.amqp_method.specs.MessageView.{message_view}
-use Rattle.amqp_model.specs.Items as items
-use Rattle.amqp_model.specs.Sent as sent
-use Rattle.amqp_model.specs.Traces as traces
-use Rattle.amqp_model.specs.Traces.{Noted, item_of_message}
+use Rattle.amqp_model.specs.Wire.Items as items
+use Rattle.amqp_model.specs.Pair.Sent as sent
+use Rattle.amqp_model.specs.Stream.Traces as traces
+use Rattle.amqp_model.specs.Stream.Traces.{Noted, item_of_message}
 use Rattle.amqp_channel.specs.Messages.{message_of}
 use Rattle.amqp_core.specs.declared.notes.Direction.{Direction}
 use Rattle.amqp_core.specs.declared.notes.Direction.TheVariants as directions

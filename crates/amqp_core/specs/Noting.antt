@@ -1,12 +1,12 @@
 -- What a piece adds to the lists of an end that is kept with its history.
 use Rattle.std.specs.Prelude.{ℕ, List, [], ◌∷◌, ◌++◌, Option, Some, None}
-use Rattle.amqp_model.specs.Closes as closes
-use Rattle.amqp_model.specs.Items.{Item, FlowOkItem, item_of}
-use Rattle.amqp_model.specs.Methods.{sort_of}
-use Rattle.amqp_model.specs.Notes.{Role, Client, Server}
-use Rattle.amqp_model.specs.Readings.{Calls, kind_of}
-use Rattle.amqp_model.specs.Sent.{Telling}
-use Rattle.amqp_model.specs.Traces.{Close, CloseOk, FlowOk, IsPut, Noted, OpenOk, Other, Word, telling_above, telling_at, word_of}
+use Rattle.amqp_model.specs.End.Closes as closes
+use Rattle.amqp_model.specs.Wire.Items.{Item, FlowOkItem, item_of}
+use Rattle.amqp_model.specs.Wire.Methods.{sort_of}
+use Rattle.amqp_model.specs.Wire.Notes.{Role, Client, Server}
+use Rattle.amqp_model.specs.Wire.Readings.{Calls, kind_of}
+use Rattle.amqp_model.specs.Pair.Sent.{Telling}
+use Rattle.amqp_model.specs.Stream.Traces.{Close, CloseOk, FlowOk, IsPut, Noted, OpenOk, Other, Word, telling_above, telling_at, word_of}
 use Rattle.amqp_channel.specs.declared.verdict.Reply.{Reply}
 use Rattle.amqp_channel.specs.declared.verdict.Reply.TheVariants as reply
 use Rattle.amqp_core.specs.LifeCounts.{counted}

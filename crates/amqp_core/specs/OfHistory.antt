@@ -1,15 +1,15 @@
 -- What an end does with what it takes, by its history.
 use Rattle.std.specs.Prelude.{◌≡◌}
 use Rattle.amqp_frame.specs.declared.faults.FrameFaultKind.{FrameFaultKind}
-use Rattle.amqp_model.specs.Channels.{End}
-use Rattle.amqp_model.specs.Endpoint.{owed_at_fault}
-use Rattle.amqp_model.specs.EndVerdict.{end_puts, end_verdict}
-use Rattle.amqp_model.specs.Frame.{Frame}
-use Rattle.amqp_model.specs.Histories.{History}
-use Rattle.amqp_model.specs.LawfulHistories.{end_of}
-use Rattle.amqp_model.specs.Negotiation.{Config}
-use Rattle.amqp_model.specs.Notes.{Role}
-use Rattle.amqp_model.specs.OctetLaws.{event_of_frame}
+use Rattle.amqp_model.specs.End.Channels.{End}
+use Rattle.amqp_model.specs.Stream.Endpoint.{owed_at_fault}
+use Rattle.amqp_model.specs.End.EndVerdict.{end_puts, end_verdict}
+use Rattle.amqp_model.specs.Wire.Frame.{Frame}
+use Rattle.amqp_model.specs.History.Histories.{History}
+use Rattle.amqp_model.specs.End.LawfulHistories.{end_of}
+use Rattle.amqp_model.specs.History.Negotiation.{Config}
+use Rattle.amqp_model.specs.Wire.Notes.{Role}
+use Rattle.amqp_model.specs.Laws.OctetLaws.{event_of_frame}
 
 pub record VerdictsAreOf (role : Role) (config : Config role) (end : End) (history : History) : Type 0 where
   -- the verdict on each frame is the one that the history gives

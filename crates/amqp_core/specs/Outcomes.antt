@@ -1,10 +1,10 @@
 -- What comes of a verdict: the event, what is put, and what the end is then.
 use Rattle.std.specs.Prelude.{◌≡◌, ◌≢◌, Bool, cond, ℕ, List, [], ◌∷◌, Some}
-use Rattle.amqp_model.specs.Channels.{End, Failed}
-use Rattle.amqp_model.specs.Closes.{Owed, ContentTooLarge, channel_close, connection_close}
-use Rattle.amqp_model.specs.Endpoint.{Outcome, Finished, Found}
-use Rattle.amqp_model.specs.Events.{Discarded, Fault, Peer, FrameVerdict, Proceeds, RefusesContent, Faults}
-use Rattle.amqp_model.specs.Machine.{as_failed}
+use Rattle.amqp_model.specs.End.Channels.{End, Failed}
+use Rattle.amqp_model.specs.End.Closes.{Owed, ContentTooLarge, channel_close, connection_close}
+use Rattle.amqp_model.specs.Stream.Endpoint.{Outcome, Finished, Found}
+use Rattle.amqp_model.specs.End.Events.{Discarded, Fault, Peer, FrameVerdict, Proceeds, RefusesContent, Faults}
+use Rattle.amqp_model.specs.End.Machine.{as_failed}
 
 -- connection.close is put once
 abbrev pub owed_for : (closing : Bool) → Fault → List Owed

@@ -1,15 +1,15 @@
 -- In which order the frames stand in an output and leave, and what a write makes of the histories of an end.
 use Rattle.std.specs.Prelude.{Bool, ℕ, List, ◌++◌, take}
-use Rattle.amqp_model.specs.ArrangementRules.{FollowsRules}
-use Rattle.amqp_model.specs.Departures.{IsOutputOf, LeavesLast, PutAs}
-use Rattle.amqp_model.specs.Endpoint.{Endpoint}
-use Rattle.amqp_model.specs.Histories.{History}
-use Rattle.amqp_model.specs.LawfulHistories.{Lawful}
-use Rattle.amqp_model.specs.Negotiation.{Config}
-use Rattle.amqp_model.specs.Notes.{Role}
-use Rattle.amqp_model.specs.OctetLaws.{EndpointStandsFor, HasFailed}
-use Rattle.amqp_model.specs.Octets.{frames_put}
-use Rattle.amqp_model.specs.Outputs.{Output, output_octets}
+use Rattle.amqp_model.specs.Output.ArrangementRules.{FollowsRules}
+use Rattle.amqp_model.specs.Output.Departures.{IsOutputOf, LeavesLast, PutAs}
+use Rattle.amqp_model.specs.Stream.Endpoint.{Endpoint}
+use Rattle.amqp_model.specs.History.Histories.{History}
+use Rattle.amqp_model.specs.End.LawfulHistories.{Lawful}
+use Rattle.amqp_model.specs.History.Negotiation.{Config}
+use Rattle.amqp_model.specs.Wire.Notes.{Role}
+use Rattle.amqp_model.specs.Laws.OctetLaws.{EndpointStandsFor, HasFailed}
+use Rattle.amqp_model.specs.Stream.Octets.{frames_put}
+use Rattle.amqp_model.specs.Output.Outputs.{Output, output_octets}
 use Rattle.amqp_core.specs.Following.{KeepsHistory}
 
 pub record IsInOrder (opening : List ℕ) (history : History) (written : List ℕ) (output : Output) : Type 0 where

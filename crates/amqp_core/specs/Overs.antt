@@ -1,6 +1,6 @@
 -- What a feed answers of an end that is closed, or has failed.
 use Rattle.std.specs.Prelude.{◌≡◌}
-use Rattle.amqp_model.specs.Channels.{Phase, Closed, Failed}
+use Rattle.amqp_model.specs.End.Channels.{Phase, Closed, Failed}
 use Rattle.amqp_core.specs.declared.faults.CoreFault.{CoreFault}
 use Rattle.amqp_core.specs.declared.faults.CoreFault.TheVariants as core
 

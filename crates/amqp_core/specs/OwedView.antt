@@ -1,11 +1,11 @@
 -- The methods that an end puts of itself, in the words of the model.
 use Rattle.std.specs.Prelude.{List, [], ◌∷◌, map, Some}
-use Rattle.amqp_model.specs.Channels as channels
-use Rattle.amqp_model.specs.Closes as closes
-use Rattle.amqp_model.specs.Closes.{connection_close, connection_close_ok, channel_close, reply_to}
-use Rattle.amqp_model.specs.FrameVerdict.{on_zero, on_channel}
-use Rattle.amqp_model.specs.Negotiation.{Config, start, start_ok, tune, tune_ok, connection_open, connection_open_ok}
-use Rattle.amqp_model.specs.Notes.{Role, Client, Server}
+use Rattle.amqp_model.specs.End.Channels as channels
+use Rattle.amqp_model.specs.End.Closes as closes
+use Rattle.amqp_model.specs.End.Closes.{connection_close, connection_close_ok, channel_close, reply_to}
+use Rattle.amqp_model.specs.End.FrameVerdict.{on_zero, on_channel}
+use Rattle.amqp_model.specs.History.Negotiation.{Config, start, start_ok, tune, tune_ok, connection_open, connection_open_ok}
+use Rattle.amqp_model.specs.Wire.Notes.{Role, Client, Server}
 use Rattle.amqp_channel.specs.Closes.{code_view}
 use Rattle.amqp_channel.specs.EventView.{agreed_view}
 use Rattle.amqp_channel.specs.VerdictView.{reply_kind}

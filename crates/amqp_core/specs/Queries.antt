@@ -1,10 +1,10 @@
 -- What an end answers of itself, for every history that it stands for.
 use Rattle.std.specs.Prelude.{false, ℕ, List, Option}
-use Rattle.amqp_model.specs.Channels.{Agreed}
-use Rattle.amqp_model.specs.Histories.{History}
-use Rattle.amqp_model.specs.Methods.{MethodKind}
-use Rattle.amqp_model.specs.OctetLaws.{EndpointStandsFor}
-use Rattle.amqp_model.specs.States.{State}
+use Rattle.amqp_model.specs.End.Channels.{Agreed}
+use Rattle.amqp_model.specs.History.Histories.{History}
+use Rattle.amqp_model.specs.Wire.Methods.{MethodKind}
+use Rattle.amqp_model.specs.Laws.OctetLaws.{EndpointStandsFor}
+use Rattle.amqp_model.specs.History.States.{State}
 use Rattle.amqp_core.specs.Counted.{AgreedIs, DueIs, GatheredIs, PendingIs, PhaseIs, StateIs}
 use Rattle.amqp_core.specs.EndView.{config_at, endpoint_of, role_played}
 use Rattle.amqp_core.specs.OfHistory.{VerdictsAreOf}

@@ -1,12 +1,12 @@
 -- Why what is asked is refused, part by part, in the order of the refusals.
 use Rattle.std.specs.Prelude.{◌≡◌, ◌<◌, ◌≤◌, Bool, not, ◌&&◌, ◌||◌, ◌+◌, nat_lt, ℕ, List, [], ◌∷◌, length, Option, Some, None}
-use Rattle.amqp_model.specs.Asks.{Refusal, BadChannel, NotOpen, Paused, NotSendable, TooLarge, ReplyPending, NoSuchRequest, when, first_refusal, not_running, bad_number, is_not_open, is_pausable, is_sendable, channel_max}
-use Rattle.amqp_model.specs.Channels.{Life, End, Open, Running}
-use Rattle.amqp_model.specs.Events.{Message, Plain, Whole, method_of}
-use Rattle.amqp_model.specs.FrameVerdict.{answers_first}
-use Rattle.amqp_model.specs.Methods.{MethodKind, Method, is_request, is_reply, plain_method, plain_header}
-use Rattle.amqp_model.specs.Notes.{Role, Client, Server}
-use Rattle.amqp_model.specs.ReadingBack.{header_of}
+use Rattle.amqp_model.specs.End.Asks.{Refusal, BadChannel, NotOpen, Paused, NotSendable, TooLarge, ReplyPending, NoSuchRequest, when, first_refusal, not_running, bad_number, is_not_open, is_pausable, is_sendable, channel_max}
+use Rattle.amqp_model.specs.End.Channels.{Life, End, Open, Running}
+use Rattle.amqp_model.specs.End.Events.{Message, Plain, Whole, method_of}
+use Rattle.amqp_model.specs.End.FrameVerdict.{answers_first}
+use Rattle.amqp_model.specs.Wire.Methods.{MethodKind, Method, is_request, is_reply, plain_method, plain_header}
+use Rattle.amqp_model.specs.Wire.Notes.{Role, Client, Server}
+use Rattle.amqp_model.specs.End.ReadingBack.{header_of}
 use Rattle.amqp_core.specs.Faults.{refusal_view}
 use Rattle.amqp_core.specs.declared.faults.AskFault.{AskFault}
 

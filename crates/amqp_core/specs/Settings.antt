@@ -1,7 +1,7 @@
 -- What an end is set up with, in the words of the model.
 use Rattle.amqp_value.specs.Tables.{table_view}
-use Rattle.amqp_model.specs.Negotiation as model
-use Rattle.amqp_model.specs.Notes.{Role}
+use Rattle.amqp_model.specs.History.Negotiation as model
+use Rattle.amqp_model.specs.Wire.Notes.{Role}
 use Rattle.amqp_channel.specs.Roles.{role_of}
 use Rattle.amqp_channel.specs.declared.side.Side.{Side}
 use Rattle.amqp_channel.specs.declared.side.Side.TheVariants as side

@@ -1,9 +1,9 @@
 -- What an end that is kept with its history answers of itself, for each history that it is kept with.
 use Rattle.std.specs.Prelude.{◌≡◌, Bool, false, ℕ, Option}
-use Rattle.amqp_model.specs.Channels.{Agreed}
-use Rattle.amqp_model.specs.Histories.{History}
-use Rattle.amqp_model.specs.Methods.{MethodKind}
-use Rattle.amqp_model.specs.States.{State}
+use Rattle.amqp_model.specs.End.Channels.{Agreed}
+use Rattle.amqp_model.specs.History.Histories.{History}
+use Rattle.amqp_model.specs.Wire.Methods.{MethodKind}
+use Rattle.amqp_model.specs.History.States.{State}
 use Rattle.amqp_core.specs.Counted.{AgreedIs, DueIs, GatheredIs, PendingIs, PhaseIs, StateIs, is_failed}
 use Rattle.amqp_core.specs.OfHistory.{VerdictsAreOf}
 use Rattle.amqp_core.specs.Tracing.{IsTraceOf, IsWrittenInOrder}

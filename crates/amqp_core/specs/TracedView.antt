@@ -1,6 +1,6 @@
 -- What callers see of an end that is kept with its history.
-use Rattle.amqp_model.specs.Negotiation.{Config}
-use Rattle.amqp_model.specs.Notes.{Role}
+use Rattle.amqp_model.specs.History.Negotiation.{Config}
+use Rattle.amqp_model.specs.Wire.Notes.{Role}
 use Rattle.amqp_core.specs.EndView as ends
 use Rattle.amqp_core.specs.TracedFields.{kept_of}
 use Rattle.amqp_core.specs.Tracing.{Kept}

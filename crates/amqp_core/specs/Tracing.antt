@@ -1,17 +1,17 @@
 -- What callers see of an end that is kept with its history, and the histories that it is a trace of.
 use Rattle.std.specs.Prelude.{◌≡◌, ◌≢◌, ◌⊎◌, Bool, true, false, ℕ, List, [], ◌++◌, take}
-use Rattle.amqp_model.specs.Channels.{Failed}
-use Rattle.amqp_model.specs.Endpoint.{Endpoint, Feeding}
-use Rattle.amqp_model.specs.Grown.{Grows}
-use Rattle.amqp_model.specs.Histories.{History}
-use Rattle.amqp_model.specs.Negotiation.{Config, PROTOCOL_HEADER}
-use Rattle.amqp_model.specs.Notes.{Role}
-use Rattle.amqp_model.specs.Octets.{opening_written}
-use Rattle.amqp_model.specs.OctetLaws.{EndpointStandsFor, HasFailed}
-use Rattle.amqp_model.specs.RunningOut.{RanOut}
-use Rattle.amqp_model.specs.Sent.{Telling, told, said}
-use Rattle.amqp_model.specs.Outputs.{Output}
-use Rattle.amqp_model.specs.Traces.{Noted, trace}
+use Rattle.amqp_model.specs.End.Channels.{Failed}
+use Rattle.amqp_model.specs.Stream.Endpoint.{Endpoint, Feeding}
+use Rattle.amqp_model.specs.Stream.Grown.{Grows}
+use Rattle.amqp_model.specs.History.Histories.{History}
+use Rattle.amqp_model.specs.History.Negotiation.{Config, PROTOCOL_HEADER}
+use Rattle.amqp_model.specs.Wire.Notes.{Role}
+use Rattle.amqp_model.specs.Stream.Octets.{opening_written}
+use Rattle.amqp_model.specs.Laws.OctetLaws.{EndpointStandsFor, HasFailed}
+use Rattle.amqp_model.specs.Stream.RunningOut.{RanOut}
+use Rattle.amqp_model.specs.Pair.Sent.{Telling, told, said}
+use Rattle.amqp_model.specs.Output.Outputs.{Output}
+use Rattle.amqp_model.specs.Stream.Traces.{Noted, trace}
 use Rattle.amqp_core.specs.FaultShown.{ShowsFault}
 use Rattle.amqp_core.specs.OutputOrder.{IsInOrder}
 

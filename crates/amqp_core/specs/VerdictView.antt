@@ -1,16 +1,16 @@
 -- What the rules say of a frame that an end takes, in the words of the model, and what the frame leaves of the end.
 use Rattle.std.specs.Prelude.{◌≡◌, ◌<◌, true, ℕ, Option, Some, None}
 use Rattle.amqp_method.specs.declared.kinds.Kind.TheVariants as kinds
-use Rattle.amqp_model.specs.Channels as model
-use Rattle.amqp_model.specs.Channels.{End, Running}
-use Rattle.amqp_model.specs.Contents.{Content}
-use Rattle.amqp_model.specs.Endpoint.{Finished, Found, Outcome}
-use Rattle.amqp_model.specs.Events as events
-use Rattle.amqp_model.specs.Events.{Event, FrameVerdict}
-use Rattle.amqp_model.specs.Machine.{as_failed, set_channel, taken_verdict}
-use Rattle.amqp_model.specs.Methods.{octets_at}
-use Rattle.amqp_model.specs.Notes.{Role}
-use Rattle.amqp_model.specs.Readings.{Reading, Calls}
+use Rattle.amqp_model.specs.End.Channels as model
+use Rattle.amqp_model.specs.End.Channels.{End, Running}
+use Rattle.amqp_model.specs.Wire.Contents.{Content}
+use Rattle.amqp_model.specs.Stream.Endpoint.{Finished, Found, Outcome}
+use Rattle.amqp_model.specs.End.Events as events
+use Rattle.amqp_model.specs.End.Events.{Event, FrameVerdict}
+use Rattle.amqp_model.specs.End.Machine.{as_failed, set_channel, taken_verdict}
+use Rattle.amqp_model.specs.Wire.Methods.{octets_at}
+use Rattle.amqp_model.specs.Wire.Notes.{Role}
+use Rattle.amqp_model.specs.Wire.Readings.{Reading, Calls}
 use Rattle.amqp_channel.specs.ChannelsView.{channels_view}
 use Rattle.amqp_channel.specs.EventView.{agreed_view}
 use Rattle.amqp_channel.specs.VerdictView.{Drops, Fits, FitsEvent, IsUnanswered, handed_out, left_by, reason_read, verdict_view as channel_verdict, whole_now}

@@ -1,8 +1,8 @@
 //! Whether an ask is refused, and where its frames go if it isn't. An end that is kept with its history wants to know this
 //! before anything is put, to make room for what the ask adds.
 ghost use Rattle.std.specs.Prelude.{◌≡◌, Some, IfOk, IfErr, OnOk};
-ghost use Rattle.amqp_model.specs.Asks as asks;
-ghost use Rattle.amqp_model.specs.Asks.{lowest_free};
+ghost use Rattle.amqp_model.specs.End.Asks as asks;
+ghost use Rattle.amqp_model.specs.End.Asks.{lowest_free};
 ghost use Rattle.amqp_core.specs.AskNoting.{IsChannelOf, IsSizeOf};
 ghost use Rattle.amqp_core.specs.AskView.{lent_view};
 ghost use Rattle.amqp_core.specs.Asked.{IsAllowed, IsRefusal};

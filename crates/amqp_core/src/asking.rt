@@ -4,8 +4,8 @@
 //! changes, and the frames are put, which can't fail.
 ghost use Rattle.std.specs.Prelude.{◌≡◌, [], Some, IfOk, IfErr, OnOk};
 ghost use Rattle.amqp_method.specs.MessageView.{message_view};
-ghost use Rattle.amqp_model.specs.Asks as asks;
-ghost use Rattle.amqp_model.specs.Asks.{lowest_free};
+ghost use Rattle.amqp_model.specs.End.Asks as asks;
+ghost use Rattle.amqp_model.specs.End.Asks.{lowest_free};
 ghost use Rattle.amqp_channel.specs.Messages.{message_of};
 ghost use Rattle.amqp_core.specs.AskView.{lent_view};
 ghost use Rattle.amqp_core.specs.Asked.{number_taken, IsAccepted, IsRefused};

@@ -23,7 +23,7 @@ pub(crate) struct Connection {
 
 impl Connection {
     ghost use Rattle.std.specs.Prelude.{◌≡◌};
-    ghost use Rattle.amqp_model.specs.Machine.{as_failed, new_end};
+    ghost use Rattle.amqp_model.specs.End.Machine.{as_failed, new_end};
     ghost use Rattle.amqp_core.specs.ConnectionView.{connection_end, site_at};
     ghost use Rattle.amqp_core.specs.Settings.{role_for};
 

@@ -3,15 +3,15 @@
 //! A server compares the first octets with the protocol header. All others go to the splitter, which lends each frame
 //! from the piece where it lies whole in it; the frame is taken while it is lent, so a body is copied once.
 ghost use Rattle.std.specs.Prelude.{◌≡◌, ◌≢◌, ◌+◌, ◌<◌, ◌≤◌, length, true, false, [], Some, None, Ok, IsOk, IfOk, IfErr, OnOk};
-ghost use Rattle.amqp_model.specs.Endpoint.{after_feed, after_wrote, awaits_opening, new_endpoint};
-ghost use Rattle.amqp_model.specs.EndVerdict.{takes_octets};
-ghost use Rattle.amqp_model.specs.Asks.{refusal};
-ghost use Rattle.amqp_model.specs.Negotiation as negotiation;
-ghost use Rattle.amqp_model.specs.Negotiation.{frame_limit};
-ghost use Rattle.amqp_model.specs.Fitting.{ConfigWrites, IfAgreedFits};
-ghost use Rattle.amqp_model.specs.Octets.{opening_written};
-ghost use Rattle.amqp_model.specs.Outputs.{output_octets};
-ghost use Rattle.amqp_model.specs.Pieces.{reads_frames};
+ghost use Rattle.amqp_model.specs.Stream.Endpoint.{after_feed, after_wrote, awaits_opening, new_endpoint};
+ghost use Rattle.amqp_model.specs.End.EndVerdict.{takes_octets};
+ghost use Rattle.amqp_model.specs.End.Asks.{refusal};
+ghost use Rattle.amqp_model.specs.History.Negotiation as negotiation;
+ghost use Rattle.amqp_model.specs.History.Negotiation.{frame_limit};
+ghost use Rattle.amqp_model.specs.End.Fitting.{ConfigWrites, IfAgreedFits};
+ghost use Rattle.amqp_model.specs.Stream.Octets.{opening_written};
+ghost use Rattle.amqp_model.specs.Output.Outputs.{output_octets};
+ghost use Rattle.amqp_model.specs.Stream.Pieces.{reads_frames};
 ghost use Rattle.amqp_outbox.specs.OutboxView.{begins_with};
 ghost use Rattle.amqp_channel.specs.Roles.{role_of};
 ghost use Rattle.amqp_core.specs.AccountView.{IsFresh};

@@ -1,7 +1,7 @@
 //! What an end says of itself in the handshake: a server in start and tune, a client in start-ok and open.
 ghost use Rattle.std.specs.Prelude.{◌≡◌, IfOk};
 ghost use Rattle.amqp_method.specs.MethodView.{method_view};
-ghost use Rattle.amqp_model.specs.Fitting as fitting;
+ghost use Rattle.amqp_model.specs.End.Fitting as fitting;
 ghost use Rattle.amqp_core.specs.HandshakeMethods.{IsStart, IsStartOk, IsOpen, IsTune};
 
 use crate::faults::OutOfMemory;

@@ -2,19 +2,19 @@
 //! clauses.
 ghost use Rattle.std.specs.Prelude.{ℕ, List};
 ghost use Rattle.amqp_frame.specs.declared.frames.FrameKind.{FrameKind};
-ghost use Rattle.amqp_model.specs.Channels.{Channel};
-ghost use Rattle.amqp_model.specs.Contents.{Payload};
-ghost use Rattle.amqp_model.specs.Negotiation.{Config};
-ghost use Rattle.amqp_model.specs.Readings.{Reading};
+ghost use Rattle.amqp_model.specs.End.Channels.{Channel};
+ghost use Rattle.amqp_model.specs.Wire.Contents.{Payload};
+ghost use Rattle.amqp_model.specs.History.Negotiation.{Config};
+ghost use Rattle.amqp_model.specs.Wire.Readings.{Reading};
 ghost use Rattle.amqp_channel.specs.declared.site.Site.{Site};
 ghost use Rattle.amqp_channel.specs.declared.verdict.Verdict.{Verdict};
 ghost use Rattle.amqp_core.specs.Cuts.{CutsChangeNothing};
 ghost use Rattle.amqp_core.specs.Laws.{PutsAsEnd, StepsAsEnd};
-ghost use Rattle.amqp_model.specs.Methods.{MethodKind};
-ghost use Rattle.amqp_model.specs.Notes.{Role};
+ghost use Rattle.amqp_model.specs.Wire.Methods.{MethodKind};
+ghost use Rattle.amqp_model.specs.Wire.Notes.{Role};
 ghost use Rattle.amqp_channel.specs.Roles.{SentIsTaken, role_of};
 ghost use Rattle.amqp_core.specs.Tracing.{Kept, StandsUnlessFailed};
-ghost use Rattle.amqp_model.specs.Histories.{History};
+ghost use Rattle.amqp_model.specs.History.Histories.{History};
 
 pub use amqp_model::{
     agreement, answers, arrangement, bounds, contents, fitting, lives, octets, one_end, pieces,

@@ -4,9 +4,9 @@
 ghost use Rattle.std.specs.Prelude.{◌≡◌, ◌+◌, ◌<◌, ◌≤◌, [], ◌∷◌, ◌++◌, ℕ, length, map, replicate, vec_len, vec_capacity, option_to_list, Some, OnOk};
 ghost use Rattle.std.specs.HashMap.{spare};
 ghost use Rattle.std.proofs.Props.{props};
-ghost use Rattle.amqp_model.specs.Items.{FlowOkItem};
-ghost use Rattle.amqp_model.specs.Traces as traces;
-ghost use Rattle.amqp_model.specs.Traces.{IsPut, telling_above, telling_at};
+ghost use Rattle.amqp_model.specs.Wire.Items.{FlowOkItem};
+ghost use Rattle.amqp_model.specs.Stream.Traces as traces;
+ghost use Rattle.amqp_model.specs.Stream.Traces.{IsPut, telling_above, telling_at};
 ghost use Rattle.amqp_channel.specs.Roles.{role_of};
 ghost use Rattle.amqp_core.specs.AccountView.{note_there};
 ghost use Rattle.amqp_core.specs.AskNoting.{count_asked, notes_asked};

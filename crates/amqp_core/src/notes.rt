@@ -1,8 +1,8 @@
 //! What an end writes down of the frames that it puts and takes: a note for each.
 ghost use Rattle.std.specs.Prelude.{◌≡◌};
 ghost use Rattle.amqp_method.specs.MethodRefView.{lent_call};
-ghost use Rattle.amqp_model.specs.Readings.{Calls, kind_of};
-ghost use Rattle.amqp_model.specs.Traces.{IsPut, IsTaken, word_of};
+ghost use Rattle.amqp_model.specs.Wire.Readings.{Calls, kind_of};
+ghost use Rattle.amqp_model.specs.Stream.Traces.{IsPut, IsTaken, word_of};
 ghost use Rattle.amqp_channel.specs.ReadingView.{reading_view};
 ghost use Rattle.amqp_core.specs.NoteView.{note_view, noted_as, word_view};
 

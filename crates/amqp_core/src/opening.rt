@@ -1,10 +1,10 @@
 //! The protocol header, which a server reads before any frame: "AMQP", then 0, 0, 9, 1.
 ghost use Rattle.std.specs.Prelude.{◌≡◌, ◌≢◌, ◌+◌, ◌<◌, ◌≤◌, ◌++◌, true, [], length, map, take, slice_index, OnOk, OnErr};
-ghost use Rattle.amqp_model.specs.Closes.{frame_of};
-ghost use Rattle.amqp_model.specs.Endpoint.{awaits_opening, greeting};
-ghost use Rattle.amqp_model.specs.Machine.{as_failed, end_after_owed};
-ghost use Rattle.amqp_model.specs.Negotiation.{PROTOCOL_HEADER as HEADER};
-ghost use Rattle.amqp_model.specs.Outputs.{after_puts};
+ghost use Rattle.amqp_model.specs.End.Closes.{frame_of};
+ghost use Rattle.amqp_model.specs.Stream.Endpoint.{awaits_opening, greeting};
+ghost use Rattle.amqp_model.specs.End.Machine.{as_failed, end_after_owed};
+ghost use Rattle.amqp_model.specs.History.Negotiation.{PROTOCOL_HEADER as HEADER};
+ghost use Rattle.amqp_model.specs.Output.Outputs.{after_puts};
 ghost use Rattle.amqp_outbox.specs.OutboxView.{only};
 ghost use Rattle.amqp_core.specs.ConnectionView.{connection_end};
 ghost use Rattle.amqp_core.specs.Outcomes.{SameEnd};

@@ -1,7 +1,7 @@
 //! What an end owes of itself in reply to what it takes, and how it is staged.
 ghost use Rattle.std.specs.Prelude.{◌≡◌, [], ◌∷◌, map, Some, OnOk, OnErr};
-ghost use Rattle.amqp_model.specs.Closes.{frame_of, reply_to, channel_close, connection_close};
-ghost use Rattle.amqp_model.specs.FrameVerdict.{on_channel};
+ghost use Rattle.amqp_model.specs.End.Closes.{frame_of, reply_to, channel_close, connection_close};
+ghost use Rattle.amqp_model.specs.End.FrameVerdict.{on_channel};
 ghost use Rattle.amqp_outbox.specs.OutboxView.{with_staged};
 ghost use Rattle.amqp_channel.specs.Closes.{code_view};
 ghost use Rattle.amqp_channel.specs.EventView.{agreed_view};

@@ -1,7 +1,7 @@
 //! What an end answers of itself: where it stands, the states of its channels, and how much it keeps of them.
 ghost use Rattle.std.specs.Prelude.{◌≡◌};
-ghost use Rattle.amqp_model.specs.Answers.{channel_state, gathered, reply_due};
-ghost use Rattle.amqp_model.specs.Asks.{channel_max};
+ghost use Rattle.amqp_model.specs.End.Answers.{channel_state, gathered, reply_due};
+ghost use Rattle.amqp_model.specs.End.Asks.{channel_max};
 ghost use Rattle.amqp_channel.specs.StateView.{state_view};
 ghost use Rattle.amqp_core.specs.ConnectionView.{connection_end};
 

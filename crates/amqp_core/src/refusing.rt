@@ -5,8 +5,8 @@ ghost use Rattle.amqp_method.specs.HeaderView.{properties_view};
 ghost use Rattle.amqp_method.specs.MessageView.{message_view};
 ghost use Rattle.amqp_method.specs.MethodView.{method_view};
 ghost use Rattle.amqp_method.specs.Properties.{header};
-ghost use Rattle.amqp_model.specs.Asks.{is_pausable as is_paused_with, is_sendable as is_sent_as_message, Refusal};
-ghost use Rattle.amqp_model.specs.Methods.{plain_method, plain_header};
+ghost use Rattle.amqp_model.specs.End.Asks.{is_pausable as is_paused_with, is_sendable as is_sent_as_message, Refusal};
+ghost use Rattle.amqp_model.specs.Wire.Methods.{plain_method, plain_header};
 ghost use Rattle.amqp_value.specs.Lengths.{capped};
 ghost use Rattle.amqp_channel.specs.LifeView.{life_view, IsOther};
 ghost use Rattle.amqp_channel.specs.Messages.{message_of};
@@ -27,7 +27,7 @@ fn passes(frame_max: u32, payload: u64) -> bool
     u64::from(frame_max) < payload.saturating_add(8)
 }
 
-#[tactic(auto, unfolding(amqp_model::specs::Methods::plain_method))]
+#[tactic(auto, unfolding(amqp_model::specs::Wire::Methods::plain_method))]
 fn method_passes(frame_max: u32, method: &Method) -> bool
     ensures { result ≡ is_passed frame_max (plain_method (method_view method.now)) }
 {
@@ -35,7 +35,7 @@ fn method_passes(frame_max: u32, method: &Method) -> bool
     passes(frame_max, length)
 }
 
-#[tactic(auto, unfolding(amqp_model::specs::Methods::plain_header))]
+#[tactic(auto, unfolding(amqp_model::specs::Wire::Methods::plain_header))]
 fn header_passes(frame_max: u32, properties: &Properties) -> bool
     ensures { (size : ℕ) → result ≡ is_passed frame_max (plain_header (header size (properties_view properties.now))) }
 {
@@ -121,10 +121,10 @@ fn refusal_of_message(
 }
 
 impl Connection {
-    ghost use Rattle.amqp_model.specs.Asks as asks;
-    ghost use Rattle.amqp_model.specs.Asks.{is_free, is_running, lowest_free, refusal};
-    ghost use Rattle.amqp_model.specs.Notes.{Client, Role, Server};
-    ghost use Rattle.amqp_model.specs.Readings.{Calls, kind_of};
+    ghost use Rattle.amqp_model.specs.End.Asks as asks;
+    ghost use Rattle.amqp_model.specs.End.Asks.{is_free, is_running, lowest_free, refusal};
+    ghost use Rattle.amqp_model.specs.Wire.Notes.{Client, Role, Server};
+    ghost use Rattle.amqp_model.specs.Wire.Readings.{Calls, kind_of};
     ghost use Rattle.amqp_channel.specs.ChannelsView.{channels_view};
     ghost use Rattle.amqp_channel.specs.Used.{is_open_at};
     ghost use Rattle.amqp_core.specs.Asked.{IsAllowed, IsRefusal};

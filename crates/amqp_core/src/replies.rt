@@ -2,8 +2,8 @@
 ghost use Rattle.std.specs.Prelude.{◌≡◌, [], IfOk};
 ghost use Rattle.amqp_method.specs.Arguments.{call, Fits};
 ghost use Rattle.amqp_method.specs.MethodView.{method_view};
-ghost use Rattle.amqp_model.specs.Closes.{close_as, flow_as, number_of, text_of, without_arguments};
-ghost use Rattle.amqp_model.specs.Negotiation as negotiation;
+ghost use Rattle.amqp_model.specs.End.Closes.{close_as, flow_as, number_of, text_of, without_arguments};
+ghost use Rattle.amqp_model.specs.History.Negotiation as negotiation;
 ghost use Rattle.amqp_channel.specs.Closes.{code_view};
 ghost use Rattle.amqp_channel.specs.EventView.{agreed_view};
 

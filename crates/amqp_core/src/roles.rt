@@ -1,6 +1,6 @@
 //! The two roles of a connection.
 ghost use Rattle.std.specs.Prelude.{◌≡◌, IfOk};
-ghost use Rattle.amqp_model.specs.Notes.{is_client as is_client_role};
+ghost use Rattle.amqp_model.specs.Wire.Notes.{is_client as is_client_role};
 ghost use Rattle.amqp_channel.specs.Roles.{role_of, sent_by, taken_by};
 
 use crate::faults::OutOfMemory;
@@ -11,7 +11,7 @@ use amqp_method::Kind;
 /// The role that an end plays, known as it is compiled.
 pub trait Role {
     ghost use Rattle.std.specs.Prelude.{◌≡◌, IfOk};
-    ghost use Rattle.amqp_model.specs.Notes.{Role as Played, is_client as is_client_role};
+    ghost use Rattle.amqp_model.specs.Wire.Notes.{Role as Played, is_client as is_client_role};
     ghost use Rattle.amqp_channel.specs.Roles.{role_of, sent_by, taken_by};
     ghost use Rattle.amqp_core.specs.Configs.{said_in};
     ghost use Rattle.amqp_core.specs.Settings.{role_in};
@@ -73,7 +73,7 @@ pub struct Client;
 pub struct Server;
 
 impl Role for Client {
-    ghost use Rattle.amqp_model.specs.Notes.{Client};
+    ghost use Rattle.amqp_model.specs.Wire.Notes.{Client};
     ghost use Rattle.std.specs.Prelude.{refl};
     ghost use Rattle.amqp_core.specs.declared.settings.Hello.TheVariants as said;
 
@@ -99,7 +99,7 @@ impl Role for Client {
 }
 
 impl Role for Server {
-    ghost use Rattle.amqp_model.specs.Notes.{Server};
+    ghost use Rattle.amqp_model.specs.Wire.Notes.{Server};
     ghost use Rattle.std.specs.Prelude.{refl};
     ghost use Rattle.amqp_core.specs.declared.settings.Hello.TheVariants as said;
 

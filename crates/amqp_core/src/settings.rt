@@ -2,7 +2,7 @@
 ghost use Rattle.std.specs.Prelude.{◌≡◌, ◌<◌, ◌≤◌, ◌^◌, ◌↔◌, length, IfOk, IfSome, OnOk, None};
 ghost use Rattle.amqp_value.specs.Lengths.{capped};
 ghost use Rattle.amqp_method.specs.Fitting.{FitsShort};
-ghost use Rattle.amqp_model.specs.Fitting.{ConfigWrites, HostFits, config_fault};
+ghost use Rattle.amqp_model.specs.End.Fitting.{ConfigWrites, HostFits, config_fault};
 ghost use Rattle.amqp_core.specs.Faults.{config_fault_view};
 ghost use Rattle.amqp_core.specs.HandshakeMethods.{IsStartLength, IsStartOkLength, greeting_length};
 ghost use Rattle.amqp_core.specs.Settings.{client_hello_view, server_hello_view, hello_view, side_in};

@@ -7,9 +7,9 @@
 //!
 //! A fault of the peer, or out of memory, leads from each but Closed to Failed.
 ghost use Rattle.std.specs.Prelude.{◌≡◌, ◌≢◌, true, false, None};
-ghost use Rattle.amqp_model.specs.Channels as model;
-ghost use Rattle.amqp_model.specs.EndVerdict.{takes_octets};
-ghost use Rattle.amqp_model.specs.Machine.{new_end};
+ghost use Rattle.amqp_model.specs.End.Channels as model;
+ghost use Rattle.amqp_model.specs.End.EndVerdict.{takes_octets};
+ghost use Rattle.amqp_model.specs.End.Machine.{new_end};
 ghost use Rattle.amqp_channel.specs.Roles.{role_of};
 ghost use Rattle.amqp_channel.specs.EventView.{agreed_there};
 ghost use Rattle.amqp_core.specs.Stages.{agreed_at, phase_at, phase_name, leaves};

@@ -1,6 +1,6 @@
 //! What an end told its application, and what it said to the other end: items, each in a life of its channel.
 ghost use Rattle.std.specs.Prelude.{◌≡◌, IfOk, OnErr};
-ghost use Rattle.amqp_model.specs.Traces.{item_in_event};
+ghost use Rattle.amqp_model.specs.Stream.Traces.{item_in_event};
 ghost use Rattle.amqp_channel.specs.PartsView.{parts_there};
 ghost use Rattle.amqp_core.specs.AskNoting.{item_asked};
 ghost use Rattle.amqp_core.specs.AskView.{lent_view};

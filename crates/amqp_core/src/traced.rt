@@ -1,16 +1,16 @@
 //! An end of a connection that is kept with its history.
 ghost use Rattle.std.specs.Prelude.{◌≡◌, ◌≢◌, ◌+◌, ◌<◌, ◌≤◌, ℕ, List, [], true, false, ◌++◌, length, map, take as first, vec_len, vec_capacity, IfOk, IfErr, OnOk, OnErr};
-ghost use Rattle.amqp_model.specs.ArrangementRules.{FollowsRules};
-ghost use Rattle.amqp_model.specs.Answers.{channel_state, gathered, reply_due};
-ghost use Rattle.amqp_model.specs.Asks.{frames_asked};
-ghost use Rattle.amqp_model.specs.Endpoint.{after_feed, after_wrote, new_endpoint};
-ghost use Rattle.amqp_model.specs.Bounds.{OthersAreFree};
-ghost use Rattle.amqp_model.specs.EndVerdict.{takes_octets};
-ghost use Rattle.amqp_model.specs.Fitting.{ConfigWrites};
-ghost use Rattle.amqp_model.specs.Histories.{History};
-ghost use Rattle.amqp_model.specs.Negotiation.{frame_limit};
-ghost use Rattle.amqp_model.specs.LawfulHistories.{then_put};
-ghost use Rattle.amqp_model.specs.Outputs.{output_octets};
+ghost use Rattle.amqp_model.specs.Output.ArrangementRules.{FollowsRules};
+ghost use Rattle.amqp_model.specs.End.Answers.{channel_state, gathered, reply_due};
+ghost use Rattle.amqp_model.specs.End.Asks.{frames_asked};
+ghost use Rattle.amqp_model.specs.Stream.Endpoint.{after_feed, after_wrote, new_endpoint};
+ghost use Rattle.amqp_model.specs.End.Bounds.{OthersAreFree};
+ghost use Rattle.amqp_model.specs.End.EndVerdict.{takes_octets};
+ghost use Rattle.amqp_model.specs.End.Fitting.{ConfigWrites};
+ghost use Rattle.amqp_model.specs.History.Histories.{History};
+ghost use Rattle.amqp_model.specs.History.Negotiation.{frame_limit};
+ghost use Rattle.amqp_model.specs.End.LawfulHistories.{then_put};
+ghost use Rattle.amqp_model.specs.Output.Outputs.{output_octets};
 ghost use Rattle.amqp_channel.specs.EventView.{agreed_there};
 ghost use Rattle.amqp_channel.specs.Roles.{role_of};
 ghost use Rattle.amqp_channel.specs.StateView.{state_view};

@@ -1,12 +1,12 @@
 //! What an end does, and what is kept of it beside the end: both, or, out of memory, neither.
 ghost use Rattle.std.specs.Prelude.{◌≡◌, ◌≢◌, ◌+◌, ◌*◌, ◌<◌, ◌≤◌, ℕ, true, false, [], length, vec_len, vec_capacity, IsOk, IfOk, IfErr, OnOk, OnErr};
-ghost use Rattle.amqp_model.specs.Asks.{frames_asked, refusal};
-ghost use Rattle.amqp_model.specs.Endpoint.{after_feed};
-ghost use Rattle.amqp_model.specs.EndVerdict.{takes_octets};
-ghost use Rattle.amqp_model.specs.Histories.{History};
-ghost use Rattle.amqp_model.specs.LawfulHistories.{then_put};
-ghost use Rattle.amqp_model.specs.Outputs.{output_octets};
-ghost use Rattle.amqp_model.specs.Traces.{item_in_event};
+ghost use Rattle.amqp_model.specs.End.Asks.{frames_asked, refusal};
+ghost use Rattle.amqp_model.specs.Stream.Endpoint.{after_feed};
+ghost use Rattle.amqp_model.specs.End.EndVerdict.{takes_octets};
+ghost use Rattle.amqp_model.specs.History.Histories.{History};
+ghost use Rattle.amqp_model.specs.End.LawfulHistories.{then_put};
+ghost use Rattle.amqp_model.specs.Output.Outputs.{output_octets};
+ghost use Rattle.amqp_model.specs.Stream.Traces.{item_in_event};
 ghost use Rattle.amqp_channel.specs.PartsView.{parts_there};
 ghost use Rattle.amqp_channel.specs.Roles.{role_of};
 ghost use Rattle.amqp_core.specs.Answering.{ran_out};
@@ -21,7 +21,7 @@ ghost use Rattle.amqp_core.specs.LedgerView.{HasRoom};
 ghost use Rattle.amqp_core.specs.NoteView.{item_there};
 ghost use Rattle.amqp_core.specs.TracedFields.{kept_of};
 ghost use Rattle.amqp_core.specs.Tracing.{FedGrows, IsTraceOf, SameLists, TraceGoesOn};
-ghost use Rattle.amqp_model.specs.Negotiation as negotiation;
+ghost use Rattle.amqp_model.specs.History.Negotiation as negotiation;
 
 use crate::account::Account;
 use crate::allowing::Place;

@@ -1,6 +1,6 @@
 //! What the rules say of a frame that an end takes.
 ghost use Rattle.std.specs.Prelude.{◌≡◌, false};
-ghost use Rattle.amqp_model.specs.Endpoint.{Found};
+ghost use Rattle.amqp_model.specs.Stream.Endpoint.{Found};
 
 use crate::faults::CoreFault;
 use crate::owed::Owed;

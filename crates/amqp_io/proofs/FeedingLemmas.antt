@@ -1,9 +1,9 @@
 -- One feed more, and what comes of the octets that are read after.
 use Rattle.std.proofs.Common.{◌≡◌, ℕ, ◌<◌, ◌≤◌, List, ◌++◌, length, drop, option_to_list, Option, Result, Ok, Err, sym, ◌∙◌, ap, subst, inr}
 use Rattle.std.specs.Io.KnownBytes.{prepend_known}
-use Rattle.amqp_model.specs.Endpoint.{Endpoint}
-use Rattle.amqp_model.specs.Negotiation.{Config}
-use Rattle.amqp_model.specs.Notes.{Role}
+use Rattle.amqp_model.specs.Stream.Endpoint.{Endpoint}
+use Rattle.amqp_model.specs.History.Negotiation.{Config}
+use Rattle.amqp_model.specs.Wire.Notes.{Role}
 use Rattle.amqp_core.specs.Settings.{config_view, role_for}
 use Rattle.amqp_core.specs.declared.taken.Taken.{Taken}
 use Rattle.amqp_core.specs.declared.faults.CoreFault.{CoreFault}

@@ -2,10 +2,10 @@
 use Rattle.std.proofs.Common.{◌≡◌, ℕ, ◌≤◌, min, List, length, take, Option, Result, Ok, sym, ◌∙◌, ap, subst, arith}
 use Rattle.std.proofs.lemmas.List.{length-take, take-take}
 use Rattle.std.specs.Io.KnownBytes.{append_known}
-use Rattle.amqp_model.specs.Endpoint.{Endpoint, after_wrote}
-use Rattle.amqp_model.specs.Negotiation.{Config}
-use Rattle.amqp_model.specs.Notes.{Role}
-use Rattle.amqp_model.specs.Outputs.{output_octets}
+use Rattle.amqp_model.specs.Stream.Endpoint.{Endpoint, after_wrote}
+use Rattle.amqp_model.specs.History.Negotiation.{Config}
+use Rattle.amqp_model.specs.Wire.Notes.{Role}
+use Rattle.amqp_model.specs.Output.Outputs.{output_octets}
 use Rattle.amqp_io.specs.Intakes.{Intake}
 use Rattle.amqp_io.specs.Sessions.{Moves, Pulls, Pushes, PullThenPush, due}
 use Rattle.amqp_io.specs.declared.faults.IoFault.{IoFault}

@@ -1,10 +1,10 @@
 -- How a session feeds its end the octets that it has read, feed after feed.
 use Rattle.std.specs.Prelude.{◌≡◌, ℕ, ◌<◌, List, [], ◌++◌, length, drop, option_to_list, Result, Ok, Err}
-use Rattle.amqp_model.specs.Endpoint.{Endpoint, after_feed}
-use Rattle.amqp_model.specs.Histories.{History}
-use Rattle.amqp_model.specs.Negotiation.{Config}
-use Rattle.amqp_model.specs.Notes.{Role}
-use Rattle.amqp_model.specs.OctetLaws.{EndpointStandsFor}
+use Rattle.amqp_model.specs.Stream.Endpoint.{Endpoint, after_feed}
+use Rattle.amqp_model.specs.History.Histories.{History}
+use Rattle.amqp_model.specs.History.Negotiation.{Config}
+use Rattle.amqp_model.specs.Wire.Notes.{Role}
+use Rattle.amqp_model.specs.Laws.OctetLaws.{EndpointStandsFor}
 use Rattle.amqp_core.specs.Answering.{ran_out}
 use Rattle.amqp_core.specs.Feeding.{IsFed, seen}
 use Rattle.amqp_core.specs.Following.{GoesOn}

@@ -1,6 +1,6 @@
 -- What an ask of a session does: what it does of the end, and nothing else.
 use Rattle.std.specs.Prelude.{◌≡◌, Result}
-use Rattle.amqp_model.specs.Asks.{Ask}
+use Rattle.amqp_model.specs.End.Asks.{Ask}
 use Rattle.amqp_core.specs.EndAsks as ends
 use Rattle.amqp_core.specs.declared.faults.AskFault.{AskFault}
 use Rattle.amqp_core.specs.declared.roles.Role.{Ghosts}

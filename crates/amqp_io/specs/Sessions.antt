@@ -1,10 +1,10 @@
 -- What a session does in a call, by its answer.
 use Rattle.std.specs.Prelude.{◌≡◌, ◌⊎◌, ℕ, ◌<◌, ◌≤◌, min, List, length, take, Option, Result, Ok, Err}
 use Rattle.std.specs.Io.KnownBytes.{append_known}
-use Rattle.amqp_model.specs.Endpoint.{Endpoint, after_wrote}
-use Rattle.amqp_model.specs.Negotiation.{Config}
-use Rattle.amqp_model.specs.Notes.{Role}
-use Rattle.amqp_model.specs.Outputs.{output_octets}
+use Rattle.amqp_model.specs.Stream.Endpoint.{Endpoint, after_wrote}
+use Rattle.amqp_model.specs.History.Negotiation.{Config}
+use Rattle.amqp_model.specs.Wire.Notes.{Role}
+use Rattle.amqp_model.specs.Output.Outputs.{output_octets}
 use Rattle.amqp_io.specs.Intakes.{Intake, FeedsAll, FindsFault, LacksRoom}
 use Rattle.amqp_io.specs.Refilling.{AreRead}
 use Rattle.amqp_io.specs.declared.faults.IoFault.{IoFault}

@@ -1,9 +1,9 @@
 //! One end of a connection, over a stream.
 ghost use Rattle.std.specs.Prelude.{◌≡◌, ◌⊎◌, ◌<◌, ℕ, min, [], ◌++◌, length, option_to_list, Result, Ok, Err, Some, None, IfOk, IfErr, OnOk};
 ghost use Rattle.std.specs.VecDeque.{deque_len, deque_capacity};
-ghost use Rattle.amqp_model.specs.Outputs.{output_octets};
+ghost use Rattle.amqp_model.specs.Output.Outputs.{output_octets};
 ghost use Rattle.amqp_method.specs.MessageView.{message_view};
-ghost use Rattle.amqp_model.specs.Asks as asks;
+ghost use Rattle.amqp_model.specs.End.Asks as asks;
 ghost use Rattle.amqp_channel.specs.Messages.{message_of};
 ghost use Rattle.amqp_core.specs.AskView.{ask_view};
 ghost use Rattle.amqp_core.specs.EndAsks.{AnswersLowest, AnswersNumber};

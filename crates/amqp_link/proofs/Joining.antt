@@ -3,24 +3,24 @@ use Rattle.std.proofs.Common.{◌≡◌, ◌≢◌, ◌≤◌, ◌<◌, ◌+◌,
 use Rattle.std.proofs.Math.Logic.{∥∥₁_elim, ∥∥₁_map, ∥∥₁_map₂, ∥∥₁_prop}
 use Rattle.std.proofs.lemmas.Bool.{true≢false}
 use Rattle.std.proofs.lemmas.List.{length-take-le, take-append-drop, take-append-le}
-use Rattle.amqp_model.specs.ArrangementLaws.{OutputAfterWrite, WriteLeaves, WrittenThenLeft}
-use Rattle.amqp_model.specs.Asks.{Ask, frames_asked, refused_or_put}
-use Rattle.amqp_model.specs.Channels.{End, Failed}
-use Rattle.amqp_model.specs.Departures.{IsOutputOf, PutAs}
-use Rattle.amqp_model.specs.EndsTogether.{AskedStaysPair}
-use Rattle.amqp_model.specs.Endpoint.{Endpoint, Feeding, Found, Outcome, after_feed, after_wrote, new_endpoint}
-use Rattle.amqp_model.specs.Events.{Fault}
-use Rattle.amqp_model.specs.Fitting.{ConfigWrites}
-use Rattle.amqp_model.specs.Frame.{Frame}
-use Rattle.amqp_model.specs.Histories.{History}
-use Rattle.amqp_model.specs.LawfulHistories.{then_put}
-use Rattle.amqp_model.specs.Negotiation.{Config}
-use Rattle.amqp_model.specs.Notes.{Role, Client, Server, other_end}
-use Rattle.amqp_model.specs.OctetLaws.{EndpointStandsFor, IsOctet, NewStands, WroteFollows}
-use Rattle.amqp_model.specs.Octets.{frames_put, opening_read, opening_written}
-use Rattle.amqp_model.specs.OctetsInFlight.{IsFedNext}
-use Rattle.amqp_model.specs.Outputs.{output_octets}
-use Rattle.amqp_model.specs.Pairs.{NewEndsPair, config_of}
+use Rattle.amqp_model.specs.Laws.ArrangementLaws.{OutputAfterWrite, WriteLeaves, WrittenThenLeft}
+use Rattle.amqp_model.specs.End.Asks.{Ask, frames_asked, refused_or_put}
+use Rattle.amqp_model.specs.End.Channels.{End, Failed}
+use Rattle.amqp_model.specs.Output.Departures.{IsOutputOf, PutAs}
+use Rattle.amqp_model.specs.Pair.EndsTogether.{AskedStaysPair}
+use Rattle.amqp_model.specs.Stream.Endpoint.{Endpoint, Feeding, Found, Outcome, after_feed, after_wrote, new_endpoint}
+use Rattle.amqp_model.specs.End.Events.{Fault}
+use Rattle.amqp_model.specs.End.Fitting.{ConfigWrites}
+use Rattle.amqp_model.specs.Wire.Frame.{Frame}
+use Rattle.amqp_model.specs.History.Histories.{History}
+use Rattle.amqp_model.specs.End.LawfulHistories.{then_put}
+use Rattle.amqp_model.specs.History.Negotiation.{Config}
+use Rattle.amqp_model.specs.Wire.Notes.{Role, Client, Server, other_end}
+use Rattle.amqp_model.specs.Laws.OctetLaws.{EndpointStandsFor, IsOctet, NewStands, WroteFollows}
+use Rattle.amqp_model.specs.Stream.Octets.{frames_put, opening_read, opening_written}
+use Rattle.amqp_model.specs.Pair.OctetsInFlight.{IsFedNext}
+use Rattle.amqp_model.specs.Output.Outputs.{output_octets}
+use Rattle.amqp_model.specs.Pair.Pairs.{NewEndsPair, config_of}
 use Rattle.amqp_core.specs.Answering.{Reports, is_out_of_memory}
 use Rattle.amqp_core.specs.Feeding.{IsFed}
 use Rattle.amqp_core.specs.Tracing.{IsTraceOf, Kept, SameLists, TraceGrows}

@@ -2,8 +2,8 @@
 use Rattle.std.proofs.Common.{◌≡◌, ℕ, List, [], ◌∷◌, ◌++◌, map, set, option_map, Some, slice_get, ap, ◌∙◌}
 use Rattle.std.proofs.lemmas.List.{map-append, map-set}
 use Rattle.std.proofs.lemmas.Option.{slice_get-map}
-use Rattle.amqp_model.specs.Negotiation.{Config}
-use Rattle.amqp_model.specs.Notes.{Role}
+use Rattle.amqp_model.specs.History.Negotiation.{Config}
+use Rattle.amqp_model.specs.Wire.Notes.{Role}
 use Rattle.amqp_link.specs.ConnectionSteps.{IsNewConnection}
 use Rattle.amqp_link.specs.ConnectionView.{connection_view}
 use Rattle.amqp_link.specs.LinkSteps.{BeginsOne, DoneAt, done}

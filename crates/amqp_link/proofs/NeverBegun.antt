@@ -2,17 +2,17 @@
 use Rattle.std.proofs.Common.{◌≡◌, ◌⊎◌, inl, inr, Bool, true, false, cond, ◌&&◌, ◌==◌, ℕ, zero, suc, ◌<◌, ◌≤◌, List, [], ◌∷◌, ◌++◌, length, map, Some, slice_get, refl, sym, ap, ◌∙◌, subst, arith}
 use Rattle.std.proofs.lemmas.Bool.{ne_eqb}
 use Rattle.std.proofs.lemmas.Option.{none-some}
-use Rattle.amqp_model.specs.Carried.{At, NoteInLife, life_of, messages, puts, takes}
-use Rattle.amqp_model.specs.EndLaws.{notes_on}
-use Rattle.amqp_model.specs.Frame.{Frame}
-use Rattle.amqp_model.specs.Histories.{History}
-use Rattle.amqp_model.specs.Items.{Item}
-use Rattle.amqp_model.specs.Laws.{SidesAgree}
-use Rattle.amqp_model.specs.Lives.{lives}
-use Rattle.amqp_model.specs.Notes as channel
-use Rattle.amqp_model.specs.Notes.{Role, Client, Server, Kind, Note, is_message}
-use Rattle.amqp_model.specs.Prefixes.{IsPrefixOf}
-use Rattle.amqp_model.specs.Sent.{items_in, items_sent}
+use Rattle.amqp_model.specs.Pair.Carried.{At, NoteInLife, life_of, messages, puts, takes}
+use Rattle.amqp_model.specs.Laws.EndLaws.{notes_on}
+use Rattle.amqp_model.specs.Wire.Frame.{Frame}
+use Rattle.amqp_model.specs.History.Histories.{History}
+use Rattle.amqp_model.specs.Wire.Items.{Item}
+use Rattle.amqp_model.specs.Laws.LifeLaws.{SidesAgree}
+use Rattle.amqp_model.specs.History.Lives.{lives}
+use Rattle.amqp_model.specs.Wire.Notes as channel
+use Rattle.amqp_model.specs.Wire.Notes.{Role, Client, Server, Kind, Note, is_message}
+use Rattle.amqp_model.specs.Output.Prefixes.{IsPrefixOf}
+use Rattle.amqp_model.specs.Pair.Sent.{items_in, items_sent}
 
 -- no entry is of a life above this one
 abbrev pub Below : ℕ → List NoteInLife → Type 0

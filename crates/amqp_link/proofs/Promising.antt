@@ -5,22 +5,22 @@ use Rattle.std.proofs.Props.{props}
 use Rattle.std.proofs.lemmas.Bool.{cases_lt}
 use Rattle.std.proofs.lemmas.List.{nil_from_length}
 use Rattle.std.proofs.lemmas.Option.{none-some, slice_get-map}
-use Rattle.amqp_model.specs.Agreement.{PairWrites}
-use Rattle.amqp_model.specs.Carried.{acted, sent}
-use Rattle.amqp_model.specs.CarryingLaws.{Carries}
-use Rattle.amqp_model.specs.Departures.{PutAs}
-use Rattle.amqp_model.specs.EndLaws.{notes_on}
-use Rattle.amqp_model.specs.Frame.{Frame}
-use Rattle.amqp_model.specs.Histories.{History}
-use Rattle.amqp_model.specs.Items.{Item}
-use Rattle.amqp_model.specs.Negotiation.{Config, frame_limit}
-use Rattle.amqp_model.specs.Lives.{lives}
-use Rattle.amqp_model.specs.Notes.{Role, Client, Server, Note, other_end}
-use Rattle.amqp_model.specs.Octets.{frames_put, opening_written}
-use Rattle.amqp_model.specs.Pairs.{PairAt, config_of}
-use Rattle.amqp_model.specs.Prefixes.{IsPrefixOf}
-use Rattle.amqp_model.specs.Sent.{items_acted, items_in, items_of, items_sent, life_on, payload_in, Telling}
-use Rattle.amqp_model.specs.SentLaws.{NoItemsBeforeFirstLife}
+use Rattle.amqp_model.specs.Pair.Agreement.{PairWrites}
+use Rattle.amqp_model.specs.Pair.Carried.{acted, sent}
+use Rattle.amqp_model.specs.Laws.CarryingLaws.{Carries}
+use Rattle.amqp_model.specs.Output.Departures.{PutAs}
+use Rattle.amqp_model.specs.Laws.EndLaws.{notes_on}
+use Rattle.amqp_model.specs.Wire.Frame.{Frame}
+use Rattle.amqp_model.specs.History.Histories.{History}
+use Rattle.amqp_model.specs.Wire.Items.{Item}
+use Rattle.amqp_model.specs.History.Negotiation.{Config, frame_limit}
+use Rattle.amqp_model.specs.History.Lives.{lives}
+use Rattle.amqp_model.specs.Wire.Notes.{Role, Client, Server, Note, other_end}
+use Rattle.amqp_model.specs.Stream.Octets.{frames_put, opening_written}
+use Rattle.amqp_model.specs.Pair.Pairs.{PairAt, config_of}
+use Rattle.amqp_model.specs.Output.Prefixes.{IsPrefixOf}
+use Rattle.amqp_model.specs.Pair.Sent.{items_acted, items_in, items_of, items_sent, life_on, payload_in, Telling}
+use Rattle.amqp_model.specs.Laws.SentLaws.{NoItemsBeforeFirstLife}
 use Rattle.amqp_link.specs.ConnectionView.{connection_view}
 use Rattle.amqp_link.specs.Encoded.{AreItemsOf}
 use Rattle.amqp_link.specs.Headline.{Headline, KeepsPromises}

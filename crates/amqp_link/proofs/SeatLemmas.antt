@@ -1,10 +1,10 @@
 -- One side: what stays as it is.
 use Rattle.std.proofs.Common.{◌≡◌, false, [], Err, sym, subst}
 use Rattle.std.proofs.lemmas.Option.{none-some}
-use Rattle.amqp_model.specs.Asks.{Ask}
-use Rattle.amqp_model.specs.Endpoint.{new_endpoint}
-use Rattle.amqp_model.specs.Negotiation.{Config}
-use Rattle.amqp_model.specs.Notes.{Role}
+use Rattle.amqp_model.specs.End.Asks.{Ask}
+use Rattle.amqp_model.specs.Stream.Endpoint.{new_endpoint}
+use Rattle.amqp_model.specs.History.Negotiation.{Config}
+use Rattle.amqp_model.specs.Wire.Notes.{Role}
 use Rattle.amqp_core.specs.Asking.{RefusesAsk}
 use Rattle.amqp_core.specs.Tracing.{IsTraceOf, SameLists}
 use Rattle.amqp_core.specs.declared.faults.AskFault.{AskFault}

@@ -6,8 +6,8 @@ use Rattle.std.proofs.lemmas.Bool.{cases_eq, ne_eqb, eq-eqb}
 use Rattle.std.proofs.lemmas.List.{take_more, map_push, map-set, map-id, flat_map_more, length-take, length-map, length-set, ext_get_or, same_lists, get_or-map, get_or-set_same, get_or-set_other, length-replicate, get_or-replicate}
 use Rattle.std.proofs.lemmas.List.FromFn.{length-map-range_with_len, get_or-map-range_with_len, length-enumerate_from, get_or-enumerate_from, map-range_with_len_more}
 use Rattle.std.proofs.lemmas.List.Sums.{length-filter, count_by-le-length, sum_by_push}
-use Rattle.amqp_model.specs.Sent.{Telling}
-use Rattle.amqp_model.specs.Traces.{Noted}
+use Rattle.amqp_model.specs.Pair.Sent.{Telling}
+use Rattle.amqp_model.specs.Stream.Traces.{Noted}
 use Rattle.amqp_core.specs.NoteView.{note_view, telling_view}
 use Rattle.amqp_core.specs.declared.notes.Note.{Note}
 use Rattle.amqp_core.specs.declared.tellings.Telling.{Telling as Said}

@@ -1,15 +1,15 @@
 -- The lives of a channel that a client counts in its history are those that its notes say began.
 use Rattle.std.proofs.Common.{◌≡◌, ℕ, suc, ◌+◌, ◌==◌, Bool, true, false, cond, ◌&&◌, List, [], ◌∷◌, ◌++◌, refl, sym, ap, ◌∙◌, arith}
 use Rattle.std.proofs.lemmas.Bool.{true≢false, eqb-true, ne_eqb}
-use Rattle.amqp_model.specs.EndLaws.{notes_on}
-use Rattle.amqp_model.specs.Frame.{Frame}
-use Rattle.amqp_model.specs.Histories.{History, Put, Took, ChannelEntry, PutHere, TookHere, LeftHere, closes_connection, entries_on, notes}
-use Rattle.amqp_model.specs.Lives.{lives}
-use Rattle.amqp_model.specs.Notes as channel
-use Rattle.amqp_model.specs.Notes.{Client, Kind, Note}
-use Rattle.amqp_model.specs.Readings.{Reading, reading, kind_of}
-use Rattle.amqp_model.specs.Traces as traces
-use Rattle.amqp_model.specs.Traces.{IsPut, IsTaken, Word, noted, trace, word_of}
+use Rattle.amqp_model.specs.Laws.EndLaws.{notes_on}
+use Rattle.amqp_model.specs.Wire.Frame.{Frame}
+use Rattle.amqp_model.specs.History.Histories.{History, Put, Took, ChannelEntry, PutHere, TookHere, LeftHere, closes_connection, entries_on, notes}
+use Rattle.amqp_model.specs.History.Lives.{lives}
+use Rattle.amqp_model.specs.Wire.Notes as channel
+use Rattle.amqp_model.specs.Wire.Notes.{Client, Kind, Note}
+use Rattle.amqp_model.specs.Wire.Readings.{Reading, reading, kind_of}
+use Rattle.amqp_model.specs.Stream.Traces as traces
+use Rattle.amqp_model.specs.Stream.Traces.{IsPut, IsTaken, Word, noted, trace, word_of}
 use Rattle.amqp_link.specs.Tallies.{is_open, begins_on, begun_on}
 use Rattle.amqp_link.proofs.TallyCounts.{begun-push}
 

@@ -1,8 +1,8 @@
 -- What is done with a connection.
 use Rattle.std.specs.Prelude.{◌≡◌, ℕ}
-use Rattle.amqp_model.specs.Asks.{Ask}
-use Rattle.amqp_model.specs.Negotiation.{Config}
-use Rattle.amqp_model.specs.Notes.{Role, Client, Server}
+use Rattle.amqp_model.specs.End.Asks.{Ask}
+use Rattle.amqp_model.specs.History.Negotiation.{Config}
+use Rattle.amqp_model.specs.Wire.Notes.{Role, Client, Server}
 use Rattle.amqp_link.specs.Seats.{Joint, Seated}
 use Rattle.amqp_link.specs.SeatSteps.{Answer, IsNew, SideAsked, SideDropped, SidesCarry}
 use Rattle.amqp_link.specs.declared.steps.Direction.{Direction}

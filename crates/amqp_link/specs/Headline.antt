@@ -8,9 +8,9 @@
 -- link that they leave. `sent` and `acted` answer the two lists of which the one is a prefix of the other, `tally` their lengths;
 -- each of them ensures the same of the link that it is asked of.
 use Rattle.std.specs.Prelude.{◌≡◌, ℕ, [], Some, slice_get}
-use Rattle.amqp_model.specs.Negotiation.{Config}
-use Rattle.amqp_model.specs.Notes.{Client, Server}
-use Rattle.amqp_model.specs.Prefixes.{IsPrefixOf}
+use Rattle.amqp_model.specs.History.Negotiation.{Config}
+use Rattle.amqp_model.specs.Wire.Notes.{Client, Server}
+use Rattle.amqp_model.specs.Output.Prefixes.{IsPrefixOf}
 use Rattle.amqp_link.specs.Items.{HasBegun, acted_in, sent_in}
 use Rattle.amqp_link.specs.LinkSteps.{Linked}
 use Rattle.amqp_link.specs.Promises.{Promises}

@@ -1,8 +1,8 @@
 -- What was sent and acted on in a life of a channel, over a link.
 use Rattle.std.specs.Prelude.{◌≡◌, ◌<◌, ◌≤◌, ℕ, List, [], flat_map, length, Option, Some, None, slice_get}
 use Rattle.std.specs.List.{enumerate_from}
-use Rattle.amqp_model.specs.Items.{Item}
-use Rattle.amqp_model.specs.Sent.{Telling, items_of}
+use Rattle.amqp_model.specs.Wire.Items.{Item}
+use Rattle.amqp_model.specs.Pair.Sent.{Telling, items_of}
 use Rattle.amqp_link.specs.ConnectionSteps.{reader_in, writer_in}
 use Rattle.amqp_link.specs.LinkSteps.{Linked}
 use Rattle.amqp_link.specs.SeatSteps.{to_write}

@@ -1,19 +1,19 @@
 -- The laws by which two sides that are joined stay so as octets are carried.
 use Rattle.std.specs.Prelude.{false, ℕ, List}
-use Rattle.amqp_model.specs.ArrangementLaws.{OutputAfterWrite, WriteLeaves}
-use Rattle.amqp_model.specs.CarryingLaws.{OpeningsMeet}
-use Rattle.amqp_model.specs.Channels.{End}
-use Rattle.amqp_model.specs.EndLaws.{StandingHasNotFailed}
-use Rattle.amqp_model.specs.Endpoint.{Endpoint}
-use Rattle.amqp_model.specs.FittingLaws.{AllReadsBack}
-use Rattle.amqp_model.specs.Histories.{History}
-use Rattle.amqp_model.specs.LeavingLaws.{OctetsArePutAs}
-use Rattle.amqp_model.specs.Negotiation.{Config}
-use Rattle.amqp_model.specs.Notes.{Role, Client, Server, other_end}
-use Rattle.amqp_model.specs.OctetLaws.{FeedTakesWithin, WroteFollows}
-use Rattle.amqp_model.specs.OctetsInFlight.{FeedStaysPair, FindsNoFaultWithOctets, GrownStaysPair}
-use Rattle.amqp_model.specs.Outputs.{Output}
-use Rattle.amqp_model.specs.Pairs.{config_of}
+use Rattle.amqp_model.specs.Laws.ArrangementLaws.{OutputAfterWrite, WriteLeaves}
+use Rattle.amqp_model.specs.Laws.CarryingLaws.{OpeningsMeet}
+use Rattle.amqp_model.specs.End.Channels.{End}
+use Rattle.amqp_model.specs.Laws.EndLaws.{StandingHasNotFailed}
+use Rattle.amqp_model.specs.Stream.Endpoint.{Endpoint}
+use Rattle.amqp_model.specs.Laws.FittingLaws.{AllReadsBack}
+use Rattle.amqp_model.specs.History.Histories.{History}
+use Rattle.amqp_model.specs.Laws.LeavingLaws.{OctetsArePutAs}
+use Rattle.amqp_model.specs.History.Negotiation.{Config}
+use Rattle.amqp_model.specs.Wire.Notes.{Role, Client, Server, other_end}
+use Rattle.amqp_model.specs.Laws.OctetLaws.{FeedTakesWithin, WroteFollows}
+use Rattle.amqp_model.specs.Pair.OctetsInFlight.{FeedStaysPair, FindsNoFaultWithOctets, GrownStaysPair}
+use Rattle.amqp_model.specs.Output.Outputs.{Output}
+use Rattle.amqp_model.specs.Pair.Pairs.{config_of}
 use Rattle.amqp_core.specs.Tracing.{Kept, StandsUnlessFailed}
 
 -- for the reader in this role

@@ -1,14 +1,14 @@
 -- Two sides of a connection, with the histories that they are traces of.
 use Rattle.std.specs.Prelude.{◌≡◌, false}
-use Rattle.amqp_model.specs.Agreement.{PairWrites}
-use Rattle.amqp_model.specs.Departures.{IsOutputOf}
-use Rattle.amqp_model.specs.Histories.{History}
-use Rattle.amqp_model.specs.LawfulHistories.{Lawful}
-use Rattle.amqp_model.specs.Negotiation.{Config}
-use Rattle.amqp_model.specs.Notes.{Role, Client, Server, other_end}
-use Rattle.amqp_model.specs.OctetLaws.{EndpointStandsFor}
-use Rattle.amqp_model.specs.Octets.{frames_put, opening_written}
-use Rattle.amqp_model.specs.Pairs.{config_of}
+use Rattle.amqp_model.specs.Pair.Agreement.{PairWrites}
+use Rattle.amqp_model.specs.Output.Departures.{IsOutputOf}
+use Rattle.amqp_model.specs.History.Histories.{History}
+use Rattle.amqp_model.specs.End.LawfulHistories.{Lawful}
+use Rattle.amqp_model.specs.History.Negotiation.{Config}
+use Rattle.amqp_model.specs.Wire.Notes.{Role, Client, Server, other_end}
+use Rattle.amqp_model.specs.Laws.OctetLaws.{EndpointStandsFor}
+use Rattle.amqp_model.specs.Stream.Octets.{frames_put, opening_written}
+use Rattle.amqp_model.specs.Pair.Pairs.{config_of}
 use Rattle.amqp_core.specs.Tracing.{IsTraceOf}
 use Rattle.amqp_link.specs.Seats.{Seated}
 

@@ -1,10 +1,10 @@
 -- What is done with a link: its steps, one by one and one after another.
 use Rattle.std.specs.Prelude.{◌≡◌, ◌≢◌, ◌≤◌, ℕ, suc, List, [], ◌∷◌, ◌++◌, length, take, Option, Some, None, Result, Ok, Err, slice_get, slice_set}
 use Rattle.std.specs.Option.{option_or}
-use Rattle.amqp_model.specs.Fitting.{config_fault}
-use Rattle.amqp_model.specs.Fitting as model
-use Rattle.amqp_model.specs.Negotiation.{Config}
-use Rattle.amqp_model.specs.Notes.{Role}
+use Rattle.amqp_model.specs.End.Fitting.{config_fault}
+use Rattle.amqp_model.specs.End.Fitting as model
+use Rattle.amqp_model.specs.History.Negotiation.{Config}
+use Rattle.amqp_model.specs.Wire.Notes.{Role}
 use Rattle.amqp_core.specs.AskView.{ask_view}
 use Rattle.amqp_core.specs.Faults.{config_fault_view}
 use Rattle.amqp_core.specs.Roles.{role_of}

@@ -1,22 +1,22 @@
 -- The laws by which joined ends keep what they promise.
 use Rattle.std.specs.Prelude.{false, ℕ, suc, List}
-use Rattle.amqp_model.specs.Channels.{End}
-use Rattle.amqp_model.specs.CarryingLaws.{OpeningsMeet}
-use Rattle.amqp_model.specs.EndLaws.{StandingHasNotFailed}
-use Rattle.amqp_model.specs.ContentLaws.{ItemsAreEncoded}
-use Rattle.amqp_model.specs.Contents.{Payload}
-use Rattle.amqp_model.specs.EndsAgree.{LivesAgree, NoContentFromPaused}
-use Rattle.amqp_model.specs.FittingLaws.{AllReadsBack}
-use Rattle.amqp_model.specs.Histories.{History}
-use Rattle.amqp_model.specs.Items.{Item}
-use Rattle.amqp_model.specs.InTurn.{AsksOneAtATime, PairAnswersInTurn}
-use Rattle.amqp_model.specs.LeavingLaws.{OctetsArePutAs}
-use Rattle.amqp_model.specs.Negotiation.{Config}
-use Rattle.amqp_model.specs.Notes.{Role, Client, Server}
-use Rattle.amqp_model.specs.OctetsInFlight.{ItemsSentAreActedOnOrWaiting, NothingWaitsForClosed, OctetsInFlightAreFrames}
-use Rattle.amqp_model.specs.Outputs.{Output}
-use Rattle.amqp_model.specs.Pairs.{PairAt}
-use Rattle.amqp_model.specs.SentLaws.{ActsOnPrefixOfItems, AllItemsActedOnAtClose, AllItemsActedOnOfEnded, NoItemsBeforeFirstLife, NothingOfChannel0, SaysWhatIsSent, TellsWhatIsActedOn}
+use Rattle.amqp_model.specs.End.Channels.{End}
+use Rattle.amqp_model.specs.Laws.CarryingLaws.{OpeningsMeet}
+use Rattle.amqp_model.specs.Laws.EndLaws.{StandingHasNotFailed}
+use Rattle.amqp_model.specs.Laws.ContentLaws.{ItemsAreEncoded}
+use Rattle.amqp_model.specs.Wire.Contents.{Payload}
+use Rattle.amqp_model.specs.Pair.EndsAgree.{LivesAgree, NoContentFromPaused}
+use Rattle.amqp_model.specs.Laws.FittingLaws.{AllReadsBack}
+use Rattle.amqp_model.specs.History.Histories.{History}
+use Rattle.amqp_model.specs.Wire.Items.{Item}
+use Rattle.amqp_model.specs.Pair.InTurn.{AsksOneAtATime, PairAnswersInTurn}
+use Rattle.amqp_model.specs.Laws.LeavingLaws.{OctetsArePutAs}
+use Rattle.amqp_model.specs.History.Negotiation.{Config}
+use Rattle.amqp_model.specs.Wire.Notes.{Role, Client, Server}
+use Rattle.amqp_model.specs.Pair.OctetsInFlight.{ItemsSentAreActedOnOrWaiting, NothingWaitsForClosed, OctetsInFlightAreFrames}
+use Rattle.amqp_model.specs.Output.Outputs.{Output}
+use Rattle.amqp_model.specs.Pair.Pairs.{PairAt}
+use Rattle.amqp_model.specs.Laws.SentLaws.{ActsOnPrefixOfItems, AllItemsActedOnAtClose, AllItemsActedOnOfEnded, NoItemsBeforeFirstLife, NothingOfChannel0, SaysWhatIsSent, TellsWhatIsActedOn}
 
 -- of every two ends
 pub record PromiseLaws (role : Role) (client_config : Config Client) (server_config : Config Server) : Type 0 where

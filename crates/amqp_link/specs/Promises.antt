@@ -1,23 +1,23 @@
 -- What the two ends of a connection keep to each other, by the histories that they are the traces of: what was put and taken at
 -- either, in which no fault was found.
 use Rattle.std.specs.Prelude.{◌≡◌, ◌≢◌, ◌≤◌, true, false, ℕ, suc, List, [], ◌∷◌, ◌++◌, length, map}
-use Rattle.amqp_model.specs.Arrangement.{on}
-use Rattle.amqp_model.specs.Carried.{acted, message_frames, sent}
-use Rattle.amqp_model.specs.CarryingLaws.{as_carried}
-use Rattle.amqp_model.specs.Channels.{Closed, Failed}
-use Rattle.amqp_model.specs.EndLaws.{notes_on}
-use Rattle.amqp_model.specs.Frame.{Frame}
-use Rattle.amqp_model.specs.Histories.{History, Took}
-use Rattle.amqp_model.specs.InTurn.{AllInTurn, replies_at, requests_at}
-use Rattle.amqp_model.specs.Laws.{IsLive, SidesAgree}
-use Rattle.amqp_model.specs.Negotiation.{Config}
-use Rattle.amqp_model.specs.Notes.{Role, Client, Server, is_content, other_end}
-use Rattle.amqp_model.specs.Octets.{has_opened}
-use Rattle.amqp_model.specs.OctetsInFlight.{InFlight}
-use Rattle.amqp_model.specs.Readings.{kind_of, reading}
-use Rattle.amqp_model.specs.Sent.{items_acted, items_in, items_of, items_sent, life_on}
-use Rattle.amqp_model.specs.SentLaws.{ActsOnPrefixOfItems, AllItemsActedOnAtClose, AllItemsActedOnOfEnded}
-use Rattle.amqp_model.specs.Sentences.{PausesOther}
+use Rattle.amqp_model.specs.Output.Arrangement.{on}
+use Rattle.amqp_model.specs.Pair.Carried.{acted, message_frames, sent}
+use Rattle.amqp_model.specs.Laws.CarryingLaws.{as_carried}
+use Rattle.amqp_model.specs.End.Channels.{Closed, Failed}
+use Rattle.amqp_model.specs.Laws.EndLaws.{notes_on}
+use Rattle.amqp_model.specs.Wire.Frame.{Frame}
+use Rattle.amqp_model.specs.History.Histories.{History, Took}
+use Rattle.amqp_model.specs.Pair.InTurn.{AllInTurn, replies_at, requests_at}
+use Rattle.amqp_model.specs.Laws.LifeLaws.{IsLive, SidesAgree}
+use Rattle.amqp_model.specs.History.Negotiation.{Config}
+use Rattle.amqp_model.specs.Wire.Notes.{Role, Client, Server, is_content, other_end}
+use Rattle.amqp_model.specs.Stream.Octets.{has_opened}
+use Rattle.amqp_model.specs.Pair.OctetsInFlight.{InFlight}
+use Rattle.amqp_model.specs.Wire.Readings.{kind_of, reading}
+use Rattle.amqp_model.specs.Pair.Sent.{items_acted, items_in, items_of, items_sent, life_on}
+use Rattle.amqp_model.specs.Laws.SentLaws.{ActsOnPrefixOfItems, AllItemsActedOnAtClose, AllItemsActedOnOfEnded}
+use Rattle.amqp_model.specs.Pair.Sentences.{PausesOther}
 use Rattle.amqp_link.specs.Encoded.{AreItemsOf}
 use Rattle.amqp_link.specs.Joined.{StandsAt}
 use Rattle.amqp_link.specs.SeatSteps.{to_write}

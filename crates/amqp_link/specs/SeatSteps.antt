@@ -1,12 +1,12 @@
 -- What is done with one side of a connection, and with both where octets are carried.
 use Rattle.std.specs.Prelude.{◌≡◌, ◌≢◌, ◌<◌, ◌≤◌, ◌+◌, ◌-◌, true, false, ℕ, List, [], ◌++◌, length, take, Option, None, Result, Ok, Err}
-use Rattle.amqp_model.specs.Asks.{Ask, Refusal, frames_asked, refusal}
-use Rattle.amqp_model.specs.Endpoint.{Feeding, after_feed, after_wrote, new_endpoint}
-use Rattle.amqp_model.specs.Histories.{History}
-use Rattle.amqp_model.specs.LawfulHistories.{then_put}
-use Rattle.amqp_model.specs.Negotiation.{Config}
-use Rattle.amqp_model.specs.Notes.{Role}
-use Rattle.amqp_model.specs.Outputs.{output_octets}
+use Rattle.amqp_model.specs.End.Asks.{Ask, Refusal, frames_asked, refusal}
+use Rattle.amqp_model.specs.Stream.Endpoint.{Feeding, after_feed, after_wrote, new_endpoint}
+use Rattle.amqp_model.specs.History.Histories.{History}
+use Rattle.amqp_model.specs.End.LawfulHistories.{then_put}
+use Rattle.amqp_model.specs.History.Negotiation.{Config}
+use Rattle.amqp_model.specs.Wire.Notes.{Role}
+use Rattle.amqp_model.specs.Output.Outputs.{output_octets}
 use Rattle.amqp_core.specs.Answering.{ran_out}
 use Rattle.amqp_core.specs.Asking.{AcceptsAsk}
 use Rattle.amqp_core.specs.Faults.{refusal_view}

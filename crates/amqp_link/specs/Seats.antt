@@ -1,7 +1,7 @@
 -- What callers see of the two sides of a connection: their ends, each with its history, and whether they were dropped.
 use Rattle.std.specs.Prelude.{Bool}
-use Rattle.amqp_model.specs.Negotiation.{Config}
-use Rattle.amqp_model.specs.Notes.{Role}
+use Rattle.amqp_model.specs.History.Negotiation.{Config}
+use Rattle.amqp_model.specs.Wire.Notes.{Role}
 use Rattle.amqp_core.specs.Tracing.{Kept}
 
 -- one side: what its end is set up with, the end with its history, and whether it was dropped

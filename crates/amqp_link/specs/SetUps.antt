@@ -1,6 +1,6 @@
 -- What the two ends of a connection are set up with.
-use Rattle.amqp_model.specs.Negotiation as model
-use Rattle.amqp_model.specs.Notes.{Role}
+use Rattle.amqp_model.specs.History.Negotiation as model
+use Rattle.amqp_model.specs.Wire.Notes.{Role}
 use Rattle.amqp_core.specs.Configs.{set_up_as, settings_of}
 use Rattle.amqp_core.specs.declared.config.Config.{Config}
 use Rattle.amqp_core.specs.declared.settings.ClientHello.{ClientHello}

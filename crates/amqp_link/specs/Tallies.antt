@@ -5,8 +5,8 @@
 -- that of a life that did not begin, has no entry.
 use Rattle.std.specs.Prelude.{Bool, true, false, cond, ◌&&◌, ◌==◌, ℕ, max, List, [], ◌∷◌, length, flat_map, count_by}
 use Rattle.std.specs.List.{range_with_len}
-use Rattle.amqp_model.specs.Sent.{Telling, items_of}
-use Rattle.amqp_model.specs.Traces.{Noted, Direction, IsPut, IsTaken, Word, Open}
+use Rattle.amqp_model.specs.Pair.Sent.{Telling, items_of}
+use Rattle.amqp_model.specs.Stream.Traces.{Noted, Direction, IsPut, IsTaken, Word, Open}
 
 abbrev pub is_put : Direction → Bool
 is_put IsPut = true

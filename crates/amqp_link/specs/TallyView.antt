@@ -1,8 +1,8 @@
 -- How the code counts lives and their items, and what it says of a life in a direction, as entries of the tallies.
 use Rattle.std.specs.Prelude.{Bool, true, false, ℕ, ◌-◌, List, map, slice_index, flat_map}
 use Rattle.std.specs.List.{enumerate_from}
-use Rattle.amqp_model.specs.Sent.{Telling}
-use Rattle.amqp_model.specs.Traces.{Noted}
+use Rattle.amqp_model.specs.Pair.Sent.{Telling}
+use Rattle.amqp_model.specs.Stream.Traces.{Noted}
 use Rattle.amqp_link.specs.Tallies.{Tallied, begun_on, count_in, numbers_to, two_entries}
 use Rattle.amqp_link.specs.declared.lives.Life.{Life}
 use Rattle.amqp_link.specs.declared.steps.Direction.{Direction}

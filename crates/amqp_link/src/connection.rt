@@ -1,6 +1,6 @@
 //! A connection of a client and a server in memory. What the one has to write waits to be carried to the other.
 ghost use Rattle.std.specs.Prelude.{◌≡◌, length, map, IfOk};
-ghost use Rattle.amqp_model.specs.Notes.{Client as client_role};
+ghost use Rattle.amqp_model.specs.Wire.Notes.{Client as client_role};
 ghost use Rattle.amqp_core.specs.AskView.{ask_view};
 ghost use Rattle.amqp_core.specs.NoteView.{note_view, telling_view};
 ghost use Rattle.amqp_core.specs.Roles.{role_of};

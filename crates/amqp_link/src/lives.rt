@@ -1,7 +1,7 @@
 //! Lives of channels, and how much was sent and acted on in each.
 ghost use Rattle.std.specs.Prelude.{◌≡◌, ◌<◌, ◌+◌, ◌^◌, ◌==◌, ◌++◌, [], ◌∷◌, ℕ, cond, map, replicate, length, slice_index, IfOk, OnOk};
 ghost use Rattle.amqp_core.specs.NoteView.{item_view, note_view, telling_view};
-ghost use Rattle.amqp_model.specs.Sent as sent;
+ghost use Rattle.amqp_model.specs.Pair.Sent as sent;
 ghost use Rattle.amqp_link.specs.Tallies as tallied;
 ghost use Rattle.amqp_link.specs.TallyView as view;
 ghost use Rattle.amqp_link.specs.TallyView.{tally_view};

@@ -1,7 +1,7 @@
 //! One side of a connection: an end that is kept with its history.
 ghost use Rattle.std.specs.Prelude.{◌≡◌, ◌<◌, ◌≤◌, ◌+◌, false, All, length, map, IfOk};
-ghost use Rattle.amqp_model.specs.Fitting.{ConfigWrites};
-ghost use Rattle.amqp_model.specs.OctetLaws.{IsOctet};
+ghost use Rattle.amqp_model.specs.End.Fitting.{ConfigWrites};
+ghost use Rattle.amqp_model.specs.Laws.OctetLaws.{IsOctet};
 ghost use Rattle.amqp_core.specs.AskView.{ask_view};
 ghost use Rattle.amqp_core.specs.Configs.{set_up_as, settings_of};
 ghost use Rattle.amqp_core.specs.NoteView.{note_view, telling_view};

@@ -1,12 +1,12 @@
 -- What one end acts on in a life: a prefix of what it takes in that life, and all of it while the life goes on.
 use Rattle.std.proofs.Common.{◌≡◌, ℕ, suc, ◌<◌, List, [], ◌∷◌, ◌++◌, ◌⊎◌, inl, inr, Bool, true, false, cond, refl, sym, ap, ◌∙◌, subst, append-nil, arith}
 use Rattle.std.proofs.lemmas.Bool.{ne_eqb, cases_eq, false≢true, true≢false}
-use Rattle.amqp_model.specs.Frame.{Frame}
-use Rattle.amqp_model.specs.Notes.{Role, Kind, Open, OpenOk, Close, CloseOk, Note, Put, Took, Leaving, is_message}
-use Rattle.amqp_model.specs.States.{State, Opening, Closing}
-use Rattle.amqp_model.specs.Lives.{lives, has_left}
-use Rattle.amqp_model.specs.Carried.{At, takes, is_open, acts_next, acted_takes, messages, acted}
-use Rattle.amqp_model.specs.Prefixes.{IsPrefixOf}
+use Rattle.amqp_model.specs.Wire.Frame.{Frame}
+use Rattle.amqp_model.specs.Wire.Notes.{Role, Kind, Open, OpenOk, Close, CloseOk, Note, Put, Took, Leaving, is_message}
+use Rattle.amqp_model.specs.History.States.{State, Opening, Closing}
+use Rattle.amqp_model.specs.History.Lives.{lives, has_left}
+use Rattle.amqp_model.specs.Pair.Carried.{At, takes, is_open, acts_next, acted_takes, messages, acted}
+use Rattle.amqp_model.specs.Output.Prefixes.{IsPrefixOf}
 use Rattle.amqp_model.proofs.Lists.{prefix_none, prefix_more, messages-append, messages_other, messages_elsewhere}
 use Rattle.amqp_model.proofs.Ends.{Is, Lawful, begun, has_asked, has_replied, has_taken, has_left_now, lawful_stands, lawful_lives, here_state, opens, closes, flows, sends, accepts, begins, ends, pauses, hears, acts, crosses, frees, drops, a_flow, a_flow_ok, an_other}
 

@@ -2,24 +2,24 @@
 use Rattle.std.proofs.Common.{◌≡◌, Bool, true, false, cond, ◌&&◌, ℕ, suc, ◌==◌, arith, List, [], ◌∷◌, ◌++◌, map, Option, Some, None, refl, sym, ap, ◌∙◌, subst}
 use Rattle.std.proofs.lemmas.Bool.{false≢true, true≢false, eqb-true, eq-eqb}
 use Rattle.amqp_method.specs.declared.kinds.Kind.TheVariants as kinds
-use Rattle.amqp_model.specs.Frame.{Frame}
-use Rattle.amqp_model.specs.Notes.{Role, Client, Server, Kind, Open, OpenOk, Close, CloseOk, Flow, FlowOk, Other, Note}
-use Rattle.amqp_model.specs.States.{State}
-use Rattle.amqp_model.specs.Lives.{has_left, state_by, state, awaits_flow_ok}
-use Rattle.amqp_model.specs.Verdict as lives
-use Rattle.amqp_model.specs.Verdict.{verdict_at, verdict, when_closing, when_free, when_opening, when_open}
-use Rattle.amqp_model.specs.Carried.{Carry}
-use Rattle.amqp_model.specs.Runs.{IsNext, asks, takes, replies, may_put}
-use Rattle.amqp_model.specs.Methods.{Method, ReadsBack}
-use Rattle.amqp_model.specs.Readings.{Calls, reading, method_reading, is_call, kind_of}
-use Rattle.amqp_model.specs.Histories.{Put, Took, History, ChannelEntry, PutHere, TookHere, LeftHere, entries_on, notes, entries_before_leaving}
-use Rattle.amqp_model.specs.Channels.{Life, Phase, Handshake, Running, Closed, HandshakeStep, state_of}
-use Rattle.amqp_model.specs.Closes.{ContentTooLarge, AllReadBack, method_frame, frame_of, channel_close, reply_to, without_arguments, flow_as}
-use Rattle.amqp_model.specs.Events.{FrameVerdict}
-use Rattle.amqp_model.specs.LawfulHistories.{then_put}
-use Rattle.amqp_model.specs.StateFromHistory.{has_put, life_from, channel_in, channel_from}
-use Rattle.amqp_model.specs.FrameVerdict.{Facts, awaits_in, on_channel, methods_put}
-use Rattle.amqp_model.specs.EndLaws.{is_over, AgreesWithLives, agrees, refuses, ActsOn, rests, acts}
+use Rattle.amqp_model.specs.Wire.Frame.{Frame}
+use Rattle.amqp_model.specs.Wire.Notes.{Role, Client, Server, Kind, Open, OpenOk, Close, CloseOk, Flow, FlowOk, Other, Note}
+use Rattle.amqp_model.specs.History.States.{State}
+use Rattle.amqp_model.specs.History.Lives.{has_left, state_by, state, awaits_flow_ok}
+use Rattle.amqp_model.specs.History.Verdict as lives
+use Rattle.amqp_model.specs.History.Verdict.{verdict_at, verdict, when_closing, when_free, when_opening, when_open}
+use Rattle.amqp_model.specs.Pair.Carried.{Carry}
+use Rattle.amqp_model.specs.Pair.Runs.{IsNext, asks, takes, replies, may_put}
+use Rattle.amqp_model.specs.Wire.Methods.{Method, ReadsBack}
+use Rattle.amqp_model.specs.Wire.Readings.{Calls, reading, method_reading, is_call, kind_of}
+use Rattle.amqp_model.specs.History.Histories.{Put, Took, History, ChannelEntry, PutHere, TookHere, LeftHere, entries_on, notes, entries_before_leaving}
+use Rattle.amqp_model.specs.End.Channels.{Life, Phase, Handshake, Running, Closed, HandshakeStep, state_of}
+use Rattle.amqp_model.specs.End.Closes.{ContentTooLarge, AllReadBack, method_frame, frame_of, channel_close, reply_to, without_arguments, flow_as}
+use Rattle.amqp_model.specs.End.Events.{FrameVerdict}
+use Rattle.amqp_model.specs.End.LawfulHistories.{then_put}
+use Rattle.amqp_model.specs.End.StateFromHistory.{has_put, life_from, channel_in, channel_from}
+use Rattle.amqp_model.specs.End.FrameVerdict.{Facts, awaits_in, on_channel, methods_put}
+use Rattle.amqp_model.specs.Laws.EndLaws.{is_over, AgreesWithLives, agrees, refuses, ActsOn, rests, acts}
 use Rattle.amqp_model.proofs.Following.{all-before}
 use Rattle.amqp_model.proofs.Standing.{notes-before, state-reads}
 use Rattle.amqp_model.proofs.Ends.{before_leaving_all}

@@ -1,21 +1,21 @@
 -- The verdict on a frame of a channel above 0 agrees with the lives of a channel, where it lets the end go on.
 use Rattle.std.proofs.Common.{◌≡◌, Bool, true, false, cond, not, ◌&&◌, ℕ, ◌==◌, nat_lt, List, [], ◌∷◌, Option, Some, None, refl, sym, ap, subst}
 use Rattle.std.proofs.lemmas.Bool.{false≢true, true≢false}
-use Rattle.amqp_model.specs.Notes.{Role, Client, Server, Kind, Close, Other}
-use Rattle.amqp_model.specs.States.{State}
-use Rattle.amqp_model.specs.Verdict as lives
-use Rattle.amqp_model.specs.Verdict.{verdict_at}
-use Rattle.amqp_model.specs.Methods.{MethodKind, Method, carries_content, is_reply}
-use Rattle.amqp_model.specs.Gathering.{Gathering, HeaderDue, Step, Keeps, Completes, Breaks, Misfit, step}
-use Rattle.amqp_model.specs.Readings.{Reading, Calls, HeaderOf, MalformedHeader, BodyOf, Beat, kind_of, payload_of}
-use Rattle.amqp_model.specs.Channels.{Life, Channel, Free, Opening, Closing, state_of, Phase, Handshake, Running, Agreed}
-use Rattle.amqp_model.specs.Channels as channels
-use Rattle.amqp_model.specs.Negotiation.{Config}
-use Rattle.amqp_model.specs.Closes.{CloseCode, CommandInvalid, ChannelError, Owed}
-use Rattle.amqp_model.specs.Events.{FrameVerdict, Proceeds, RefusesContent, Faults, Peer}
-use Rattle.amqp_model.specs.FrameVerdict.{Facts, first_of, awaits_in, as_lives, lives_verdict, on_method, by_state, on_open, on_idle, on_matched, on_content, on_part, after_part, on_message, is_no_channel, is_gathering, answers_first, verdict_on}
-use Rattle.amqp_model.specs.EndVerdict.{goes_on}
-use Rattle.amqp_model.specs.EndLaws.{is_over, AgreesWithLives, agrees, refuses}
+use Rattle.amqp_model.specs.Wire.Notes.{Role, Client, Server, Kind, Close, Other}
+use Rattle.amqp_model.specs.History.States.{State}
+use Rattle.amqp_model.specs.History.Verdict as lives
+use Rattle.amqp_model.specs.History.Verdict.{verdict_at}
+use Rattle.amqp_model.specs.Wire.Methods.{MethodKind, Method, carries_content, is_reply}
+use Rattle.amqp_model.specs.Wire.Gathering.{Gathering, HeaderDue, Step, Keeps, Completes, Breaks, Misfit, step}
+use Rattle.amqp_model.specs.Wire.Readings.{Reading, Calls, HeaderOf, MalformedHeader, BodyOf, Beat, kind_of, payload_of}
+use Rattle.amqp_model.specs.End.Channels.{Life, Channel, Free, Opening, Closing, state_of, Phase, Handshake, Running, Agreed}
+use Rattle.amqp_model.specs.End.Channels as channels
+use Rattle.amqp_model.specs.History.Negotiation.{Config}
+use Rattle.amqp_model.specs.End.Closes.{CloseCode, CommandInvalid, ChannelError, Owed}
+use Rattle.amqp_model.specs.End.Events.{FrameVerdict, Proceeds, RefusesContent, Faults, Peer}
+use Rattle.amqp_model.specs.End.FrameVerdict.{Facts, first_of, awaits_in, as_lives, lives_verdict, on_method, by_state, on_open, on_idle, on_matched, on_content, on_part, after_part, on_message, is_no_channel, is_gathering, answers_first, verdict_on}
+use Rattle.amqp_model.specs.End.EndVerdict.{goes_on}
+use Rattle.amqp_model.specs.Laws.EndLaws.{is_over, AgreesWithLives, agrees, refuses}
 
 -- the methods that a verdict owes of itself
 abbrev owed_in : FrameVerdict → List Owed

@@ -2,19 +2,19 @@
 use Rattle.std.proofs.Common.{◌≡◌, ◌⊎◌, inl, inr, Bool, true, false, ℕ, zero, suc, arith, List, [], ◌∷◌, ◌++◌, map, Some, None, refl, sym, ap, ◌∙◌, subst, append-nil}
 use Rattle.std.proofs.lemmas.Bool.{false≢true, true≢false}
 use Rattle.std.proofs.lemmas.List.{append_cancel_left}
-use Rattle.amqp_model.specs.Frame.{Frame}
-use Rattle.amqp_model.specs.Notes.{Role, Client, Server}
-use Rattle.amqp_model.specs.Arrangement.{on}
-use Rattle.amqp_model.specs.Histories.{History}
-use Rattle.amqp_model.specs.Channels.{HandshakeStep, Phase, Handshake, Running, Closed, Failed, Agreed}
-use Rattle.amqp_model.specs.Negotiation.{Config}
-use Rattle.amqp_model.specs.FrameVerdict.{verdict_on}
-use Rattle.amqp_model.specs.EndVerdict.{facts_at, goes_on}
-use Rattle.amqp_model.specs.Fitting.{ConfigWrites}
-use Rattle.amqp_model.specs.FittingLaws.{MethodReadsBack}
-use Rattle.amqp_model.specs.Octets.{frames_put, frames_taken}
-use Rattle.amqp_model.specs.Pairs.{config_of}
-use Rattle.amqp_model.specs.Agreement.{PairWrites, end_in, smaller_limits, AgreesOnSmaller, AgreesPastHandshake, GoesOnWith, GoesOnAtZero, RunsWhereNextIsAbove, ClosedHasTakenAll}
+use Rattle.amqp_model.specs.Wire.Frame.{Frame}
+use Rattle.amqp_model.specs.Wire.Notes.{Role, Client, Server}
+use Rattle.amqp_model.specs.Output.Arrangement.{on}
+use Rattle.amqp_model.specs.History.Histories.{History}
+use Rattle.amqp_model.specs.End.Channels.{HandshakeStep, Phase, Handshake, Running, Closed, Failed, Agreed}
+use Rattle.amqp_model.specs.History.Negotiation.{Config}
+use Rattle.amqp_model.specs.End.FrameVerdict.{verdict_on}
+use Rattle.amqp_model.specs.End.EndVerdict.{facts_at, goes_on}
+use Rattle.amqp_model.specs.End.Fitting.{ConfigWrites}
+use Rattle.amqp_model.specs.Laws.FittingLaws.{MethodReadsBack}
+use Rattle.amqp_model.specs.Stream.Octets.{frames_put, frames_taken}
+use Rattle.amqp_model.specs.Pair.Pairs.{config_of}
+use Rattle.amqp_model.specs.Pair.Agreement.{PairWrites, end_in, smaller_limits, AgreesOnSmaller, AgreesPastHandshake, GoesOnWith, GoesOnAtZero, RunsWhereNextIsAbove, ClosedHasTakenAll}
 use Rattle.amqp_model.proofs.Acting.{reads-back}
 use Rattle.amqp_model.proofs.ReadBackOwed.{all-reads-back}
 use Rattle.amqp_model.proofs.Footings.{Footing, footing_of}

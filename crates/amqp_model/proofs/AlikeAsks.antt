@@ -1,17 +1,17 @@
 -- Alike ends answer asks and queries alike.
 use Rattle.std.proofs.Common.{◌≡◌, Bool, true, false, cond, not, ◌||◌, ◌&&◌, ℕ, zero, suc, ◌==◌, nat_lt, List, [], ◌∷◌, length, Option, Some, refl, ap, ◌∙◌}
-use Rattle.amqp_model.specs.States.{State}
-use Rattle.amqp_model.specs.Notes.{Role, Client, Server}
-use Rattle.amqp_model.specs.Methods.{is_request, is_reply}
-use Rattle.amqp_model.specs.Channels as channels
-use Rattle.amqp_model.specs.Channels.{Life, Channel, Free, Opening, Closing, Phase, Handshake, Running, Closed, Failed, End, state_of}
-use Rattle.amqp_model.specs.Events.{method_of}
-use Rattle.amqp_model.specs.FrameVerdict.{answers_first}
-use Rattle.amqp_model.specs.Asks.{Ask, Open, Send, Flow, CloseChannel, Close, Blocked, Unblocked, Refusal, channel_max, life_of, lacks_life, in_life, is_free, first_free, lowest_free, when, first_refusal, is_pausable, opens_on, refused_or_put, refusal, frames_asked, ask_verdict, not_running, bad_channel, not_open, paused, not_sendable, too_large, flow_pending, no_free_channel, reply_pending, no_such_request, none_free}
-use Rattle.amqp_model.specs.Asks as asks
-use Rattle.amqp_model.specs.Answers.{state_in, first_of, due_by, due_in}
-use Rattle.amqp_model.specs.Alike.{AlikeLives, AlikeChannels}
-use Rattle.amqp_model.specs.StreamingLaws.{AsksAlike, AnswersAlike, SameOnChannel}
+use Rattle.amqp_model.specs.History.States.{State}
+use Rattle.amqp_model.specs.Wire.Notes.{Role, Client, Server}
+use Rattle.amqp_model.specs.Wire.Methods.{is_request, is_reply}
+use Rattle.amqp_model.specs.End.Channels as channels
+use Rattle.amqp_model.specs.End.Channels.{Life, Channel, Free, Opening, Closing, Phase, Handshake, Running, Closed, Failed, End, state_of}
+use Rattle.amqp_model.specs.End.Events.{method_of}
+use Rattle.amqp_model.specs.End.FrameVerdict.{answers_first}
+use Rattle.amqp_model.specs.End.Asks.{Ask, Open, Send, Flow, CloseChannel, Close, Blocked, Unblocked, Refusal, channel_max, life_of, lacks_life, in_life, is_free, first_free, lowest_free, when, first_refusal, is_pausable, opens_on, refused_or_put, refusal, frames_asked, ask_verdict, not_running, bad_channel, not_open, paused, not_sendable, too_large, flow_pending, no_free_channel, reply_pending, no_such_request, none_free}
+use Rattle.amqp_model.specs.End.Asks as asks
+use Rattle.amqp_model.specs.End.Answers.{state_in, first_of, due_by, due_in}
+use Rattle.amqp_model.specs.Lent.Alike.{AlikeLives, AlikeChannels}
+use Rattle.amqp_model.specs.Laws.StreamingLaws.{AsksAlike, AnswersAlike, SameOnChannel}
 use Rattle.amqp_model.proofs.AlikeVerdicts.{alike-end}
 
 -- What asks look at of a channel.

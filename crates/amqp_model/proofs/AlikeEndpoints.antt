@@ -1,24 +1,24 @@
 -- Alike endpoints do alike with octets, asks and writes, and stay alike.
 use Rattle.std.proofs.Common.{◌≡◌, Bool, true, false, ℕ, suc, List, [], ◌∷◌, ◌++◌, map, Option, Some, None, refl, sym, ap, ◌∙◌, subst}
-use Rattle.amqp_model.specs.Notes.{Role}
-use Rattle.amqp_model.specs.Frame.{Frame}
-use Rattle.amqp_model.specs.Readings.{reading}
-use Rattle.amqp_model.specs.Channels as channels
-use Rattle.amqp_model.specs.Channels.{Life, Channel, Free, Opening, Closing, Phase, Handshake, Running, Closed, Failed, End}
-use Rattle.amqp_model.specs.Negotiation.{Config, frame_limit}
-use Rattle.amqp_model.specs.Closes.{frame_of}
-use Rattle.amqp_model.specs.Events.{Quiet, Fault, FrameVerdict, Proceeds, RefusesContent, Faults, WrongProtocolHeader}
-use Rattle.amqp_model.specs.FrameVerdict.{Facts, methods_put, event_told}
-use Rattle.amqp_model.specs.Asks.{Puts, Refused, AskVerdict, ask_verdict}
-use Rattle.amqp_model.specs.Outputs.{after_puts, after_writing}
-use Rattle.amqp_model.specs.EndVerdict.{facts_at, end_verdict}
-use Rattle.amqp_model.specs.Octets.{opening_read}
-use Rattle.amqp_model.specs.Endpoint.{Endpoint, Feeding, Outcome, Unfinished, Finished, Found, Comparison, Prefix, Same, Differs, Judgement, Begun, Whole, Wrong, judged, compared, awaits_opening, refusal_in, unless_over, goes_on_with, comes_to, greeting, after_opening, outcome_of, fault_told, owed_at_fault, after_judged, after_octets, after_octet, fed_after, after_feed, after_answer, after_ask}
-use Rattle.amqp_model.specs.Machine.{end_after_owed}
-use Rattle.amqp_model.specs.Alike.{AlikeChannels, AlikeEnds, AlikeEndpoints, AlikeFeedings, maybe_telling, VerdictTelling, Proceeding, Refusing, Faulting, verdict_telling, OutcomeTelling, Came, Failing, outcome_telling}
-use Rattle.amqp_model.specs.Histories.{History}
-use Rattle.amqp_model.specs.OctetLaws.{FeedFollows}
-use Rattle.amqp_model.specs.StreamingLaws.{AlikeIsEquality, FeedsAlike, AskingLeavesAlike, WritingLeavesAlike, StreamFeedFollows}
+use Rattle.amqp_model.specs.Wire.Notes.{Role}
+use Rattle.amqp_model.specs.Wire.Frame.{Frame}
+use Rattle.amqp_model.specs.Wire.Readings.{reading}
+use Rattle.amqp_model.specs.End.Channels as channels
+use Rattle.amqp_model.specs.End.Channels.{Life, Channel, Free, Opening, Closing, Phase, Handshake, Running, Closed, Failed, End}
+use Rattle.amqp_model.specs.History.Negotiation.{Config, frame_limit}
+use Rattle.amqp_model.specs.End.Closes.{frame_of}
+use Rattle.amqp_model.specs.End.Events.{Quiet, Fault, FrameVerdict, Proceeds, RefusesContent, Faults, WrongProtocolHeader}
+use Rattle.amqp_model.specs.End.FrameVerdict.{Facts, methods_put, event_told}
+use Rattle.amqp_model.specs.End.Asks.{Puts, Refused, AskVerdict, ask_verdict}
+use Rattle.amqp_model.specs.Output.Outputs.{after_puts, after_writing}
+use Rattle.amqp_model.specs.End.EndVerdict.{facts_at, end_verdict}
+use Rattle.amqp_model.specs.Stream.Octets.{opening_read}
+use Rattle.amqp_model.specs.Stream.Endpoint.{Endpoint, Feeding, Outcome, Unfinished, Finished, Found, Comparison, Prefix, Same, Differs, Judgement, Begun, Whole, Wrong, judged, compared, awaits_opening, refusal_in, unless_over, goes_on_with, comes_to, greeting, after_opening, outcome_of, fault_told, owed_at_fault, after_judged, after_octets, after_octet, fed_after, after_feed, after_answer, after_ask}
+use Rattle.amqp_model.specs.End.Machine.{end_after_owed}
+use Rattle.amqp_model.specs.Lent.Alike.{AlikeChannels, AlikeEnds, AlikeEndpoints, AlikeFeedings, maybe_telling, VerdictTelling, Proceeding, Refusing, Faulting, verdict_telling, OutcomeTelling, Came, Failing, outcome_telling}
+use Rattle.amqp_model.specs.History.Histories.{History}
+use Rattle.amqp_model.specs.Laws.OctetLaws.{FeedFollows}
+use Rattle.amqp_model.specs.Laws.StreamingLaws.{AlikeIsEquality, FeedsAlike, AskingLeavesAlike, WritingLeavesAlike, StreamFeedFollows}
 use Rattle.amqp_model.proofs.AlikeVerdicts.{alike-end, verdicts-alike, puts-are, puts-alike}
 use Rattle.amqp_model.proofs.AlikeEntries.{channel-itself, puts-leave-alike, putting-leaves-alike, failed-alike, taking-leaves-alike}
 use Rattle.amqp_model.proofs.AlikeAsks.{asks-alike}

@@ -1,23 +1,23 @@
 -- Alike ends stay alike after each entry, and after a frame that they take.
 use Rattle.std.proofs.Common.{◌≡◌, Bool, true, false, cond, ℕ, zero, suc, ◌==◌, List, [], ◌∷◌, drop, refl, sym, ap, ◌∙◌, subst}
-use Rattle.amqp_model.specs.Frame.{Frame}
-use Rattle.amqp_model.specs.Notes.{Role, Client, Server, Kind, Open, OpenOk, Close, CloseOk, Flow, FlowOk, Other}
-use Rattle.amqp_model.specs.Methods.{is_reply}
-use Rattle.amqp_model.specs.Gathering.{Gathering, Step, Keeps, Completes, Breaks, step, remains}
-use Rattle.amqp_model.specs.Streaming.{Streams, GoesOn, Ends, Stops, stream_step, stream_remains, streamed, streamed_step}
-use Rattle.amqp_model.specs.Readings.{Reading, Calls, UnknownMethod, MalformedMethod, HeaderOf, MalformedHeader, BodyOf, Beat, kind_of, payload_of, reading as reading_of}
-use Rattle.amqp_model.specs.Histories.{ChannelEntry, PutHere, TookHere, LeftHere}
-use Rattle.amqp_model.specs.Replies.{one_if, completes_reply, answered_by, asked_by}
-use Rattle.amqp_model.specs.Channels as channels
-use Rattle.amqp_model.specs.Channels.{Life, Channel, Free, Opening, Closing, Phase, Handshake, Running, Closed, Failed, Agreed, End}
-use Rattle.amqp_model.specs.Negotiation.{Config}
-use Rattle.amqp_model.specs.Closes.{Owed, frame_of}
-use Rattle.amqp_model.specs.Events.{FrameVerdict, Proceeds, RefusesContent, Faults}
-use Rattle.amqp_model.specs.FrameVerdict.{methods_put}
-use Rattle.amqp_model.specs.EndVerdict.{facts_at}
-use Rattle.amqp_model.specs.Machine.{paused_after, awaits_after, with_asked, requests_after, life_after, open_after_putting, open_after_taking, after_put, after_taken, channel_after, unless_leaving, end_after, end_after_owed, end_after_put, failed_by, as_failed, taken_verdict}
-use Rattle.amqp_model.specs.Alike.{AlikeLives, AlikeChannels, AlikeEnds, VerdictTelling, Proceeding, Refusing, Faulting, verdict_telling}
-use Rattle.amqp_model.specs.StreamingLaws.{EntriesLeaveAlike, PuttingLeavesAlike, TakingLeavesAlike}
+use Rattle.amqp_model.specs.Wire.Frame.{Frame}
+use Rattle.amqp_model.specs.Wire.Notes.{Role, Client, Server, Kind, Open, OpenOk, Close, CloseOk, Flow, FlowOk, Other}
+use Rattle.amqp_model.specs.Wire.Methods.{is_reply}
+use Rattle.amqp_model.specs.Wire.Gathering.{Gathering, Step, Keeps, Completes, Breaks, step, remains}
+use Rattle.amqp_model.specs.Lent.Streaming.{Streams, GoesOn, Ends, Stops, stream_step, stream_remains, streamed, streamed_step}
+use Rattle.amqp_model.specs.Wire.Readings.{Reading, Calls, UnknownMethod, MalformedMethod, HeaderOf, MalformedHeader, BodyOf, Beat, kind_of, payload_of, reading as reading_of}
+use Rattle.amqp_model.specs.History.Histories.{ChannelEntry, PutHere, TookHere, LeftHere}
+use Rattle.amqp_model.specs.History.Replies.{one_if, completes_reply, answered_by, asked_by}
+use Rattle.amqp_model.specs.End.Channels as channels
+use Rattle.amqp_model.specs.End.Channels.{Life, Channel, Free, Opening, Closing, Phase, Handshake, Running, Closed, Failed, Agreed, End}
+use Rattle.amqp_model.specs.History.Negotiation.{Config}
+use Rattle.amqp_model.specs.End.Closes.{Owed, frame_of}
+use Rattle.amqp_model.specs.End.Events.{FrameVerdict, Proceeds, RefusesContent, Faults}
+use Rattle.amqp_model.specs.End.FrameVerdict.{methods_put}
+use Rattle.amqp_model.specs.End.EndVerdict.{facts_at}
+use Rattle.amqp_model.specs.End.Machine.{paused_after, awaits_after, with_asked, requests_after, life_after, open_after_putting, open_after_taking, after_put, after_taken, channel_after, unless_leaving, end_after, end_after_owed, end_after_put, failed_by, as_failed, taken_verdict}
+use Rattle.amqp_model.specs.Lent.Alike.{AlikeLives, AlikeChannels, AlikeEnds, VerdictTelling, Proceeding, Refusing, Faulting, verdict_telling}
+use Rattle.amqp_model.specs.Laws.StreamingLaws.{EntriesLeaveAlike, PuttingLeavesAlike, TakingLeavesAlike}
 use Rattle.amqp_model.proofs.Streamed.{steps-alike, remains-alike}
 use Rattle.amqp_model.proofs.AlikeVerdicts.{alike-end, verdicts-alike, puts-alike}
 

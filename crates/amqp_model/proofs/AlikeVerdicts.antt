@@ -1,21 +1,21 @@
 -- The verdict on a frame is the same at alike ends, but for the content told.
 use Rattle.std.proofs.Common.{◌≡◌, Bool, true, false, cond, nat_lt, ℕ, List, [], ◌∷◌, Option, Some, None, refl, sym, ap, ◌∙◌, subst}
-use Rattle.amqp_model.specs.Notes.{Role, Kind, Open, OpenOk, Close, CloseOk, Flow, FlowOk, Other}
-use Rattle.amqp_model.specs.Methods.{MethodKind, Method}
-use Rattle.amqp_model.specs.Contents.{Header}
-use Rattle.amqp_model.specs.Gathering.{Gathering, Nothing, HeaderDue, BodyDue, NothingBegun, HeaderAwaited, BodyAwaited, PastSize, MethodInside, NotRead, Step, Keeps, Completes, Breaks, step}
-use Rattle.amqp_model.specs.Streaming.{Streams, GoesOn, Ends, Stops, stream_step, is_streaming, streamed, streamed_step}
-use Rattle.amqp_model.specs.Readings.{Reading, Calls, UnknownMethod, MalformedMethod, HeaderOf, MalformedHeader, BodyOf, Beat, kind_of, payload_of}
-use Rattle.amqp_model.specs.Channels as channels
-use Rattle.amqp_model.specs.Channels.{Life, Channel, Free, Opening, Closing, Phase, Handshake, Running, Closed, Failed, Agreed, End}
-use Rattle.amqp_model.specs.Negotiation.{Config}
-use Rattle.amqp_model.specs.Closes.{CloseCode, FrameError, ChannelError, UnexpectedFrame, ContentTooLarge, Owed, channel_close}
-use Rattle.amqp_model.specs.Events.{Peer, Fatal, WrongProtocolHeader, AlreadyClosed, AlreadyFailed, FrameVerdict, Proceeds, RefusesContent, Faults}
-use Rattle.amqp_model.specs.FrameVerdict.{Facts, fault, first_of, when_over, when_leaving, when_heartbeat, when_unread, when_handshake, when_content, on_content, is_no_channel, on_part, part_on, after_part, is_gathering, on_idle, on_open, when_connection, when_misdirected, when_no_channel, on_method, on_rest, verdict_on, methods_put}
-use Rattle.amqp_model.specs.EndVerdict.{facts_at}
-use Rattle.amqp_model.specs.Machine.{taken_verdict}
-use Rattle.amqp_model.specs.Alike.{AlikeLives, AlikeChannels, AlikeEnds, TellsWhole, VerdictTelling, Proceeding, Refusing, Faulting, verdict_telling}
-use Rattle.amqp_model.specs.StreamingLaws.{VerdictsAlike, PutsAlike}
+use Rattle.amqp_model.specs.Wire.Notes.{Role, Kind, Open, OpenOk, Close, CloseOk, Flow, FlowOk, Other}
+use Rattle.amqp_model.specs.Wire.Methods.{MethodKind, Method}
+use Rattle.amqp_model.specs.Wire.Contents.{Header}
+use Rattle.amqp_model.specs.Wire.Gathering.{Gathering, Nothing, HeaderDue, BodyDue, NothingBegun, HeaderAwaited, BodyAwaited, PastSize, MethodInside, NotRead, Step, Keeps, Completes, Breaks, step}
+use Rattle.amqp_model.specs.Lent.Streaming.{Streams, GoesOn, Ends, Stops, stream_step, is_streaming, streamed, streamed_step}
+use Rattle.amqp_model.specs.Wire.Readings.{Reading, Calls, UnknownMethod, MalformedMethod, HeaderOf, MalformedHeader, BodyOf, Beat, kind_of, payload_of}
+use Rattle.amqp_model.specs.End.Channels as channels
+use Rattle.amqp_model.specs.End.Channels.{Life, Channel, Free, Opening, Closing, Phase, Handshake, Running, Closed, Failed, Agreed, End}
+use Rattle.amqp_model.specs.History.Negotiation.{Config}
+use Rattle.amqp_model.specs.End.Closes.{CloseCode, FrameError, ChannelError, UnexpectedFrame, ContentTooLarge, Owed, channel_close}
+use Rattle.amqp_model.specs.End.Events.{Peer, Fatal, WrongProtocolHeader, AlreadyClosed, AlreadyFailed, FrameVerdict, Proceeds, RefusesContent, Faults}
+use Rattle.amqp_model.specs.End.FrameVerdict.{Facts, fault, first_of, when_over, when_leaving, when_heartbeat, when_unread, when_handshake, when_content, on_content, is_no_channel, on_part, part_on, after_part, is_gathering, on_idle, on_open, when_connection, when_misdirected, when_no_channel, on_method, on_rest, verdict_on, methods_put}
+use Rattle.amqp_model.specs.End.EndVerdict.{facts_at}
+use Rattle.amqp_model.specs.End.Machine.{taken_verdict}
+use Rattle.amqp_model.specs.Lent.Alike.{AlikeLives, AlikeChannels, AlikeEnds, TellsWhole, VerdictTelling, Proceeding, Refusing, Faulting, verdict_telling}
+use Rattle.amqp_model.specs.Laws.StreamingLaws.{VerdictsAlike, PutsAlike}
 use Rattle.amqp_model.proofs.Streamed.{steps-alike}
 
 -- A part of a content.

@@ -1,19 +1,19 @@
 -- What an end answers of its channels is what its history says of them.
 use Rattle.std.proofs.Common.{◌≡◌, ◌≢◌, Bool, true, false, cond, ◌||◌, ℕ, suc, ◌==◌, nat_lt, List, length, None, refl, sym, ap, ◌∙◌, subst}
 use Rattle.std.proofs.lemmas.Bool.{true≢false, cond-false, le-ltb}
-use Rattle.amqp_model.specs.Notes.{Role}
-use Rattle.amqp_model.specs.States.{State}
-use Rattle.amqp_model.specs.Contents.{Payload}
-use Rattle.amqp_model.specs.Gathering.{Nothing, gathering, kept}
-use Rattle.amqp_model.specs.Histories.{History, entries_on, entries_before_leaving, under_way}
-use Rattle.amqp_model.specs.Channels.{Life, Channel, Free, Opening, Closing, Open, Phase, Handshake, Running, Closed, Failed, End, state_of}
-use Rattle.amqp_model.specs.Channels as channels
-use Rattle.amqp_model.specs.Negotiation.{Config}
-use Rattle.amqp_model.specs.Asks.{channel_max}
-use Rattle.amqp_model.specs.Answers.{state_in, kept_by, kept_in, due_by, due_in, gathered}
-use Rattle.amqp_model.specs.EndVerdict.{takes_octets}
-use Rattle.amqp_model.specs.Machine.{ChannelStandsFor, CountsOpen, StandsFor}
-use Rattle.amqp_model.specs.AnswersInWords.{taken_on, StateIsOfNotes, ClosedIsFree, GatheredIsUnderWay, NoneIsGathered, OnlyOpenGathers, OnlyOpenIsDue}
+use Rattle.amqp_model.specs.Wire.Notes.{Role}
+use Rattle.amqp_model.specs.History.States.{State}
+use Rattle.amqp_model.specs.Wire.Contents.{Payload}
+use Rattle.amqp_model.specs.Wire.Gathering.{Nothing, gathering, kept}
+use Rattle.amqp_model.specs.History.Histories.{History, entries_on, entries_before_leaving, under_way}
+use Rattle.amqp_model.specs.End.Channels.{Life, Channel, Free, Opening, Closing, Open, Phase, Handshake, Running, Closed, Failed, End, state_of}
+use Rattle.amqp_model.specs.End.Channels as channels
+use Rattle.amqp_model.specs.History.Negotiation.{Config}
+use Rattle.amqp_model.specs.End.Asks.{channel_max}
+use Rattle.amqp_model.specs.End.Answers.{state_in, kept_by, kept_in, due_by, due_in, gathered}
+use Rattle.amqp_model.specs.End.EndVerdict.{takes_octets}
+use Rattle.amqp_model.specs.End.Machine.{ChannelStandsFor, CountsOpen, StandsFor}
+use Rattle.amqp_model.specs.Laws.AnswersInWords.{taken_on, StateIsOfNotes, ClosedIsFree, GatheredIsUnderWay, NoneIsGathered, OnlyOpenGathers, OnlyOpenIsDue}
 use Rattle.amqp_model.proofs.EndSteps.{not-zero, stays-here}
 use Rattle.amqp_model.proofs.Following.{all-before}
 use Rattle.amqp_model.proofs.GatheringLemmas.{keeps-octets, keeps-under_way}

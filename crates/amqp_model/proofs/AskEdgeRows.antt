@@ -4,13 +4,13 @@ use Rattle.amqp_frame.specs.declared.frames.FrameKind.{FrameKind}
 use Rattle.amqp_method.specs.declared.kinds.Kind.TheVariants as kinds
 use Rattle.amqp_value.specs.Values.{Datum, pair, no_pairs}
 use Rattle.amqp_method.specs.Arguments.{bit, short_string, table}
-use Rattle.amqp_model.specs.Frame.{Frame}
-use Rattle.amqp_model.specs.Notes.{Role, Client, Server}
-use Rattle.amqp_model.specs.Methods.{Method, plain_method}
-use Rattle.amqp_model.specs.Channels.{Free, Opening, Closing, Open, new_life, AwaitsOpenOk, Phase, Handshake, Closed, Failed, End}
-use Rattle.amqp_model.specs.Closes.{close_as, flow_as, without_arguments}
-use Rattle.amqp_model.specs.Events.{Plain}
-use Rattle.amqp_model.specs.Asks.{Refusal, Ask, AskVerdict, Refused, Puts, ask_verdict}
+use Rattle.amqp_model.specs.Wire.Frame.{Frame}
+use Rattle.amqp_model.specs.Wire.Notes.{Role, Client, Server}
+use Rattle.amqp_model.specs.Wire.Methods.{Method, plain_method}
+use Rattle.amqp_model.specs.End.Channels.{Free, Opening, Closing, Open, new_life, AwaitsOpenOk, Phase, Handshake, Closed, Failed, End}
+use Rattle.amqp_model.specs.End.Closes.{close_as, flow_as, without_arguments}
+use Rattle.amqp_model.specs.End.Events.{Plain}
+use Rattle.amqp_model.specs.End.Asks.{Refusal, Ask, AskVerdict, Refused, Puts, ask_verdict}
 use Rattle.amqp_model.proofs.AskRows.{ten_channels, open_on_1, AtBothSizes, OnOpenChannel, paused_life, sends}
 
 -- a method frame of this channel

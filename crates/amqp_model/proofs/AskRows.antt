@@ -3,13 +3,13 @@ use Rattle.std.proofs.Common.{◌≡◌, true, false, cond, ◌==◌, nat_le, �
 use Rattle.amqp_frame.specs.declared.frames.FrameKind.{FrameKind}
 use Rattle.amqp_method.specs.declared.kinds.Kind.TheVariants as kinds
 use Rattle.amqp_method.specs.Arguments.{Argument, bit, long, long_long, short_string}
-use Rattle.amqp_model.specs.Frame.{Frame}
-use Rattle.amqp_model.specs.Notes.{Role, Client, Server}
-use Rattle.amqp_model.specs.Methods.{MethodKind, Method, plain_method, plain_header}
-use Rattle.amqp_model.specs.Channels.{Life, Channel, Free, Opening, Closing, Open, new_life, Running, End}
-use Rattle.amqp_model.specs.Closes.{without_arguments}
-use Rattle.amqp_model.specs.Events.{Plain, Whole}
-use Rattle.amqp_model.specs.Asks.{Refusal, Ask, AskVerdict, Refused, Puts, ask_verdict}
+use Rattle.amqp_model.specs.Wire.Frame.{Frame}
+use Rattle.amqp_model.specs.Wire.Notes.{Role, Client, Server}
+use Rattle.amqp_model.specs.Wire.Methods.{MethodKind, Method, plain_method, plain_header}
+use Rattle.amqp_model.specs.End.Channels.{Life, Channel, Free, Opening, Closing, Open, new_life, Running, End}
+use Rattle.amqp_model.specs.End.Closes.{without_arguments}
+use Rattle.amqp_model.specs.End.Events.{Plain, Whole}
+use Rattle.amqp_model.specs.End.Asks.{Refusal, Ask, AskVerdict, Refused, Puts, ask_verdict}
 
 -- an end that is Running with ten channels at most, and these records of them
 abbrev pub ten_channels : (frame_max : ℕ) → (ℕ → Channel) → End

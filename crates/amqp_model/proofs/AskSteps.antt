@@ -2,24 +2,24 @@
 use Rattle.std.proofs.Common.{◌≡◌, inl, inr, Bool, true, false, cond, not, ◌&&◌, ◌||◌, nat_lt, ℕ, zero, suc, ◌==◌, List, [], ◌∷◌, map, length, Option, Some, None, refl, sym, ap, ◌∙◌, subst, arith}
 use Rattle.std.proofs.lemmas.Bool.{true≢false, eq-eqb, lt-ltb}
 use Rattle.amqp_method.specs.declared.kinds.Kind.TheVariants as kinds
-use Rattle.amqp_model.specs.Frame.{Frame}
-use Rattle.amqp_model.specs.Notes.{Role, Client, Server, Other}
-use Rattle.amqp_model.specs.Methods.{MethodKind, Method, header_at, ReadsBack, is_request, is_reply, class_of, begins_content, sort_by, carries_content, same_kind, bit_at}
-use Rattle.amqp_model.specs.Methods as methods
-use Rattle.amqp_model.specs.Contents.{Payload, pieces, room_in}
-use Rattle.amqp_model.specs.Readings.{Reading, Calls, reading, header_reading, kind_of}
-use Rattle.amqp_model.specs.Histories.{Put, History, PutHere}
-use Rattle.amqp_model.specs.Channels.{Life, Channel, Phase, Handshake, Running, Closed, Failed, End}
-use Rattle.amqp_model.specs.Channels as channels
-use Rattle.amqp_model.specs.Negotiation.{Config}
-use Rattle.amqp_model.specs.Closes.{method_frame, flow_as, close_as, without_arguments}
-use Rattle.amqp_model.specs.Events.{Message, Plain, Whole, method_of}
-use Rattle.amqp_model.specs.FrameVerdict.{answers_first}
-use Rattle.amqp_model.specs.Asks.{Ask, Refusal, frame_max, is_running, lowest_free, opens_on, channel_max, life_of, in_life, method_asked, refusal, frames_asked, payload_frame, message_payloads, reply_pending, no_such_request, is_made, Puts, ask_verdict}
-use Rattle.amqp_model.specs.LawfulHistories.{then_put}
-use Rattle.amqp_model.specs.Replies.{request_made}
-use Rattle.amqp_model.specs.Machine.{is_open, life_after, open_after_putting, channel_after, answers_in_turn, may_put_here, end_after, end_after_put}
-use Rattle.amqp_model.specs.EndLaws.{AskFollows}
+use Rattle.amqp_model.specs.Wire.Frame.{Frame}
+use Rattle.amqp_model.specs.Wire.Notes.{Role, Client, Server, Other}
+use Rattle.amqp_model.specs.Wire.Methods.{MethodKind, Method, header_at, ReadsBack, is_request, is_reply, class_of, begins_content, sort_by, carries_content, same_kind, bit_at}
+use Rattle.amqp_model.specs.Wire.Methods as methods
+use Rattle.amqp_model.specs.Wire.Contents.{Payload, pieces, room_in}
+use Rattle.amqp_model.specs.Wire.Readings.{Reading, Calls, reading, header_reading, kind_of}
+use Rattle.amqp_model.specs.History.Histories.{Put, History, PutHere}
+use Rattle.amqp_model.specs.End.Channels.{Life, Channel, Phase, Handshake, Running, Closed, Failed, End}
+use Rattle.amqp_model.specs.End.Channels as channels
+use Rattle.amqp_model.specs.History.Negotiation.{Config}
+use Rattle.amqp_model.specs.End.Closes.{method_frame, flow_as, close_as, without_arguments}
+use Rattle.amqp_model.specs.End.Events.{Message, Plain, Whole, method_of}
+use Rattle.amqp_model.specs.End.FrameVerdict.{answers_first}
+use Rattle.amqp_model.specs.End.Asks.{Ask, Refusal, frame_max, is_running, lowest_free, opens_on, channel_max, life_of, in_life, method_asked, refusal, frames_asked, payload_frame, message_payloads, reply_pending, no_such_request, is_made, Puts, ask_verdict}
+use Rattle.amqp_model.specs.End.LawfulHistories.{then_put}
+use Rattle.amqp_model.specs.History.Replies.{request_made}
+use Rattle.amqp_model.specs.End.Machine.{is_open, life_after, open_after_putting, channel_after, answers_in_turn, may_put_here, end_after, end_after_put}
+use Rattle.amqp_model.specs.Laws.EndLaws.{AskFollows}
 use Rattle.amqp_model.proofs.Acting.{reads-back}
 use Rattle.amqp_model.proofs.Asking.{Accepted, accepted, accepted-none, not-when, has-life, free-found, is-free, IsPart, AllParts, first-false, part-kind, frame-channel, bodies-are-parts, sent-kind, message-class}
 use Rattle.amqp_model.proofs.Walking.{is_none, may_ask_here, quiet-asks, MayPut, IsKeptByPuts, Stands, stands-kept}

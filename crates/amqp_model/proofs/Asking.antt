@@ -2,26 +2,26 @@
 use Rattle.std.proofs.Common.{◌≡◌, Bool, true, false, not, ◌&&◌, ◌||◌, ℕ, zero, suc, ◌==◌, arith, List, [], ◌∷◌, map, length, Option, Some, None, refl, sym, ap, ◌∙◌, subst}
 use Rattle.std.proofs.lemmas.Bool.{false≢true, true≢false, eqb-true, ne_eqb, not-true}
 use Rattle.amqp_method.specs.declared.kinds.Kind.TheVariants as kinds
-use Rattle.amqp_model.specs.Frame.{Frame}
-use Rattle.amqp_model.specs.Notes.{Role, Client, Server, is_client, Kind, Other, Note}
-use Rattle.amqp_model.specs.States.{State}
-use Rattle.amqp_model.specs.Lives.{has_left, state_by, state, is_paused, awaits_flow_ok}
-use Rattle.amqp_model.specs.Runs.{Acts, asks, leaves, may_put}
+use Rattle.amqp_model.specs.Wire.Frame.{Frame}
+use Rattle.amqp_model.specs.Wire.Notes.{Role, Client, Server, is_client, Kind, Other, Note}
+use Rattle.amqp_model.specs.History.States.{State}
+use Rattle.amqp_model.specs.History.Lives.{has_left, state_by, state, is_paused, awaits_flow_ok}
+use Rattle.amqp_model.specs.Pair.Runs.{Acts, asks, leaves, may_put}
 use Rattle.amqp_method.specs.Arguments.{short_string}
-use Rattle.amqp_model.specs.Methods.{MethodKind, Method, ReadsBack, class_of, same_kind, begins_content, sort_by, carries_content, sends, bit_at, header_at}
-use Rattle.amqp_model.specs.Methods as methods
-use Rattle.amqp_model.specs.Contents.{Payload, pieces, room_in}
-use Rattle.amqp_model.specs.Readings.{Calls, reading, header_reading, is_call, kind_of, kind_of_method}
-use Rattle.amqp_model.specs.Histories.{Put, History, ChannelEntry, PutHere, LeftHere, closes_connection, entries_on, notes, entries_before_leaving}
-use Rattle.amqp_model.specs.Channels.{Life, Channel, Phase, Handshake, Running, Closed, Failed, HandshakeStep, End}
-use Rattle.amqp_model.specs.Channels as channels
-use Rattle.amqp_model.specs.Negotiation.{Config}
-use Rattle.amqp_model.specs.StateFromHistory.{has_put, is_closed, is_negotiated, step_from, life_from, channel_in, channel_from, end_from}
-use Rattle.amqp_model.specs.Closes.{Owed, method_frame, without_arguments, flow_as, close_as}
-use Rattle.amqp_model.specs.Events.{Message, Plain, Whole, method_of}
-use Rattle.amqp_model.specs.Asks.{Ask, Refusal, method_asked, channel_max, opens_on, is_made, is_running, life_of, lacks_life, in_life, is_free, first_free, lowest_free, when, first_refusal, is_pausable, refused_or_put, refusal, frames_asked, Puts, payload_frame, message_payloads, not_running, bad_channel, not_open, paused, not_sendable, too_large, flow_pending, no_free_channel, reply_pending, no_such_request}
-use Rattle.amqp_model.specs.LawfulHistories.{then_put}
-use Rattle.amqp_model.specs.EndLaws.{is_over, ActsOn, rests, acts, AsksActs}
+use Rattle.amqp_model.specs.Wire.Methods.{MethodKind, Method, ReadsBack, class_of, same_kind, begins_content, sort_by, carries_content, sends, bit_at, header_at}
+use Rattle.amqp_model.specs.Wire.Methods as methods
+use Rattle.amqp_model.specs.Wire.Contents.{Payload, pieces, room_in}
+use Rattle.amqp_model.specs.Wire.Readings.{Calls, reading, header_reading, is_call, kind_of, kind_of_method}
+use Rattle.amqp_model.specs.History.Histories.{Put, History, ChannelEntry, PutHere, LeftHere, closes_connection, entries_on, notes, entries_before_leaving}
+use Rattle.amqp_model.specs.End.Channels.{Life, Channel, Phase, Handshake, Running, Closed, Failed, HandshakeStep, End}
+use Rattle.amqp_model.specs.End.Channels as channels
+use Rattle.amqp_model.specs.History.Negotiation.{Config}
+use Rattle.amqp_model.specs.End.StateFromHistory.{has_put, is_closed, is_negotiated, step_from, life_from, channel_in, channel_from, end_from}
+use Rattle.amqp_model.specs.End.Closes.{Owed, method_frame, without_arguments, flow_as, close_as}
+use Rattle.amqp_model.specs.End.Events.{Message, Plain, Whole, method_of}
+use Rattle.amqp_model.specs.End.Asks.{Ask, Refusal, method_asked, channel_max, opens_on, is_made, is_running, life_of, lacks_life, in_life, is_free, first_free, lowest_free, when, first_refusal, is_pausable, refused_or_put, refusal, frames_asked, Puts, payload_frame, message_payloads, not_running, bad_channel, not_open, paused, not_sendable, too_large, flow_pending, no_free_channel, reply_pending, no_such_request}
+use Rattle.amqp_model.specs.End.LawfulHistories.{then_put}
+use Rattle.amqp_model.specs.Laws.EndLaws.{is_over, ActsOn, rests, acts, AsksActs}
 use Rattle.amqp_model.proofs.Ends.{before_leaving_all}
 use Rattle.amqp_model.proofs.Standing.{state-reads}
 use Rattle.amqp_model.proofs.Following.{all-before}

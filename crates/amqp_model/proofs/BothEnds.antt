@@ -3,26 +3,26 @@ use Rattle.std.proofs.Common.{◌≡◌, ◌⊎◌, inl, inr, Bool, true, false,
 use Rattle.std.proofs.lemmas.Bool.{false≢true, true≢false}
 use Rattle.std.proofs.lemmas.List.{map-append, append_cancel_left}
 use Rattle.amqp_method.specs.Arguments.{Argument}
-use Rattle.amqp_model.specs.Frame.{Frame}
-use Rattle.amqp_model.specs.Notes.{Role, Client, Server, other_end}
-use Rattle.amqp_model.specs.Arrangement.{is_leaving, on}
-use Rattle.amqp_model.specs.Methods.{ReadsBack}
-use Rattle.amqp_model.specs.Readings.{Calls}
-use Rattle.amqp_model.specs.Histories.{Put, History, PutHere}
-use Rattle.amqp_model.specs.Channels as channels
-use Rattle.amqp_model.specs.Channels.{Life, Phase, Handshake, Running, Closed, End, HandshakeStep, AwaitsProtocolHeader, AwaitsStart, AwaitsStartOk, Agreed}
-use Rattle.amqp_model.specs.Negotiation.{Config}
-use Rattle.amqp_model.specs.Negotiation as negotiation
-use Rattle.amqp_model.specs.StateFromHistory.{end_from}
-use Rattle.amqp_model.specs.Closes.{method_frame}
-use Rattle.amqp_model.specs.Asks.{is_running}
-use Rattle.amqp_model.specs.EndVerdict.{end_verdict, goes_on}
-use Rattle.amqp_model.specs.ReadingBack.{WritesReadBack}
-use Rattle.amqp_model.specs.LawfulHistories.{then_put, then_taken, Goes, greets, takes, asks}
-use Rattle.amqp_model.specs.Machine.{end_after, new_end, StandsFor}
-use Rattle.amqp_model.specs.Fitting.{ConfigWrites}
-use Rattle.amqp_model.specs.Octets.{frames_put, frames_taken}
-use Rattle.amqp_model.specs.Pairs.{ComesNext, AllComeNext, Pair, both_begin, client_goes, server_goes, config_of}
+use Rattle.amqp_model.specs.Wire.Frame.{Frame}
+use Rattle.amqp_model.specs.Wire.Notes.{Role, Client, Server, other_end}
+use Rattle.amqp_model.specs.Output.Arrangement.{is_leaving, on}
+use Rattle.amqp_model.specs.Wire.Methods.{ReadsBack}
+use Rattle.amqp_model.specs.Wire.Readings.{Calls}
+use Rattle.amqp_model.specs.History.Histories.{Put, History, PutHere}
+use Rattle.amqp_model.specs.End.Channels as channels
+use Rattle.amqp_model.specs.End.Channels.{Life, Phase, Handshake, Running, Closed, End, HandshakeStep, AwaitsProtocolHeader, AwaitsStart, AwaitsStartOk, Agreed}
+use Rattle.amqp_model.specs.History.Negotiation.{Config}
+use Rattle.amqp_model.specs.History.Negotiation as negotiation
+use Rattle.amqp_model.specs.End.StateFromHistory.{end_from}
+use Rattle.amqp_model.specs.End.Closes.{method_frame}
+use Rattle.amqp_model.specs.End.Asks.{is_running}
+use Rattle.amqp_model.specs.End.EndVerdict.{end_verdict, goes_on}
+use Rattle.amqp_model.specs.End.ReadingBack.{WritesReadBack}
+use Rattle.amqp_model.specs.End.LawfulHistories.{then_put, then_taken, Goes, greets, takes, asks}
+use Rattle.amqp_model.specs.End.Machine.{end_after, new_end, StandsFor}
+use Rattle.amqp_model.specs.End.Fitting.{ConfigWrites}
+use Rattle.amqp_model.specs.Stream.Octets.{frames_put, frames_taken}
+use Rattle.amqp_model.specs.Pair.Pairs.{ComesNext, AllComeNext, Pair, both_begin, client_goes, server_goes, config_of}
 use Rattle.amqp_model.proofs.Acting.{reads-back}
 use Rattle.amqp_model.proofs.Standing.{end-stands}
 use Rattle.amqp_model.proofs.EndSteps.{end-follows, new-end-stands}

@@ -2,28 +2,28 @@
 use Rattle.std.proofs.Common.{◌≡◌, ◌≤◌, inl, inr, Bool, true, false, cond, ◌&&◌, ◌||◌, ℕ, zero, suc, ◌==◌, nat_lt, nat_le, arith, List, [], ◌∷◌, ◌++◌, map, drop, length, Option, Some, None, refl, sym, ap, ◌∙◌, subst, length-append}
 use Rattle.std.proofs.lemmas.Bool.{cond-true, eq-eqb, false≢true, true≢false, ltb-true, ltb-false, lt-ltb, leb-false}
 use Rattle.std.proofs.lemmas.List.{length-drop}
-use Rattle.amqp_model.specs.Frame.{Frame}
-use Rattle.amqp_model.specs.Notes.{Role, Client, Server, Kind, Open, OpenOk, Close, CloseOk, Flow, FlowOk, Other, is_message}
-use Rattle.amqp_model.specs.Methods.{MethodKind, Method, Properties, carries_content, is_request, is_wanted, bit_at}
-use Rattle.amqp_model.specs.Contents.{Payload}
-use Rattle.amqp_model.specs.Gathering.{kept as octets_kept, Gathering, Nothing, HeaderDue, BodyDue, Keeps, Completes, Breaks, Misfit, step, remains}
-use Rattle.amqp_model.specs.Readings.{Reading, Calls, UnknownMethod, MalformedMethod, HeaderOf, MalformedHeader, BodyOf, Beat, reading, kind_of, payload_of}
-use Rattle.amqp_model.specs.Replies.{request_made}
-use Rattle.amqp_model.specs.Histories.{History, PutHere, TookHere}
-use Rattle.amqp_model.specs.Channels.{Life, Channel, Free, Opening, Closing, Phase, Handshake, Running, Closed, Failed, Agreed, End, new_life}
-use Rattle.amqp_model.specs.Channels as channels
-use Rattle.amqp_model.specs.Negotiation.{Config}
-use Rattle.amqp_model.specs.Closes.{Owed, ChannelError, ResourceError, ContentTooLarge, channel_close, reply_to, frame_of}
-use Rattle.amqp_model.specs.Events.{FrameVerdict, Peer, Proceeds, RefusesContent, Faults}
-use Rattle.amqp_model.specs.FrameVerdict.{on_channel, on_open, on_idle, on_message, on_part, is_gathering, is_no_channel, verdict_on, methods_put}
-use Rattle.amqp_model.specs.EndVerdict.{facts_at, goes_on}
-use Rattle.amqp_model.specs.Asks.{Ask, channel_max}
-use Rattle.amqp_model.specs.Answers.{kept_by, kept_in}
-use Rattle.amqp_model.specs.ReadingBack.{WritesReadBack}
-use Rattle.amqp_model.specs.LawfulHistories.{end_of, Goes, greets, takes, faults, meets_too_large, fails, asks, Lawful, begun as at_start, goes}
-use Rattle.amqp_model.specs.Machine.{with_asked, life_after, free_after_putting, after_put, after_taken, unless_leaving, set_channel, new_end, end_after, end_after_owed, failed_by, StandsFor}
-use Rattle.amqp_model.specs.EndLaws.{is_over, AgreesWithLives, agrees, refuses}
-use Rattle.amqp_model.specs.Bounds.{KeepsPart, most_requests, LifeIsWithin, ChannelIsWithin, EndIsWithin, NewIsWithin, FrameStaysWithin, AskStaysWithin, StandsWithin, GatheredIsWithin, OthersAreFree}
+use Rattle.amqp_model.specs.Wire.Frame.{Frame}
+use Rattle.amqp_model.specs.Wire.Notes.{Role, Client, Server, Kind, Open, OpenOk, Close, CloseOk, Flow, FlowOk, Other, is_message}
+use Rattle.amqp_model.specs.Wire.Methods.{MethodKind, Method, Properties, carries_content, is_request, is_wanted, bit_at}
+use Rattle.amqp_model.specs.Wire.Contents.{Payload}
+use Rattle.amqp_model.specs.Wire.Gathering.{kept as octets_kept, Gathering, Nothing, HeaderDue, BodyDue, Keeps, Completes, Breaks, Misfit, step, remains}
+use Rattle.amqp_model.specs.Wire.Readings.{Reading, Calls, UnknownMethod, MalformedMethod, HeaderOf, MalformedHeader, BodyOf, Beat, reading, kind_of, payload_of}
+use Rattle.amqp_model.specs.History.Replies.{request_made}
+use Rattle.amqp_model.specs.History.Histories.{History, PutHere, TookHere}
+use Rattle.amqp_model.specs.End.Channels.{Life, Channel, Free, Opening, Closing, Phase, Handshake, Running, Closed, Failed, Agreed, End, new_life}
+use Rattle.amqp_model.specs.End.Channels as channels
+use Rattle.amqp_model.specs.History.Negotiation.{Config}
+use Rattle.amqp_model.specs.End.Closes.{Owed, ChannelError, ResourceError, ContentTooLarge, channel_close, reply_to, frame_of}
+use Rattle.amqp_model.specs.End.Events.{FrameVerdict, Peer, Proceeds, RefusesContent, Faults}
+use Rattle.amqp_model.specs.End.FrameVerdict.{on_channel, on_open, on_idle, on_message, on_part, is_gathering, is_no_channel, verdict_on, methods_put}
+use Rattle.amqp_model.specs.End.EndVerdict.{facts_at, goes_on}
+use Rattle.amqp_model.specs.End.Asks.{Ask, channel_max}
+use Rattle.amqp_model.specs.End.Answers.{kept_by, kept_in}
+use Rattle.amqp_model.specs.End.ReadingBack.{WritesReadBack}
+use Rattle.amqp_model.specs.End.LawfulHistories.{end_of, Goes, greets, takes, faults, meets_too_large, fails, asks, Lawful, begun as at_start, goes}
+use Rattle.amqp_model.specs.End.Machine.{with_asked, life_after, free_after_putting, after_put, after_taken, unless_leaving, set_channel, new_end, end_after, end_after_owed, failed_by, StandsFor}
+use Rattle.amqp_model.specs.Laws.EndLaws.{is_over, AgreesWithLives, agrees, refuses}
+use Rattle.amqp_model.specs.End.Bounds.{KeepsPart, most_requests, LifeIsWithin, ChannelIsWithin, EndIsWithin, NewIsWithin, FrameStaysWithin, AskStaysWithin, StandsWithin, GatheredIsWithin, OthersAreFree}
 use Rattle.amqp_model.proofs.Agreeing.{facts_in, handshake-stops, frame-agrees}
 use Rattle.amqp_model.proofs.ClassMethods.{is_class_kind, class-plain}
 use Rattle.amqp_model.proofs.Elsewhere.{Each, verdict-zero}

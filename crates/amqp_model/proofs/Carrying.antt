@@ -8,18 +8,18 @@ use Rattle.amqp_frame.specs.declared.frames.FrameKind.TheVariants.{Method, Heade
 use Rattle.amqp_frame.specs.Frame.{Frame, octets, Fits, type_octet}
 use Rattle.amqp_frame.specs.Splitting.{stream, AllFit}
 use Rattle.amqp_frame.proofs.FrameLemmas.{length-octets, type-at_start, one_frame}
-use Rattle.amqp_model.specs.Notes.{Role, Client, Server}
-use Rattle.amqp_model.specs.Carried.{put_by, taken_by}
-use Rattle.amqp_model.specs.Runs.{IsNext}
-use Rattle.amqp_model.specs.Prefixes.{IsPrefixOf}
-use Rattle.amqp_model.specs.Arrangement.{is_leaving, on}
-use Rattle.amqp_model.specs.Departures.{PutAs}
-use Rattle.amqp_model.specs.Readings.{reading}
-use Rattle.amqp_model.specs.Histories.{Put, Took, History, PutHere, TookHere, LeftHere, closes_connection, notes, entries_on}
-use Rattle.amqp_model.specs.EndLaws.{notes_on}
-use Rattle.amqp_model.specs.Octets.{frames_taken, frames_put, opening_read, FedAs}
-use Rattle.amqp_model.specs.Pairs.{ComesNext}
-use Rattle.amqp_model.specs.CarryingLaws.{as_carried, frame_carried, FramesAreOfChannel, NotesAreOfFrames, OpeningsMeet, Carries, TakesPrefixOnEach, CompletedComesNext}
+use Rattle.amqp_model.specs.Wire.Notes.{Role, Client, Server}
+use Rattle.amqp_model.specs.Pair.Carried.{put_by, taken_by}
+use Rattle.amqp_model.specs.Pair.Runs.{IsNext}
+use Rattle.amqp_model.specs.Output.Prefixes.{IsPrefixOf}
+use Rattle.amqp_model.specs.Output.Arrangement.{is_leaving, on}
+use Rattle.amqp_model.specs.Output.Departures.{PutAs}
+use Rattle.amqp_model.specs.Wire.Readings.{reading}
+use Rattle.amqp_model.specs.History.Histories.{Put, Took, History, PutHere, TookHere, LeftHere, closes_connection, notes, entries_on}
+use Rattle.amqp_model.specs.Laws.EndLaws.{notes_on}
+use Rattle.amqp_model.specs.Stream.Octets.{frames_taken, frames_put, opening_read, FedAs}
+use Rattle.amqp_model.specs.Pair.Pairs.{ComesNext}
+use Rattle.amqp_model.specs.Laws.CarryingLaws.{as_carried, frame_carried, FramesAreOfChannel, NotesAreOfFrames, OpeningsMeet, Carries, TakesPrefixOnEach, CompletedComesNext}
 
 -- one more frame, on its channel or on another
 on-more : (channel : ℕ) (frames : List Frame) (frame : Frame) → on channel (frames ++ frame ∷ []) ≡ on channel frames ++ cond (frame.channel == channel) (frame ∷ []) []

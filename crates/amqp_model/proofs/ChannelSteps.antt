@@ -2,17 +2,17 @@
 use Rattle.std.proofs.Common.{◌≡◌, ◌≤◌, Bool, true, false, ◌||◌, ℕ, zero, suc, ◌+◌, ◌-◌, arith, List, [], ◌∷◌, ◌++◌, drop, length, refl, sym, ap, ◌∙◌, subst, append-nil}
 use Rattle.std.proofs.lemmas.Bool.{false≢true, true≢false}
 use Rattle.std.proofs.lemmas.List.{drop-append-le, drop-drop, length-append, length-drop}
-use Rattle.amqp_model.specs.Frame.{Frame}
-use Rattle.amqp_model.specs.Notes.{Role, Client, Server, is_server, Kind, Open, OpenOk, Close, CloseOk, Flow, FlowOk, Other, Note, Put, Took, is_message}
-use Rattle.amqp_model.specs.Lives.{is_alive, waits, has_open_ok, is_paused, awaits_flow_ok, is_opening, counts}
-use Rattle.amqp_model.specs.Methods.{MethodKind, Method, carries_content, is_reply, wants, Never, bit_at}
-use Rattle.amqp_model.specs.Contents.{Payload}
-use Rattle.amqp_model.specs.Gathering.{Gathering, Nothing, HeaderDue, BodyDue, step, remains}
-use Rattle.amqp_model.specs.Readings.{Reading, Calls, kind_of}
-use Rattle.amqp_model.specs.Histories.{ChannelEntry, PutHere, TookHere, LeftHere, note_of, notes, under_way}
-use Rattle.amqp_model.specs.Replies.{asked_by, answered_by, requested, replied}
-use Rattle.amqp_model.specs.Channels.{Life, Free, Closing, new_life}
-use Rattle.amqp_model.specs.Machine.{paused_by, asks_flow, hears_flow_ok, content_after, paused_after, awaits_after, with_asked, requests_after, life_after, after_taken, channel_after, HasItsRequest, CountsOpen, CountsOpening, Counts}
+use Rattle.amqp_model.specs.Wire.Frame.{Frame}
+use Rattle.amqp_model.specs.Wire.Notes.{Role, Client, Server, is_server, Kind, Open, OpenOk, Close, CloseOk, Flow, FlowOk, Other, Note, Put, Took, is_message}
+use Rattle.amqp_model.specs.History.Lives.{is_alive, waits, has_open_ok, is_paused, awaits_flow_ok, is_opening, counts}
+use Rattle.amqp_model.specs.Wire.Methods.{MethodKind, Method, carries_content, is_reply, wants, Never, bit_at}
+use Rattle.amqp_model.specs.Wire.Contents.{Payload}
+use Rattle.amqp_model.specs.Wire.Gathering.{Gathering, Nothing, HeaderDue, BodyDue, step, remains}
+use Rattle.amqp_model.specs.Wire.Readings.{Reading, Calls, kind_of}
+use Rattle.amqp_model.specs.History.Histories.{ChannelEntry, PutHere, TookHere, LeftHere, note_of, notes, under_way}
+use Rattle.amqp_model.specs.History.Replies.{asked_by, answered_by, requested, replied}
+use Rattle.amqp_model.specs.End.Channels.{Life, Free, Closing, new_life}
+use Rattle.amqp_model.specs.End.Machine.{paused_by, asks_flow, hears_flow_ok, content_after, paused_after, awaits_after, with_asked, requests_after, life_after, after_taken, channel_after, HasItsRequest, CountsOpen, CountsOpening, Counts}
 use Rattle.amqp_model.proofs.ClassMethods.{is_class_kind, class-plain}
 
 -- what a note does to an Open channel that stays Open

@@ -1,18 +1,18 @@
 -- A walk along a history, as one channel above 0 sees it; and that all lawful histories are walks.
 use Rattle.std.proofs.Common.{◌≡◌, inl, inr, Bool, true, false, cond, ℕ, suc, ◌==◌, arith, List, [], ◌∷◌, ◌++◌, Option, refl, sym, ap, subst}
 use Rattle.std.proofs.lemmas.Bool.{false≢true, true≢false, eqb-true}
-use Rattle.amqp_model.specs.Frame.{Frame}
-use Rattle.amqp_model.specs.Notes.{Role}
-use Rattle.amqp_model.specs.Lives.{has_left}
-use Rattle.amqp_model.specs.Readings.{reading}
-use Rattle.amqp_model.specs.Histories.{Entry, Put, Took, History, ChannelEntry, PutHere, TookHere, LeftHere, closes_connection, entries_on, notes}
-use Rattle.amqp_model.specs.Channels.{Channel, Phase, Handshake, Running, Closed, Failed, Agreed, End}
-use Rattle.amqp_model.specs.Negotiation.{Config}
-use Rattle.amqp_model.specs.FrameVerdict.{verdict_on}
-use Rattle.amqp_model.specs.EndVerdict.{facts_at, goes_on}
-use Rattle.amqp_model.specs.ReadingBack.{WritesReadBack}
-use Rattle.amqp_model.specs.LawfulHistories.{end_of, Goes, greets, takes, faults, meets_too_large, fails, asks, Lawful, begun, goes}
-use Rattle.amqp_model.specs.Machine.{may_put_here, new_end, Counts, StandsFor}
+use Rattle.amqp_model.specs.Wire.Frame.{Frame}
+use Rattle.amqp_model.specs.Wire.Notes.{Role}
+use Rattle.amqp_model.specs.History.Lives.{has_left}
+use Rattle.amqp_model.specs.Wire.Readings.{reading}
+use Rattle.amqp_model.specs.History.Histories.{Entry, Put, Took, History, ChannelEntry, PutHere, TookHere, LeftHere, closes_connection, entries_on, notes}
+use Rattle.amqp_model.specs.End.Channels.{Channel, Phase, Handshake, Running, Closed, Failed, Agreed, End}
+use Rattle.amqp_model.specs.History.Negotiation.{Config}
+use Rattle.amqp_model.specs.End.FrameVerdict.{verdict_on}
+use Rattle.amqp_model.specs.End.EndVerdict.{facts_at, goes_on}
+use Rattle.amqp_model.specs.End.ReadingBack.{WritesReadBack}
+use Rattle.amqp_model.specs.End.LawfulHistories.{end_of, Goes, greets, takes, faults, meets_too_large, fails, asks, Lawful, begun, goes}
+use Rattle.amqp_model.specs.End.Machine.{may_put_here, new_end, Counts, StandsFor}
 use Rattle.amqp_model.proofs.Walking.{may_ask_here, EntrySound, MayPut, Walks, at_start, entered, Walked, walked-kept}
 use Rattle.amqp_model.proofs.EndSteps.{not-zero, new-end-stands, stays-here, left-here}
 use Rattle.amqp_model.proofs.FrameSteps.{frame-kept}

@@ -1,12 +1,12 @@
 -- What a connection does is, on each of its channels, what a channel does.
 use Rattle.std.proofs.Common.{◌≡◌, Bool, true, false, cond, ℕ, List, [], ◌∷◌, Some, None, ◌==◌, refl, sym, subst}
 use Rattle.std.proofs.lemmas.Bool.{eqb-true}
-use Rattle.amqp_model.specs.Frame.{Frame}
-use Rattle.amqp_model.specs.Notes.{Open, OpenOk, Role, Client, Server, Note, Put, Took}
-use Rattle.amqp_model.specs.Verdict.{Opened, GoesOn, verdict}
-use Rattle.amqp_model.specs.Carried.{Carry}
-use Rattle.amqp_model.specs.Runs.{may_put, IsNext, Acts, asks, leaves, takes, replies, Run, start, client_acts, server_acts}
-use Rattle.amqp_model.specs.Connections.{ConnectionNote, notes_of, ConnectionActs, asks_on, leaves_all, takes_on, replies_on, ConnectionRun, nothing, client_does, server_does, overtaken_client, overtaking_server}
+use Rattle.amqp_model.specs.Wire.Frame.{Frame}
+use Rattle.amqp_model.specs.Wire.Notes.{Open, OpenOk, Role, Client, Server, Note, Put, Took}
+use Rattle.amqp_model.specs.History.Verdict.{Opened, GoesOn, verdict}
+use Rattle.amqp_model.specs.Pair.Carried.{Carry}
+use Rattle.amqp_model.specs.Pair.Runs.{may_put, IsNext, Acts, asks, leaves, takes, replies, Run, start, client_acts, server_acts}
+use Rattle.amqp_model.specs.Pair.Connections.{ConnectionNote, notes_of, ConnectionActs, asks_on, leaves_all, takes_on, replies_on, ConnectionRun, nothing, client_does, server_does, overtaken_client, overtaking_server}
 
 -- the notes of a channel after an act: after an act on it, or as they were
 data ActsOrNot (role : Role) (theirs mine after : List Note) : Type 0 where

@@ -2,9 +2,9 @@
 use Rattle.std.proofs.Common.{◌≡◌, Bool, true, false, refl}
 use Rattle.std.proofs.lemmas.Bool.{false≢true}
 use Rattle.amqp_method.specs.declared.kinds.Kind.TheVariants as kinds
-use Rattle.amqp_model.specs.Notes.{Kind, Other}
-use Rattle.amqp_model.specs.Methods.{MethodKind, begins_content, sort_by, is_reply, wants, Never}
-use Rattle.amqp_model.specs.Readings.{kind_of_method}
+use Rattle.amqp_model.specs.Wire.Notes.{Kind, Other}
+use Rattle.amqp_model.specs.Wire.Methods.{MethodKind, begins_content, sort_by, is_reply, wants, Never}
+use Rattle.amqp_model.specs.Wire.Readings.{kind_of_method}
 
 abbrev pub is_class_kind : Kind → Bool
 is_class_kind (Other begins_content) = false

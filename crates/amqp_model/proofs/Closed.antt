@@ -1,13 +1,13 @@
 -- After its own close an end acts on nothing of the life that it closed, and after connection.close on nothing.
 use Rattle.std.proofs.Common.{◌≡◌, ◌<◌, Bool, true, false, ℕ, Option, List, [], ◌∷◌, ◌++◌, refl, sym, ap, ◌∙◌, subst, arith}
 use Rattle.std.proofs.lemmas.Bool.{ne_eqb, true≢false, false≢true}
-use Rattle.amqp_model.specs.Frame.{Frame}
-use Rattle.amqp_model.specs.Notes.{Role, Kind, Close, Note, Put, Took, Leaving}
-use Rattle.amqp_model.specs.States.{State, Free, Opening, Closing}
-use Rattle.amqp_model.specs.Lives.{lives, has_left}
-use Rattle.amqp_model.specs.Carried.{is_open, acts_next, acted_takes, acted}
-use Rattle.amqp_model.specs.Runs.{RunAt}
-use Rattle.amqp_model.specs.Laws.{ActsOnNothingAfterItsClose, ActsOnNothingAfterLeaving}
+use Rattle.amqp_model.specs.Wire.Frame.{Frame}
+use Rattle.amqp_model.specs.Wire.Notes.{Role, Kind, Close, Note, Put, Took, Leaving}
+use Rattle.amqp_model.specs.History.States.{State, Free, Opening, Closing}
+use Rattle.amqp_model.specs.History.Lives.{lives, has_left}
+use Rattle.amqp_model.specs.Pair.Carried.{is_open, acts_next, acted_takes, acted}
+use Rattle.amqp_model.specs.Pair.Runs.{RunAt}
+use Rattle.amqp_model.specs.Laws.LifeLaws.{ActsOnNothingAfterItsClose, ActsOnNothingAfterLeaving}
 use Rattle.amqp_model.proofs.Lists.{messages_elsewhere}
 use Rattle.amqp_model.proofs.Ends.{Is, Lawful, has_asked, has_replied, has_taken, has_left_now, lawful_lives, opens, closes, flows, sends, Taking, ends, pauses, hears, acts}
 use Rattle.amqp_model.proofs.Runs.{Linked, linked, run_at_linked}

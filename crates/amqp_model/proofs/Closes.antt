@@ -3,9 +3,9 @@ use Rattle.std.proofs.Common.{◌≡◌, ℕ, zero, suc, ◌<◌, ◌≤◌, Boo
 use Rattle.std.proofs.lemmas.Bool.{cond-true, cond-false}
 use Rattle.std.proofs.lemmas.List.Elements.{filter-append}
 use Rattle.amqp_frame.specs.Frame.{Frame}
-use Rattle.amqp_model.specs.Arrangement.{is_leaving, Queue, LeavingFrames, is_in, queued}
-use Rattle.amqp_model.specs.Departures.{before_close}
-use Rattle.amqp_model.specs.Prefixes.{IsPrefixOf}
+use Rattle.amqp_model.specs.Output.Arrangement.{is_leaving, Queue, LeavingFrames, is_in, queued}
+use Rattle.amqp_model.specs.Output.Departures.{before_close}
+use Rattle.amqp_model.specs.Output.Prefixes.{IsPrefixOf}
 
 pub begins-itself : {A : Type 0} (xs ys : List A) → xs ≡ ys → IsPrefixOf ys xs
 begins-itself xs ys e = ([], e ∙ sym (append-nil ys))

@@ -3,33 +3,33 @@ use Rattle.std.proofs.Common.{◌≡◌, Bool, true, false, cond, ◌&&◌, ◌|
 use Rattle.std.proofs.lemmas.Bool.{false≢true, true≢false, and_parts, eqb-true, eq-eqb, ne_eqb, cond-true, cond-false}
 use Rattle.std.proofs.lemmas.List.Elements.{filter-append}
 use Rattle.amqp_method.specs.declared.kinds.Kind.TheVariants as kinds
-use Rattle.amqp_model.specs.Frame.{Frame}
-use Rattle.amqp_model.specs.Notes.{Role, Client, Server, other_end}
-use Rattle.amqp_model.specs.Lives.{lives}
-use Rattle.amqp_model.specs.Laws.{IsLive}
-use Rattle.amqp_model.specs.Arrangement.{is_leaving, on}
-use Rattle.amqp_model.specs.Methods.{Method, ReadsBack}
-use Rattle.amqp_model.specs.Contents.{Payload}
-use Rattle.amqp_model.specs.Readings.{Reading, Calls, reading, is_call}
-use Rattle.amqp_model.specs.Histories.{Entry, Put, Took, History, PutHere, TookHere, LeftHere, closes_connection, entries_on, notes}
-use Rattle.amqp_model.specs.Channels.{Channel, Agreed, Phase, Handshake, Running, Closed, Failed, End}
-use Rattle.amqp_model.specs.Negotiation.{Config}
-use Rattle.amqp_model.specs.Negotiation as negotiation
-use Rattle.amqp_model.specs.StateFromHistory.{has_put, closed_by_peer, is_closed, end_from}
-use Rattle.amqp_model.specs.Closes.{Owed, AllReadBack, connection_close_ok, method_frame, frame_of}
-use Rattle.amqp_model.specs.Events.{Event, Proceeds}
-use Rattle.amqp_model.specs.FrameVerdict.{verdict_on, methods_put}
-use Rattle.amqp_model.specs.Asks.{Ask, Refusal, lowest_free, opens_on, payload_frame, message_payloads, frame_max, frames_asked, method_asked, refusal, Puts, ask_verdict}
-use Rattle.amqp_model.specs.EndVerdict.{facts_at, end_verdict, end_puts, goes_on, takes_frames, too_large_puts}
-use Rattle.amqp_model.specs.ReadingBack.{WritesReadBack}
-use Rattle.amqp_model.specs.LawfulHistories.{then_put, then_taken, Goes, greets, takes, faults, meets_too_large, fails, asks, Lawful, begun, goes}
-use Rattle.amqp_model.specs.Octets.{frames_put, frames_taken}
-use Rattle.amqp_model.specs.Prefixes.{IsPrefixOf}
-use Rattle.amqp_model.specs.EndLaws.{is_over, notes_on}
-use Rattle.amqp_model.specs.Carried.{sent, acted}
-use Rattle.amqp_model.specs.Sent.{items_in}
-use Rattle.amqp_model.specs.Pairs.{ComesNext, AllComeNext, Pair, both_begin, client_goes, server_goes, PairOf, PairAt, config_of}
-use Rattle.amqp_model.specs.SentLaws.{EndedByConnectionClose, AllItemsActedOnOfEnded}
+use Rattle.amqp_model.specs.Wire.Frame.{Frame}
+use Rattle.amqp_model.specs.Wire.Notes.{Role, Client, Server, other_end}
+use Rattle.amqp_model.specs.History.Lives.{lives}
+use Rattle.amqp_model.specs.Laws.LifeLaws.{IsLive}
+use Rattle.amqp_model.specs.Output.Arrangement.{is_leaving, on}
+use Rattle.amqp_model.specs.Wire.Methods.{Method, ReadsBack}
+use Rattle.amqp_model.specs.Wire.Contents.{Payload}
+use Rattle.amqp_model.specs.Wire.Readings.{Reading, Calls, reading, is_call}
+use Rattle.amqp_model.specs.History.Histories.{Entry, Put, Took, History, PutHere, TookHere, LeftHere, closes_connection, entries_on, notes}
+use Rattle.amqp_model.specs.End.Channels.{Channel, Agreed, Phase, Handshake, Running, Closed, Failed, End}
+use Rattle.amqp_model.specs.History.Negotiation.{Config}
+use Rattle.amqp_model.specs.History.Negotiation as negotiation
+use Rattle.amqp_model.specs.End.StateFromHistory.{has_put, closed_by_peer, is_closed, end_from}
+use Rattle.amqp_model.specs.End.Closes.{Owed, AllReadBack, connection_close_ok, method_frame, frame_of}
+use Rattle.amqp_model.specs.End.Events.{Event, Proceeds}
+use Rattle.amqp_model.specs.End.FrameVerdict.{verdict_on, methods_put}
+use Rattle.amqp_model.specs.End.Asks.{Ask, Refusal, lowest_free, opens_on, payload_frame, message_payloads, frame_max, frames_asked, method_asked, refusal, Puts, ask_verdict}
+use Rattle.amqp_model.specs.End.EndVerdict.{facts_at, end_verdict, end_puts, goes_on, takes_frames, too_large_puts}
+use Rattle.amqp_model.specs.End.ReadingBack.{WritesReadBack}
+use Rattle.amqp_model.specs.End.LawfulHistories.{then_put, then_taken, Goes, greets, takes, faults, meets_too_large, fails, asks, Lawful, begun, goes}
+use Rattle.amqp_model.specs.Stream.Octets.{frames_put, frames_taken}
+use Rattle.amqp_model.specs.Output.Prefixes.{IsPrefixOf}
+use Rattle.amqp_model.specs.Laws.EndLaws.{is_over, notes_on}
+use Rattle.amqp_model.specs.Pair.Carried.{sent, acted}
+use Rattle.amqp_model.specs.Pair.Sent.{items_in}
+use Rattle.amqp_model.specs.Pair.Pairs.{ComesNext, AllComeNext, Pair, both_begin, client_goes, server_goes, PairOf, PairAt, config_of}
+use Rattle.amqp_model.specs.Laws.SentLaws.{EndedByConnectionClose, AllItemsActedOnOfEnded}
 use Rattle.amqp_model.proofs.Acting.{left-noted, reads-back}
 use Rattle.amqp_model.proofs.Asking.{Accepted, accepted, accepted-none, not-when, first-false, frame-channel}
 use Rattle.amqp_model.proofs.AskSteps.{is-running}

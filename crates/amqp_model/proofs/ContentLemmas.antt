@@ -2,9 +2,9 @@
 use Rattle.std.proofs.Common.{◌≡◌, ◌≢◌, ℕ, zero, suc, ◌<◌, List, [], ◌∷◌, ◌++◌, length, map, refl, sym, ap, ◌∙◌, subst, arith, append_assoc, append-nil, length-append}
 use Rattle.std.specs.List.{concat}
 use Rattle.std.proofs.lemmas.List.{nil_from_length}
-use Rattle.amqp_model.specs.Methods.{Method, Properties}
-use Rattle.amqp_model.specs.Contents.{Payload, Calls, Header, Body, Content, EndsFull}
-use Rattle.amqp_model.specs.ContentLaws.{IsAtMostOneContent, NoContentAtStart}
+use Rattle.amqp_model.specs.Wire.Methods.{Method, Properties}
+use Rattle.amqp_model.specs.Wire.Contents.{Payload, Calls, Header, Body, Content, EndsFull}
+use Rattle.amqp_model.specs.Laws.ContentLaws.{IsAtMostOneContent, NoContentAtStart}
 
 pub concat-append : (prefix back : List (List ℕ)) → concat (prefix ++ back) ≡ concat prefix ++ concat back
 concat-append [] back = refl

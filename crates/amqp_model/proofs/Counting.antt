@@ -1,8 +1,8 @@
 -- Steps are what counting up takes.
 use Rattle.std.proofs.Common.{◌≡◌, ℕ, zero, suc, ◌+◌, ◌<◌, ◌≤◌, ◌==◌, ◌⊎◌, ◌↔◌, inl, inr, refl, sym, ap, ◌∙◌, arith, eq-eqb, ne_eqb}
 use Rattle.std.proofs.lemmas.Bool.{cases_eq, cond-true, cond-false}
-use Rattle.amqp_model.specs.Arrangement.{steps}
-use Rattle.amqp_model.specs.ArrangementRules.{next_channel, counted, ComesNoLater}
+use Rattle.amqp_model.specs.Output.Arrangement.{steps}
+use Rattle.amqp_model.specs.Output.ArrangementRules.{next_channel, counted, ComesNoLater}
 use Rattle.amqp_model.proofs.Turns.{Up, Round, steps-cases, steps-least}
 
 next-cases : (from : ℕ) → from < 65536 → ((from ≡ 65535) × (next_channel from ≡ 1)) ⊎ ((from < 65535) × (next_channel from ≡ from + 1))

@@ -4,8 +4,8 @@ use Rattle.std.specs.List.{concat}
 use Rattle.std.proofs.Math.Nat.{lt_of_mul-lt-mul_left}
 use Rattle.std.proofs.lemmas.List.{nil_from_length, length-take, length-map, take-append-drop, drop-drop}
 use Rattle.std.proofs.lemmas.List.Elements.{All-cons}
-use Rattle.amqp_model.specs.Contents.{Calls, Header, Body, Content, EndsFull, first_pieces, pieces, room_in, cut}
-use Rattle.amqp_model.specs.ContentLaws.{BodyFits, CutIsContent, CutFits, CutIsShortest, PartsInPlace, CutsTo, body_lengths}
+use Rattle.amqp_model.specs.Wire.Contents.{Calls, Header, Body, Content, EndsFull, first_pieces, pieces, room_in, cut}
+use Rattle.amqp_model.specs.Laws.ContentLaws.{BodyFits, CutIsContent, CutFits, CutIsShortest, PartsInPlace, CutsTo, body_lengths}
 
 -- the count of pieces: their octets are enough, and without the last they are not
 enough : (n room : ℕ) → 0 < room → n ≤ (n + room - 1) / room * room

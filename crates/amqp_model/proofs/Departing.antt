@@ -5,13 +5,13 @@ use Rattle.std.proofs.lemmas.List.{append_cancel_right}
 use Rattle.std.proofs.lemmas.List.Elements.{All-nil, All-cons, All-head, All-tail, All-push, filter-append}
 use Rattle.amqp_frame.specs.Frame.{Frame, Fits}
 use Rattle.amqp_frame.specs.Splitting.{stream, AllFit}
-use Rattle.amqp_model.specs.Arrangement.{is_leaving, Queue, LeavingFrames, is_in, queued, last_after, last_after_all, HasChannel, Gains, placed}
-use Rattle.amqp_model.specs.Outputs.{Output, output_octets, after_put, after_puts, Writes}
-use Rattle.amqp_model.specs.Departures.{before_close, KeepsOrder, IsOutputOf, PutInOrder}
-use Rattle.amqp_model.specs.Prefixes.{IsPrefixOf}
+use Rattle.amqp_model.specs.Output.Arrangement.{is_leaving, Queue, LeavingFrames, is_in, queued, last_after, last_after_all, HasChannel, Gains, placed}
+use Rattle.amqp_model.specs.Output.Outputs.{Output, output_octets, after_put, after_puts, Writes}
+use Rattle.amqp_model.specs.Output.Departures.{before_close, KeepsOrder, IsOutputOf, PutInOrder}
+use Rattle.amqp_model.specs.Output.Prefixes.{IsPrefixOf}
 use Rattle.amqp_model.proofs.Turns.{last-channel, turn-leaves, turn-most}
 use Rattle.amqp_model.proofs.Rows.{Place, goes_before, goes_after, place, placed-after, placed-arranged, placed-gains, gains-queued, same-queues-all}
-use Rattle.amqp_model.specs.ArrangementRules.{FollowsRules}
+use Rattle.amqp_model.specs.Output.ArrangementRules.{FollowsRules}
 use Rattle.amqp_model.proofs.Rules.{arranged-rules}
 use Rattle.amqp_model.proofs.Writing.{nothing-before, stream-append, writes-arranged, writes-octets}
 use Rattle.amqp_model.proofs.Closes.{begins-itself, begins-through, closes_in, closes-leaving, closes-other, before-few, before-append, before-at, gains-before}

@@ -2,8 +2,8 @@
 use Rattle.std.proofs.Common.{◌≡◌, Bool, ◌||◌, List, refl}
 use Rattle.amqp_method.specs.Arguments.{Argument}
 use Rattle.amqp_method.specs.declared.kinds.Kind.TheVariants as kinds
-use Rattle.amqp_model.specs.Arrangement.{names_leaving}
-use Rattle.amqp_model.specs.Methods.{MethodKind, same_kind, plain_method}
+use Rattle.amqp_model.specs.Output.Arrangement.{names_leaving}
+use Rattle.amqp_model.specs.Wire.Methods.{MethodKind, same_kind, plain_method}
 
 -- connection.close and connection.close-ok
 abbrev pub is_departure : MethodKind → Bool

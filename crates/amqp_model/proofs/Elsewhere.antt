@@ -2,21 +2,21 @@
 use Rattle.std.proofs.Common.{◌≡◌, Bool, true, false, cond, not, ◌&&◌, ℕ, suc, ◌==◌, arith, nat_lt, nat_le, List, [], ◌∷◌, map, length, Option, Some, None, refl, ap, ◌∙◌}
 use Rattle.std.proofs.lemmas.Bool.{false≢true, and_parts, ne_eqb}
 use Rattle.amqp_method.specs.declared.kinds.Kind.TheVariants as kinds
-use Rattle.amqp_model.specs.Notes.{Role, Client, Server, is_client, Kind, OpenOk, Close, CloseOk, FlowOk, Other}
-use Rattle.amqp_model.specs.Verdict as lives
-use Rattle.amqp_model.specs.Verdict.{verdict_at}
-use Rattle.amqp_model.specs.Methods.{MethodKind, Method, class_of, sends, same_kind, carries_content, is_reply, is_request}
-use Rattle.amqp_model.specs.Gathering.{Gathering, HeaderDue, Step, Keeps, Completes, Breaks, Misfit, step}
-use Rattle.amqp_model.specs.Readings.{Reading, Calls, UnknownMethod, MalformedMethod, HeaderOf, MalformedHeader, BodyOf, Beat, reading, is_call, kind_of, payload_of}
-use Rattle.amqp_model.specs.Histories.{Put, History, closes_connection, entries_on}
-use Rattle.amqp_model.specs.Channels.{Life, Channel, Free, Opening, Closing, state_of, Phase, Handshake, Running, Closed, Failed, Agreed, AwaitsProtocolHeader, AwaitsStart, AwaitsStartOk, AwaitsTune, AwaitsTuneOk, AwaitsOpen, AwaitsOpenOk}
-use Rattle.amqp_model.specs.Channels as channels
-use Rattle.amqp_model.specs.Negotiation.{Config, Hello, OfClient, start_ok, connection_open, tunes_too_small, agreed_in, in_range}
-use Rattle.amqp_model.specs.Closes.{Owed, AllReadBack, connection_close_ok, frame_of}
-use Rattle.amqp_model.specs.Events.{FrameVerdict, Faults, Fault}
-use Rattle.amqp_model.specs.FrameVerdict.{Facts, first_of, awaits_in, as_lives, lives_verdict, closed_by, on_awaited, is_awaited, on_connection, by_state, on_open, on_idle, on_matched, part_on, on_part, after_part, on_message, is_no_channel, is_gathering, on_rest, when_over, when_leaving, when_heartbeat, when_closing, when_unread, when_handshake, when_content, when_connection, when_misdirected, when_no_channel, answers_first, MOST_REQUESTS, verdict_on, methods_put}
-use Rattle.amqp_model.specs.EndVerdict.{goes_on}
-use Rattle.amqp_model.specs.LawfulHistories.{then_put}
+use Rattle.amqp_model.specs.Wire.Notes.{Role, Client, Server, is_client, Kind, OpenOk, Close, CloseOk, FlowOk, Other}
+use Rattle.amqp_model.specs.History.Verdict as lives
+use Rattle.amqp_model.specs.History.Verdict.{verdict_at}
+use Rattle.amqp_model.specs.Wire.Methods.{MethodKind, Method, class_of, sends, same_kind, carries_content, is_reply, is_request}
+use Rattle.amqp_model.specs.Wire.Gathering.{Gathering, HeaderDue, Step, Keeps, Completes, Breaks, Misfit, step}
+use Rattle.amqp_model.specs.Wire.Readings.{Reading, Calls, UnknownMethod, MalformedMethod, HeaderOf, MalformedHeader, BodyOf, Beat, reading, is_call, kind_of, payload_of}
+use Rattle.amqp_model.specs.History.Histories.{Put, History, closes_connection, entries_on}
+use Rattle.amqp_model.specs.End.Channels.{Life, Channel, Free, Opening, Closing, state_of, Phase, Handshake, Running, Closed, Failed, Agreed, AwaitsProtocolHeader, AwaitsStart, AwaitsStartOk, AwaitsTune, AwaitsTuneOk, AwaitsOpen, AwaitsOpenOk}
+use Rattle.amqp_model.specs.End.Channels as channels
+use Rattle.amqp_model.specs.History.Negotiation.{Config, Hello, OfClient, start_ok, connection_open, tunes_too_small, agreed_in, in_range}
+use Rattle.amqp_model.specs.End.Closes.{Owed, AllReadBack, connection_close_ok, frame_of}
+use Rattle.amqp_model.specs.End.Events.{FrameVerdict, Faults, Fault}
+use Rattle.amqp_model.specs.End.FrameVerdict.{Facts, first_of, awaits_in, as_lives, lives_verdict, closed_by, on_awaited, is_awaited, on_connection, by_state, on_open, on_idle, on_matched, part_on, on_part, after_part, on_message, is_no_channel, is_gathering, on_rest, when_over, when_leaving, when_heartbeat, when_closing, when_unread, when_handshake, when_content, when_connection, when_misdirected, when_no_channel, answers_first, MOST_REQUESTS, verdict_on, methods_put}
+use Rattle.amqp_model.specs.End.EndVerdict.{goes_on}
+use Rattle.amqp_model.specs.End.LawfulHistories.{then_put}
 use Rattle.amqp_model.proofs.Acting.{reads-back}
 
 -- a method that channel n + 1 does not see

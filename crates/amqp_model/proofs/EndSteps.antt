@@ -2,18 +2,18 @@
 use Rattle.std.proofs.Common.{◌≡◌, ◌⊎◌, inl, inr, Bool, true, false, cond, ◌||◌, ℕ, zero, suc, ◌==◌, arith, List, ◌∷◌, refl, sym, ap, ◌∙◌, ap₂, subst}
 use Rattle.std.proofs.lemmas.Bool.{false≢true, true≢false, eqb-true, eq-eqb, ne_eqb}
 use Rattle.amqp_method.specs.declared.kinds.Kind.TheVariants as kinds
-use Rattle.amqp_model.specs.Frame.{Frame}
-use Rattle.amqp_model.specs.Notes.{Role, Client, Server}
-use Rattle.amqp_model.specs.Lives.{has_left}
-use Rattle.amqp_model.specs.Readings.{Reading, Calls, reading, is_call}
-use Rattle.amqp_model.specs.Histories.{Put, Took, History, ChannelEntry, PutHere, TookHere, LeftHere, closes_connection, entries_on, notes}
-use Rattle.amqp_model.specs.Channels.{Channel, Free, HandshakeStep, Phase, Handshake, Running, Closed, Failed, End}
-use Rattle.amqp_model.specs.Negotiation.{Config}
-use Rattle.amqp_model.specs.StateFromHistory.{has_put, is_closed, is_negotiated, step_from, phase_from, agreed_from}
-use Rattle.amqp_model.specs.FrameVerdict.{verdict_on}
-use Rattle.amqp_model.specs.EndVerdict.{facts_at, goes_on}
-use Rattle.amqp_model.specs.Machine.{phase_taken, phase_put, phase_after, agreed_after, set_channel, unless_leaving, channel_after, may_put_here, end_after, ChannelStandsFor, StandsFor}
-use Rattle.amqp_model.specs.EndLaws.{is_over, EndFollows, NewEndStands}
+use Rattle.amqp_model.specs.Wire.Frame.{Frame}
+use Rattle.amqp_model.specs.Wire.Notes.{Role, Client, Server}
+use Rattle.amqp_model.specs.History.Lives.{has_left}
+use Rattle.amqp_model.specs.Wire.Readings.{Reading, Calls, reading, is_call}
+use Rattle.amqp_model.specs.History.Histories.{Put, Took, History, ChannelEntry, PutHere, TookHere, LeftHere, closes_connection, entries_on, notes}
+use Rattle.amqp_model.specs.End.Channels.{Channel, Free, HandshakeStep, Phase, Handshake, Running, Closed, Failed, End}
+use Rattle.amqp_model.specs.History.Negotiation.{Config}
+use Rattle.amqp_model.specs.End.StateFromHistory.{has_put, is_closed, is_negotiated, step_from, phase_from, agreed_from}
+use Rattle.amqp_model.specs.End.FrameVerdict.{verdict_on}
+use Rattle.amqp_model.specs.End.EndVerdict.{facts_at, goes_on}
+use Rattle.amqp_model.specs.End.Machine.{phase_taken, phase_put, phase_after, agreed_after, set_channel, unless_leaving, channel_after, may_put_here, end_after, ChannelStandsFor, StandsFor}
+use Rattle.amqp_model.specs.Laws.EndLaws.{is_over, EndFollows, NewEndStands}
 use Rattle.amqp_model.proofs.Phases.{phase-taken, phase-put}
 use Rattle.amqp_model.proofs.Following.{follows-taken, follows-put, follows-leaving}
 use Rattle.amqp_model.proofs.Agreeing.{facts_in, is_closing, handshake-stops}

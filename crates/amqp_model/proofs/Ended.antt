@@ -1,11 +1,11 @@
 -- What one end puts in a life after it has put close in it: nothing that the other would act on.
 use Rattle.std.proofs.Common.{◌≡◌, ℕ, suc, ◌<◌, List, [], ◌∷◌, ◌++◌, Option, ◌⊎◌, inl, inr, Bool, false, refl, ap, ◌∙◌, subst, arith}
 use Rattle.std.proofs.lemmas.Bool.{ne_eqb}
-use Rattle.amqp_model.specs.Frame.{Frame}
-use Rattle.amqp_model.specs.Notes.{Role, Kind, Open, OpenOk, Close, CloseOk, Flow, FlowOk, Other, Note, Put, is_message}
-use Rattle.amqp_model.specs.States.{State, Free, Opening, Closing}
-use Rattle.amqp_model.specs.Lives.{lives}
-use Rattle.amqp_model.specs.Carried.{NoteInLife, At, puts, messages}
+use Rattle.amqp_model.specs.Wire.Frame.{Frame}
+use Rattle.amqp_model.specs.Wire.Notes.{Role, Kind, Open, OpenOk, Close, CloseOk, Flow, FlowOk, Other, Note, Put, is_message}
+use Rattle.amqp_model.specs.History.States.{State, Free, Opening, Closing}
+use Rattle.amqp_model.specs.History.Lives.{lives}
+use Rattle.amqp_model.specs.Pair.Carried.{NoteInLife, At, puts, messages}
 use Rattle.amqp_model.proofs.Lists.{snoc_cases, messages_other, messages_elsewhere}
 use Rattle.amqp_model.proofs.Ends.{Is, Lawful, begun, has_asked, has_replied, has_taken, has_left_now, lawful_lives, to_open, to_close, to_flow, opens, closes, flows, sends, Taking, accepts, begins, ends, pauses, hears, acts, crosses, frees, drops}
 

@@ -1,12 +1,12 @@
 -- One end: where it stands in its life, how a note moves it, and that its notes count to just that.
 use Rattle.std.proofs.Common.{◌≡◌, Bool, true, false, not, ◌||◌, ℕ, suc, List, [], ◌∷◌, Option, Some, None, refl, sym, ap, ◌∙◌, true≢false}
 use Rattle.std.proofs.lemmas.Bool.{false≢true, and_parts, not-true}
-use Rattle.amqp_model.specs.Frame.{Frame}
-use Rattle.amqp_model.specs.Notes.{Role, Client, Server, is_server, Kind, Open, OpenOk, Close, CloseOk, Flow, FlowOk, Other, Note, Put, Took, Leaving, is_content}
-use Rattle.amqp_model.specs.States.{State, Free, Opening, Closing}
-use Rattle.amqp_model.specs.Lives.{waits, lives, is_alive, has_open_ok, awaits_flow_ok, has_left, before_leaving, state_by, state, is_paused}
-use Rattle.amqp_model.specs.Verdict.{Event, Opened, Acted, ClosedByUs, ClosedByPeer, Discarded, Quiet, FlowAsked, FlowAnswered, Verdict, GoesOn, Fault, verdict_at, verdict}
-use Rattle.amqp_model.specs.Runs.{may_ask, may_put}
+use Rattle.amqp_model.specs.Wire.Frame.{Frame}
+use Rattle.amqp_model.specs.Wire.Notes.{Role, Client, Server, is_server, Kind, Open, OpenOk, Close, CloseOk, Flow, FlowOk, Other, Note, Put, Took, Leaving, is_content}
+use Rattle.amqp_model.specs.History.States.{State, Free, Opening, Closing}
+use Rattle.amqp_model.specs.History.Lives.{waits, lives, is_alive, has_open_ok, awaits_flow_ok, has_left, before_leaving, state_by, state, is_paused}
+use Rattle.amqp_model.specs.History.Verdict.{Event, Opened, Acted, ClosedByUs, ClosedByPeer, Discarded, Quiet, FlowAsked, FlowAnswered, Verdict, GoesOn, Fault, verdict_at, verdict}
+use Rattle.amqp_model.specs.Pair.Runs.{may_ask, may_put}
 
 -- a state, the number of the life, and whether a flow-ok is awaited
 pub data Standing : Type 0 where

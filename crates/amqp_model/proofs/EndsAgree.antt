@@ -1,14 +1,14 @@
 -- The laws of the lives of a channel, said of the histories of two ends.
 use Rattle.std.proofs.Common.{◌≡◌, ℕ, suc, [], ◌∷◌, ◌++◌, refl, sym, ap, ◌∙◌, append_assoc}
 use Rattle.std.proofs.lemmas.List.{map-append}
-use Rattle.amqp_model.specs.Frame.{Frame}
-use Rattle.amqp_model.specs.Notes.{Role, Client, Server, Note}
-use Rattle.amqp_model.specs.Readings.{reading, kind_of}
-use Rattle.amqp_model.specs.Histories.{Took, History, TookHere, note_of, seen_on, entries_on, notes}
-use Rattle.amqp_model.specs.Negotiation.{Config}
-use Rattle.amqp_model.specs.EndLaws.{notes_on}
-use Rattle.amqp_model.specs.FittingLaws.{MethodReadsBack}
-use Rattle.amqp_model.specs.EndsAgree.{LivesAgree, NoContentFromPaused}
+use Rattle.amqp_model.specs.Wire.Frame.{Frame}
+use Rattle.amqp_model.specs.Wire.Notes.{Role, Client, Server, Note}
+use Rattle.amqp_model.specs.Wire.Readings.{reading, kind_of}
+use Rattle.amqp_model.specs.History.Histories.{Took, History, TookHere, note_of, seen_on, entries_on, notes}
+use Rattle.amqp_model.specs.History.Negotiation.{Config}
+use Rattle.amqp_model.specs.Laws.EndLaws.{notes_on}
+use Rattle.amqp_model.specs.Laws.FittingLaws.{MethodReadsBack}
+use Rattle.amqp_model.specs.Pair.EndsAgree.{LivesAgree, NoContentFromPaused}
 use Rattle.amqp_model.proofs.Acting.{seen-took}
 use Rattle.amqp_model.proofs.Laws.{sides_agree}
 use Rattle.amqp_model.proofs.PausedContents.{no_pause}

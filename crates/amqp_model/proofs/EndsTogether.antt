@@ -1,21 +1,21 @@
 -- Two endpoints of one connection stand together, whatever their applications ask and however their octets are cut.
 use Rattle.std.proofs.Common.{◌≡◌, ◌≤◌, ◌+◌, false, arith, List, [], ◌++◌, take, length, Option, Some, None, refl, sym, ap, ◌∙◌, subst, length-append}
 use Rattle.std.proofs.lemmas.List.{take-append-le}
-use Rattle.amqp_model.specs.Frame.{Frame}
-use Rattle.amqp_model.specs.Notes.{Role, Client, Server, other_end}
-use Rattle.amqp_model.specs.Departures.{PutAs}
-use Rattle.amqp_model.specs.Outputs.{output_octets}
-use Rattle.amqp_model.specs.Channels.{Agreed, End}
-use Rattle.amqp_model.specs.Negotiation.{Config}
-use Rattle.amqp_model.specs.Asks.{Ask}
-use Rattle.amqp_model.specs.Fitting.{AgreedFits, IfAgreedFits}
-use Rattle.amqp_model.specs.FittingLaws.{MethodReadsBack}
-use Rattle.amqp_model.specs.Octets.{frames_put, opening_read, opening_written}
-use Rattle.amqp_model.specs.Pairs.{config_of}
-use Rattle.amqp_model.specs.Endpoint.{after_feed}
-use Rattle.amqp_model.specs.OctetsInFlight.{IsFedNext}
-use Rattle.amqp_model.specs.EndsTogether.{NewStandTogether, StandTogetherTurned, CarryStandsTogether, AskStandsTogether, AskedStaysPair}
-use Rattle.amqp_model.specs.Histories.{History}
+use Rattle.amqp_model.specs.Wire.Frame.{Frame}
+use Rattle.amqp_model.specs.Wire.Notes.{Role, Client, Server, other_end}
+use Rattle.amqp_model.specs.Output.Departures.{PutAs}
+use Rattle.amqp_model.specs.Output.Outputs.{output_octets}
+use Rattle.amqp_model.specs.End.Channels.{Agreed, End}
+use Rattle.amqp_model.specs.History.Negotiation.{Config}
+use Rattle.amqp_model.specs.End.Asks.{Ask}
+use Rattle.amqp_model.specs.End.Fitting.{AgreedFits, IfAgreedFits}
+use Rattle.amqp_model.specs.Laws.FittingLaws.{MethodReadsBack}
+use Rattle.amqp_model.specs.Stream.Octets.{frames_put, opening_read, opening_written}
+use Rattle.amqp_model.specs.Pair.Pairs.{config_of}
+use Rattle.amqp_model.specs.Stream.Endpoint.{after_feed}
+use Rattle.amqp_model.specs.Pair.OctetsInFlight.{IsFedNext}
+use Rattle.amqp_model.specs.Pair.EndsTogether.{NewStandTogether, StandTogetherTurned, CarryStandsTogether, AskStandsTogether, AskedStaysPair}
+use Rattle.amqp_model.specs.History.Histories.{History}
 use Rattle.amqp_model.proofs.Standing.{end-stands}
 use Rattle.amqp_model.proofs.Lawfulness.{end-steps}
 use Rattle.amqp_model.proofs.Pairing.{new-ends-pair, step-stays-pair}

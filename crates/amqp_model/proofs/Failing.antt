@@ -1,20 +1,20 @@
 -- An end that fails: its phase and what was agreed follow each entry, whatever it finds.
 use Rattle.std.proofs.Common.{◌≡◌, Bool, true, false, ℕ, zero, suc, ◌==◌, List, [], ◌∷◌, map, refl, sym, ap, ap₂, ◌∙◌, subst}
 use Rattle.std.proofs.lemmas.Bool.{true≢false}
-use Rattle.amqp_model.specs.Frame.{Frame}
-use Rattle.amqp_model.specs.Notes.{Role}
-use Rattle.amqp_model.specs.Readings.{reading}
-use Rattle.amqp_model.specs.Histories.{Put, Took, History, PutHere, TookHere, entries_on}
-use Rattle.amqp_model.specs.Channels.{Free, HandshakeStep, Phase, Handshake, Failed, End}
-use Rattle.amqp_model.specs.Negotiation.{Config}
-use Rattle.amqp_model.specs.StateFromHistory.{phase_from, agreed_from}
-use Rattle.amqp_model.specs.Closes.{FrameError, Owed, AllReadBack, frame_of}
-use Rattle.amqp_model.specs.Events.{Peer, FrameVerdict, Proceeds, RefusesContent, Faults}
-use Rattle.amqp_model.specs.FrameVerdict.{verdict_on, methods_put}
-use Rattle.amqp_model.specs.EndVerdict.{facts_at, goes_on}
-use Rattle.amqp_model.specs.LawfulHistories.{then_put}
-use Rattle.amqp_model.specs.Machine.{phase_after, agreed_after, end_after, end_after_owed, as_failed, failed_by, StandsFor}
-use Rattle.amqp_model.specs.EndLaws.{FrameFails, TooLargeFails, AnyFails, FailedIsRead}
+use Rattle.amqp_model.specs.Wire.Frame.{Frame}
+use Rattle.amqp_model.specs.Wire.Notes.{Role}
+use Rattle.amqp_model.specs.Wire.Readings.{reading}
+use Rattle.amqp_model.specs.History.Histories.{Put, Took, History, PutHere, TookHere, entries_on}
+use Rattle.amqp_model.specs.End.Channels.{Free, HandshakeStep, Phase, Handshake, Failed, End}
+use Rattle.amqp_model.specs.History.Negotiation.{Config}
+use Rattle.amqp_model.specs.End.StateFromHistory.{phase_from, agreed_from}
+use Rattle.amqp_model.specs.End.Closes.{FrameError, Owed, AllReadBack, frame_of}
+use Rattle.amqp_model.specs.End.Events.{Peer, FrameVerdict, Proceeds, RefusesContent, Faults}
+use Rattle.amqp_model.specs.End.FrameVerdict.{verdict_on, methods_put}
+use Rattle.amqp_model.specs.End.EndVerdict.{facts_at, goes_on}
+use Rattle.amqp_model.specs.End.LawfulHistories.{then_put}
+use Rattle.amqp_model.specs.End.Machine.{phase_after, agreed_after, end_after, end_after_owed, as_failed, failed_by, StandsFor}
+use Rattle.amqp_model.specs.Laws.EndLaws.{FrameFails, TooLargeFails, AnyFails, FailedIsRead}
 use Rattle.amqp_model.proofs.Acting.{reads-back}
 use Rattle.amqp_model.proofs.EndSteps.{not-zero, zero-took, zero-put, agreed-taken, agreed-put, zero-took-others, zero-put-others, set-zero}
 use Rattle.amqp_model.proofs.Phases.{phase-taken, phase-put}

@@ -12,17 +12,17 @@ use Rattle.amqp_frame.specs.Splitter.{ToldAt, place_after}
 use Rattle.amqp_frame.proofs.FrameLemmas.{one_frame, size-at_start, length-octets}
 use Rattle.amqp_frame.specs.Judging.{IsBegun}
 use Rattle.amqp_frame.proofs.SplittingLemmas.{begun_prefix_tells_none, begun_is_rest, begun_prefix}
-use Rattle.amqp_model.specs.Frame.{Frame}
-use Rattle.amqp_model.specs.Notes.{Role, Client, Server}
-use Rattle.amqp_model.specs.Channels.{Phase, Handshake, Running, Closing, Closed, Failed}
-use Rattle.amqp_model.specs.Negotiation.{Config, frame_limit}
-use Rattle.amqp_model.specs.Events.{FrameVerdict, Proceeds, RefusesContent, Faults}
-use Rattle.amqp_model.specs.FrameVerdict.{Facts}
-use Rattle.amqp_model.specs.EndVerdict.{facts_at, end_verdict, takes_octets}
-use Rattle.amqp_model.specs.Octets.{opening_read}
-use Rattle.amqp_model.specs.Endpoint.{Judgement, Begun, Whole, Wrong, judged, Comparison, Prefix, Same, Differs, compared, Endpoint, Outcome, Unfinished, Finished, Found, Feeding, refusal_in, unless_over, goes_on_with, awaits_opening, after_opening, outcome_of, after_judged, after_octets, after_octet, fed_after, after_feed}
-use Rattle.amqp_model.specs.OctetLaws.{IsOctet, IsJudgedWell, then_fed}
-use Rattle.amqp_model.specs.Pieces.{IsProperPrefixOf, reads_frames, AreBegun, with_taken, IsFedBy, FeedGivesFrame, FeedWaits, FaultFed, FeedFindsFault, FeedBeginsOpening, FeedEndsOpening, FeedLeavesOpening}
+use Rattle.amqp_model.specs.Wire.Frame.{Frame}
+use Rattle.amqp_model.specs.Wire.Notes.{Role, Client, Server}
+use Rattle.amqp_model.specs.End.Channels.{Phase, Handshake, Running, Closing, Closed, Failed}
+use Rattle.amqp_model.specs.History.Negotiation.{Config, frame_limit}
+use Rattle.amqp_model.specs.End.Events.{FrameVerdict, Proceeds, RefusesContent, Faults}
+use Rattle.amqp_model.specs.End.FrameVerdict.{Facts}
+use Rattle.amqp_model.specs.End.EndVerdict.{facts_at, end_verdict, takes_octets}
+use Rattle.amqp_model.specs.Stream.Octets.{opening_read}
+use Rattle.amqp_model.specs.Stream.Endpoint.{Judgement, Begun, Whole, Wrong, judged, Comparison, Prefix, Same, Differs, compared, Endpoint, Outcome, Unfinished, Finished, Found, Feeding, refusal_in, unless_over, goes_on_with, awaits_opening, after_opening, outcome_of, after_judged, after_octets, after_octet, fed_after, after_feed}
+use Rattle.amqp_model.specs.Laws.OctetLaws.{IsOctet, IsJudgedWell, then_fed}
+use Rattle.amqp_model.specs.Stream.Pieces.{IsProperPrefixOf, reads_frames, AreBegun, with_taken, IsFedBy, FeedGivesFrame, FeedWaits, FaultFed, FeedFindsFault, FeedBeginsOpening, FeedEndsOpening, FeedLeavesOpening}
 use Rattle.amqp_model.proofs.OctetJudging.{judged-well, one-said, begun-rest, prefix-octets}
 use Rattle.amqp_model.proofs.OctetCuts.{cut-goes-on}
 use Rattle.amqp_model.proofs.OctetHistories.{compared-last}

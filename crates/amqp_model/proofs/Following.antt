@@ -1,20 +1,20 @@
 -- What an end keeps of a channel follows each entry of the channel, and no entry of another.
 use Rattle.std.proofs.Common.{◌≡◌, ◌≢◌, ◌≤◌, ◌⊎◌, inl, inr, Bool, true, false, not, ◌&&◌, ◌||◌, ℕ, ◌==◌, arith, List, [], ◌∷◌, ◌++◌, length, Option, refl, sym, ap, ◌∙◌, subst}
 use Rattle.std.proofs.lemmas.Bool.{false≢true, true≢false, and_parts, not-true, eqb-true}
-use Rattle.amqp_model.specs.Frame.{Frame}
-use Rattle.amqp_model.specs.Notes.{Role, Client, Server, is_client, Kind, Open, OpenOk, Close, CloseOk, Flow, FlowOk, Other, is_message}
-use Rattle.amqp_model.specs.Lives.{has_left}
-use Rattle.amqp_model.specs.Methods.{MethodKind, Method, is_reply}
-use Rattle.amqp_model.specs.Gathering.{Gathering, Nothing, HeaderDue, BodyDue}
-use Rattle.amqp_model.specs.Readings.{Reading, Calls, kind_of}
-use Rattle.amqp_model.specs.Histories.{Entry, Put, Took, channel_of, History, ChannelEntry, PutHere, TookHere, LeftHere, entries_on, notes, entries_before_leaving}
-use Rattle.amqp_model.specs.Replies.{one_if}
-use Rattle.amqp_model.specs.Channels.{Life, Channel, Free, Opening, Closing, Phase, Running, Agreed, new_life}
-use Rattle.amqp_model.specs.Channels as channels
-use Rattle.amqp_model.specs.Negotiation.{Config}
-use Rattle.amqp_model.specs.FrameVerdict.{Facts, answers_first, verdict_on}
-use Rattle.amqp_model.specs.EndVerdict.{goes_on}
-use Rattle.amqp_model.specs.Machine.{with_asked, is_open, is_close_ok, free_after_putting, life_after, free_after_taking, opening_after_taking, open_after_taking, open_after_putting, channel_after, answers_in_turn, may_put_here, IsAnswerable, HasItsRequest, CountsOpen, Counts, ChannelStandsFor}
+use Rattle.amqp_model.specs.Wire.Frame.{Frame}
+use Rattle.amqp_model.specs.Wire.Notes.{Role, Client, Server, is_client, Kind, Open, OpenOk, Close, CloseOk, Flow, FlowOk, Other, is_message}
+use Rattle.amqp_model.specs.History.Lives.{has_left}
+use Rattle.amqp_model.specs.Wire.Methods.{MethodKind, Method, is_reply}
+use Rattle.amqp_model.specs.Wire.Gathering.{Gathering, Nothing, HeaderDue, BodyDue}
+use Rattle.amqp_model.specs.Wire.Readings.{Reading, Calls, kind_of}
+use Rattle.amqp_model.specs.History.Histories.{Entry, Put, Took, channel_of, History, ChannelEntry, PutHere, TookHere, LeftHere, entries_on, notes, entries_before_leaving}
+use Rattle.amqp_model.specs.History.Replies.{one_if}
+use Rattle.amqp_model.specs.End.Channels.{Life, Channel, Free, Opening, Closing, Phase, Running, Agreed, new_life}
+use Rattle.amqp_model.specs.End.Channels as channels
+use Rattle.amqp_model.specs.History.Negotiation.{Config}
+use Rattle.amqp_model.specs.End.FrameVerdict.{Facts, answers_first, verdict_on}
+use Rattle.amqp_model.specs.End.EndVerdict.{goes_on}
+use Rattle.amqp_model.specs.End.Machine.{with_asked, is_open, is_close_ok, free_after_putting, life_after, free_after_taking, opening_after_taking, open_after_taking, open_after_putting, channel_after, answers_in_turn, may_put_here, IsAnswerable, HasItsRequest, CountsOpen, Counts, ChannelStandsFor}
 use Rattle.amqp_model.proofs.ChannelSteps.{Matches, stays_open, took-stays_open, put-stays_open, took-open, put-open, took-open_ok, took-close, took-closing, put-close, put-close_ok-free, put-close_ok-closing}
 use Rattle.amqp_model.proofs.Going.{running, running-free, running-opening, running-open, OpenTakes}
 

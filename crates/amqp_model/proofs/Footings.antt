@@ -1,16 +1,16 @@
 -- Where an end is with the connection itself: its phase, and what was agreed. Frames of channel 0 alone move it.
 use Rattle.std.proofs.Common.{◌≡◌, ℕ, zero, suc, arith, List, [], ◌∷◌, Option, refl, ap, ◌∙◌}
-use Rattle.amqp_model.specs.Frame.{Frame}
-use Rattle.amqp_model.specs.Notes.{Role}
-use Rattle.amqp_model.specs.Methods.{Method}
-use Rattle.amqp_model.specs.Readings.{Calls, reading}
-use Rattle.amqp_model.specs.Histories.{ChannelEntry, PutHere, TookHere}
-use Rattle.amqp_model.specs.Channels.{Free, Phase, Agreed, End}
-use Rattle.amqp_model.specs.Negotiation.{Config}
-use Rattle.amqp_model.specs.Closes.{Owed, method_frame, frame_of}
-use Rattle.amqp_model.specs.Events.{FrameVerdict}
-use Rattle.amqp_model.specs.FrameVerdict.{Facts, verdict_on, methods_put}
-use Rattle.amqp_model.specs.Machine.{phase_after, agreed_after, end_after, end_after_owed, end_after_put}
+use Rattle.amqp_model.specs.Wire.Frame.{Frame}
+use Rattle.amqp_model.specs.Wire.Notes.{Role}
+use Rattle.amqp_model.specs.Wire.Methods.{Method}
+use Rattle.amqp_model.specs.Wire.Readings.{Calls, reading}
+use Rattle.amqp_model.specs.History.Histories.{ChannelEntry, PutHere, TookHere}
+use Rattle.amqp_model.specs.End.Channels.{Free, Phase, Agreed, End}
+use Rattle.amqp_model.specs.History.Negotiation.{Config}
+use Rattle.amqp_model.specs.End.Closes.{Owed, method_frame, frame_of}
+use Rattle.amqp_model.specs.End.Events.{FrameVerdict}
+use Rattle.amqp_model.specs.End.FrameVerdict.{Facts, verdict_on, methods_put}
+use Rattle.amqp_model.specs.End.Machine.{phase_after, agreed_after, end_after, end_after_owed, end_after_put}
 use Rattle.amqp_model.proofs.Elsewhere.{Each}
 
 pub record Footing : Type 0 where

@@ -4,24 +4,24 @@ use Rattle.std.proofs.Common.{◌≡◌, ◌≤◌, Bool, true, false, cond, not
 use Rattle.std.specs.Prelude.{nat_lt, nat_le}
 use Rattle.std.proofs.lemmas.Bool.{false≢true, true≢false, le-ltb, lt-leb}
 use Rattle.amqp_method.specs.declared.kinds.Kind.TheVariants as kinds
-use Rattle.amqp_model.specs.Notes.{Role, Client, Server, is_client, other_end, Kind, Open, OpenOk, Close, CloseOk, Flow, FlowOk, Other, is_message}
-use Rattle.amqp_model.specs.States.{State}
-use Rattle.amqp_model.specs.Verdict as lives
-use Rattle.amqp_model.specs.Verdict.{verdict_at}
-use Rattle.amqp_model.specs.Methods.{MethodKind, Method, Properties, class_of, sends, carries_content, is_request, is_reply}
-use Rattle.amqp_model.specs.Contents.{Payload}
-use Rattle.amqp_model.specs.Gathering.{Gathering, Nothing, HeaderDue, BodyDue, Step, Keeps, Completes, Breaks, step}
-use Rattle.amqp_model.specs.Readings.{Reading, Calls, HeaderOf, BodyOf, is_call, kind_of, payload_of}
-use Rattle.amqp_model.specs.Channels as channels
-use Rattle.amqp_model.specs.Channels.{Life, Channel, Free, Opening, Closing, state_of, Phase, Running, Agreed}
-use Rattle.amqp_model.specs.Negotiation.{Config}
-use Rattle.amqp_model.specs.Closes.{CloseCode, CommandInvalid, ChannelError, connection_close_ok}
-use Rattle.amqp_model.specs.Events.{Plain, Event, FrameVerdict, Proceeds, RefusesContent, Faults, Peer}
-use Rattle.amqp_model.specs.FrameVerdict.{Facts, MOST_REQUESTS, first_of, awaits_in, as_lives, lives_verdict, after_part, on_part, on_message, answers_first, on_matched, is_gathering, on_open, when_connection, when_misdirected, on_connection, verdict_on}
-use Rattle.amqp_model.specs.EndVerdict.{goes_on}
-use Rattle.amqp_model.specs.WholeMessages.{FitsNext}
-use Rattle.amqp_model.specs.WellPut.{SaysWell, calls, heads, fills}
-use Rattle.amqp_model.specs.NoFault.{IsMatched}
+use Rattle.amqp_model.specs.Wire.Notes.{Role, Client, Server, is_client, other_end, Kind, Open, OpenOk, Close, CloseOk, Flow, FlowOk, Other, is_message}
+use Rattle.amqp_model.specs.History.States.{State}
+use Rattle.amqp_model.specs.History.Verdict as lives
+use Rattle.amqp_model.specs.History.Verdict.{verdict_at}
+use Rattle.amqp_model.specs.Wire.Methods.{MethodKind, Method, Properties, class_of, sends, carries_content, is_request, is_reply}
+use Rattle.amqp_model.specs.Wire.Contents.{Payload}
+use Rattle.amqp_model.specs.Wire.Gathering.{Gathering, Nothing, HeaderDue, BodyDue, Step, Keeps, Completes, Breaks, step}
+use Rattle.amqp_model.specs.Wire.Readings.{Reading, Calls, HeaderOf, BodyOf, is_call, kind_of, payload_of}
+use Rattle.amqp_model.specs.End.Channels as channels
+use Rattle.amqp_model.specs.End.Channels.{Life, Channel, Free, Opening, Closing, state_of, Phase, Running, Agreed}
+use Rattle.amqp_model.specs.History.Negotiation.{Config}
+use Rattle.amqp_model.specs.End.Closes.{CloseCode, CommandInvalid, ChannelError, connection_close_ok}
+use Rattle.amqp_model.specs.End.Events.{Plain, Event, FrameVerdict, Proceeds, RefusesContent, Faults, Peer}
+use Rattle.amqp_model.specs.End.FrameVerdict.{Facts, MOST_REQUESTS, first_of, awaits_in, as_lives, lives_verdict, after_part, on_part, on_message, answers_first, on_matched, is_gathering, on_open, when_connection, when_misdirected, on_connection, verdict_on}
+use Rattle.amqp_model.specs.End.EndVerdict.{goes_on}
+use Rattle.amqp_model.specs.Pair.WholeMessages.{FitsNext}
+use Rattle.amqp_model.specs.Pair.WellPut.{SaysWell, calls, heads, fills}
+use Rattle.amqp_model.specs.Pair.NoFault.{IsMatched}
 use Rattle.amqp_model.proofs.Agreeing.{facts_in}
 
 -- the lives of a channel go on with such a frame

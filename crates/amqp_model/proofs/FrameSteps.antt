@@ -2,26 +2,26 @@
 use Rattle.std.proofs.Common.{◌≡◌, inl, inr, Bool, true, false, ℕ, zero, suc, ◌==◌, List, [], ◌∷◌, map, Option, Some, None, refl, sym, ap, subst}
 use Rattle.std.proofs.lemmas.Bool.{false≢true, eq-eqb}
 use Rattle.amqp_method.specs.declared.kinds.Kind.TheVariants as kinds
-use Rattle.amqp_model.specs.Frame.{Frame}
-use Rattle.amqp_model.specs.Notes.{Role, Client, Server, Kind, Open, OpenOk, Close, CloseOk, Flow, FlowOk, Other}
-use Rattle.amqp_model.specs.States.{State}
-use Rattle.amqp_model.specs.Verdict as lives
-use Rattle.amqp_model.specs.Verdict.{verdict_at}
-use Rattle.amqp_model.specs.Methods.{Method, ReadsBack}
-use Rattle.amqp_model.specs.Readings.{Calls, reading, kind_of}
-use Rattle.amqp_model.specs.Histories.{Put, Took, History, ChannelEntry, PutHere, TookHere}
-use Rattle.amqp_model.specs.Channels.{Life, Channel, Free, Opening, Closing, Phase, Handshake, Running, Closed, Failed, End, state_of}
-use Rattle.amqp_model.specs.Channels as channels
-use Rattle.amqp_model.specs.Negotiation.{Config}
-use Rattle.amqp_model.specs.Closes.{ContentTooLarge, Owed, AllReadBack, frame_of, reply_to, channel_close, without_arguments, flow_as}
-use Rattle.amqp_model.specs.Events.{FrameVerdict, Proceeds, RefusesContent, Faults}
-use Rattle.amqp_model.specs.FrameVerdict.{on_channel, awaits_in, verdict_on, methods_put}
-use Rattle.amqp_model.specs.EndVerdict.{facts_at, end_verdict, goes_on}
-use Rattle.amqp_model.specs.LawfulHistories.{then_put, then_taken}
-use Rattle.amqp_model.specs.ReadingBack.{WritesReadBack}
-use Rattle.amqp_model.specs.Replies.{request_made}
-use Rattle.amqp_model.specs.Machine.{after_taken, may_put_here, end_after, end_after_owed, end_after_taken, failed_by}
-use Rattle.amqp_model.specs.EndLaws.{is_over, AgreesWithLives, agrees, refuses, FrameFollows}
+use Rattle.amqp_model.specs.Wire.Frame.{Frame}
+use Rattle.amqp_model.specs.Wire.Notes.{Role, Client, Server, Kind, Open, OpenOk, Close, CloseOk, Flow, FlowOk, Other}
+use Rattle.amqp_model.specs.History.States.{State}
+use Rattle.amqp_model.specs.History.Verdict as lives
+use Rattle.amqp_model.specs.History.Verdict.{verdict_at}
+use Rattle.amqp_model.specs.Wire.Methods.{Method, ReadsBack}
+use Rattle.amqp_model.specs.Wire.Readings.{Calls, reading, kind_of}
+use Rattle.amqp_model.specs.History.Histories.{Put, Took, History, ChannelEntry, PutHere, TookHere}
+use Rattle.amqp_model.specs.End.Channels.{Life, Channel, Free, Opening, Closing, Phase, Handshake, Running, Closed, Failed, End, state_of}
+use Rattle.amqp_model.specs.End.Channels as channels
+use Rattle.amqp_model.specs.History.Negotiation.{Config}
+use Rattle.amqp_model.specs.End.Closes.{ContentTooLarge, Owed, AllReadBack, frame_of, reply_to, channel_close, without_arguments, flow_as}
+use Rattle.amqp_model.specs.End.Events.{FrameVerdict, Proceeds, RefusesContent, Faults}
+use Rattle.amqp_model.specs.End.FrameVerdict.{on_channel, awaits_in, verdict_on, methods_put}
+use Rattle.amqp_model.specs.End.EndVerdict.{facts_at, end_verdict, goes_on}
+use Rattle.amqp_model.specs.End.LawfulHistories.{then_put, then_taken}
+use Rattle.amqp_model.specs.End.ReadingBack.{WritesReadBack}
+use Rattle.amqp_model.specs.History.Replies.{request_made}
+use Rattle.amqp_model.specs.End.Machine.{after_taken, may_put_here, end_after, end_after_owed, end_after_taken, failed_by}
+use Rattle.amqp_model.specs.Laws.EndLaws.{is_over, AgreesWithLives, agrees, refuses, FrameFollows}
 use Rattle.amqp_model.proofs.Agreeing.{facts_in, is_closing, handshake-stops, frame-agrees}
 use Rattle.amqp_model.proofs.Acting.{reads-back, is_other, is_acted, acted-open}
 use Rattle.amqp_model.proofs.Elsewhere.{Each, verdict-zero}

@@ -3,10 +3,10 @@ use Rattle.std.proofs.Common.{◌≡◌, Bool, true, false, cond, ℕ, ◌<◌, 
 use Rattle.std.specs.List.{concat}
 use Rattle.std.proofs.lemmas.List.{reverse-append, reverse-reverse}
 use Rattle.std.proofs.lemmas.Bool.Decides.{nat_tests}
-use Rattle.amqp_model.specs.Methods.{Method, Properties, carries_content}
-use Rattle.amqp_model.specs.Contents.{Payload, Calls, Header, Body, Unread, UnderWay, body_octets, due, IsDue}
-use Rattle.amqp_model.specs.Gathering.{Gathering, Nothing, HeaderDue, BodyDue, Step, Keeps, Completes, Breaks, PastSize, begun, gathered, step, remains, gathering, kept, Gathers}
-use Rattle.amqp_model.specs.ContentLaws.{OneUnderWay, GoesOnAsDue, KeepsUnderWay, KeepsItsOctets, GathersAfresh, NothingAfterMethod}
+use Rattle.amqp_model.specs.Wire.Methods.{Method, Properties, carries_content}
+use Rattle.amqp_model.specs.Wire.Contents.{Payload, Calls, Header, Body, Unread, UnderWay, body_octets, due, IsDue}
+use Rattle.amqp_model.specs.Wire.Gathering.{Gathering, Nothing, HeaderDue, BodyDue, Step, Keeps, Completes, Breaks, PastSize, begun, gathered, step, remains, gathering, kept, Gathers}
+use Rattle.amqp_model.specs.Laws.ContentLaws.{OneUnderWay, GoesOnAsDue, KeepsUnderWay, KeepsItsOctets, GathersAfresh, NothingAfterMethod}
 use Rattle.amqp_model.proofs.ContentLemmas.{bodies-same}
 use Rattle.amqp_model.proofs.UnderWayLemmas.{Grows, has_method, has_header, has_more, grown-kept, grown-prefix, Prefixes, method_prefix, body_prefix, prefix-under_way, Growing, growing, under_way-grows, ContentPrefix, its_method, its_body, content-prefix}
 

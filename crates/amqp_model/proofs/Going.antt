@@ -1,23 +1,23 @@
 -- What a frame has to be, where the verdict on it lets the end go on.
 use Rattle.std.proofs.Common.{◌≡◌, ◌≤◌, ◌⊎◌, inl, inr, Bool, true, false, cond, not, ◌&&◌, ℕ, ◌==◌, arith, List, [], ◌∷◌, ◌++◌, drop, length, Option, Some, None, refl, sym, ap, ◌∙◌, subst}
 use Rattle.std.proofs.lemmas.Bool.{false≢true, true≢false}
-use Rattle.amqp_model.specs.Frame.{Frame}
-use Rattle.amqp_model.specs.Notes.{Role, Client, Server, is_client, Kind, Open, OpenOk, Close, CloseOk, Flow, FlowOk, Other, is_message}
-use Rattle.amqp_model.specs.Verdict.{when_free, when_opening, when_open}
-use Rattle.amqp_model.specs.Methods.{MethodKind, Method, Properties, carries_content, is_reply, bit_at}
-use Rattle.amqp_model.specs.Contents.{Payload}
-use Rattle.amqp_model.specs.Gathering.{Gathering, Nothing, HeaderDue, BodyDue, Step, Keeps, Completes, Breaks, Misfit, step, remains}
-use Rattle.amqp_model.specs.Readings.{Reading, Calls, UnknownMethod, MalformedMethod, HeaderOf, MalformedHeader, BodyOf, Beat, kind_of, payload_of}
-use Rattle.amqp_model.specs.Histories.{TookHere}
-use Rattle.amqp_model.specs.Replies.{one_if, completes_reply}
-use Rattle.amqp_model.specs.Channels.{Life, Channel, Free, Opening, Closing, Phase, Running, Agreed}
-use Rattle.amqp_model.specs.Channels as channels
-use Rattle.amqp_model.specs.Negotiation.{Config}
-use Rattle.amqp_model.specs.Closes.{CloseCode, CommandInvalid, ChannelError}
-use Rattle.amqp_model.specs.Events.{FrameVerdict, Faults, Peer}
-use Rattle.amqp_model.specs.FrameVerdict.{Facts, first_of, as_lives, on_method, by_state, on_open, on_idle, on_matched, is_no_channel, answers_first, is_gathering, verdict_on}
-use Rattle.amqp_model.specs.EndVerdict.{goes_on}
-use Rattle.amqp_model.specs.Machine.{HasItsRequest, IsAnswerable}
+use Rattle.amqp_model.specs.Wire.Frame.{Frame}
+use Rattle.amqp_model.specs.Wire.Notes.{Role, Client, Server, is_client, Kind, Open, OpenOk, Close, CloseOk, Flow, FlowOk, Other, is_message}
+use Rattle.amqp_model.specs.History.Verdict.{when_free, when_opening, when_open}
+use Rattle.amqp_model.specs.Wire.Methods.{MethodKind, Method, Properties, carries_content, is_reply, bit_at}
+use Rattle.amqp_model.specs.Wire.Contents.{Payload}
+use Rattle.amqp_model.specs.Wire.Gathering.{Gathering, Nothing, HeaderDue, BodyDue, Step, Keeps, Completes, Breaks, Misfit, step, remains}
+use Rattle.amqp_model.specs.Wire.Readings.{Reading, Calls, UnknownMethod, MalformedMethod, HeaderOf, MalformedHeader, BodyOf, Beat, kind_of, payload_of}
+use Rattle.amqp_model.specs.History.Histories.{TookHere}
+use Rattle.amqp_model.specs.History.Replies.{one_if, completes_reply}
+use Rattle.amqp_model.specs.End.Channels.{Life, Channel, Free, Opening, Closing, Phase, Running, Agreed}
+use Rattle.amqp_model.specs.End.Channels as channels
+use Rattle.amqp_model.specs.History.Negotiation.{Config}
+use Rattle.amqp_model.specs.End.Closes.{CloseCode, CommandInvalid, ChannelError}
+use Rattle.amqp_model.specs.End.Events.{FrameVerdict, Faults, Peer}
+use Rattle.amqp_model.specs.End.FrameVerdict.{Facts, first_of, as_lives, on_method, by_state, on_open, on_idle, on_matched, is_no_channel, answers_first, is_gathering, verdict_on}
+use Rattle.amqp_model.specs.End.EndVerdict.{goes_on}
+use Rattle.amqp_model.specs.End.Machine.{HasItsRequest, IsAnswerable}
 use Rattle.amqp_model.proofs.ClassMethods.{is_class_kind, class-plain}
 use Rattle.amqp_model.proofs.ChannelSteps.{Matches}
 

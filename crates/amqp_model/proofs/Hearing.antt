@@ -2,15 +2,15 @@
 use Rattle.std.proofs.Common.{◌≡◌, Bool, true, false, ℕ, List, [], ◌∷◌, ◌++◌, map, Option, Some, None, refl, ap}
 use Rattle.std.proofs.lemmas.Bool.{false≢true}
 use Rattle.amqp_method.specs.Arguments.{Argument}
-use Rattle.amqp_model.specs.Notes.{Role, Client, Server, is_client}
-use Rattle.amqp_model.specs.Methods.{sends}
-use Rattle.amqp_model.specs.Arrangement.{is_leaving}
-use Rattle.amqp_model.specs.Channels.{Phase, Handshake, Running, Closed, Agreed, AwaitsStart, AwaitsStartOk, AwaitsTune, AwaitsTuneOk, AwaitsOpen, AwaitsOpenOk}
-use Rattle.amqp_model.specs.Negotiation.{Config, Hello, OfClient, OfServer, start, start_ok, connection_open}
-use Rattle.amqp_model.specs.Asks.{is_running}
-use Rattle.amqp_model.specs.FrameVerdict.{on_zero}
-use Rattle.amqp_model.specs.EndVerdict.{goes_on, takes_frames}
-use Rattle.amqp_model.specs.Fitting.{ConfigWrites}
+use Rattle.amqp_model.specs.Wire.Notes.{Role, Client, Server, is_client}
+use Rattle.amqp_model.specs.Wire.Methods.{sends}
+use Rattle.amqp_model.specs.Output.Arrangement.{is_leaving}
+use Rattle.amqp_model.specs.End.Channels.{Phase, Handshake, Running, Closed, Agreed, AwaitsStart, AwaitsStartOk, AwaitsTune, AwaitsTuneOk, AwaitsOpen, AwaitsOpenOk}
+use Rattle.amqp_model.specs.History.Negotiation.{Config, Hello, OfClient, OfServer, start, start_ok, connection_open}
+use Rattle.amqp_model.specs.End.Asks.{is_running}
+use Rattle.amqp_model.specs.End.FrameVerdict.{on_zero}
+use Rattle.amqp_model.specs.End.EndVerdict.{goes_on, takes_frames}
+use Rattle.amqp_model.specs.End.Fitting.{ConfigWrites}
 use Rattle.amqp_model.proofs.Footings.{Footing, footing_owed, verdict_of, owed_of, footing_heard}
 use Rattle.amqp_model.proofs.PutLast.{leaving-is}
 use Rattle.amqp_model.proofs.Together.{Word, Start, StartOk, OpenAsked, Tune, TuneOk, OpenOk, CloseOk, Unblocked, Close, Blocked, said, owes, spoken, none, blocked, unblocked, blocks-then, at, both_settle, Together, greeted, answered, tuned, settled_once, settled_twice, opened, both_run, closed_early, server_closes, client_closes, crossing, client_heard, server_heard, both_heard, client_closed, server_closed, both_closed, tune-large, settled-in}

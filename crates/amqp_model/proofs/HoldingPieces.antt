@@ -3,19 +3,19 @@ use Rattle.std.proofs.Common.{◌≡◌, Bool, true, false, cond, not, ◌==◌,
 use Rattle.std.proofs.lemmas.Bool.{true≢false, false≢true, eqb-true}
 use Rattle.std.proofs.lemmas.List.Elements.{All-nil, All-head, All-tail, All-push}
 use Rattle.amqp_frame.specs.Splitting.{stream}
-use Rattle.amqp_model.specs.Frame.{Frame}
-use Rattle.amqp_model.specs.Notes.{Role, Client, Server}
-use Rattle.amqp_model.specs.Readings.{reading}
-use Rattle.amqp_model.specs.Histories.{PutHere}
-use Rattle.amqp_model.specs.Channels.{Phase, Handshake, Running, Closing, Closed, Failed, End}
-use Rattle.amqp_model.specs.Negotiation.{Config, frame_limit}
-use Rattle.amqp_model.specs.Events.{Fault}
-use Rattle.amqp_model.specs.Asks.{Ask, Refusal, is_running, frames_asked, refusal, refused_or_put}
-use Rattle.amqp_model.specs.Machine.{end_after, end_after_put}
-use Rattle.amqp_model.specs.Octets.{frames_taken, opening_read, FedAs}
-use Rattle.amqp_model.specs.Endpoint.{Judgement, Begun, Whole, Wrong, judged, Comparison, Prefix, Same, Differs, compared, Endpoint, Outcome, Unfinished, Finished, Found, refusal_in, unless_over, awaits_opening, after_opening, after_judged, after_octets, after_octet, fed_after, after_feed, after_answer}
-use Rattle.amqp_model.specs.OctetLaws.{IsOctet, IsJudgedWell}
-use Rattle.amqp_model.specs.Pieces.{IsProperPrefixOf, reads_frames, AreBegun, HoldsUnfinished, NewHolds, StandsHolds, FeedHolds, AskHolds, WroteHolds}
+use Rattle.amqp_model.specs.Wire.Frame.{Frame}
+use Rattle.amqp_model.specs.Wire.Notes.{Role, Client, Server}
+use Rattle.amqp_model.specs.Wire.Readings.{reading}
+use Rattle.amqp_model.specs.History.Histories.{PutHere}
+use Rattle.amqp_model.specs.End.Channels.{Phase, Handshake, Running, Closing, Closed, Failed, End}
+use Rattle.amqp_model.specs.History.Negotiation.{Config, frame_limit}
+use Rattle.amqp_model.specs.End.Events.{Fault}
+use Rattle.amqp_model.specs.End.Asks.{Ask, Refusal, is_running, frames_asked, refusal, refused_or_put}
+use Rattle.amqp_model.specs.End.Machine.{end_after, end_after_put}
+use Rattle.amqp_model.specs.Stream.Octets.{frames_taken, opening_read, FedAs}
+use Rattle.amqp_model.specs.Stream.Endpoint.{Judgement, Begun, Whole, Wrong, judged, Comparison, Prefix, Same, Differs, compared, Endpoint, Outcome, Unfinished, Finished, Found, refusal_in, unless_over, awaits_opening, after_opening, after_judged, after_octets, after_octet, fed_after, after_feed, after_answer}
+use Rattle.amqp_model.specs.Laws.OctetLaws.{IsOctet, IsJudgedWell}
+use Rattle.amqp_model.specs.Stream.Pieces.{IsProperPrefixOf, reads_frames, AreBegun, HoldsUnfinished, NewHolds, StandsHolds, FeedHolds, AskHolds, WroteHolds}
 use Rattle.amqp_model.proofs.Asking.{Accepted, accepted, not-when}
 use Rattle.amqp_model.proofs.OctetJudging.{judged-well}
 use Rattle.amqp_model.proofs.OctetHistories.{back-octets, phase-put-opened}

@@ -3,12 +3,12 @@ use Rattle.std.proofs.Common.{◌≡◌, ◌≢◌, true, List, [], ◌∷◌, �
 use Rattle.std.specs.Option.{option_to_list}
 use Rattle.std.proofs.lemmas.Bool.{false≢true}
 use Rattle.std.proofs.lemmas.List.{reverse-append, reverse-reverse}
-use Rattle.amqp_model.specs.Methods.{Method, Sort, BeginsContent, OpensOrCloses, Plain, AsksFlow, AnswersFlow, sort_of, begins_content}
-use Rattle.amqp_model.specs.Contents.{Payload, Calls, Header, Body, Unread, Content, IsContent, UnderWay, EndsContent}
-use Rattle.amqp_model.specs.Gathering.{Gathering, Nothing, HeaderDue, BodyDue, Step, Keeps, Completes, Breaks, step, gathering, Gathers}
-use Rattle.amqp_model.specs.Items.{Item, PlainMethod, WholeContent, FlowItem, FlowOkItem, CallsLast, EndsItem, Encodes, nothing, with_item, without, item_of, completed, item_ended, items_taken, items}
-use Rattle.amqp_model.specs.Prefixes.{IsPrefixOf}
-use Rattle.amqp_model.specs.ContentLaws.{TellsItems, ItemsAreEncoded, ItemsOfPrefix, OneMoreEncoded, EncodedAfresh, MethodStandsAlone, ContentEncodedAfter, UnfinishedEncodesNothing}
+use Rattle.amqp_model.specs.Wire.Methods.{Method, Sort, BeginsContent, OpensOrCloses, Plain, AsksFlow, AnswersFlow, sort_of, begins_content}
+use Rattle.amqp_model.specs.Wire.Contents.{Payload, Calls, Header, Body, Unread, Content, IsContent, UnderWay, EndsContent}
+use Rattle.amqp_model.specs.Wire.Gathering.{Gathering, Nothing, HeaderDue, BodyDue, Step, Keeps, Completes, Breaks, step, gathering, Gathers}
+use Rattle.amqp_model.specs.Wire.Items.{Item, PlainMethod, WholeContent, FlowItem, FlowOkItem, CallsLast, EndsItem, Encodes, nothing, with_item, without, item_of, completed, item_ended, items_taken, items}
+use Rattle.amqp_model.specs.Output.Prefixes.{IsPrefixOf}
+use Rattle.amqp_model.specs.Laws.ContentLaws.{TellsItems, ItemsAreEncoded, ItemsOfPrefix, OneMoreEncoded, EncodedAfresh, MethodStandsAlone, ContentEncodedAfter, UnfinishedEncodesNothing}
 use Rattle.amqp_model.proofs.UnderWayLemmas.{Grows, has_method, has_header, has_more, gathered-more, grown-kept, Growing, growing, under_way-grows}
 use Rattle.amqp_model.proofs.GatheringLemmas.{gathers-afresh, nothing-after_method}
 use Rattle.amqp_model.proofs.StepLemmas.{tells-whole_lem}

@@ -21,10 +21,10 @@
 --
 -- An end that awaits a flow-ok has at most one flow or its flow-ok in flight, and else none.
 use Rattle.std.proofs.Common.{Bool, true, false, ℕ, suc, ◌+◌, ◌≤◌, List, [], ◌∷◌, ◌++◌, Some, None, arith}
-use Rattle.amqp_model.specs.Frame.{Frame}
-use Rattle.amqp_model.specs.Notes.{Role, Client, Server, Kind, Open, OpenOk, Close, CloseOk, Flow, FlowOk, Other}
-use Rattle.amqp_model.specs.States.{State, Free, Opening, Closing}
-use Rattle.amqp_model.specs.Carried.{NoteInLife, At}
+use Rattle.amqp_model.specs.Wire.Frame.{Frame}
+use Rattle.amqp_model.specs.Wire.Notes.{Role, Client, Server, Kind, Open, OpenOk, Close, CloseOk, Flow, FlowOk, Other}
+use Rattle.amqp_model.specs.History.States.{State, Free, Opening, Closing}
+use Rattle.amqp_model.specs.Pair.Carried.{NoteInLife, At}
 use Rattle.amqp_model.proofs.Ends.{Standing, Is, a_flow, a_flow_ok, an_other, IsReply, to_open, to_close, to_flow, Asking, opens, closes, flows, sends, Taking, accepts, begins, ends, pauses, hears, acts, crosses, frees, drops}
 
 -- messages of a life, so many flows and flow-oks among them, and then a tail

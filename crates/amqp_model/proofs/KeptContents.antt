@@ -3,30 +3,30 @@ use Rattle.std.proofs.Common.{◌≡◌, ◌<◌, inr, Bool, true, false, cond, 
 use Rattle.std.proofs.lemmas.Bool.{true≢false, false≢true, and_from, eq-eqb, cond-true}
 use Rattle.std.proofs.lemmas.List.{map-append, reverse-append}
 use Rattle.amqp_method.specs.declared.kinds.Kind.TheVariants as kinds
-use Rattle.amqp_model.specs.Frame.{Frame}
-use Rattle.amqp_model.specs.Notes.{Role, Client, Server, Kind, Open, OpenOk, Note, Put, Took, Leaving, is_message}
-use Rattle.amqp_model.specs.States.{State, Free, Opening, Closing}
-use Rattle.amqp_model.specs.Lives.{lives, has_left}
-use Rattle.amqp_model.specs.Carried.{takes, messages, acted}
-use Rattle.amqp_model.specs.Methods.{MethodKind, Method, carries_content, begins_content, sort_by, bit_at}
-use Rattle.amqp_model.specs.Contents.{Payload}
-use Rattle.amqp_model.specs.Gathering.{Gathering, Nothing, HeaderDue, BodyDue, step, remains, gathering}
-use Rattle.amqp_model.specs.Readings.{Reading, Calls, UnknownMethod, MalformedMethod, HeaderOf, MalformedHeader, BodyOf, Beat, reading, kind_of, kind_of_method, payload_of}
-use Rattle.amqp_model.specs.Histories.{Put as PutEntry, Took as TookEntry, History, ChannelEntry, PutHere, TookHere, LeftHere, closes_connection, entries_on, notes, payloads_taken, under_way}
-use Rattle.amqp_model.specs.EndLaws.{notes_on}
-use Rattle.amqp_model.specs.Sent.{payload_in}
-use Rattle.amqp_model.specs.Lives.{state, state_by, is_paused, awaits_flow_ok}
-use Rattle.amqp_model.specs.Notes.{other_end}
-use Rattle.amqp_model.specs.Carried.{sent, message_frames}
-use Rattle.amqp_model.specs.Runs.{RunAt, IsNext}
-use Rattle.amqp_model.specs.Channels.{Life}
-use Rattle.amqp_model.specs.Channels as channels
-use Rattle.amqp_model.specs.StateFromHistory.{life_from, channel_in, channel_from}
-use Rattle.amqp_model.specs.Histories.{entries_before_leaving}
-use Rattle.amqp_model.specs.Asks.{when, is_running, NotRunning}
-use Rattle.amqp_model.specs.Pairs.{PairOf, config_of}
-use Rattle.amqp_model.specs.CarryingLaws.{as_carried}
-use Rattle.amqp_model.specs.WholeMessages.{FitsNext, AreWholeMessages, FitsWhatIsKept}
+use Rattle.amqp_model.specs.Wire.Frame.{Frame}
+use Rattle.amqp_model.specs.Wire.Notes.{Role, Client, Server, Kind, Open, OpenOk, Note, Put, Took, Leaving, is_message}
+use Rattle.amqp_model.specs.History.States.{State, Free, Opening, Closing}
+use Rattle.amqp_model.specs.History.Lives.{lives, has_left}
+use Rattle.amqp_model.specs.Pair.Carried.{takes, messages, acted}
+use Rattle.amqp_model.specs.Wire.Methods.{MethodKind, Method, carries_content, begins_content, sort_by, bit_at}
+use Rattle.amqp_model.specs.Wire.Contents.{Payload}
+use Rattle.amqp_model.specs.Wire.Gathering.{Gathering, Nothing, HeaderDue, BodyDue, step, remains, gathering}
+use Rattle.amqp_model.specs.Wire.Readings.{Reading, Calls, UnknownMethod, MalformedMethod, HeaderOf, MalformedHeader, BodyOf, Beat, reading, kind_of, kind_of_method, payload_of}
+use Rattle.amqp_model.specs.History.Histories.{Put as PutEntry, Took as TookEntry, History, ChannelEntry, PutHere, TookHere, LeftHere, closes_connection, entries_on, notes, payloads_taken, under_way}
+use Rattle.amqp_model.specs.Laws.EndLaws.{notes_on}
+use Rattle.amqp_model.specs.Pair.Sent.{payload_in}
+use Rattle.amqp_model.specs.History.Lives.{state, state_by, is_paused, awaits_flow_ok}
+use Rattle.amqp_model.specs.Wire.Notes.{other_end}
+use Rattle.amqp_model.specs.Pair.Carried.{sent, message_frames}
+use Rattle.amqp_model.specs.Pair.Runs.{RunAt, IsNext}
+use Rattle.amqp_model.specs.End.Channels.{Life}
+use Rattle.amqp_model.specs.End.Channels as channels
+use Rattle.amqp_model.specs.End.StateFromHistory.{life_from, channel_in, channel_from}
+use Rattle.amqp_model.specs.History.Histories.{entries_before_leaving}
+use Rattle.amqp_model.specs.End.Asks.{when, is_running, NotRunning}
+use Rattle.amqp_model.specs.Pair.Pairs.{PairOf, config_of}
+use Rattle.amqp_model.specs.Laws.CarryingLaws.{as_carried}
+use Rattle.amqp_model.specs.Pair.WholeMessages.{FitsNext, AreWholeMessages, FitsWhatIsKept}
 use Rattle.amqp_model.proofs.Following.{all-before}
 use Rattle.amqp_model.proofs.Asking.{open-reads, running-stays}
 use Rattle.amqp_model.proofs.Runs.{Linked, linked, run_at_linked}

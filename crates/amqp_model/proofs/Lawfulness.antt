@@ -1,21 +1,21 @@
 -- Every lawful history is one for which an end stands.
 use Rattle.std.proofs.Common.{◌≡◌, Bool, true, false, [], Option, inl, refl, sym, ap, subst}
 use Rattle.std.proofs.lemmas.Bool.{true≢false}
-use Rattle.amqp_model.specs.Frame.{Frame}
-use Rattle.amqp_model.specs.Notes.{Role, Server}
-use Rattle.amqp_model.specs.Histories.{Put, History}
-use Rattle.amqp_model.specs.Channels.{HandshakeStep, Phase, Handshake, Failed, End}
-use Rattle.amqp_model.specs.Negotiation.{Config}
-use Rattle.amqp_model.specs.Negotiation as negotiation
-use Rattle.amqp_model.specs.StateFromHistory.{end_from}
-use Rattle.amqp_model.specs.Closes.{method_frame}
-use Rattle.amqp_model.specs.Asks.{Puts, ask_verdict}
-use Rattle.amqp_model.specs.Readings.{reading}
-use Rattle.amqp_model.specs.EndVerdict.{end_verdict, goes_on, too_large_puts}
-use Rattle.amqp_model.specs.ReadingBack.{WritesReadBack}
-use Rattle.amqp_model.specs.LawfulHistories.{then_put, then_taken, Goes, greets, takes, faults, meets_too_large, fails, asks, begun, goes}
-use Rattle.amqp_model.specs.Machine.{end_after_taken, end_after_too_large, end_after_put, as_failed, new_end, StandsFor}
-use Rattle.amqp_model.specs.EndLaws.{LawfulStands, StepFollows, StepsOfEnd, EndSteps}
+use Rattle.amqp_model.specs.Wire.Frame.{Frame}
+use Rattle.amqp_model.specs.Wire.Notes.{Role, Server}
+use Rattle.amqp_model.specs.History.Histories.{Put, History}
+use Rattle.amqp_model.specs.End.Channels.{HandshakeStep, Phase, Handshake, Failed, End}
+use Rattle.amqp_model.specs.History.Negotiation.{Config}
+use Rattle.amqp_model.specs.History.Negotiation as negotiation
+use Rattle.amqp_model.specs.End.StateFromHistory.{end_from}
+use Rattle.amqp_model.specs.End.Closes.{method_frame}
+use Rattle.amqp_model.specs.End.Asks.{Puts, ask_verdict}
+use Rattle.amqp_model.specs.Wire.Readings.{reading}
+use Rattle.amqp_model.specs.End.EndVerdict.{end_verdict, goes_on, too_large_puts}
+use Rattle.amqp_model.specs.End.ReadingBack.{WritesReadBack}
+use Rattle.amqp_model.specs.End.LawfulHistories.{then_put, then_taken, Goes, greets, takes, faults, meets_too_large, fails, asks, begun, goes}
+use Rattle.amqp_model.specs.End.Machine.{end_after_taken, end_after_too_large, end_after_put, as_failed, new_end, StandsFor}
+use Rattle.amqp_model.specs.Laws.EndLaws.{LawfulStands, StepFollows, StepsOfEnd, EndSteps}
 use Rattle.amqp_model.proofs.EndSteps.{end-follows, new-end-stands}
 use Rattle.amqp_model.proofs.FrameSteps.{frame-follows}
 use Rattle.amqp_model.proofs.AskSteps.{asks-follow}

@@ -3,15 +3,15 @@ use Rattle.std.proofs.Common.{◌==◌, ◌&&◌, ◌≡◌, ◌⊎◌, inl, inr
 use Rattle.std.proofs.lemmas.Bool.{eq-eqb, true≢false}
 use Rattle.std.proofs.lemmas.List.{map-append, append_cancel_left}
 use Rattle.std.proofs.lemmas.List.Elements.{All-nil, All-cons}
-use Rattle.amqp_model.specs.Frame.{Frame}
-use Rattle.amqp_model.specs.Notes.{is_message, Role, other_end, Kind, Close, Note, Put, Took, Leaving}
-use Rattle.amqp_model.specs.States.{State, Opening}
-use Rattle.amqp_model.specs.Lives.{lives, has_left}
-use Rattle.amqp_model.specs.Verdict.{Discarded}
-use Rattle.amqp_model.specs.Carried.{message_frames, taken_by, NoteInLife, At, life_of, puts, takes, acts_next, acted_takes, messages, sent, acted}
-use Rattle.amqp_model.specs.Runs.{RunAt}
-use Rattle.amqp_model.specs.Laws.{SidesAgree, GoesOnWith, FindsNoFault, ActsOnPrefix, IsLive, OnItsWayIsOfItsLife, SentIsActedOnOrOnItsWay, AllActedOnAtClose, AllActedOnAtConnectionClose}
-use Rattle.amqp_model.specs.Prefixes.{IsPrefixOf}
+use Rattle.amqp_model.specs.Wire.Frame.{Frame}
+use Rattle.amqp_model.specs.Wire.Notes.{is_message, Role, other_end, Kind, Close, Note, Put, Took, Leaving}
+use Rattle.amqp_model.specs.History.States.{State, Opening}
+use Rattle.amqp_model.specs.History.Lives.{lives, has_left}
+use Rattle.amqp_model.specs.History.Verdict.{Discarded}
+use Rattle.amqp_model.specs.Pair.Carried.{message_frames, taken_by, NoteInLife, At, life_of, puts, takes, acts_next, acted_takes, messages, sent, acted}
+use Rattle.amqp_model.specs.Pair.Runs.{RunAt}
+use Rattle.amqp_model.specs.Laws.LifeLaws.{SidesAgree, GoesOnWith, FindsNoFault, ActsOnPrefix, IsLive, OnItsWayIsOfItsLife, SentIsActedOnOrOnItsWay, AllActedOnAtClose, AllActedOnAtConnectionClose}
+use Rattle.amqp_model.specs.Output.Prefixes.{IsPrefixOf}
 use Rattle.amqp_model.proofs.Lists.{slice_get_front, messages-append, prefix_more, prefix_none}
 use Rattle.amqp_model.proofs.Ends.{Standing, Is, Lawful, lawful_stands, lawful_lives, here_state, here_verdict, left_verdict, has_asked, has_replied, has_taken, has_left_now, Taking, taking_verdict}
 use Rattle.amqp_model.proofs.Joint.{Row, done, with_flow, with_flow_ok, with_other, opened, opened_closed, ready, server_closes, client_closes, opening, reopening, JointAt, at_client, at_server, Taken, quietly, answering, joint_take}

@@ -4,9 +4,9 @@ use Rattle.std.proofs.lemmas.Bool.{true≢false, not-true, cond-true, cond-false
 use Rattle.std.proofs.lemmas.List.{append_cancel_left, nil_from_length}
 use Rattle.std.proofs.lemmas.List.Elements.{All-nil, All-cons, All-head, All-tail, filter-append, filter_passes}
 use Rattle.amqp_frame.specs.Frame.{Frame}
-use Rattle.amqp_model.specs.Arrangement.{is_leaving, Queue, PlainFrames, FramesOn, LeavingFrames, is_in, queued, on}
-use Rattle.amqp_model.specs.Departures.{before_close, KeepsOrder, LeavesLast, PutInOrder, PutAs, LeavesAfter}
-use Rattle.amqp_model.specs.Prefixes.{IsPrefixOf}
+use Rattle.amqp_model.specs.Output.Arrangement.{is_leaving, Queue, PlainFrames, FramesOn, LeavingFrames, is_in, queued, on}
+use Rattle.amqp_model.specs.Output.Departures.{before_close, KeepsOrder, LeavesLast, PutInOrder, PutAs, LeavesAfter}
+use Rattle.amqp_model.specs.Output.Prefixes.{IsPrefixOf}
 use Rattle.amqp_model.proofs.Turns.{Rank, plain, in_turn, leaves, rank, in-channel}
 use Rattle.amqp_model.proofs.Rows.{from-queued}
 use Rattle.amqp_model.proofs.Closes.{closes_in, closes-leaving, closes-other, before-at}

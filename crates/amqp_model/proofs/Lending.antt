@@ -1,23 +1,23 @@
 -- What is lent of a frame.
 use Rattle.std.proofs.Common.{◌≡◌, Bool, true, false, cond, not, ◌&&◌, nat_lt, nat_le, ℕ, ◌==◌, List, [], ◌∷◌, length, Option, Some, None, refl, ap, subst}
 use Rattle.amqp_method.specs.declared.kinds.Kind.TheVariants as kinds
-use Rattle.amqp_model.specs.Notes.{Role, Client, Server, is_client, Kind, Open, OpenOk, Close, CloseOk, Flow, FlowOk, Other}
-use Rattle.amqp_model.specs.States.{State}
-use Rattle.amqp_model.specs.Verdict as lives
-use Rattle.amqp_model.specs.Verdict.{verdict_at}
-use Rattle.amqp_model.specs.Methods.{Method, MethodKind, class_of, same_kind, sends, carries_content, is_request, is_reply}
-use Rattle.amqp_model.specs.Contents.{Content}
-use Rattle.amqp_model.specs.Gathering.{Gathering, Nothing, HeaderDue, BodyDue, PastSize, Step, Keeps, Completes, Breaks, step}
-use Rattle.amqp_model.specs.Readings.{Reading, Calls, UnknownMethod, MalformedMethod, HeaderOf, MalformedHeader, BodyOf, Beat, is_call, kind_of, payload_of}
-use Rattle.amqp_model.specs.Channels as channels
-use Rattle.amqp_model.specs.Channels.{Life, Channel, Free, Opening, Closing, Phase, Handshake, Running, Closed, Failed, HandshakeStep, AwaitsProtocolHeader, AwaitsStart, AwaitsStartOk, AwaitsTune, AwaitsTuneOk, AwaitsOpen, AwaitsOpenOk, Agreed}
-use Rattle.amqp_model.specs.Negotiation.{Config, tunes_too_small, agreed_in, in_range}
-use Rattle.amqp_model.specs.Closes.{ChannelError, Owed}
-use Rattle.amqp_model.specs.Events.{Event, Told, Plain, Whole, FrameVerdict, Proceeds}
-use Rattle.amqp_model.specs.FrameVerdict.{Facts, fault, MOST_REQUESTS, first_of, when_over, when_leaving, when_heartbeat, as_lives, when_closing, when_unread, negotiated, is_awaited, on_awaited, when_handshake, is_no_channel, after_part, on_part, part_on, when_content, when_connection, when_misdirected, when_no_channel, on_message, answers_first, on_matched, on_idle, is_gathering, on_open, by_state, on_method, on_rest, verdict_on}
-use Rattle.amqp_model.specs.Alike.{maybe_telling, lent, LentEvent, Begins, Heads, Part, WithoutContent}
-use Rattle.amqp_model.specs.Alike as alike
-use Rattle.amqp_model.specs.StreamingLaws.{EachFrameLends, LastIsWhole, LendsOne, LendsLast}
+use Rattle.amqp_model.specs.Wire.Notes.{Role, Client, Server, is_client, Kind, Open, OpenOk, Close, CloseOk, Flow, FlowOk, Other}
+use Rattle.amqp_model.specs.History.States.{State}
+use Rattle.amqp_model.specs.History.Verdict as lives
+use Rattle.amqp_model.specs.History.Verdict.{verdict_at}
+use Rattle.amqp_model.specs.Wire.Methods.{Method, MethodKind, class_of, same_kind, sends, carries_content, is_request, is_reply}
+use Rattle.amqp_model.specs.Wire.Contents.{Content}
+use Rattle.amqp_model.specs.Wire.Gathering.{Gathering, Nothing, HeaderDue, BodyDue, PastSize, Step, Keeps, Completes, Breaks, step}
+use Rattle.amqp_model.specs.Wire.Readings.{Reading, Calls, UnknownMethod, MalformedMethod, HeaderOf, MalformedHeader, BodyOf, Beat, is_call, kind_of, payload_of}
+use Rattle.amqp_model.specs.End.Channels as channels
+use Rattle.amqp_model.specs.End.Channels.{Life, Channel, Free, Opening, Closing, Phase, Handshake, Running, Closed, Failed, HandshakeStep, AwaitsProtocolHeader, AwaitsStart, AwaitsStartOk, AwaitsTune, AwaitsTuneOk, AwaitsOpen, AwaitsOpenOk, Agreed}
+use Rattle.amqp_model.specs.History.Negotiation.{Config, tunes_too_small, agreed_in, in_range}
+use Rattle.amqp_model.specs.End.Closes.{ChannelError, Owed}
+use Rattle.amqp_model.specs.End.Events.{Event, Told, Plain, Whole, FrameVerdict, Proceeds}
+use Rattle.amqp_model.specs.End.FrameVerdict.{Facts, fault, MOST_REQUESTS, first_of, when_over, when_leaving, when_heartbeat, as_lives, when_closing, when_unread, negotiated, is_awaited, on_awaited, when_handshake, is_no_channel, after_part, on_part, part_on, when_content, when_connection, when_misdirected, when_no_channel, on_message, answers_first, on_matched, on_idle, is_gathering, on_open, by_state, on_method, on_rest, verdict_on}
+use Rattle.amqp_model.specs.Lent.Alike.{maybe_telling, lent, LentEvent, Begins, Heads, Part, WithoutContent}
+use Rattle.amqp_model.specs.Lent.Alike as alike
+use Rattle.amqp_model.specs.Laws.StreamingLaws.{EachFrameLends, LastIsWhole, LendsOne, LendsLast}
 use Rattle.amqp_model.proofs.Streamed.{whole-is-came}
 
 -- a frame that may be part of a message

@@ -1,9 +1,9 @@
 -- Lists, and the messages in a list of notes with their lives.
 use Rattle.std.proofs.Common.{◌≡◌, ℕ, zero, suc, List, [], ◌∷◌, ◌++◌, Some, ◌⊎◌, inl, inr, Bool, true, false, cond, ◌&&◌, refl, ap, ◌∙◌, append_assoc, append-nil, slice_get, ◌==◌}
-use Rattle.amqp_model.specs.Frame.{Frame}
-use Rattle.amqp_model.specs.Notes.{Kind, is_message}
-use Rattle.amqp_model.specs.Carried.{NoteInLife, At, messages}
-use Rattle.amqp_model.specs.Prefixes.{IsPrefixOf}
+use Rattle.amqp_model.specs.Wire.Frame.{Frame}
+use Rattle.amqp_model.specs.Wire.Notes.{Kind, is_message}
+use Rattle.amqp_model.specs.Pair.Carried.{NoteInLife, At, messages}
+use Rattle.amqp_model.specs.Output.Prefixes.{IsPrefixOf}
 
 pub slice_get_front : {A : Type 0} (xs ys : List A) (i : ℕ) (x : A) → slice_get xs i ≡ Some x → slice_get (xs ++ ys) i ≡ Some x
 slice_get_front [] ys i x e = absurd cc

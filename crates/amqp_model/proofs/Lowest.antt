@@ -1,9 +1,9 @@
 -- The first Free number that is found is the lowest.
 use Rattle.std.proofs.Common.{◌≡◌, ◌≤◌, ◌<◌, ◌+◌, ◌==◌, Bool, true, false, ℕ, zero, suc, arith, Option, Some, None, refl, sym, subst}
 use Rattle.std.proofs.lemmas.Bool.{eqb-true, eqb-false}
-use Rattle.amqp_model.specs.Channels.{Channel}
-use Rattle.amqp_model.specs.Asks.{is_free, first_free}
-use Rattle.amqp_model.specs.EndLaws.{FindsLowest}
+use Rattle.amqp_model.specs.End.Channels.{Channel}
+use Rattle.amqp_model.specs.End.Asks.{is_free, first_free}
+use Rattle.amqp_model.specs.Laws.EndLaws.{FindsLowest}
 
 later : (channels : ℕ → Channel) (many from : ℕ) (found : Option ℕ) → is_free (channels from) ≡ false → FindsLowest channels many (suc from) found → FindsLowest channels (suc many) from found
 later channels many from (Some k) taken h =

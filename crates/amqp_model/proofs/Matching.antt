@@ -4,30 +4,30 @@ use Rattle.std.specs.Option.{option_to_list}
 use Rattle.std.proofs.lemmas.Bool.{false≢true, cond-true}
 use Rattle.std.proofs.lemmas.List.{map-append}
 use Rattle.amqp_method.specs.declared.kinds.Kind.TheVariants as kinds
-use Rattle.amqp_model.specs.Frame.{Frame}
-use Rattle.amqp_model.specs.Notes.{Role, Client, Server, is_message}
-use Rattle.amqp_model.specs.Lives.{lives}
-use Rattle.amqp_model.specs.Carried.{sent, acted, message_frames}
-use Rattle.amqp_model.specs.Methods.{MethodKind, Method, is_reply, bit_at}
-use Rattle.amqp_model.specs.Gathering.{Gathering, Nothing, HeaderDue, BodyDue, step, remains}
-use Rattle.amqp_model.specs.Contents.{Payload}
-use Rattle.amqp_model.specs.Items.{item_ended}
-use Rattle.amqp_model.specs.Readings.{Calls, reading, payload_of, kind_of, kind_of_method}
-use Rattle.amqp_model.specs.Histories.{History, entries_on}
-use Rattle.amqp_model.specs.Channels.{Life, Open, Running}
-use Rattle.amqp_model.specs.Negotiation.{Config}
-use Rattle.amqp_model.specs.StateFromHistory.{end_from}
-use Rattle.amqp_model.specs.FrameVerdict.{MOST_REQUESTS, answers_first}
-use Rattle.amqp_model.specs.Asks.{is_running, when, NotRunning}
-use Rattle.amqp_model.specs.EndLaws.{notes_on}
-use Rattle.amqp_model.specs.FittingLaws.{MethodReadsBack}
-use Rattle.amqp_model.specs.Pairs.{ComesNext, PairAt}
-use Rattle.amqp_model.specs.CarryingLaws.{as_carried}
-use Rattle.amqp_model.specs.Sent.{payload_in, items_sent, items_acted}
-use Rattle.amqp_model.specs.WholeMessages.{FitsNext, FitAfter}
-use Rattle.amqp_model.specs.InTurn.{requests_in, replies_in, InTurn, requests_at, replies_at, unanswered_at, life_here}
-use Rattle.amqp_model.specs.Agreement.{PairWrites}
-use Rattle.amqp_model.specs.NoFault.{NextIsMatched, TakesWhatComesNext}
+use Rattle.amqp_model.specs.Wire.Frame.{Frame}
+use Rattle.amqp_model.specs.Wire.Notes.{Role, Client, Server, is_message}
+use Rattle.amqp_model.specs.History.Lives.{lives}
+use Rattle.amqp_model.specs.Pair.Carried.{sent, acted, message_frames}
+use Rattle.amqp_model.specs.Wire.Methods.{MethodKind, Method, is_reply, bit_at}
+use Rattle.amqp_model.specs.Wire.Gathering.{Gathering, Nothing, HeaderDue, BodyDue, step, remains}
+use Rattle.amqp_model.specs.Wire.Contents.{Payload}
+use Rattle.amqp_model.specs.Wire.Items.{item_ended}
+use Rattle.amqp_model.specs.Wire.Readings.{Calls, reading, payload_of, kind_of, kind_of_method}
+use Rattle.amqp_model.specs.History.Histories.{History, entries_on}
+use Rattle.amqp_model.specs.End.Channels.{Life, Open, Running}
+use Rattle.amqp_model.specs.History.Negotiation.{Config}
+use Rattle.amqp_model.specs.End.StateFromHistory.{end_from}
+use Rattle.amqp_model.specs.End.FrameVerdict.{MOST_REQUESTS, answers_first}
+use Rattle.amqp_model.specs.End.Asks.{is_running, when, NotRunning}
+use Rattle.amqp_model.specs.Laws.EndLaws.{notes_on}
+use Rattle.amqp_model.specs.Laws.FittingLaws.{MethodReadsBack}
+use Rattle.amqp_model.specs.Pair.Pairs.{ComesNext, PairAt}
+use Rattle.amqp_model.specs.Laws.CarryingLaws.{as_carried}
+use Rattle.amqp_model.specs.Pair.Sent.{payload_in, items_sent, items_acted}
+use Rattle.amqp_model.specs.Pair.WholeMessages.{FitsNext, FitAfter}
+use Rattle.amqp_model.specs.Pair.InTurn.{requests_in, replies_in, InTurn, requests_at, replies_at, unanswered_at, life_here}
+use Rattle.amqp_model.specs.Pair.Agreement.{PairWrites}
+use Rattle.amqp_model.specs.Pair.NoFault.{NextIsMatched, TakesWhatComesNext}
 use Rattle.amqp_model.proofs.Ends.{before_leaving_all}
 use Rattle.amqp_model.proofs.Laws.{sent_so_far}
 use Rattle.amqp_model.proofs.Asking.{running-stays, open-reads}

@@ -1,22 +1,22 @@
 -- Neither of two whole ends finds fault with a frame of the other.
 use Rattle.std.proofs.Common.{◌≡◌, ◌≢◌, ◌≤◌, ◌⊎◌, inl, inr, true, not, ℕ, zero, suc, arith, Option, Some, None, refl, sym, ap, ◌∙◌, subst}
 use Rattle.amqp_frame.specs.Frame.{Fits, frame_length}
-use Rattle.amqp_model.specs.Frame.{Frame}
-use Rattle.amqp_model.specs.Notes.{Role, Client, Server, other_end}
-use Rattle.amqp_model.specs.Readings.{reading, kind_of}
-use Rattle.amqp_model.specs.Histories.{History, entries_on}
-use Rattle.amqp_model.specs.Channels.{HandshakeStep, Phase, Handshake, Running, Agreed}
-use Rattle.amqp_model.specs.Negotiation.{Config, FRAME_MIN, frame_limit}
-use Rattle.amqp_model.specs.FrameVerdict.{verdict_on}
-use Rattle.amqp_model.specs.Asks.{is_running, when, NotRunning}
-use Rattle.amqp_model.specs.EndVerdict.{CanTake, facts_at, goes_on, takes_frames}
-use Rattle.amqp_model.specs.Fitting.{ConfigWrites}
-use Rattle.amqp_model.specs.FittingLaws.{MethodReadsBack}
-use Rattle.amqp_model.specs.Pairs.{ComesNext, PairAt, config_of}
-use Rattle.amqp_model.specs.EndLaws.{notes_on}
-use Rattle.amqp_model.specs.Agreement.{PairWrites, end_in, smaller_limits}
-use Rattle.amqp_model.specs.WellPut.{SaysWell, IsWellPut}
-use Rattle.amqp_model.specs.NoFault.{NextIsMatched, TakesWithoutFault, TakesWhatComesNext}
+use Rattle.amqp_model.specs.Wire.Frame.{Frame}
+use Rattle.amqp_model.specs.Wire.Notes.{Role, Client, Server, other_end}
+use Rattle.amqp_model.specs.Wire.Readings.{reading, kind_of}
+use Rattle.amqp_model.specs.History.Histories.{History, entries_on}
+use Rattle.amqp_model.specs.End.Channels.{HandshakeStep, Phase, Handshake, Running, Agreed}
+use Rattle.amqp_model.specs.History.Negotiation.{Config, FRAME_MIN, frame_limit}
+use Rattle.amqp_model.specs.End.FrameVerdict.{verdict_on}
+use Rattle.amqp_model.specs.End.Asks.{is_running, when, NotRunning}
+use Rattle.amqp_model.specs.End.EndVerdict.{CanTake, facts_at, goes_on, takes_frames}
+use Rattle.amqp_model.specs.End.Fitting.{ConfigWrites}
+use Rattle.amqp_model.specs.Laws.FittingLaws.{MethodReadsBack}
+use Rattle.amqp_model.specs.Pair.Pairs.{ComesNext, PairAt, config_of}
+use Rattle.amqp_model.specs.Laws.EndLaws.{notes_on}
+use Rattle.amqp_model.specs.Pair.Agreement.{PairWrites, end_in, smaller_limits}
+use Rattle.amqp_model.specs.Pair.WellPut.{SaysWell, IsWellPut}
+use Rattle.amqp_model.specs.Pair.NoFault.{NextIsMatched, TakesWithoutFault, TakesWhatComesNext}
 use Rattle.amqp_model.proofs.Laws.{no_fault}
 use Rattle.amqp_model.proofs.Acting.{verdict-here}
 use Rattle.amqp_model.proofs.Agreeing.{facts_in}

@@ -2,25 +2,25 @@
 use Rattle.std.proofs.Common.{◌≡◌, ◌<◌, ◌≤◌, inl, Bool, true, false, cond, not, ◌&&◌, ◌||◌, ℕ, zero, suc, ◌==◌, arith, List, [], ◌∷◌, map, Option, Some, None, refl, sym, ap, ◌∙◌, subst}
 use Rattle.std.proofs.lemmas.Bool.{false≢true, true≢false, eqb-true, ltb-false, ne_eqb}
 use Rattle.amqp_method.specs.declared.kinds.Kind.TheVariants as kinds
-use Rattle.amqp_model.specs.Frame.{Frame}
-use Rattle.amqp_model.specs.Notes.{Role, Client, Server, is_client, Kind}
-use Rattle.amqp_model.specs.Methods.{Method, ReadsBack, same_kind, class_of, sends}
-use Rattle.amqp_model.specs.Contents.{Payload}
-use Rattle.amqp_model.specs.Readings.{Reading, Calls, is_call, Beat, reading}
-use Rattle.amqp_model.specs.Histories.{History, PutHere, TookHere}
-use Rattle.amqp_model.specs.Channels.{Channel, Free, HandshakeStep, Phase, Handshake, Running, Closed, Failed, Agreed, End}
-use Rattle.amqp_model.specs.Negotiation.{Config, agreed_in}
-use Rattle.amqp_model.specs.StateFromHistory.{accepted}
-use Rattle.amqp_model.specs.Closes.{Owed, CommandInvalid, ChannelError, reply_to, frame_of}
-use Rattle.amqp_model.specs.Events.{FrameVerdict, Faults, Peer}
-use Rattle.amqp_model.specs.FrameVerdict.{Facts, first_of, channel_limit, on_channel, on_connection, by_state, is_no_channel, verdict_on, methods_put}
-use Rattle.amqp_model.specs.EndVerdict.{facts_at, end_verdict, goes_on}
-use Rattle.amqp_model.specs.Asks.{Ask, Refusal, channel_max, bad_number, frame_max, lowest_free, opens_on, method_asked, payload_frame, message_payloads, refusal, frames_asked, Puts, ask_verdict}
-use Rattle.amqp_model.specs.ReadingBack.{WritesReadBack}
-use Rattle.amqp_model.specs.LawfulHistories.{end_of, Goes, greets, takes, faults, meets_too_large, fails, asks, Lawful, begun, goes}
-use Rattle.amqp_model.specs.Numbers.{NoneAbove, StandsNumbered}
-use Rattle.amqp_model.specs.Machine.{agreed_after, set_channel, new_end, end_after, end_after_owed, end_after_taken, end_after_put, failed_by, StandsFor}
-use Rattle.amqp_model.specs.EndLaws.{is_over, AgreesWithLives, agrees, refuses, FindsLowest}
+use Rattle.amqp_model.specs.Wire.Frame.{Frame}
+use Rattle.amqp_model.specs.Wire.Notes.{Role, Client, Server, is_client, Kind}
+use Rattle.amqp_model.specs.Wire.Methods.{Method, ReadsBack, same_kind, class_of, sends}
+use Rattle.amqp_model.specs.Wire.Contents.{Payload}
+use Rattle.amqp_model.specs.Wire.Readings.{Reading, Calls, is_call, Beat, reading}
+use Rattle.amqp_model.specs.History.Histories.{History, PutHere, TookHere}
+use Rattle.amqp_model.specs.End.Channels.{Channel, Free, HandshakeStep, Phase, Handshake, Running, Closed, Failed, Agreed, End}
+use Rattle.amqp_model.specs.History.Negotiation.{Config, agreed_in}
+use Rattle.amqp_model.specs.End.StateFromHistory.{accepted}
+use Rattle.amqp_model.specs.End.Closes.{Owed, CommandInvalid, ChannelError, reply_to, frame_of}
+use Rattle.amqp_model.specs.End.Events.{FrameVerdict, Faults, Peer}
+use Rattle.amqp_model.specs.End.FrameVerdict.{Facts, first_of, channel_limit, on_channel, on_connection, by_state, is_no_channel, verdict_on, methods_put}
+use Rattle.amqp_model.specs.End.EndVerdict.{facts_at, end_verdict, goes_on}
+use Rattle.amqp_model.specs.End.Asks.{Ask, Refusal, channel_max, bad_number, frame_max, lowest_free, opens_on, method_asked, payload_frame, message_payloads, refusal, frames_asked, Puts, ask_verdict}
+use Rattle.amqp_model.specs.End.ReadingBack.{WritesReadBack}
+use Rattle.amqp_model.specs.End.LawfulHistories.{end_of, Goes, greets, takes, faults, meets_too_large, fails, asks, Lawful, begun, goes}
+use Rattle.amqp_model.specs.End.Numbers.{NoneAbove, StandsNumbered}
+use Rattle.amqp_model.specs.End.Machine.{agreed_after, set_channel, new_end, end_after, end_after_owed, end_after_taken, end_after_put, failed_by, StandsFor}
+use Rattle.amqp_model.specs.Laws.EndLaws.{is_over, AgreesWithLives, agrees, refuses, FindsLowest}
 use Rattle.amqp_model.proofs.Agreeing.{facts_in, frame-agrees, handshake-stops, is_closing}
 use Rattle.amqp_model.proofs.Elsewhere.{Each, verdict-zero}
 use Rattle.amqp_model.proofs.EndSteps.{not-zero, new-end-stands}

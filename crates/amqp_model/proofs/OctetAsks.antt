@@ -4,24 +4,24 @@ use Rattle.std.proofs.lemmas.Bool.{true≢false, eq-eqb}
 use Rattle.std.proofs.lemmas.List.Elements.{All-nil}
 use Rattle.amqp_method.specs.declared.kinds.Kind.TheVariants as kinds
 use Rattle.amqp_frame.specs.Splitting.{stream, AllFit, IsRest}
-use Rattle.amqp_model.specs.Frame.{Frame}
-use Rattle.amqp_model.specs.Notes.{Role, Client, Server}
-use Rattle.amqp_model.specs.Methods.{Method, ReadsBack, same_kind}
-use Rattle.amqp_model.specs.Contents.{Payload}
-use Rattle.amqp_model.specs.Readings.{Calls, reading}
-use Rattle.amqp_model.specs.Histories.{History, PutHere}
-use Rattle.amqp_model.specs.Channels.{Phase, Handshake, Running, Closing, Closed, Failed, Agreed, End}
-use Rattle.amqp_model.specs.Negotiation.{Config, PROTOCOL_HEADER, frame_limit}
-use Rattle.amqp_model.specs.Closes.{method_frame, without_arguments, flow_as, close_as}
-use Rattle.amqp_model.specs.Asks.{Ask, Refusal, is_running, frame_max, lowest_free, opens_on, method_asked, payload_frame, message_payloads, refusal, frames_asked, Puts}
-use Rattle.amqp_model.specs.Outputs.{after_puts, after_writing}
-use Rattle.amqp_model.specs.Departures.{IsOutputOf}
-use Rattle.amqp_model.specs.LawfulHistories.{then_put, begun, goes}
+use Rattle.amqp_model.specs.Wire.Frame.{Frame}
+use Rattle.amqp_model.specs.Wire.Notes.{Role, Client, Server}
+use Rattle.amqp_model.specs.Wire.Methods.{Method, ReadsBack, same_kind}
+use Rattle.amqp_model.specs.Wire.Contents.{Payload}
+use Rattle.amqp_model.specs.Wire.Readings.{Calls, reading}
+use Rattle.amqp_model.specs.History.Histories.{History, PutHere}
+use Rattle.amqp_model.specs.End.Channels.{Phase, Handshake, Running, Closing, Closed, Failed, Agreed, End}
+use Rattle.amqp_model.specs.History.Negotiation.{Config, PROTOCOL_HEADER, frame_limit}
+use Rattle.amqp_model.specs.End.Closes.{method_frame, without_arguments, flow_as, close_as}
+use Rattle.amqp_model.specs.End.Asks.{Ask, Refusal, is_running, frame_max, lowest_free, opens_on, method_asked, payload_frame, message_payloads, refusal, frames_asked, Puts}
+use Rattle.amqp_model.specs.Output.Outputs.{after_puts, after_writing}
+use Rattle.amqp_model.specs.Output.Departures.{IsOutputOf}
+use Rattle.amqp_model.specs.End.LawfulHistories.{then_put, begun, goes}
 use Rattle.amqp_model.proofs.Lawfulness.{end-steps}
-use Rattle.amqp_model.specs.Machine.{agreed_after, end_after, end_after_put}
-use Rattle.amqp_model.specs.Octets.{frames_put, opening_read, opening_written, has_opened, FedAs}
-use Rattle.amqp_model.specs.Endpoint.{Endpoint, awaits_opening, after_answer}
-use Rattle.amqp_model.specs.OctetLaws.{IsOctet, EndpointStandsFor, NewStands, AcceptedFollows, RefusedStays, WroteFollows, FailedWrites}
+use Rattle.amqp_model.specs.End.Machine.{agreed_after, end_after, end_after_put}
+use Rattle.amqp_model.specs.Stream.Octets.{frames_put, opening_read, opening_written, has_opened, FedAs}
+use Rattle.amqp_model.specs.Stream.Endpoint.{Endpoint, awaits_opening, after_answer}
+use Rattle.amqp_model.specs.Laws.OctetLaws.{IsOctet, EndpointStandsFor, NewStands, AcceptedFollows, RefusedStays, WroteFollows, FailedWrites}
 use Rattle.amqp_model.proofs.Acting.{reads-back}
 use Rattle.amqp_model.proofs.Asking.{Accepted, accepted, accepted-none, not-when, first-false, frame-channel}
 use Rattle.amqp_model.proofs.AskSteps.{asks-follow}

@@ -1,12 +1,12 @@
 -- However a piece is cut, the same comes of it; and how many of its octets are taken.
 use Rattle.std.proofs.Common.{◌≡◌, ◌≢◌, Bool, true, false, ℕ, suc, ◌+◌, ◌<◌, ◌≤◌, List, [], ◌∷◌, ◌++◌, length, Option, Some, None, refl, ap, ◌∙◌, arith}
-use Rattle.amqp_model.specs.Notes.{Role}
-use Rattle.amqp_model.specs.Channels.{Phase, Handshake, Running, Closing, Closed, Failed}
-use Rattle.amqp_model.specs.Negotiation.{Config, frame_limit}
-use Rattle.amqp_model.specs.Events.{Fault, AlreadyClosed, AlreadyFailed}
-use Rattle.amqp_model.specs.Octets.{opening_read}
-use Rattle.amqp_model.specs.Endpoint.{Judgement, Begun, Whole, Wrong, judged, Comparison, Prefix, Same, Differs, compared, Endpoint, Outcome, Unfinished, Finished, Found, Feeding, refusal_in, unless_over, awaits_opening, after_opening, after_judged, after_octets, after_octet, fed_after, after_feed}
-use Rattle.amqp_model.specs.OctetLaws.{then_fed, CutGoesOn, CutStops, FeedProgresses, FeedTakesWithin, FeedTakesAll, FeedStaysClosed, FeedStaysFailed}
+use Rattle.amqp_model.specs.Wire.Notes.{Role}
+use Rattle.amqp_model.specs.End.Channels.{Phase, Handshake, Running, Closing, Closed, Failed}
+use Rattle.amqp_model.specs.History.Negotiation.{Config, frame_limit}
+use Rattle.amqp_model.specs.End.Events.{Fault, AlreadyClosed, AlreadyFailed}
+use Rattle.amqp_model.specs.Stream.Octets.{opening_read}
+use Rattle.amqp_model.specs.Stream.Endpoint.{Judgement, Begun, Whole, Wrong, judged, Comparison, Prefix, Same, Differs, compared, Endpoint, Outcome, Unfinished, Finished, Found, Feeding, refusal_in, unless_over, awaits_opening, after_opening, after_judged, after_octets, after_octet, fed_after, after_feed}
+use Rattle.amqp_model.specs.Laws.OctetLaws.{then_fed, CutGoesOn, CutStops, FeedProgresses, FeedTakesWithin, FeedTakesAll, FeedStaysClosed, FeedStaysFailed}
 
 -- an octet more
 abbrev one_more : Feeding → Feeding

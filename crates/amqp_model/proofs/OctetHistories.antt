@@ -7,18 +7,18 @@ use Rattle.amqp_method.specs.declared.kinds.Kind.TheVariants as kinds
 use Rattle.amqp_frame.specs.Frame.{octets, Fits}
 use Rattle.amqp_frame.specs.Splitting.{AllFit}
 use Rattle.amqp_frame.proofs.FrameLemmas.{payload-at_start}
-use Rattle.amqp_model.specs.Frame.{Frame}
-use Rattle.amqp_model.specs.Notes.{Role, Client, Server}
-use Rattle.amqp_model.specs.Readings.{Reading, reading, is_call}
-use Rattle.amqp_model.specs.Histories.{Entry, Put, Took, History, ChannelEntry, PutHere, TookHere, LeftHere, entries_on}
-use Rattle.amqp_model.specs.Channels.{HandshakeStep, AwaitsProtocolHeader, AwaitsStart, AwaitsStartOk, AwaitsTune, AwaitsTuneOk, AwaitsOpen, AwaitsOpenOk, Phase, Handshake, Running, Closing, Closed, Failed}
-use Rattle.amqp_model.specs.StateFromHistory.{has_put, has_taken, is_closed, is_negotiated, phase_from}
-use Rattle.amqp_model.specs.EndVerdict.{takes_frames}
-use Rattle.amqp_model.specs.LawfulHistories.{then_put}
-use Rattle.amqp_model.specs.Machine.{after_start_ok, after_start_put, phase_after}
-use Rattle.amqp_model.specs.Octets.{frames_taken, frames_put, has_opened}
-use Rattle.amqp_model.specs.Endpoint.{Differs, compared, refusal_in, awaits_opening}
-use Rattle.amqp_model.specs.OctetLaws.{IsOctet}
+use Rattle.amqp_model.specs.Wire.Frame.{Frame}
+use Rattle.amqp_model.specs.Wire.Notes.{Role, Client, Server}
+use Rattle.amqp_model.specs.Wire.Readings.{Reading, reading, is_call}
+use Rattle.amqp_model.specs.History.Histories.{Entry, Put, Took, History, ChannelEntry, PutHere, TookHere, LeftHere, entries_on}
+use Rattle.amqp_model.specs.End.Channels.{HandshakeStep, AwaitsProtocolHeader, AwaitsStart, AwaitsStartOk, AwaitsTune, AwaitsTuneOk, AwaitsOpen, AwaitsOpenOk, Phase, Handshake, Running, Closing, Closed, Failed}
+use Rattle.amqp_model.specs.End.StateFromHistory.{has_put, has_taken, is_closed, is_negotiated, phase_from}
+use Rattle.amqp_model.specs.End.EndVerdict.{takes_frames}
+use Rattle.amqp_model.specs.End.LawfulHistories.{then_put}
+use Rattle.amqp_model.specs.End.Machine.{after_start_ok, after_start_put, phase_after}
+use Rattle.amqp_model.specs.Stream.Octets.{frames_taken, frames_put, has_opened}
+use Rattle.amqp_model.specs.Stream.Endpoint.{Differs, compared, refusal_in, awaits_opening}
+use Rattle.amqp_model.specs.Laws.OctetLaws.{IsOctet}
 use Rattle.amqp_model.proofs.Phases.{phase-taken, phase-put}
 
 -- Frames put after a history.

@@ -13,9 +13,9 @@ use Rattle.amqp_frame.specs.Judging.{IsBegun}
 use Rattle.amqp_frame.proofs.FrameLemmas.{one_frame, type_octet-is}
 use Rattle.amqp_frame.proofs.SplittingLemmas.{size_of-append, size_of-take, begun_prefix_tells_none, begun_is_rest, told_first}
 use Rattle.amqp_frame.proofs.JudgingLemmas.{AreOctets, judged_whole}
-use Rattle.amqp_model.specs.Frame.{Frame}
-use Rattle.amqp_model.specs.Endpoint.{Judgement, Begun, Whole, Wrong, kind_of_type, frame_in, judged_by_end, judged_by_size, judged_by_type, judged}
-use Rattle.amqp_model.specs.OctetLaws.{IsOctet, IsWhole, TellsLast, IsJudgedWell}
+use Rattle.amqp_model.specs.Wire.Frame.{Frame}
+use Rattle.amqp_model.specs.Stream.Endpoint.{Judgement, Begun, Whole, Wrong, kind_of_type, frame_in, judged_by_end, judged_by_size, judged_by_type, judged}
+use Rattle.amqp_model.specs.Laws.OctetLaws.{IsOctet, IsWhole, TellsLast, IsJudgedWell}
 
 -- the type octet of a kind, or of none
 pub data TypeRead (octet : ℕ) : Option FrameKind → Type 0 where

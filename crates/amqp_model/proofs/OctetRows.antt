@@ -1,14 +1,14 @@
 -- What one end makes of octets that are fed to it, computed.
 use Rattle.std.proofs.Common.{◌≡◌, ℕ, List, [], ◌∷◌, codes, Some, None, refl}
 use Rattle.amqp_value.specs.Values.{no_pairs}
-use Rattle.amqp_model.specs.Notes.{Client, Server}
-use Rattle.amqp_model.specs.Methods.{plain_method}
-use Rattle.amqp_model.specs.Channels.{Free, Phase, Handshake, Running, Closed, Failed, AwaitsStartOk}
-use Rattle.amqp_model.specs.Negotiation.{Config, OfServer, PROTOCOL_HEADER, start}
-use Rattle.amqp_model.specs.Closes.{FrameError, method_frame, connection_close, frame_of}
-use Rattle.amqp_model.specs.Events.{Quiet, Peer, Fatal, WrongProtocolHeader, AlreadyClosed, AlreadyFailed}
-use Rattle.amqp_model.specs.Outputs.{output_octets}
-use Rattle.amqp_model.specs.Endpoint.{Endpoint, Feeding, Outcome, Unfinished, Finished, Found, output_of, new_endpoint, after_feed}
+use Rattle.amqp_model.specs.Wire.Notes.{Client, Server}
+use Rattle.amqp_model.specs.Wire.Methods.{plain_method}
+use Rattle.amqp_model.specs.End.Channels.{Free, Phase, Handshake, Running, Closed, Failed, AwaitsStartOk}
+use Rattle.amqp_model.specs.History.Negotiation.{Config, OfServer, PROTOCOL_HEADER, start}
+use Rattle.amqp_model.specs.End.Closes.{FrameError, method_frame, connection_close, frame_of}
+use Rattle.amqp_model.specs.End.Events.{Quiet, Peer, Fatal, WrongProtocolHeader, AlreadyClosed, AlreadyFailed}
+use Rattle.amqp_model.specs.Output.Outputs.{output_octets}
+use Rattle.amqp_model.specs.Stream.Endpoint.{Endpoint, Feeding, Outcome, Unfinished, Finished, Found, output_of, new_endpoint, after_feed}
 
 abbrev server_config : Config Server
 server_config = record { frame_max = 131072; channel_max = 2047; max_body = 16777216; hello = OfServer no_pairs (codes "PLAIN") (codes "en_US") }

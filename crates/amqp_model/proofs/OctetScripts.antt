@@ -9,13 +9,13 @@ use Rattle.amqp_method.specs.Reading as reading
 use Rattle.amqp_method.specs.HeaderReading as header_reading
 use Rattle.amqp_value.specs.Reading.{table_at, elements, many, named, after_tag, tagged, value_at}
 use Rattle.amqp_value.specs.Values.{no_pairs}
-use Rattle.amqp_model.specs.Methods.{Method, method_at, header_at, plain_method, plain_header}
-use Rattle.amqp_model.specs.Notes.{Role, Client, Server}
-use Rattle.amqp_model.specs.Negotiation.{Config, OfClient, OfServer}
-use Rattle.amqp_model.specs.Closes.{FrameError, NotImplemented}
-use Rattle.amqp_model.specs.Events.{Whole, Negotiated, Opened, Told, Discarded, Blocked, Quiet, Peer, Fatal, WrongProtocolHeader}
-use Rattle.amqp_model.specs.Outputs.{output_octets}
-use Rattle.amqp_model.specs.Endpoint.{Endpoint, Feeding, Outcome, Unfinished, Finished, Found, new_endpoint, after_feed, after_wrote}
+use Rattle.amqp_model.specs.Wire.Methods.{Method, method_at, header_at, plain_method, plain_header}
+use Rattle.amqp_model.specs.Wire.Notes.{Role, Client, Server}
+use Rattle.amqp_model.specs.History.Negotiation.{Config, OfClient, OfServer}
+use Rattle.amqp_model.specs.End.Closes.{FrameError, NotImplemented}
+use Rattle.amqp_model.specs.End.Events.{Whole, Negotiated, Opened, Told, Discarded, Blocked, Quiet, Peer, Fatal, WrongProtocolHeader}
+use Rattle.amqp_model.specs.Output.Outputs.{output_octets}
+use Rattle.amqp_model.specs.Stream.Endpoint.{Endpoint, Feeding, Outcome, Unfinished, Finished, Found, new_endpoint, after_feed, after_wrote}
 
 -- hexadecimal digits as octets
 abbrev digit : ℕ → ℕ

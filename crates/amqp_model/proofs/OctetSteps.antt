@@ -8,28 +8,28 @@ use Rattle.amqp_frame.specs.declared.faults.FrameFaultKind.TheVariants as frame_
 use Rattle.amqp_frame.specs.Frame.{octets, Fits, frame_length}
 use Rattle.amqp_frame.specs.Splitting.{stream, AllFit, IsRest}
 use Rattle.amqp_frame.proofs.SplittingLemmas.{begun_is_rest}
-use Rattle.amqp_model.specs.Frame.{Frame}
-use Rattle.amqp_model.specs.Notes.{Role, Client, Server}
-use Rattle.amqp_model.specs.Methods.{same_kind, plain_method}
-use Rattle.amqp_model.specs.Readings.{reading}
-use Rattle.amqp_model.specs.Histories.{Put, Took, History, PutHere, entries_on}
-use Rattle.amqp_model.specs.Channels.{Phase, Handshake, Running, Closing, Closed, Failed, AwaitsProtocolHeader, AwaitsStartOk, End}
-use Rattle.amqp_model.specs.Negotiation.{Config, Hello, OfServer, PROTOCOL_HEADER, frame_limit, start}
-use Rattle.amqp_model.specs.Closes.{FrameError, Owed, AllReadBack, connection_close, frame_of, method_frame}
-use Rattle.amqp_model.specs.Events.{Fault, Peer, AlreadyClosed, FrameVerdict, Proceeds, RefusesContent, Faults, Quiet}
-use Rattle.amqp_model.specs.FrameVerdict.{methods_put, event_told}
-use Rattle.amqp_model.specs.Outputs.{Output, after_puts}
-use Rattle.amqp_model.specs.Departures.{IsOutputOf}
-use Rattle.amqp_model.specs.EndVerdict.{facts_at, end_verdict, end_puts, goes_on, takes_frames, takes_octets, CanTake}
-use Rattle.amqp_model.specs.ReadingBack.{WritesReadBack}
-use Rattle.amqp_model.specs.LawfulHistories.{then_put, then_taken, Goes, goes}
-use Rattle.amqp_model.specs.LawfulHistories as lawful
-use Rattle.amqp_model.specs.Fitting.{ConfigWrites}
-use Rattle.amqp_model.specs.FittingLaws.{MethodReadsBack}
-use Rattle.amqp_model.specs.Machine.{end_after, end_after_owed, end_after_taken, failed_by, StandsFor}
-use Rattle.amqp_model.specs.Octets.{frames_taken, frames_put, opening_read, opening_written, has_opened, FedAs, FailedAt}
-use Rattle.amqp_model.specs.Endpoint.{Judgement, Begun, Whole, Wrong, judged, Prefix, Same, Differs, compared, Endpoint, Feeding, Outcome, Unfinished, Finished, Found, output_of, refusal_in, unless_over, goes_on_with, comes_to, awaits_opening, greeting, after_opening, outcome_of, fault_told, owed_at_fault, after_judged, after_octets, after_octet, fed_after, after_feed}
-use Rattle.amqp_model.specs.OctetLaws.{IsOctet, IsWhole, TellsLast, IsJudgedWell, EndpointStandsFor, HasFailed, Follows, waits, greets, takes, faults, tells, differs, refuses, OctetFollows, FeedFollows}
+use Rattle.amqp_model.specs.Wire.Frame.{Frame}
+use Rattle.amqp_model.specs.Wire.Notes.{Role, Client, Server}
+use Rattle.amqp_model.specs.Wire.Methods.{same_kind, plain_method}
+use Rattle.amqp_model.specs.Wire.Readings.{reading}
+use Rattle.amqp_model.specs.History.Histories.{Put, Took, History, PutHere, entries_on}
+use Rattle.amqp_model.specs.End.Channels.{Phase, Handshake, Running, Closing, Closed, Failed, AwaitsProtocolHeader, AwaitsStartOk, End}
+use Rattle.amqp_model.specs.History.Negotiation.{Config, Hello, OfServer, PROTOCOL_HEADER, frame_limit, start}
+use Rattle.amqp_model.specs.End.Closes.{FrameError, Owed, AllReadBack, connection_close, frame_of, method_frame}
+use Rattle.amqp_model.specs.End.Events.{Fault, Peer, AlreadyClosed, FrameVerdict, Proceeds, RefusesContent, Faults, Quiet}
+use Rattle.amqp_model.specs.End.FrameVerdict.{methods_put, event_told}
+use Rattle.amqp_model.specs.Output.Outputs.{Output, after_puts}
+use Rattle.amqp_model.specs.Output.Departures.{IsOutputOf}
+use Rattle.amqp_model.specs.End.EndVerdict.{facts_at, end_verdict, end_puts, goes_on, takes_frames, takes_octets, CanTake}
+use Rattle.amqp_model.specs.End.ReadingBack.{WritesReadBack}
+use Rattle.amqp_model.specs.End.LawfulHistories.{then_put, then_taken, Goes, goes}
+use Rattle.amqp_model.specs.End.LawfulHistories as lawful
+use Rattle.amqp_model.specs.End.Fitting.{ConfigWrites}
+use Rattle.amqp_model.specs.Laws.FittingLaws.{MethodReadsBack}
+use Rattle.amqp_model.specs.End.Machine.{end_after, end_after_owed, end_after_taken, failed_by, StandsFor}
+use Rattle.amqp_model.specs.Stream.Octets.{frames_taken, frames_put, opening_read, opening_written, has_opened, FedAs, FailedAt}
+use Rattle.amqp_model.specs.Stream.Endpoint.{Judgement, Begun, Whole, Wrong, judged, Prefix, Same, Differs, compared, Endpoint, Feeding, Outcome, Unfinished, Finished, Found, output_of, refusal_in, unless_over, goes_on_with, comes_to, awaits_opening, greeting, after_opening, outcome_of, fault_told, owed_at_fault, after_judged, after_octets, after_octet, fed_after, after_feed}
+use Rattle.amqp_model.specs.Laws.OctetLaws.{IsOctet, IsWhole, TellsLast, IsJudgedWell, EndpointStandsFor, HasFailed, Follows, waits, greets, takes, faults, tells, differs, refuses, OctetFollows, FeedFollows}
 use Rattle.amqp_model.proofs.Rows.{same-queues-all}
 use Rattle.amqp_model.proofs.Closes.{prefix-none}
 use Rattle.amqp_model.proofs.Writing.{stream-append}

@@ -7,26 +7,26 @@ use Rattle.amqp_frame.specs.declared.faults.FrameFaultKind.{FrameFaultKind}
 use Rattle.amqp_frame.specs.Frame.{octets, frame_length}
 use Rattle.amqp_frame.specs.Splitting.{stream, AllFit, IsRest, Tells}
 use Rattle.amqp_frame.proofs.SplittingLemmas.{begun_prefix_tells_none}
-use Rattle.amqp_model.specs.Frame.{Frame}
-use Rattle.amqp_model.specs.Notes.{Role, Client, Server}
-use Rattle.amqp_model.specs.Arrangement.{on}
-use Rattle.amqp_model.specs.Histories.{History}
-use Rattle.amqp_model.specs.Channels.{Phase, Handshake, Running, Closed, Failed, AwaitsProtocolHeader, AwaitsStart, AwaitsStartOk, AwaitsTune, AwaitsTuneOk, AwaitsOpen, AwaitsOpenOk, End}
-use Rattle.amqp_model.specs.Negotiation.{Config, frame_limit}
-use Rattle.amqp_model.specs.StateFromHistory.{end_from}
-use Rattle.amqp_model.specs.Closes.{frame_of}
-use Rattle.amqp_model.specs.Events.{Fault, Faults, WrongProtocolHeader}
-use Rattle.amqp_model.specs.EndVerdict.{CanTake, end_verdict, goes_on, takes_frames}
-use Rattle.amqp_model.specs.FittingLaws.{MethodReadsBack}
-use Rattle.amqp_model.specs.LawfulHistories.{then_put, greets}
-use Rattle.amqp_model.specs.Octets.{frames_taken, frames_put, opening_read, has_opened, FedAs, FailedAt}
-use Rattle.amqp_model.specs.Pairs.{ComesNext, PairOf, server_goes, config_of}
-use Rattle.amqp_model.specs.Endpoint.{Endpoint, Feeding, Unfinished, Found, awaits_opening, fault_told, greeting, after_feed}
-use Rattle.amqp_model.specs.Grown.{Grows}
-use Rattle.amqp_model.specs.OctetLaws.{IsWhole, TellsLast, EndpointStandsFor, Follows, waits, greets as greets_then, takes, faults, tells, differs, refuses}
-use Rattle.amqp_model.specs.CarryingLaws.{as_carried, Carries}
-use Rattle.amqp_model.specs.NoFault.{TakesWithoutFault}
-use Rattle.amqp_model.specs.OctetsInFlight.{IsFedNext, FindsNoFaultWithOctets, FeedStaysPair, GrownStaysPair, NothingWaitsForClosed, InFlight, OctetsInFlightAreFrames, ItemsSentAreActedOnOrWaiting}
+use Rattle.amqp_model.specs.Wire.Frame.{Frame}
+use Rattle.amqp_model.specs.Wire.Notes.{Role, Client, Server}
+use Rattle.amqp_model.specs.Output.Arrangement.{on}
+use Rattle.amqp_model.specs.History.Histories.{History}
+use Rattle.amqp_model.specs.End.Channels.{Phase, Handshake, Running, Closed, Failed, AwaitsProtocolHeader, AwaitsStart, AwaitsStartOk, AwaitsTune, AwaitsTuneOk, AwaitsOpen, AwaitsOpenOk, End}
+use Rattle.amqp_model.specs.History.Negotiation.{Config, frame_limit}
+use Rattle.amqp_model.specs.End.StateFromHistory.{end_from}
+use Rattle.amqp_model.specs.End.Closes.{frame_of}
+use Rattle.amqp_model.specs.End.Events.{Fault, Faults, WrongProtocolHeader}
+use Rattle.amqp_model.specs.End.EndVerdict.{CanTake, end_verdict, goes_on, takes_frames}
+use Rattle.amqp_model.specs.Laws.FittingLaws.{MethodReadsBack}
+use Rattle.amqp_model.specs.End.LawfulHistories.{then_put, greets}
+use Rattle.amqp_model.specs.Stream.Octets.{frames_taken, frames_put, opening_read, has_opened, FedAs, FailedAt}
+use Rattle.amqp_model.specs.Pair.Pairs.{ComesNext, PairOf, server_goes, config_of}
+use Rattle.amqp_model.specs.Stream.Endpoint.{Endpoint, Feeding, Unfinished, Found, awaits_opening, fault_told, greeting, after_feed}
+use Rattle.amqp_model.specs.Stream.Grown.{Grows}
+use Rattle.amqp_model.specs.Laws.OctetLaws.{IsWhole, TellsLast, EndpointStandsFor, Follows, waits, greets as greets_then, takes, faults, tells, differs, refuses}
+use Rattle.amqp_model.specs.Laws.CarryingLaws.{as_carried, Carries}
+use Rattle.amqp_model.specs.Pair.NoFault.{TakesWithoutFault}
+use Rattle.amqp_model.specs.Pair.OctetsInFlight.{IsFedNext, FindsNoFaultWithOctets, FeedStaysPair, GrownStaysPair, NothingWaitsForClosed, InFlight, OctetsInFlightAreFrames, ItemsSentAreActedOnOrWaiting}
 use Rattle.amqp_model.proofs.Standing.{end-stands}
 use Rattle.amqp_model.proofs.Lawfulness.{end-steps}
 use Rattle.amqp_model.proofs.Pairing.{step-stays-pair}

@@ -7,23 +7,23 @@ use Rattle.amqp_method.specs.declared.kinds.Kind.TheVariants as kinds
 use Rattle.amqp_method.specs.Kinds.{with_id}
 use Rattle.amqp_method.specs.Reading as reading
 use Rattle.amqp_method.specs.HeaderReading as header_reading
-use Rattle.amqp_model.specs.Frame.{Frame}
-use Rattle.amqp_model.specs.Notes.{Client, Server}
-use Rattle.amqp_model.specs.Arrangement.{is_leaving, on}
-use Rattle.amqp_model.specs.Methods.{plain_method, plain_header, method_at, header_at}
-use Rattle.amqp_model.specs.Histories.{Put, Took, History}
-use Rattle.amqp_model.specs.Negotiation.{start, start_ok, tune, tune_ok, connection_open, connection_open_ok}
-use Rattle.amqp_model.specs.Closes.{flow_as, close_as}
-use Rattle.amqp_model.specs.Events.{Plain, Whole}
-use Rattle.amqp_model.specs.Asks.{Ask, is_made, Puts, ask_verdict}
-use Rattle.amqp_model.specs.ReadingBack.{AskReadsBack}
-use Rattle.amqp_model.specs.LawfulHistories.{then_put, then_taken, greets, takes, asks, end_of}
+use Rattle.amqp_model.specs.Wire.Frame.{Frame}
+use Rattle.amqp_model.specs.Wire.Notes.{Client, Server}
+use Rattle.amqp_model.specs.Output.Arrangement.{is_leaving, on}
+use Rattle.amqp_model.specs.Wire.Methods.{plain_method, plain_header, method_at, header_at}
+use Rattle.amqp_model.specs.History.Histories.{Put, Took, History}
+use Rattle.amqp_model.specs.History.Negotiation.{start, start_ok, tune, tune_ok, connection_open, connection_open_ok}
+use Rattle.amqp_model.specs.End.Closes.{flow_as, close_as}
+use Rattle.amqp_model.specs.End.Events.{Plain, Whole}
+use Rattle.amqp_model.specs.End.Asks.{Ask, is_made, Puts, ask_verdict}
+use Rattle.amqp_model.specs.End.ReadingBack.{AskReadsBack}
+use Rattle.amqp_model.specs.End.LawfulHistories.{then_put, then_taken, greets, takes, asks, end_of}
 use Rattle.amqp_method.specs.Fitting.{AreOctets}
-use Rattle.amqp_model.specs.Fitting.{ConfigFits, ConfigWrites}
-use Rattle.amqp_model.specs.FittingLaws.{MethodReadsBack}
-use Rattle.amqp_model.specs.Octets.{frames_put, frames_taken}
-use Rattle.amqp_model.specs.Pairs.{ComesNext, Pair, both_begin, client_goes, server_goes}
-use Rattle.amqp_model.specs.PairExample.{example_client, example_server, settled_example, zero, one, channel_open, channel_open_ok, channel_close_ok, close_ok, select, select_ok, published, delivered, header_of, body_of, ExampleIsPair}
+use Rattle.amqp_model.specs.End.Fitting.{ConfigFits, ConfigWrites}
+use Rattle.amqp_model.specs.Laws.FittingLaws.{MethodReadsBack}
+use Rattle.amqp_model.specs.Stream.Octets.{frames_put, frames_taken}
+use Rattle.amqp_model.specs.Pair.Pairs.{ComesNext, Pair, both_begin, client_goes, server_goes}
+use Rattle.amqp_model.specs.Laws.PairExample.{example_client, example_server, settled_example, zero, one, channel_open, channel_open_ok, channel_close_ok, close_ok, select, select_ok, published, delivered, header_of, body_of, ExampleIsPair}
 use Rattle.amqp_model.proofs.ReadBack.{config-writes}
 use Rattle.amqp_model.proofs.Matching.{takes-what-comes-next}
 

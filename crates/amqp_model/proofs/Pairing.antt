@@ -2,17 +2,17 @@
 use Rattle.std.proofs.Common.{◌≡◌, false, ℕ, suc, List, [], Option, refl}
 use Rattle.std.proofs.lemmas.Bool.{ne_eqb}
 use Rattle.amqp_method.specs.declared.kinds.Kind.TheVariants as kinds
-use Rattle.amqp_model.specs.Notes.{Role, Client, Server, Note}
-use Rattle.amqp_model.specs.Frame.{Frame}
-use Rattle.amqp_model.specs.Runs.{Acts, RunAt, start, client_acts, server_acts}
-use Rattle.amqp_model.specs.Methods.{same_kind}
-use Rattle.amqp_model.specs.Histories.{History}
-use Rattle.amqp_model.specs.Negotiation.{Config, OfServer, Hello}
-use Rattle.amqp_model.specs.Negotiation as negotiation
-use Rattle.amqp_model.specs.ReadingBack.{WritesReadBack}
-use Rattle.amqp_model.specs.LawfulHistories.{Goes, greets, takes, asks, begun, goes}
-use Rattle.amqp_model.specs.EndLaws.{notes_on, ActsOn, rests, acts, VerdictAgrees}
-use Rattle.amqp_model.specs.Pairs.{AllComeNext, both_begin, client_goes, server_goes, NewEndsPair, StepStaysPair, BothLawful, RunsOnEach}
+use Rattle.amqp_model.specs.Wire.Notes.{Role, Client, Server, Note}
+use Rattle.amqp_model.specs.Wire.Frame.{Frame}
+use Rattle.amqp_model.specs.Pair.Runs.{Acts, RunAt, start, client_acts, server_acts}
+use Rattle.amqp_model.specs.Wire.Methods.{same_kind}
+use Rattle.amqp_model.specs.History.Histories.{History}
+use Rattle.amqp_model.specs.History.Negotiation.{Config, OfServer, Hello}
+use Rattle.amqp_model.specs.History.Negotiation as negotiation
+use Rattle.amqp_model.specs.End.ReadingBack.{WritesReadBack}
+use Rattle.amqp_model.specs.End.LawfulHistories.{Goes, greets, takes, asks, begun, goes}
+use Rattle.amqp_model.specs.Laws.EndLaws.{notes_on, ActsOn, rests, acts, VerdictAgrees}
+use Rattle.amqp_model.specs.Pair.Pairs.{AllComeNext, both_begin, client_goes, server_goes, NewEndsPair, StepStaysPair, BothLawful, RunsOnEach}
 use Rattle.amqp_model.proofs.Carrying.{next-noted}
 use Rattle.amqp_model.proofs.Agreeing.{frame-agrees}
 use Rattle.amqp_model.proofs.Taking.{takes-acts}

@@ -1,13 +1,13 @@
 -- No content comes to an end that has paused the other.
 use Rattle.std.proofs.Common.{◌≡◌, Bool, true, false, ℕ, List, [], ◌∷◌, ◌++◌, sym, ap, ◌∙◌, subst}
 use Rattle.std.proofs.lemmas.Bool.{true≢false, false≢true}
-use Rattle.amqp_model.specs.Frame.{Frame}
-use Rattle.amqp_model.specs.Notes.{Role, Client, Server, Kind, Other, Note, Put, Took, Leaving, is_content}
-use Rattle.amqp_model.specs.States.{State}
-use Rattle.amqp_model.specs.Lives.{pauses_other}
-use Rattle.amqp_model.specs.Carried.{Carry, NoteInLife, At}
-use Rattle.amqp_model.specs.Runs.{IsNext, Acts, asks, leaves, takes as takes_quietly, replies, Run, start, client_acts, server_acts, RunAt}
-use Rattle.amqp_model.specs.Laws.{TakesNoContentPaused, NoPauseBeforeContent}
+use Rattle.amqp_model.specs.Wire.Frame.{Frame}
+use Rattle.amqp_model.specs.Wire.Notes.{Role, Client, Server, Kind, Other, Note, Put, Took, Leaving, is_content}
+use Rattle.amqp_model.specs.History.States.{State}
+use Rattle.amqp_model.specs.History.Lives.{pauses_other}
+use Rattle.amqp_model.specs.Pair.Carried.{Carry, NoteInLife, At}
+use Rattle.amqp_model.specs.Pair.Runs.{IsNext, Acts, asks, leaves, takes as takes_quietly, replies, Run, start, client_acts, server_acts, RunAt}
+use Rattle.amqp_model.specs.Laws.LifeLaws.{TakesNoContentPaused, NoPauseBeforeContent}
 use Rattle.amqp_model.proofs.Ends.{Standing}
 use Rattle.amqp_model.proofs.Pauses.{Scan, scan_content_free, Hush, hush, Pact, pact}
 use Rattle.amqp_model.proofs.Runs.{Linked, linked, turned, run_linked, NextOf, next_of, next_entry}

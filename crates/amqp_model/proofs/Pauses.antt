@@ -1,11 +1,11 @@
 -- While an end holds the other paused, no content is in flight to it: kept by every act, beside the cases of `Joint`.
 use Rattle.std.proofs.Common.{◌≡◌, Bool, true, false, cond, not, ℕ, ◌≤◌, List, [], ◌∷◌, ◌++◌, Option, Some, None, refl, sym, ◌∙◌, subst, arith}
 use Rattle.std.proofs.lemmas.Bool.{true≢false, false≢true}
-use Rattle.amqp_model.specs.Frame.{Frame}
-use Rattle.amqp_model.specs.Notes.{Role, other_end, Kind, Open, OpenOk, Close, CloseOk, Flow, FlowOk, Other, Note, Put, Took, Leaving, is_content}
-use Rattle.amqp_model.specs.States.{State, Free, Opening, Closing}
-use Rattle.amqp_model.specs.Lives.{pauses_other, is_paused}
-use Rattle.amqp_model.specs.Carried.{NoteInLife, At}
+use Rattle.amqp_model.specs.Wire.Frame.{Frame}
+use Rattle.amqp_model.specs.Wire.Notes.{Role, other_end, Kind, Open, OpenOk, Close, CloseOk, Flow, FlowOk, Other, Note, Put, Took, Leaving, is_content}
+use Rattle.amqp_model.specs.History.States.{State, Free, Opening, Closing}
+use Rattle.amqp_model.specs.History.Lives.{pauses_other, is_paused}
+use Rattle.amqp_model.specs.Pair.Carried.{NoteInLife, At}
 use Rattle.amqp_model.proofs.Ends.{Standing, Is, Stands, stands, IsReply, to_open, to_close, to_flow, Asking, opens, closes, flows, sends, Taking, accepts, begins, ends, pauses, hears, acts, crosses, frees, drops, a_flow, a_flow_ok, an_other, Lawful, has_asked, has_replied, has_taken, has_left_now, lawful_stands}
 use Rattle.amqp_model.proofs.Joint.{Row, done, with_flow, with_flow_ok, with_other, most, free, opening, freed, opened, ready, server_closes, client_closes, JointAt, at_client, at_server, joint_ask, Taken, quietly, answering, joint_take}
 

@@ -1,13 +1,13 @@
 -- The phase, and what was agreed, follow each entry of channel 0.
 use Rattle.std.proofs.Common.{◌≡◌, Bool, true, false, cond, not, ◌&&◌, ◌||◌, List, ◌∷◌, refl, ap, ◌∙◌}
 use Rattle.amqp_method.specs.declared.kinds.Kind.TheVariants as kinds
-use Rattle.amqp_model.specs.Frame.{Frame}
-use Rattle.amqp_model.specs.Notes.{Role, Client, Server}
-use Rattle.amqp_model.specs.Readings.{Reading, is_call}
-use Rattle.amqp_model.specs.Histories.{ChannelEntry, PutHere, TookHere}
-use Rattle.amqp_model.specs.Channels.{HandshakeStep, AwaitsProtocolHeader, AwaitsStart, AwaitsStartOk, AwaitsTune, AwaitsTuneOk, AwaitsOpen, AwaitsOpenOk, Phase, Handshake, Running, Closed}
-use Rattle.amqp_model.specs.StateFromHistory.{has_put, has_taken, closed_by_peer, is_closed, is_negotiated, step_from, phase_from}
-use Rattle.amqp_model.specs.Machine.{taken_ends_handshake, put_ends_handshake, after_start, after_start_ok, after_start_put, step_taken, step_put, phase_taken, phase_put, phase_after}
+use Rattle.amqp_model.specs.Wire.Frame.{Frame}
+use Rattle.amqp_model.specs.Wire.Notes.{Role, Client, Server}
+use Rattle.amqp_model.specs.Wire.Readings.{Reading, is_call}
+use Rattle.amqp_model.specs.History.Histories.{ChannelEntry, PutHere, TookHere}
+use Rattle.amqp_model.specs.End.Channels.{HandshakeStep, AwaitsProtocolHeader, AwaitsStart, AwaitsStartOk, AwaitsTune, AwaitsTuneOk, AwaitsOpen, AwaitsOpenOk, Phase, Handshake, Running, Closed}
+use Rattle.amqp_model.specs.End.StateFromHistory.{has_put, has_taken, closed_by_peer, is_closed, is_negotiated, step_from, phase_from}
+use Rattle.amqp_model.specs.End.Machine.{taken_ends_handshake, put_ends_handshake, after_start, after_start_ok, after_start_put, step_taken, step_put, phase_taken, phase_put, phase_after}
 
 -- the phase by the words that are counted
 abbrev word : (closed put over : Bool) → HandshakeStep → Phase

@@ -4,30 +4,30 @@ use Rattle.std.proofs.lemmas.Bool.{false≢true, true≢false, and_parts, eqb-tr
 use Rattle.std.proofs.lemmas.List.Elements.{All-nil, All-cons}
 use Rattle.amqp_method.specs.Arguments.{Argument}
 use Rattle.amqp_method.specs.declared.kinds.Kind.TheVariants as kinds
-use Rattle.amqp_model.specs.Frame.{Frame}
-use Rattle.amqp_model.specs.Notes.{Role, Server}
-use Rattle.amqp_model.specs.Arrangement.{is_leaving}
-use Rattle.amqp_model.specs.Outputs.{Output}
-use Rattle.amqp_model.specs.Departures.{LeavesLast}
-use Rattle.amqp_model.specs.Methods.{MethodKind, Method, ReadsBack, same_kind}
-use Rattle.amqp_model.specs.Contents.{Payload}
-use Rattle.amqp_model.specs.Readings.{Reading, Calls, reading, is_call}
-use Rattle.amqp_model.specs.Histories.{Put, Took, History, PutHere, TookHere}
-use Rattle.amqp_model.specs.Channels.{Channel, Free, Phase, Handshake, Running, Closed, Failed, Agreed, End}
-use Rattle.amqp_model.specs.Negotiation.{Config, Hello, OfServer}
-use Rattle.amqp_model.specs.Negotiation as negotiation
-use Rattle.amqp_model.specs.StateFromHistory.{end_from}
-use Rattle.amqp_model.specs.Closes.{FrameError, Owed, method_frame, frame_of, connection_close, connection_close_ok}
-use Rattle.amqp_model.specs.Events.{Event, FrameVerdict, Proceeds, RefusesContent, Faults, Fault, Peer}
-use Rattle.amqp_model.specs.FrameVerdict.{Facts, verdict_on, methods_put}
-use Rattle.amqp_model.specs.Asks.{Ask, Refusal, lowest_free, opens_on, payload_frame, message_payloads, frame_max, frames_asked, method_asked, refusal, Puts}
-use Rattle.amqp_model.specs.EndVerdict.{facts_at, end_verdict, goes_on, takes_frames, CanTake}
-use Rattle.amqp_model.specs.ReadingBack.{WritesReadBack}
-use Rattle.amqp_model.specs.LawfulHistories.{then_put, then_taken, Goes, greets, takes, faults, meets_too_large, fails, asks, Lawful, begun, goes}
-use Rattle.amqp_model.specs.Machine.{phase_taken, phase_put, end_after, end_after_owed, end_after_put, StandsFor}
-use Rattle.amqp_model.specs.EndLaws.{is_over}
-use Rattle.amqp_model.specs.Octets.{frames_put}
-use Rattle.amqp_model.specs.LeavingLaws.{ClosesArePutLast, OctetsArePutAs}
+use Rattle.amqp_model.specs.Wire.Frame.{Frame}
+use Rattle.amqp_model.specs.Wire.Notes.{Role, Server}
+use Rattle.amqp_model.specs.Output.Arrangement.{is_leaving}
+use Rattle.amqp_model.specs.Output.Outputs.{Output}
+use Rattle.amqp_model.specs.Output.Departures.{LeavesLast}
+use Rattle.amqp_model.specs.Wire.Methods.{MethodKind, Method, ReadsBack, same_kind}
+use Rattle.amqp_model.specs.Wire.Contents.{Payload}
+use Rattle.amqp_model.specs.Wire.Readings.{Reading, Calls, reading, is_call}
+use Rattle.amqp_model.specs.History.Histories.{Put, Took, History, PutHere, TookHere}
+use Rattle.amqp_model.specs.End.Channels.{Channel, Free, Phase, Handshake, Running, Closed, Failed, Agreed, End}
+use Rattle.amqp_model.specs.History.Negotiation.{Config, Hello, OfServer}
+use Rattle.amqp_model.specs.History.Negotiation as negotiation
+use Rattle.amqp_model.specs.End.StateFromHistory.{end_from}
+use Rattle.amqp_model.specs.End.Closes.{FrameError, Owed, method_frame, frame_of, connection_close, connection_close_ok}
+use Rattle.amqp_model.specs.End.Events.{Event, FrameVerdict, Proceeds, RefusesContent, Faults, Fault, Peer}
+use Rattle.amqp_model.specs.End.FrameVerdict.{Facts, verdict_on, methods_put}
+use Rattle.amqp_model.specs.End.Asks.{Ask, Refusal, lowest_free, opens_on, payload_frame, message_payloads, frame_max, frames_asked, method_asked, refusal, Puts}
+use Rattle.amqp_model.specs.End.EndVerdict.{facts_at, end_verdict, goes_on, takes_frames, CanTake}
+use Rattle.amqp_model.specs.End.ReadingBack.{WritesReadBack}
+use Rattle.amqp_model.specs.End.LawfulHistories.{then_put, then_taken, Goes, greets, takes, faults, meets_too_large, fails, asks, Lawful, begun, goes}
+use Rattle.amqp_model.specs.End.Machine.{phase_taken, phase_put, end_after, end_after_owed, end_after_put, StandsFor}
+use Rattle.amqp_model.specs.Laws.EndLaws.{is_over}
+use Rattle.amqp_model.specs.Stream.Octets.{frames_put}
+use Rattle.amqp_model.specs.Laws.LeavingLaws.{ClosesArePutLast, OctetsArePutAs}
 use Rattle.amqp_model.proofs.Acting.{reads-back}
 use Rattle.amqp_model.proofs.Agreeing.{facts_in}
 use Rattle.amqp_model.proofs.Elsewhere.{Each, IsMild, each-owed}

@@ -6,15 +6,15 @@ use Rattle.amqp_method.specs.Fitting.{FitsShort}
 use Rattle.amqp_method.specs.Laws.{MethodIsRead, HeaderIsRead, MethodIsEncoded, HeaderIsEncoded}
 use Rattle.amqp_method.specs.Plain as plain
 use Rattle.amqp_method.specs.declared.kinds.Kind.TheVariants as kinds
-use Rattle.amqp_model.specs.Notes.{Role, Client, Server}
-use Rattle.amqp_model.specs.Methods.{Header, ReadsBack, method_read, header_read, method_at, header_at, plain_method, plain_header}
-use Rattle.amqp_model.specs.Negotiation.{FRAME_MIN, Hello, OfClient, OfServer, Config, start, start_ok, connection_open}
-use Rattle.amqp_model.specs.Closes.{close_as, method_frame}
-use Rattle.amqp_model.specs.Events.{Message, Plain, Whole}
-use Rattle.amqp_model.specs.Asks.{Ask, Open, Send, Flow, CloseChannel, Close, Blocked, Unblocked, method_asked}
-use Rattle.amqp_model.specs.ReadingBack.{header_of, HeaderAskedReadsBack, TextAskedFits}
-use Rattle.amqp_model.specs.Fitting.{MethodFits, HelloFits, greeting, HostFits, PartsFit, FRAME_MOST, FrameMax, ChannelMax, HelloTooLong}
-use Rattle.amqp_model.specs.FittingLaws.{MethodReadsBack, HeaderReadsBack, FittingConfigWrites, AskedReadsBack, FaultlessConfigFits, FittingConfigIsFaultless}
+use Rattle.amqp_model.specs.Wire.Notes.{Role, Client, Server}
+use Rattle.amqp_model.specs.Wire.Methods.{Header, ReadsBack, method_read, header_read, method_at, header_at, plain_method, plain_header}
+use Rattle.amqp_model.specs.History.Negotiation.{FRAME_MIN, Hello, OfClient, OfServer, Config, start, start_ok, connection_open}
+use Rattle.amqp_model.specs.End.Closes.{close_as, method_frame}
+use Rattle.amqp_model.specs.End.Events.{Message, Plain, Whole}
+use Rattle.amqp_model.specs.End.Asks.{Ask, Open, Send, Flow, CloseChannel, Close, Blocked, Unblocked, method_asked}
+use Rattle.amqp_model.specs.End.ReadingBack.{header_of, HeaderAskedReadsBack, TextAskedFits}
+use Rattle.amqp_model.specs.End.Fitting.{MethodFits, HelloFits, greeting, HostFits, PartsFit, FRAME_MOST, FrameMax, ChannelMax, HelloTooLong}
+use Rattle.amqp_model.specs.Laws.FittingLaws.{MethodReadsBack, HeaderReadsBack, FittingConfigWrites, AskedReadsBack, FaultlessConfigFits, FittingConfigIsFaultless}
 
 pub method-reads : MethodIsEncoded → MethodIsRead → MethodReadsBack
 unfolding method_at plain_method

@@ -1,14 +1,14 @@
 -- The frames of a message say the payloads that they were made of.
 use Rattle.std.proofs.Common.{◌≡◌, ℕ, List, [], ◌∷◌, map, refl, ap}
-use Rattle.amqp_model.specs.Frame.{Frame}
-use Rattle.amqp_model.specs.Methods.{ReadsBack}
-use Rattle.amqp_model.specs.Contents as contents
-use Rattle.amqp_model.specs.Contents.{Payload, Content, pieces, room_in}
-use Rattle.amqp_model.specs.Readings.{method_reading, header_reading, reading, payload_of}
-use Rattle.amqp_model.specs.Events.{Message, Plain, Whole}
-use Rattle.amqp_model.specs.Asks.{Send, payload_frame, message_payloads, method_asked}
-use Rattle.amqp_model.specs.ReadingBack.{header_of, HeaderAskedReadsBack}
-use Rattle.amqp_model.specs.FittingLaws.{FramesSayPayloads}
+use Rattle.amqp_model.specs.Wire.Frame.{Frame}
+use Rattle.amqp_model.specs.Wire.Methods.{ReadsBack}
+use Rattle.amqp_model.specs.Wire.Contents as contents
+use Rattle.amqp_model.specs.Wire.Contents.{Payload, Content, pieces, room_in}
+use Rattle.amqp_model.specs.Wire.Readings.{method_reading, header_reading, reading, payload_of}
+use Rattle.amqp_model.specs.End.Events.{Message, Plain, Whole}
+use Rattle.amqp_model.specs.End.Asks.{Send, payload_frame, message_payloads, method_asked}
+use Rattle.amqp_model.specs.End.ReadingBack.{header_of, HeaderAskedReadsBack}
+use Rattle.amqp_model.specs.Laws.FittingLaws.{FramesSayPayloads}
 
 -- what the frame of a payload says
 abbrev said : (channel : ℕ) → Payload → Payload

@@ -6,21 +6,21 @@ use Rattle.std.proofs.lemmas.Bool.{ltb-true, ltb-false, eqb-false, false≢true,
 use Rattle.amqp_frame.specs.Frame.{frame_length}
 use Rattle.amqp_method.specs.Fitting.{AreOctets, FitsShort}
 use Rattle.amqp_method.specs.declared.kinds.Kind.TheVariants as kinds
-use Rattle.amqp_model.specs.Notes.{Role, Client, Server, is_client, Kind, Open, OpenOk, Close, CloseOk, Flow, FlowOk, Other}
-use Rattle.amqp_model.specs.Verdict as lives
-use Rattle.amqp_model.specs.Methods.{MethodKind, Method, ReadsBack, same_kind, sends, is_reply, is_request, carries_content, class_of, number_at, plain_method}
-use Rattle.amqp_model.specs.Gathering.{Gathering, HeaderDue, Step, Keeps, Completes, Breaks, Misfit, step}
-use Rattle.amqp_model.specs.Readings.{Reading, Calls, UnknownMethod, MalformedMethod, HeaderOf, MalformedHeader, BodyOf, Beat, is_call, kind_of, payload_of}
-use Rattle.amqp_model.specs.Channels as channels
-use Rattle.amqp_model.specs.Channels.{Life, Channel, Phase, Handshake, Agreed, AwaitsProtocolHeader, AwaitsStart, AwaitsStartOk, AwaitsTune, AwaitsTuneOk, AwaitsOpen, AwaitsOpenOk}
-use Rattle.amqp_model.specs.Negotiation.{Hello, OfClient, Config, FRAME_MIN, start_ok, tune, settled, smaller, tunes_too_small, tune_ok, agreed_in, in_range, connection_open, connection_open_ok}
-use Rattle.amqp_model.specs.Closes.{CloseCode, ContentTooLarge, FrameError, SyntaxError, CommandInvalid, ChannelError, UnexpectedFrame, ResourceError, NotImplemented, number_of, text_of, close_as, Owed, AllReadBack, connection_close, connection_close_ok, channel_close, reply_to, method_frame, frame_of}
-use Rattle.amqp_model.specs.Events.{Peer, FrameVerdict, Proceeds, RefusesContent, Faults}
-use Rattle.amqp_model.specs.FrameVerdict.{Facts, on_zero, on_channel, first_of, when_over, when_leaving, when_heartbeat, as_lives, lives_verdict, when_closing, when_unread, closed_by, is_awaited, on_awaited, in_step, when_handshake, is_no_channel, after_part, on_part, part_on, on_content, when_content, on_connection, when_connection, when_misdirected, when_no_channel, on_message, answers_first, MOST_REQUESTS, on_matched, on_idle, is_gathering, on_open, by_state, on_method, on_rest, verdict_on, methods_put}
-use Rattle.amqp_model.specs.EndVerdict.{facts_at}
-use Rattle.amqp_model.specs.ReadingBack.{GreetingReadsBack}
-use Rattle.amqp_model.specs.Fitting.{FRAME_MOST, HostFits, ConfigWrites, SettledFits}
-use Rattle.amqp_model.specs.FittingLaws.{MethodReadsBack, OwedReadBack, CloseReadsBack, AllReadsBack}
+use Rattle.amqp_model.specs.Wire.Notes.{Role, Client, Server, is_client, Kind, Open, OpenOk, Close, CloseOk, Flow, FlowOk, Other}
+use Rattle.amqp_model.specs.History.Verdict as lives
+use Rattle.amqp_model.specs.Wire.Methods.{MethodKind, Method, ReadsBack, same_kind, sends, is_reply, is_request, carries_content, class_of, number_at, plain_method}
+use Rattle.amqp_model.specs.Wire.Gathering.{Gathering, HeaderDue, Step, Keeps, Completes, Breaks, Misfit, step}
+use Rattle.amqp_model.specs.Wire.Readings.{Reading, Calls, UnknownMethod, MalformedMethod, HeaderOf, MalformedHeader, BodyOf, Beat, is_call, kind_of, payload_of}
+use Rattle.amqp_model.specs.End.Channels as channels
+use Rattle.amqp_model.specs.End.Channels.{Life, Channel, Phase, Handshake, Agreed, AwaitsProtocolHeader, AwaitsStart, AwaitsStartOk, AwaitsTune, AwaitsTuneOk, AwaitsOpen, AwaitsOpenOk}
+use Rattle.amqp_model.specs.History.Negotiation.{Hello, OfClient, Config, FRAME_MIN, start_ok, tune, settled, smaller, tunes_too_small, tune_ok, agreed_in, in_range, connection_open, connection_open_ok}
+use Rattle.amqp_model.specs.End.Closes.{CloseCode, ContentTooLarge, FrameError, SyntaxError, CommandInvalid, ChannelError, UnexpectedFrame, ResourceError, NotImplemented, number_of, text_of, close_as, Owed, AllReadBack, connection_close, connection_close_ok, channel_close, reply_to, method_frame, frame_of}
+use Rattle.amqp_model.specs.End.Events.{Peer, FrameVerdict, Proceeds, RefusesContent, Faults}
+use Rattle.amqp_model.specs.End.FrameVerdict.{Facts, on_zero, on_channel, first_of, when_over, when_leaving, when_heartbeat, as_lives, lives_verdict, when_closing, when_unread, closed_by, is_awaited, on_awaited, in_step, when_handshake, is_no_channel, after_part, on_part, part_on, on_content, when_content, on_connection, when_connection, when_misdirected, when_no_channel, on_message, answers_first, MOST_REQUESTS, on_matched, on_idle, is_gathering, on_open, by_state, on_method, on_rest, verdict_on, methods_put}
+use Rattle.amqp_model.specs.End.EndVerdict.{facts_at}
+use Rattle.amqp_model.specs.End.ReadingBack.{GreetingReadsBack}
+use Rattle.amqp_model.specs.End.Fitting.{FRAME_MOST, HostFits, ConfigWrites, SettledFits}
+use Rattle.amqp_model.specs.Laws.FittingLaws.{MethodReadsBack, OwedReadBack, CloseReadsBack, AllReadsBack}
 use Rattle.amqp_model.proofs.ReadBack.{configured, open-fits, connection_close-fits, channel_close-fits}
 
 -- what holds of each method that a verdict puts, where the frame stands on the channel of this number

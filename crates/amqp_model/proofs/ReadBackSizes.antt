@@ -6,22 +6,22 @@ use Rattle.std.proofs.lemmas.Bool.{ltb-false, true≢false}
 use Rattle.amqp_frame.specs.Frame.{frame_length}
 use Rattle.amqp_frame.specs.Splitting.{AllFit}
 use Rattle.amqp_method.specs.declared.kinds.Kind.TheVariants as kinds
-use Rattle.amqp_model.specs.Frame.{Frame}
-use Rattle.amqp_model.specs.Notes.{Role}
-use Rattle.amqp_model.specs.Methods.{plain_method, plain_header}
-use Rattle.amqp_model.specs.Contents as contents
-use Rattle.amqp_model.specs.Contents.{Payload, Content, first_pieces, pieces, room_in}
-use Rattle.amqp_model.specs.Readings.{Reading}
-use Rattle.amqp_model.specs.Channels.{End}
-use Rattle.amqp_model.specs.Negotiation.{FRAME_MIN}
-use Rattle.amqp_model.specs.Closes.{FrameError, Owed, without_arguments, flow_as, method_frame, frame_of}
-use Rattle.amqp_model.specs.Events.{Message, Plain, Whole, Peer, Faults}
-use Rattle.amqp_model.specs.FrameVerdict.{Facts, verdict_on, methods_put}
-use Rattle.amqp_model.specs.Asks.{Ask, Open, Send, Flow, CloseChannel, Close, Blocked, Unblocked, Refusal, channel_max, frame_max, lowest_free, refusal, bad_channel, too_large, payload_frame, message_payloads, method_asked, opens_on, frames_asked}
-use Rattle.amqp_model.specs.EndLaws.{FindsLowest}
-use Rattle.amqp_model.specs.ReadingBack.{header_of, TextAskedFits}
-use Rattle.amqp_model.specs.Fitting.{FRAME_MOST}
-use Rattle.amqp_model.specs.FittingLaws.{StartFits, OwedFit, CloseFits, AskedFit, AllWithin, OwedAreShort, CloseIsShort, AskedAreWithin}
+use Rattle.amqp_model.specs.Wire.Frame.{Frame}
+use Rattle.amqp_model.specs.Wire.Notes.{Role}
+use Rattle.amqp_model.specs.Wire.Methods.{plain_method, plain_header}
+use Rattle.amqp_model.specs.Wire.Contents as contents
+use Rattle.amqp_model.specs.Wire.Contents.{Payload, Content, first_pieces, pieces, room_in}
+use Rattle.amqp_model.specs.Wire.Readings.{Reading}
+use Rattle.amqp_model.specs.End.Channels.{End}
+use Rattle.amqp_model.specs.History.Negotiation.{FRAME_MIN}
+use Rattle.amqp_model.specs.End.Closes.{FrameError, Owed, without_arguments, flow_as, method_frame, frame_of}
+use Rattle.amqp_model.specs.End.Events.{Message, Plain, Whole, Peer, Faults}
+use Rattle.amqp_model.specs.End.FrameVerdict.{Facts, verdict_on, methods_put}
+use Rattle.amqp_model.specs.End.Asks.{Ask, Open, Send, Flow, CloseChannel, Close, Blocked, Unblocked, Refusal, channel_max, frame_max, lowest_free, refusal, bad_channel, too_large, payload_frame, message_payloads, method_asked, opens_on, frames_asked}
+use Rattle.amqp_model.specs.Laws.EndLaws.{FindsLowest}
+use Rattle.amqp_model.specs.End.ReadingBack.{header_of, TextAskedFits}
+use Rattle.amqp_model.specs.End.Fitting.{FRAME_MOST}
+use Rattle.amqp_model.specs.Laws.FittingLaws.{StartFits, OwedFit, CloseFits, AskedFit, AllWithin, OwedAreShort, CloseIsShort, AskedAreWithin}
 use Rattle.amqp_model.proofs.Asking.{accepted, not-when, accepted-none}
 use Rattle.amqp_model.proofs.Lowest.{finds-lowest}
 use Rattle.amqp_model.proofs.ReadBackOwed.{AllSound, fault-sound, owed-sound, connection_close-short, channel_close-short}

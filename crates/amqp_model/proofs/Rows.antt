@@ -3,7 +3,7 @@ use Rattle.std.proofs.Common.{◌≡◌, ℕ, ◌<◌, ◌≤◌, Bool, true, fa
 use Rattle.std.proofs.lemmas.Bool.{ltb-true, ltb-false, cond-true, cond-false}
 use Rattle.std.proofs.lemmas.List.Elements.{All-nil, All-cons, All-head, All-tail, All-filter, All-push, All-contains, Contains-append_right, filter-append}
 use Rattle.amqp_frame.specs.Frame.{Frame}
-use Rattle.amqp_model.specs.Arrangement.{Queue, is_in, queued, turn, last_after, last_after_all, IsNext, IsArranged, Arranges, HasChannel, Gains, placed, placed_all, arranged}
+use Rattle.amqp_model.specs.Output.Arrangement.{Queue, is_in, queued, turn, last_after, last_after_all, IsNext, IsArranged, Arranges, HasChannel, Gains, placed, placed_all, arranged}
 use Rattle.amqp_model.proofs.Turns.{Rank, plain, in_turn, leaves, rank, last-stays, last-moves, last-channel, turn-later, turn-queue, Queued, queued_in, queue-of, queue-turn}
 
 -- whether a frame goes before another one of the row, or after it

@@ -4,8 +4,8 @@ use Rattle.std.proofs.lemmas.Bool.{cond-true, cond-false, and_parts, eqb-true, l
 use Rattle.std.proofs.lemmas.List.{get_or-map, length-map}
 use Rattle.std.proofs.lemmas.List.Elements.{All-head, All-tail, All-filter, All-map, All-append, All-contains, Contains-get_or, filter_passes}
 use Rattle.amqp_frame.specs.Frame.{Frame}
-use Rattle.amqp_model.specs.Arrangement.{is_leaving, PlainFrames, LeavingFrames, is_in, queued, steps, turn, last_after, IsArranged, HasChannel}
-use Rattle.amqp_model.specs.ArrangementRules.{above_0, channels_of, FollowsRules}
+use Rattle.amqp_model.specs.Output.Arrangement.{is_leaving, PlainFrames, LeavingFrames, is_in, queued, steps, turn, last_after, IsArranged, HasChannel}
+use Rattle.amqp_model.specs.Output.ArrangementRules.{above_0, channels_of, FollowsRules}
 use Rattle.amqp_model.proofs.Turns.{Rank, plain, in_turn, leaves, rank, turn-plain, turn-in_turn, turn-leaves, turn-most, last-stays, last-moves, last-channel, steps-least, steps-most}
 use Rattle.amqp_model.proofs.Rows.{filter-none}
 

@@ -2,13 +2,13 @@
 use Rattle.std.proofs.Common.{◌≡◌, Bool, true, false, ℕ, List, [], ◌∷◌, ◌++◌, Some, None, refl, sym, ap, ◌∙◌, subst, map, append_assoc, append-nil}
 use Rattle.std.proofs.lemmas.Bool.{true≢false}
 use Rattle.std.proofs.lemmas.List.{append_cancel_left, map-append}
-use Rattle.amqp_model.specs.Frame.{Frame}
-use Rattle.amqp_model.specs.Notes.{Role, Client, Server, other_end, Kind, Note, Put, Took, Leaving}
-use Rattle.amqp_model.specs.States.{State}
-use Rattle.amqp_model.specs.Lives.{has_left, lives, is_paused}
-use Rattle.amqp_model.specs.Verdict.{Event, GoesOn, verdict}
-use Rattle.amqp_model.specs.Carried.{Carried, Carry, put_by, taken_by, NoteInLife, At, puts, takes}
-use Rattle.amqp_model.specs.Runs.{may_ask, may_put, IsNext, Acts, asks, leaves, takes as takes_quietly, replies, Run, start, client_acts, server_acts, RunAt}
+use Rattle.amqp_model.specs.Wire.Frame.{Frame}
+use Rattle.amqp_model.specs.Wire.Notes.{Role, Client, Server, other_end, Kind, Note, Put, Took, Leaving}
+use Rattle.amqp_model.specs.History.States.{State}
+use Rattle.amqp_model.specs.History.Lives.{has_left, lives, is_paused}
+use Rattle.amqp_model.specs.History.Verdict.{Event, GoesOn, verdict}
+use Rattle.amqp_model.specs.Pair.Carried.{Carried, Carry, put_by, taken_by, NoteInLife, At, puts, takes}
+use Rattle.amqp_model.specs.Pair.Runs.{may_ask, may_put, IsNext, Acts, asks, leaves, takes as takes_quietly, replies, Run, start, client_acts, server_acts, RunAt}
 use Rattle.amqp_model.proofs.Ends.{Is, IsReply, Taking, Lawful, begun, has_asked, has_replied, has_taken, has_left_now, lawful_stands, lawful_lives, here_owed, left_owed, Asked, asked, may_asked, may_put_parts, may_content}
 use Rattle.amqp_model.proofs.Joint.{free, at_client, at_server}
 use Rattle.amqp_model.proofs.Pauses.{fresh, Pact, pact, pact_ask, pact_reply, pact_leave, Kept, kept_quietly, kept_answering, pact_take}

@@ -1,13 +1,13 @@
 -- What is left of an end that runs out of memory.
 use Rattle.std.proofs.Common.{ℕ, List, refl}
-use Rattle.amqp_model.specs.Notes.{Role}
-use Rattle.amqp_model.specs.Histories.{History}
-use Rattle.amqp_model.specs.Negotiation.{Config}
-use Rattle.amqp_model.specs.Outputs.{after_writing}
-use Rattle.amqp_model.specs.LawfulHistories.{goes}
-use Rattle.amqp_model.specs.Octets.{frames_put, opening_written}
-use Rattle.amqp_model.specs.Endpoint.{Endpoint}
-use Rattle.amqp_model.specs.RunningOut.{RunsOut, RanOutWrites, RanOutStays}
+use Rattle.amqp_model.specs.Wire.Notes.{Role}
+use Rattle.amqp_model.specs.History.Histories.{History}
+use Rattle.amqp_model.specs.History.Negotiation.{Config}
+use Rattle.amqp_model.specs.Output.Outputs.{after_writing}
+use Rattle.amqp_model.specs.End.LawfulHistories.{goes}
+use Rattle.amqp_model.specs.Stream.Octets.{frames_put, opening_written}
+use Rattle.amqp_model.specs.Stream.Endpoint.{Endpoint}
+use Rattle.amqp_model.specs.Stream.RunningOut.{RunsOut, RanOutWrites, RanOutStays}
 use Rattle.amqp_model.proofs.Departing.{output-write}
 use Rattle.amqp_model.proofs.Failing.{any-fails}
 use Rattle.amqp_model.proofs.Lawfulness.{end-steps}

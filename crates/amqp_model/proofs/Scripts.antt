@@ -1,13 +1,13 @@
 -- Every script plays a run, and what the scripts come to.
 use Rattle.std.proofs.Common.{◌≡◌, Bool, true, false, cond, ℕ, zero, suc, List, [], ◌∷◌, ◌++◌, map, length, drop, Some, None, refl, sym, ap, ◌∙◌, subst}
 use Rattle.std.proofs.Math.Seq.{drop-append_seam}
-use Rattle.amqp_model.specs.Frame.{Frame}
-use Rattle.amqp_model.specs.Notes.{Role, Client, Server, Kind, Note, Put}
-use Rattle.amqp_model.specs.Verdict.{Verdict, GoesOn, Fault, verdict}
-use Rattle.amqp_model.specs.Carried.{Carried, Carry, put_by, taken_by}
-use Rattle.amqp_model.specs.Runs.{may_put, IsNext, Acts, asks, leaves, takes, replies, Run, start, client_acts, server_acts, RunAt}
-use Rattle.amqp_model.specs.Prefixes.{IsPrefixOf}
-use Rattle.amqp_model.specs.Scripts.{Step, Ask, Take, Leave, World, with_reply, take_first, take_one, take_many, notes_at, other_notes, stepped, refused_step, after, play, replay, CrossingCloses, ClosedAndReopened, ClosedAtOnce, DiscardedContents, PausedServer, RestartedServer, MessageThenClose, DroppedClient, ServerLeaves}
+use Rattle.amqp_model.specs.Wire.Frame.{Frame}
+use Rattle.amqp_model.specs.Wire.Notes.{Role, Client, Server, Kind, Note, Put}
+use Rattle.amqp_model.specs.History.Verdict.{Verdict, GoesOn, Fault, verdict}
+use Rattle.amqp_model.specs.Pair.Carried.{Carried, Carry, put_by, taken_by}
+use Rattle.amqp_model.specs.Pair.Runs.{may_put, IsNext, Acts, asks, leaves, takes, replies, Run, start, client_acts, server_acts, RunAt}
+use Rattle.amqp_model.specs.Output.Prefixes.{IsPrefixOf}
+use Rattle.amqp_model.specs.Laws.Scripts.{Step, Ask, Take, Leave, World, with_reply, take_first, take_one, take_many, notes_at, other_notes, stepped, refused_step, after, play, replay, CrossingCloses, ClosedAndReopened, ClosedAtOnce, DiscardedContents, PausedServer, RestartedServer, MessageThenClose, DroppedClient, ServerLeaves}
 use Rattle.amqp_model.proofs.Runs.{carried, carried_rest}
 use Rattle.amqp_model.proofs.Laws.{takes_prefix}
 

@@ -2,19 +2,19 @@
 use Rattle.std.proofs.Common.{◌≡◌, Bool, ℕ, suc, ◌<◌, List, [], ◌∷◌, map, refl, ap, ◌∙◌, subst, arith}
 use Rattle.std.proofs.lemmas.Bool.{ne_eqb}
 use Rattle.std.proofs.lemmas.List.{map-append}
-use Rattle.amqp_model.specs.Frame.{Frame}
-use Rattle.amqp_model.specs.Notes.{Role, Client, Server, Kind, Open, OpenOk, Close, CloseOk, Note, Put}
-use Rattle.amqp_model.specs.States.{State, Free, Opening, Closing}
-use Rattle.amqp_model.specs.Lives.{lives}
-use Rattle.amqp_model.specs.Carried.{puts, sent, acted}
-use Rattle.amqp_model.specs.Runs.{RunAt}
-use Rattle.amqp_model.specs.Prefixes.{IsPrefixOf}
-use Rattle.amqp_model.specs.Histories.{History}
-use Rattle.amqp_model.specs.Negotiation.{Config}
-use Rattle.amqp_model.specs.EndLaws.{notes_on}
-use Rattle.amqp_model.specs.Sent.{payload_in, items_in}
-use Rattle.amqp_model.specs.Pairs.{PairAt}
-use Rattle.amqp_model.specs.SentLaws.{ActsOnPrefixOfItems, AllItemsActedOnAtClose, AllItemsActedOnAtConnectionClose, ItemsSentAreActedOnOrInFlight, NoItemsBeforeFirstLife}
+use Rattle.amqp_model.specs.Wire.Frame.{Frame}
+use Rattle.amqp_model.specs.Wire.Notes.{Role, Client, Server, Kind, Open, OpenOk, Close, CloseOk, Note, Put}
+use Rattle.amqp_model.specs.History.States.{State, Free, Opening, Closing}
+use Rattle.amqp_model.specs.History.Lives.{lives}
+use Rattle.amqp_model.specs.Pair.Carried.{puts, sent, acted}
+use Rattle.amqp_model.specs.Pair.Runs.{RunAt}
+use Rattle.amqp_model.specs.Output.Prefixes.{IsPrefixOf}
+use Rattle.amqp_model.specs.History.Histories.{History}
+use Rattle.amqp_model.specs.History.Negotiation.{Config}
+use Rattle.amqp_model.specs.Laws.EndLaws.{notes_on}
+use Rattle.amqp_model.specs.Pair.Sent.{payload_in, items_in}
+use Rattle.amqp_model.specs.Pair.Pairs.{PairAt}
+use Rattle.amqp_model.specs.Laws.SentLaws.{ActsOnPrefixOfItems, AllItemsActedOnAtClose, AllItemsActedOnAtConnectionClose, ItemsSentAreActedOnOrInFlight, NoItemsBeforeFirstLife}
 use Rattle.amqp_model.proofs.Lists.{prefix_none, messages_other, messages_elsewhere}
 use Rattle.amqp_model.proofs.Ends.{Is, Lawful, begun, has_asked, has_replied, has_taken, has_left_now, lawful_lives, to_open, to_close, to_flow, opens, closes, flows, sends, accepts, begins, ends, pauses, hears, acts, crosses, frees, drops}
 use Rattle.amqp_model.proofs.Runs.{Linked, linked, run_at_linked}

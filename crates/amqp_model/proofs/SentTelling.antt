@@ -5,22 +5,22 @@ use Rattle.std.proofs.lemmas.Bool.{true≢false, false≢true, eqb-true, eq-eqb,
 use Rattle.std.proofs.lemmas.List.{map-append}
 use Rattle.std.proofs.lemmas.List.Elements.{filter-append}
 use Rattle.amqp_method.specs.declared.kinds.Kind.TheVariants as kinds
-use Rattle.amqp_model.specs.Frame.{Frame}
-use Rattle.amqp_model.specs.Notes.{Role, Note, is_message}
-use Rattle.amqp_model.specs.Lives.{lives}
-use Rattle.amqp_model.specs.Carried.{NoteInLife, At, puts, acts_next, acted_takes, messages, sent, acted}
-use Rattle.amqp_model.specs.Methods.{MethodKind, Method, sort_by, bit_at}
-use Rattle.amqp_model.specs.Gathering.{Gathering, gathering}
-use Rattle.amqp_model.specs.Items.{Item, item_of, item_ended, items}
-use Rattle.amqp_model.specs.Readings.{Reading, Calls, reading, kind_of_method, kind_of, payload_of}
-use Rattle.amqp_model.specs.Histories.{Put, Took, History, PutHere, TookHere, LeftHere, closes_connection, notes, entries_on}
-use Rattle.amqp_model.specs.EndLaws.{notes_on}
-use Rattle.amqp_model.specs.Sent.{payload_in, items_in, items_sent, items_acted, life_on, Telling, ended_by, goes_on_with, told_at, said_at, told, said, items_of}
-use Rattle.amqp_model.specs.Negotiation.{Config}
-use Rattle.amqp_model.specs.StateFromHistory.{end_from}
-use Rattle.amqp_model.specs.EndVerdict.{end_puts}
-use Rattle.amqp_model.specs.LawfulHistories.{then_put, Goes, greets, takes, faults, meets_too_large, fails, asks, Lawful, begun, goes}
-use Rattle.amqp_model.specs.SentLaws.{TellsWhatIsActedOn, FaultTellsNothing, SaysWhatIsSent, NothingOfChannel0}
+use Rattle.amqp_model.specs.Wire.Frame.{Frame}
+use Rattle.amqp_model.specs.Wire.Notes.{Role, Note, is_message}
+use Rattle.amqp_model.specs.History.Lives.{lives}
+use Rattle.amqp_model.specs.Pair.Carried.{NoteInLife, At, puts, acts_next, acted_takes, messages, sent, acted}
+use Rattle.amqp_model.specs.Wire.Methods.{MethodKind, Method, sort_by, bit_at}
+use Rattle.amqp_model.specs.Wire.Gathering.{Gathering, gathering}
+use Rattle.amqp_model.specs.Wire.Items.{Item, item_of, item_ended, items}
+use Rattle.amqp_model.specs.Wire.Readings.{Reading, Calls, reading, kind_of_method, kind_of, payload_of}
+use Rattle.amqp_model.specs.History.Histories.{Put, Took, History, PutHere, TookHere, LeftHere, closes_connection, notes, entries_on}
+use Rattle.amqp_model.specs.Laws.EndLaws.{notes_on}
+use Rattle.amqp_model.specs.Pair.Sent.{payload_in, items_in, items_sent, items_acted, life_on, Telling, ended_by, goes_on_with, told_at, said_at, told, said, items_of}
+use Rattle.amqp_model.specs.History.Negotiation.{Config}
+use Rattle.amqp_model.specs.End.StateFromHistory.{end_from}
+use Rattle.amqp_model.specs.End.EndVerdict.{end_puts}
+use Rattle.amqp_model.specs.End.LawfulHistories.{then_put, Goes, greets, takes, faults, meets_too_large, fails, asks, Lawful, begun, goes}
+use Rattle.amqp_model.specs.Laws.SentLaws.{TellsWhatIsActedOn, FaultTellsNothing, SaysWhatIsSent, NothingOfChannel0}
 use Rattle.amqp_model.proofs.Lists.{messages-append, messages_elsewhere}
 use Rattle.amqp_model.proofs.ItemLemmas.{items-more}
 

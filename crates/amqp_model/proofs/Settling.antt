@@ -2,23 +2,23 @@
 use Rattle.std.proofs.Common.{◌≡◌, Bool, true, false, cond, ◌&&◌, ℕ, zero, suc, nat_le, arith, List, [], ◌∷◌, Option, Some, None, refl, sym, subst}
 use Rattle.std.proofs.lemmas.Bool.{and_parts, ltb-true, leb-true}
 use Rattle.amqp_method.specs.declared.kinds.Kind.TheVariants as kinds
-use Rattle.amqp_model.specs.Frame.{Frame}
-use Rattle.amqp_model.specs.Notes.{Role, Client, Server}
-use Rattle.amqp_model.specs.Methods.{same_kind}
-use Rattle.amqp_model.specs.Readings.{Reading, Calls, UnknownMethod, MalformedMethod, HeaderOf, MalformedHeader, BodyOf, Beat, reading}
-use Rattle.amqp_model.specs.Histories.{History, PutHere, TookHere, entries_on}
-use Rattle.amqp_model.specs.Channels.{Phase, Agreed, End}
-use Rattle.amqp_model.specs.Negotiation.{Config, FRAME_MIN, agreed_in, in_range}
-use Rattle.amqp_model.specs.StateFromHistory.{accepted, awaits_tune_ok, agreed_from, end_from}
-use Rattle.amqp_model.specs.Closes.{FrameError, Owed, frame_of}
-use Rattle.amqp_model.specs.Events.{FrameVerdict, Proceeds, RefusesContent, Faults, Peer}
-use Rattle.amqp_model.specs.FrameVerdict.{methods_put}
-use Rattle.amqp_model.specs.Asks.{Ask, refusal, frames_asked}
-use Rattle.amqp_model.specs.EndVerdict.{facts_at, end_verdict}
-use Rattle.amqp_model.specs.LawfulHistories.{Goes, greets, takes, faults, meets_too_large, fails, asks, begun, goes}
-use Rattle.amqp_model.specs.Machine.{agreed_after, end_after, end_after_owed, failed_by, StandsFor}
-use Rattle.amqp_model.specs.Fitting.{ConfigWrites, IfAgreedFits}
-use Rattle.amqp_model.specs.FittingLaws.{MethodReadsBack, AgreedIsWithin, AgreedStaysWithin, AskKeepsAgreed}
+use Rattle.amqp_model.specs.Wire.Frame.{Frame}
+use Rattle.amqp_model.specs.Wire.Notes.{Role, Client, Server}
+use Rattle.amqp_model.specs.Wire.Methods.{same_kind}
+use Rattle.amqp_model.specs.Wire.Readings.{Reading, Calls, UnknownMethod, MalformedMethod, HeaderOf, MalformedHeader, BodyOf, Beat, reading}
+use Rattle.amqp_model.specs.History.Histories.{History, PutHere, TookHere, entries_on}
+use Rattle.amqp_model.specs.End.Channels.{Phase, Agreed, End}
+use Rattle.amqp_model.specs.History.Negotiation.{Config, FRAME_MIN, agreed_in, in_range}
+use Rattle.amqp_model.specs.End.StateFromHistory.{accepted, awaits_tune_ok, agreed_from, end_from}
+use Rattle.amqp_model.specs.End.Closes.{FrameError, Owed, frame_of}
+use Rattle.amqp_model.specs.End.Events.{FrameVerdict, Proceeds, RefusesContent, Faults, Peer}
+use Rattle.amqp_model.specs.End.FrameVerdict.{methods_put}
+use Rattle.amqp_model.specs.End.Asks.{Ask, refusal, frames_asked}
+use Rattle.amqp_model.specs.End.EndVerdict.{facts_at, end_verdict}
+use Rattle.amqp_model.specs.End.LawfulHistories.{Goes, greets, takes, faults, meets_too_large, fails, asks, begun, goes}
+use Rattle.amqp_model.specs.End.Machine.{agreed_after, end_after, end_after_owed, failed_by, StandsFor}
+use Rattle.amqp_model.specs.End.Fitting.{ConfigWrites, IfAgreedFits}
+use Rattle.amqp_model.specs.Laws.FittingLaws.{MethodReadsBack, AgreedIsWithin, AgreedStaysWithin, AskKeepsAgreed}
 use Rattle.amqp_model.proofs.Asking.{accepted as accepted-ask, accepted-none}
 use Rattle.amqp_model.proofs.FrameSteps.{frame-follows}
 use Rattle.amqp_model.proofs.Failing.{frame-fails, too-large-fails}

@@ -1,21 +1,21 @@
 -- What an end keeps is what its history counts to, where it stands for that history.
 use Rattle.std.proofs.Common.{◌≡◌, Bool, true, false, cond, ◌||◌, ℕ, zero, suc, ◌==◌, nat_lt, List, [], ◌∷◌, None, refl, sym, ap, ◌∙◌}
-use Rattle.amqp_model.specs.Notes.{Role}
-use Rattle.amqp_model.specs.Frame.{Frame}
-use Rattle.amqp_model.specs.Readings.{reading}
-use Rattle.amqp_model.specs.Histories.{History, ChannelEntry, PutHere, TookHere, LeftHere, notes, entries_before_leaving}
-use Rattle.amqp_model.specs.States.{State}
-use Rattle.amqp_model.specs.Lives.{has_left, before_leaving, state_by, state}
-use Rattle.amqp_model.specs.Channels.{Channel, Free, Opening, Closing, Open, Life, Phase, Failed, End, state_of}
-use Rattle.amqp_model.specs.Negotiation.{Config}
-use Rattle.amqp_model.specs.StateFromHistory.{life_from, channel_in, channel_by, channel_from, channel_at, end_from}
-use Rattle.amqp_model.specs.Events.{Faults, AlreadyFailed}
-use Rattle.amqp_model.specs.FrameVerdict.{verdict_on}
-use Rattle.amqp_model.specs.Answers.{state_in, channel_state, gathered, reply_due}
-use Rattle.amqp_model.specs.Asks.{channel_max, Ask, NotRunning, Refused, ask_verdict}
-use Rattle.amqp_model.specs.EndVerdict.{end_verdict}
-use Rattle.amqp_model.specs.Machine.{Counts, CountsOpen, StandsFor}
-use Rattle.amqp_model.specs.EndLaws.{VerdictOfHistory, AskOfHistory, AnswersOfHistory}
+use Rattle.amqp_model.specs.Wire.Notes.{Role}
+use Rattle.amqp_model.specs.Wire.Frame.{Frame}
+use Rattle.amqp_model.specs.Wire.Readings.{reading}
+use Rattle.amqp_model.specs.History.Histories.{History, ChannelEntry, PutHere, TookHere, LeftHere, notes, entries_before_leaving}
+use Rattle.amqp_model.specs.History.States.{State}
+use Rattle.amqp_model.specs.History.Lives.{has_left, before_leaving, state_by, state}
+use Rattle.amqp_model.specs.End.Channels.{Channel, Free, Opening, Closing, Open, Life, Phase, Failed, End, state_of}
+use Rattle.amqp_model.specs.History.Negotiation.{Config}
+use Rattle.amqp_model.specs.End.StateFromHistory.{life_from, channel_in, channel_by, channel_from, channel_at, end_from}
+use Rattle.amqp_model.specs.End.Events.{Faults, AlreadyFailed}
+use Rattle.amqp_model.specs.End.FrameVerdict.{verdict_on}
+use Rattle.amqp_model.specs.End.Answers.{state_in, channel_state, gathered, reply_due}
+use Rattle.amqp_model.specs.End.Asks.{channel_max, Ask, NotRunning, Refused, ask_verdict}
+use Rattle.amqp_model.specs.End.EndVerdict.{end_verdict}
+use Rattle.amqp_model.specs.End.Machine.{Counts, CountsOpen, StandsFor}
+use Rattle.amqp_model.specs.Laws.EndLaws.{VerdictOfHistory, AskOfHistory, AnswersOfHistory}
 
 life-counts : (role : Role) (life : Life) (entries : List ChannelEntry) → CountsOpen role life entries → life_from role entries ≡ life
 life-counts role life entries c = λ i. record { content = c.content i; paused = c.paused i; awaits = c.awaits i; requests = c.requests i }

@@ -2,10 +2,10 @@
 use Rattle.std.proofs.Common.{◌≡◌, ◌≢◌, true, ℕ, ◌<◌, List, [], ◌∷◌, ◌++◌, length, reverse, refl, sym, ap, ◌∙◌, subst, arith, append-nil, length-append}
 use Rattle.std.specs.List.{concat}
 use Rattle.std.proofs.lemmas.List.{reverse-append}
-use Rattle.amqp_model.specs.Methods.{Method, Properties, carries_content}
-use Rattle.amqp_model.specs.Contents.{Payload, Calls, Header, Body, Unread, Content, IsContent, UnderWay, EndsContent}
-use Rattle.amqp_model.specs.Gathering.{Gathering, Nothing, HeaderDue, BodyDue, Step, Completes, Breaks, Misfit, NothingBegun, HeaderAwaited, BodyAwaited, PastSize, MethodInside, NotRead, gathered, step, remains, gathering, DoesNotFit, header_first, body_first, body_early, header_again, past_size, method_inside, not_read}
-use Rattle.amqp_model.specs.ContentLaws.{TellsWhole, TellsMisfits, GoesOnWith, NothingAfterContent, IsToldAtHeader, IsToldAtLastPart, IsRefusedPastSize}
+use Rattle.amqp_model.specs.Wire.Methods.{Method, Properties, carries_content}
+use Rattle.amqp_model.specs.Wire.Contents.{Payload, Calls, Header, Body, Unread, Content, IsContent, UnderWay, EndsContent}
+use Rattle.amqp_model.specs.Wire.Gathering.{Gathering, Nothing, HeaderDue, BodyDue, Step, Completes, Breaks, Misfit, NothingBegun, HeaderAwaited, BodyAwaited, PastSize, MethodInside, NotRead, gathered, step, remains, gathering, DoesNotFit, header_first, body_first, body_early, header_again, past_size, method_inside, not_read}
+use Rattle.amqp_model.specs.Laws.ContentLaws.{TellsWhole, TellsMisfits, GoesOnWith, NothingAfterContent, IsToldAtHeader, IsToldAtLastPart, IsRefusedPastSize}
 use Rattle.amqp_model.proofs.ContentLemmas.{content-of, same-content, bodies-same, full-snoc}
 use Rattle.amqp_model.proofs.UnderWayLemmas.{Grows, has_method, has_header, has_more, grown-kept, grown-prefix, Prefixes, body_prefix, map-snoc, concat-snoc, ContentPrefix, its_method, its_body, content-prefix}
 use Rattle.amqp_model.proofs.GatheringLemmas.{Grown, grown, kept-grown, IsSome, KeptOf, kept_of, kept-of, SomeUnderWay, some_under_way, kept-some, Lengths, is_whole, is_short, is_past, lengths, keeps-under_way}

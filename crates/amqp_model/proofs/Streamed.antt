@@ -1,11 +1,11 @@
 -- What is kept of a content that is lent.
 use Rattle.std.proofs.Common.{◌≡◌, Bool, true, false, cond, ℕ, eqb, ltb, List, [], ◌∷◌, ◌++◌, length, refl, sym, ap, ◌∙◌, length-append}
 use Rattle.std.proofs.lemmas.List.{length-replicate}
-use Rattle.amqp_model.specs.Methods.{Method, Properties, carries_content}
-use Rattle.amqp_model.specs.Contents.{Payload, Calls, Header, Body, Unread, Content}
-use Rattle.amqp_model.specs.Gathering.{Gathering, Nothing, HeaderDue, BodyDue, Step, Keeps, Completes, Breaks, PastSize, begun, gathered, step, remains, gathering, kept}
-use Rattle.amqp_model.specs.Streaming.{NoContent, AwaitsHeader, AwaitsBody, GoesOn, Ends, Stops, stream_begun, stream_came, stream_step, stream_remains, streamed, streamed_step}
-use Rattle.amqp_model.specs.StreamingLaws.{StepsAlike, RemainsAlike, GathersAlike, CameIsKept, WholeIsCame, KeptIsCame, EachIsGathered}
+use Rattle.amqp_model.specs.Wire.Methods.{Method, Properties, carries_content}
+use Rattle.amqp_model.specs.Wire.Contents.{Payload, Calls, Header, Body, Unread, Content}
+use Rattle.amqp_model.specs.Wire.Gathering.{Gathering, Nothing, HeaderDue, BodyDue, Step, Keeps, Completes, Breaks, PastSize, begun, gathered, step, remains, gathering, kept}
+use Rattle.amqp_model.specs.Lent.Streaming.{NoContent, AwaitsHeader, AwaitsBody, GoesOn, Ends, Stops, stream_begun, stream_came, stream_step, stream_remains, streamed, streamed_step}
+use Rattle.amqp_model.specs.Laws.StreamingLaws.{StepsAlike, RemainsAlike, GathersAlike, CameIsKept, WholeIsCame, KeptIsCame, EachIsGathered}
 
 pub begun-streamed : (method : Method) → stream_begun method ≡ streamed (begun method)
 begun-streamed method = tests (carries_content method)

@@ -2,22 +2,22 @@
 use Rattle.std.proofs.Common.{◌≡◌, Bool, true, false, cond, ◌&&◌, ℕ, suc, ◌==◌, arith, List, [], ◌∷◌, map, Option, Some, None, refl, sym, ap, ◌∙◌, subst}
 use Rattle.std.proofs.lemmas.Bool.{false≢true, true≢false, eqb-true, ne_eqb}
 use Rattle.amqp_method.specs.declared.kinds.Kind.TheVariants as kinds
-use Rattle.amqp_model.specs.Notes.{Role}
-use Rattle.amqp_model.specs.Lives.{has_left}
-use Rattle.amqp_model.specs.Verdict as lives
-use Rattle.amqp_model.specs.Verdict.{verdict}
-use Rattle.amqp_model.specs.Runs.{takes}
-use Rattle.amqp_model.specs.Readings.{Reading, reading, is_call, kind_of}
-use Rattle.amqp_model.specs.Histories.{Took, History, ChannelEntry, entries_on, notes}
-use Rattle.amqp_model.specs.Channels.{Channel, HandshakeStep, Phase, Handshake, Running, Closed, Failed, Agreed, End}
-use Rattle.amqp_model.specs.Negotiation.{Config}
-use Rattle.amqp_model.specs.StateFromHistory.{has_put, is_closed, is_negotiated, step_from, end_from}
-use Rattle.amqp_model.specs.Closes.{AllReadBack, frame_of}
-use Rattle.amqp_model.specs.Events.{Event, Discarded, FrameVerdict, Proceeds}
-use Rattle.amqp_model.specs.FrameVerdict.{verdict_on, methods_put}
-use Rattle.amqp_model.specs.EndVerdict.{facts_at, goes_on}
-use Rattle.amqp_model.specs.LawfulHistories.{then_put}
-use Rattle.amqp_model.specs.EndLaws.{is_over, ActsOn, rests, acts, TakesActs}
+use Rattle.amqp_model.specs.Wire.Notes.{Role}
+use Rattle.amqp_model.specs.History.Lives.{has_left}
+use Rattle.amqp_model.specs.History.Verdict as lives
+use Rattle.amqp_model.specs.History.Verdict.{verdict}
+use Rattle.amqp_model.specs.Pair.Runs.{takes}
+use Rattle.amqp_model.specs.Wire.Readings.{Reading, reading, is_call, kind_of}
+use Rattle.amqp_model.specs.History.Histories.{Took, History, ChannelEntry, entries_on, notes}
+use Rattle.amqp_model.specs.End.Channels.{Channel, HandshakeStep, Phase, Handshake, Running, Closed, Failed, Agreed, End}
+use Rattle.amqp_model.specs.History.Negotiation.{Config}
+use Rattle.amqp_model.specs.End.StateFromHistory.{has_put, is_closed, is_negotiated, step_from, end_from}
+use Rattle.amqp_model.specs.End.Closes.{AllReadBack, frame_of}
+use Rattle.amqp_model.specs.End.Events.{Event, Discarded, FrameVerdict, Proceeds}
+use Rattle.amqp_model.specs.End.FrameVerdict.{verdict_on, methods_put}
+use Rattle.amqp_model.specs.End.EndVerdict.{facts_at, goes_on}
+use Rattle.amqp_model.specs.End.LawfulHistories.{then_put}
+use Rattle.amqp_model.specs.Laws.EndLaws.{is_over, ActsOn, rests, acts, TakesActs}
 use Rattle.amqp_model.proofs.Agreeing.{facts_in, frame-agrees}
 use Rattle.amqp_model.proofs.Acting.{left-noted, not-left, seen-took, acts-here}
 use Rattle.amqp_model.proofs.Elsewhere.{entries-away, verdict-away}

@@ -6,15 +6,15 @@ use Rattle.std.proofs.Common.{◌≡◌, Bool, true, false, not, ◌&&◌, ℕ, 
 use Rattle.std.proofs.lemmas.Bool.{le-ltb, ne_eqb, and_from, lt-ltb, le-leb}
 use Rattle.amqp_method.specs.Arguments.{Argument, short, long, short_string}
 use Rattle.amqp_method.specs.declared.kinds.Kind.TheVariants as kinds
-use Rattle.amqp_model.specs.Frame.{Frame}
-use Rattle.amqp_model.specs.Notes.{Client, Server}
-use Rattle.amqp_model.specs.Methods.{Method, ReadsBack}
-use Rattle.amqp_model.specs.Channels.{Phase, Handshake, Running, Closed, Agreed, AwaitsProtocolHeader, AwaitsStart, AwaitsStartOk, AwaitsTune, AwaitsTuneOk, AwaitsOpen, AwaitsOpenOk}
-use Rattle.amqp_model.specs.Negotiation.{Config, FRAME_MIN, smaller, tune, settled, tunes_too_small, in_range}
-use Rattle.amqp_model.specs.Negotiation as negotiation
-use Rattle.amqp_model.specs.Closes.{Owed, close_as, without_arguments, method_frame}
-use Rattle.amqp_model.specs.FrameVerdict.{on_zero}
-use Rattle.amqp_model.specs.Fitting.{ConfigWrites}
+use Rattle.amqp_model.specs.Wire.Frame.{Frame}
+use Rattle.amqp_model.specs.Wire.Notes.{Client, Server}
+use Rattle.amqp_model.specs.Wire.Methods.{Method, ReadsBack}
+use Rattle.amqp_model.specs.End.Channels.{Phase, Handshake, Running, Closed, Agreed, AwaitsProtocolHeader, AwaitsStart, AwaitsStartOk, AwaitsTune, AwaitsTuneOk, AwaitsOpen, AwaitsOpenOk}
+use Rattle.amqp_model.specs.History.Negotiation.{Config, FRAME_MIN, smaller, tune, settled, tunes_too_small, in_range}
+use Rattle.amqp_model.specs.History.Negotiation as negotiation
+use Rattle.amqp_model.specs.End.Closes.{Owed, close_as, without_arguments, method_frame}
+use Rattle.amqp_model.specs.End.FrameVerdict.{on_zero}
+use Rattle.amqp_model.specs.End.Fitting.{ConfigWrites}
 use Rattle.amqp_model.proofs.Footings.{Footing}
 
 -- what is said on channel 0

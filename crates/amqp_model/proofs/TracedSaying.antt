@@ -3,29 +3,29 @@ use Rattle.std.proofs.Common.{◌≡◌, ◌≤◌, ◌⊎◌, inl, inr, Bool, t
 use Rattle.std.specs.Option.{option_to_list}
 use Rattle.std.proofs.lemmas.Bool.{true≢false, eq-eqb, ltb-false, not-true}
 use Rattle.std.proofs.lemmas.List.{map-append, reverse-append}
-use Rattle.amqp_model.specs.Frame.{Frame}
-use Rattle.amqp_model.specs.Notes.{Role, Kind, Other, Note, is_message}
-use Rattle.amqp_model.specs.Notes as notes_of
-use Rattle.amqp_model.specs.Lives.{lives}
-use Rattle.amqp_model.specs.Carried.{puts, sent}
+use Rattle.amqp_model.specs.Wire.Frame.{Frame}
+use Rattle.amqp_model.specs.Wire.Notes.{Role, Kind, Other, Note, is_message}
+use Rattle.amqp_model.specs.Wire.Notes as notes_of
+use Rattle.amqp_model.specs.History.Lives.{lives}
+use Rattle.amqp_model.specs.Pair.Carried.{puts, sent}
 use Rattle.amqp_method.specs.declared.kinds.Kind.TheVariants as kinds
-use Rattle.amqp_model.specs.Methods.{Method, ReadsBack, carries_content, sort_of, bit_at, class_of, plain_method}
-use Rattle.amqp_model.specs.Contents.{Payload, cut}
-use Rattle.amqp_model.specs.Gathering.{Gathering, Nothing, step, remains, gathering}
-use Rattle.amqp_model.specs.Items.{Item, PlainMethod, item_of, item_ended, items}
-use Rattle.amqp_model.specs.Readings.{Calls, reading, kind_of, payload_of}
-use Rattle.amqp_model.specs.Histories.{Put, History, notes}
-use Rattle.amqp_model.specs.Channels.{End}
-use Rattle.amqp_model.specs.Negotiation.{Config}
-use Rattle.amqp_model.specs.Closes.{method_frame, without_arguments, flow_as}
-use Rattle.amqp_model.specs.Events.{Message, Plain, Whole, method_of}
-use Rattle.amqp_model.specs.Asks.{Ask, Send, is_made, Refusal, frame_max, payload_frame, message_payloads, refusal, frames_asked, opens_on, Puts, ask_verdict}
-use Rattle.amqp_model.specs.ReadingBack.{AskReadsBack}
-use Rattle.amqp_model.specs.LawfulHistories.{end_of, then_put}
-use Rattle.amqp_model.specs.EndLaws.{notes_on}
-use Rattle.amqp_model.specs.Sent.{payload_in, life_on, Telling, ended_by, said_at, said}
-use Rattle.amqp_model.specs.WholeMessages.{FitAfter, AreWholeMessages}
-use Rattle.amqp_model.specs.Traces.{telling_at, SaysMethod, item_of_message, SaysMessage, SaysAsk, TakenSaysNothing}
+use Rattle.amqp_model.specs.Wire.Methods.{Method, ReadsBack, carries_content, sort_of, bit_at, class_of, plain_method}
+use Rattle.amqp_model.specs.Wire.Contents.{Payload, cut}
+use Rattle.amqp_model.specs.Wire.Gathering.{Gathering, Nothing, step, remains, gathering}
+use Rattle.amqp_model.specs.Wire.Items.{Item, PlainMethod, item_of, item_ended, items}
+use Rattle.amqp_model.specs.Wire.Readings.{Calls, reading, kind_of, payload_of}
+use Rattle.amqp_model.specs.History.Histories.{Put, History, notes}
+use Rattle.amqp_model.specs.End.Channels.{End}
+use Rattle.amqp_model.specs.History.Negotiation.{Config}
+use Rattle.amqp_model.specs.End.Closes.{method_frame, without_arguments, flow_as}
+use Rattle.amqp_model.specs.End.Events.{Message, Plain, Whole, method_of}
+use Rattle.amqp_model.specs.End.Asks.{Ask, Send, is_made, Refusal, frame_max, payload_frame, message_payloads, refusal, frames_asked, opens_on, Puts, ask_verdict}
+use Rattle.amqp_model.specs.End.ReadingBack.{AskReadsBack}
+use Rattle.amqp_model.specs.End.LawfulHistories.{end_of, then_put}
+use Rattle.amqp_model.specs.Laws.EndLaws.{notes_on}
+use Rattle.amqp_model.specs.Pair.Sent.{payload_in, life_on, Telling, ended_by, said_at, said}
+use Rattle.amqp_model.specs.Pair.WholeMessages.{FitAfter, AreWholeMessages}
+use Rattle.amqp_model.specs.Stream.Traces.{telling_at, SaysMethod, item_of_message, SaysMessage, SaysAsk, TakenSaysNothing}
 use Rattle.amqp_model.proofs.Acting.{seen-put, reads-back}
 use Rattle.amqp_model.proofs.Asking.{Accepted, accepted, accepted-none, not-when, first-false, frame-channel, sent-kind, message-class}
 use Rattle.amqp_model.proofs.CutLemmas.{cut-content}

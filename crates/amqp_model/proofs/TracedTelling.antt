@@ -2,30 +2,30 @@
 use Rattle.std.proofs.Common.{◌≡◌, Bool, true, false, cond, not, ◌&&◌, ℕ, zero, suc, ◌==◌, List, [], ◌∷◌, ◌++◌, map, reverse, Option, Some, None, refl, sym, ap, ◌∙◌, subst}
 use Rattle.std.proofs.lemmas.Bool.{false≢true, true≢false}
 use Rattle.amqp_method.specs.declared.kinds.Kind.TheVariants as kinds
-use Rattle.amqp_model.specs.Frame.{Frame}
-use Rattle.amqp_model.specs.Notes.{Role, Client, Server, is_client, Note, is_message}
-use Rattle.amqp_model.specs.Notes as notes_of
-use Rattle.amqp_model.specs.Lives.{lives, has_left, state}
-use Rattle.amqp_model.specs.Carried.{acts_next, acted}
-use Rattle.amqp_model.specs.Carried as carried
-use Rattle.amqp_model.specs.Methods.{Method, same_kind, sends, class_of}
-use Rattle.amqp_model.specs.Gathering.{gathering}
-use Rattle.amqp_model.specs.Items.{item_ended}
-use Rattle.amqp_model.specs.Readings.{Reading, Calls, Beat, is_call, reading, kind_of}
-use Rattle.amqp_model.specs.Histories.{Took, History, entries_on, notes}
-use Rattle.amqp_model.specs.Channels.{Life, Channel, Free, Opening, Closing, HandshakeStep, AwaitsProtocolHeader, AwaitsStart, AwaitsStartOk, AwaitsTune, AwaitsTuneOk, AwaitsOpen, AwaitsOpenOk, Phase, Handshake, Running, Closed, Failed, Agreed, End, state_of}
-use Rattle.amqp_model.specs.Channels as channels
-use Rattle.amqp_model.specs.Negotiation.{Config, tunes_too_small, in_range, agreed_in}
-use Rattle.amqp_model.specs.Closes.{CommandInvalid, ChannelError, connection_close_ok}
-use Rattle.amqp_model.specs.Events.{Quiet, ConnectionClosed, Discarded, Peer, FrameVerdict, Proceeds, Faults}
-use Rattle.amqp_model.specs.FrameVerdict.{Facts, first_of, by_state, on_connection, on_awaited, in_step, is_awaited, verdict_on, event_told}
-use Rattle.amqp_model.specs.EndVerdict.{facts_at, end_puts, goes_on}
-use Rattle.amqp_model.specs.ReadingBack.{WritesReadBack}
-use Rattle.amqp_model.specs.LawfulHistories.{end_of, Lawful}
-use Rattle.amqp_model.specs.Machine.{ChannelStandsFor}
-use Rattle.amqp_model.specs.EndLaws.{notes_on}
-use Rattle.amqp_model.specs.Sent.{payload_in, life_on, Telling, ended_by, told_at, told}
-use Rattle.amqp_model.specs.Traces.{item_in_event, telling_at, TellsEvent, PutsTellNothing}
+use Rattle.amqp_model.specs.Wire.Frame.{Frame}
+use Rattle.amqp_model.specs.Wire.Notes.{Role, Client, Server, is_client, Note, is_message}
+use Rattle.amqp_model.specs.Wire.Notes as notes_of
+use Rattle.amqp_model.specs.History.Lives.{lives, has_left, state}
+use Rattle.amqp_model.specs.Pair.Carried.{acts_next, acted}
+use Rattle.amqp_model.specs.Pair.Carried as carried
+use Rattle.amqp_model.specs.Wire.Methods.{Method, same_kind, sends, class_of}
+use Rattle.amqp_model.specs.Wire.Gathering.{gathering}
+use Rattle.amqp_model.specs.Wire.Items.{item_ended}
+use Rattle.amqp_model.specs.Wire.Readings.{Reading, Calls, Beat, is_call, reading, kind_of}
+use Rattle.amqp_model.specs.History.Histories.{Took, History, entries_on, notes}
+use Rattle.amqp_model.specs.End.Channels.{Life, Channel, Free, Opening, Closing, HandshakeStep, AwaitsProtocolHeader, AwaitsStart, AwaitsStartOk, AwaitsTune, AwaitsTuneOk, AwaitsOpen, AwaitsOpenOk, Phase, Handshake, Running, Closed, Failed, Agreed, End, state_of}
+use Rattle.amqp_model.specs.End.Channels as channels
+use Rattle.amqp_model.specs.History.Negotiation.{Config, tunes_too_small, in_range, agreed_in}
+use Rattle.amqp_model.specs.End.Closes.{CommandInvalid, ChannelError, connection_close_ok}
+use Rattle.amqp_model.specs.End.Events.{Quiet, ConnectionClosed, Discarded, Peer, FrameVerdict, Proceeds, Faults}
+use Rattle.amqp_model.specs.End.FrameVerdict.{Facts, first_of, by_state, on_connection, on_awaited, in_step, is_awaited, verdict_on, event_told}
+use Rattle.amqp_model.specs.End.EndVerdict.{facts_at, end_puts, goes_on}
+use Rattle.amqp_model.specs.End.ReadingBack.{WritesReadBack}
+use Rattle.amqp_model.specs.End.LawfulHistories.{end_of, Lawful}
+use Rattle.amqp_model.specs.End.Machine.{ChannelStandsFor}
+use Rattle.amqp_model.specs.Laws.EndLaws.{notes_on}
+use Rattle.amqp_model.specs.Pair.Sent.{payload_in, life_on, Telling, ended_by, told_at, told}
+use Rattle.amqp_model.specs.Stream.Traces.{item_in_event, telling_at, TellsEvent, PutsTellNothing}
 use Rattle.amqp_model.proofs.Standing.{state-reads}
 use Rattle.amqp_model.proofs.Following.{all-before}
 use Rattle.amqp_model.proofs.Acting.{seen-took}

@@ -3,26 +3,26 @@ use Rattle.std.proofs.Common.{◌≡◌, Bool, true, false, cond, not, ◌&&◌,
 use Rattle.std.proofs.lemmas.Bool.{false≢true, true≢false, ltb-true, eqb-true, eq-eqb, ne_eqb}
 use Rattle.amqp_method.specs.Arguments.{Argument}
 use Rattle.amqp_method.specs.declared.kinds.Kind.TheVariants as kinds
-use Rattle.amqp_model.specs.Frame.{Frame}
-use Rattle.amqp_model.specs.Notes.{Role, Client, Server, Kind, Open, OpenOk, Close, CloseOk, Flow, FlowOk, Other, is_message}
-use Rattle.amqp_model.specs.Verdict as lives
-use Rattle.amqp_model.specs.Verdict.{when_free, when_opening, when_closing, when_open}
-use Rattle.amqp_model.specs.Methods.{MethodKind, Method, Properties, carries_content, begins_content, sort_by, bit_at, is_request, is_reply}
-use Rattle.amqp_model.specs.Contents.{Payload}
-use Rattle.amqp_model.specs.Gathering.{Gathering, Nothing, HeaderDue, BodyDue, Step, Keeps, Completes, Breaks, Misfit, step}
-use Rattle.amqp_model.specs.Items.{Item, PlainMethod, FlowItem, FlowOkItem, item_of, completed, item_ended}
-use Rattle.amqp_model.specs.Readings.{Reading, Calls, UnknownMethod, MalformedMethod, HeaderOf, MalformedHeader, BodyOf, Beat, reading, kind_of, kind_of_method, payload_of}
-use Rattle.amqp_model.specs.Histories.{Put, Took, History}
-use Rattle.amqp_model.specs.Channels.{Life, Channel, Free, Opening, Closing, HandshakeStep, AwaitsProtocolHeader, AwaitsStart, AwaitsStartOk, AwaitsTune, AwaitsTuneOk, AwaitsOpen, AwaitsOpenOk, Phase, Handshake, Running, Closed, Failed, Agreed}
-use Rattle.amqp_model.specs.Channels as channels
-use Rattle.amqp_model.specs.Negotiation.{Config}
-use Rattle.amqp_model.specs.Closes.{CommandInvalid, ChannelError, ResourceError, UnexpectedFrame, FrameError}
-use Rattle.amqp_model.specs.Events as Events
-use Rattle.amqp_model.specs.Events.{Event, FrameVerdict, Proceeds, RefusesContent, Faults, Fault, Peer}
-use Rattle.amqp_model.specs.FrameVerdict.{Facts, first_of, as_lives, after_part, on_part, by_state, on_open, on_idle, on_matched, on_message, is_gathering, is_no_channel, MOST_REQUESTS, answers_first, verdict_on, event_told}
-use Rattle.amqp_model.specs.EndVerdict.{goes_on, end_puts}
-use Rattle.amqp_model.specs.LawfulHistories.{end_of}
-use Rattle.amqp_model.specs.Traces.{Word, word_of, is_word_of, NotesFrame, noted, IsPut, IsTaken, trace, TracePuts, TraceTakes, item_in_event}
+use Rattle.amqp_model.specs.Wire.Frame.{Frame}
+use Rattle.amqp_model.specs.Wire.Notes.{Role, Client, Server, Kind, Open, OpenOk, Close, CloseOk, Flow, FlowOk, Other, is_message}
+use Rattle.amqp_model.specs.History.Verdict as lives
+use Rattle.amqp_model.specs.History.Verdict.{when_free, when_opening, when_closing, when_open}
+use Rattle.amqp_model.specs.Wire.Methods.{MethodKind, Method, Properties, carries_content, begins_content, sort_by, bit_at, is_request, is_reply}
+use Rattle.amqp_model.specs.Wire.Contents.{Payload}
+use Rattle.amqp_model.specs.Wire.Gathering.{Gathering, Nothing, HeaderDue, BodyDue, Step, Keeps, Completes, Breaks, Misfit, step}
+use Rattle.amqp_model.specs.Wire.Items.{Item, PlainMethod, FlowItem, FlowOkItem, item_of, completed, item_ended}
+use Rattle.amqp_model.specs.Wire.Readings.{Reading, Calls, UnknownMethod, MalformedMethod, HeaderOf, MalformedHeader, BodyOf, Beat, reading, kind_of, kind_of_method, payload_of}
+use Rattle.amqp_model.specs.History.Histories.{Put, Took, History}
+use Rattle.amqp_model.specs.End.Channels.{Life, Channel, Free, Opening, Closing, HandshakeStep, AwaitsProtocolHeader, AwaitsStart, AwaitsStartOk, AwaitsTune, AwaitsTuneOk, AwaitsOpen, AwaitsOpenOk, Phase, Handshake, Running, Closed, Failed, Agreed}
+use Rattle.amqp_model.specs.End.Channels as channels
+use Rattle.amqp_model.specs.History.Negotiation.{Config}
+use Rattle.amqp_model.specs.End.Closes.{CommandInvalid, ChannelError, ResourceError, UnexpectedFrame, FrameError}
+use Rattle.amqp_model.specs.End.Events as Events
+use Rattle.amqp_model.specs.End.Events.{Event, FrameVerdict, Proceeds, RefusesContent, Faults, Fault, Peer}
+use Rattle.amqp_model.specs.End.FrameVerdict.{Facts, first_of, as_lives, after_part, on_part, by_state, on_open, on_idle, on_matched, on_message, is_gathering, is_no_channel, MOST_REQUESTS, answers_first, verdict_on, event_told}
+use Rattle.amqp_model.specs.End.EndVerdict.{goes_on, end_puts}
+use Rattle.amqp_model.specs.End.LawfulHistories.{end_of}
+use Rattle.amqp_model.specs.Stream.Traces.{Word, word_of, is_word_of, NotesFrame, noted, IsPut, IsTaken, trace, TracePuts, TraceTakes, item_in_event}
 use Rattle.amqp_model.proofs.Agreeing.{is_closing}
 use Rattle.amqp_model.proofs.Going.{running}
 use Rattle.amqp_model.proofs.SentTelling.{no-item}

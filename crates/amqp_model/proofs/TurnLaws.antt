@@ -3,29 +3,29 @@ use Rattle.std.proofs.Common.{◌≡◌, Bool, true, false, cond, not, ◌&&◌,
 use Rattle.std.specs.Option.{option_to_list}
 use Rattle.std.proofs.lemmas.Bool.{true≢false}
 use Rattle.std.proofs.lemmas.List.{reverse-append}
-use Rattle.amqp_model.specs.Frame.{Frame}
-use Rattle.amqp_model.specs.Notes.{Role, Client, Server}
-use Rattle.amqp_model.specs.Lives.{lives}
-use Rattle.amqp_model.specs.Carried.{sent}
-use Rattle.amqp_model.specs.Methods.{MethodKind, Method, Properties, carries_content, sort_by, bit_at, is_reply}
-use Rattle.amqp_model.specs.Contents.{Payload}
-use Rattle.amqp_model.specs.Gathering.{Gathering, Nothing, HeaderDue, BodyDue, Keeps, Completes, Breaks, Misfit, step, remains, gathering}
-use Rattle.amqp_model.specs.Items.{Item, item_of, completed, item_ended, items_taken, items}
-use Rattle.amqp_model.specs.Readings.{Reading, Calls, UnknownMethod, MalformedMethod, HeaderOf, MalformedHeader, BodyOf, Beat, reading, payload_of}
-use Rattle.amqp_model.specs.Histories.{History, entries_on, notes, entries_before_leaving}
-use Rattle.amqp_model.specs.Channels.{Life, Open, Phase, Handshake, Running, Closing, Closed, Failed, End}
-use Rattle.amqp_model.specs.Negotiation.{Config}
-use Rattle.amqp_model.specs.Answers.{first_of, due_by, reply_due}
-use Rattle.amqp_model.specs.EndVerdict.{takes_octets}
-use Rattle.amqp_model.specs.ReadingBack.{WritesReadBack}
-use Rattle.amqp_model.specs.LawfulHistories.{Lawful}
-use Rattle.amqp_model.specs.Machine.{ChannelStandsFor}
-use Rattle.amqp_model.specs.EndLaws.{notes_on}
-use Rattle.amqp_model.specs.Prefixes.{IsPrefixOf}
-use Rattle.amqp_model.specs.Sent.{payload_in, items_in, items_sent, items_acted}
-use Rattle.amqp_model.specs.Pairs.{PairAt}
-use Rattle.amqp_model.specs.WholeMessages.{FitsNext, FitAfter, AreWholeMessages}
-use Rattle.amqp_model.specs.InTurn.{requests_in, replies_in, InTurn, requests_at, replies_at, unanswered_at, AnswersInTurn, AsksOneAtATime, KeepsUnanswered, DueIsFirst, PairAnswersInTurn}
+use Rattle.amqp_model.specs.Wire.Frame.{Frame}
+use Rattle.amqp_model.specs.Wire.Notes.{Role, Client, Server}
+use Rattle.amqp_model.specs.History.Lives.{lives}
+use Rattle.amqp_model.specs.Pair.Carried.{sent}
+use Rattle.amqp_model.specs.Wire.Methods.{MethodKind, Method, Properties, carries_content, sort_by, bit_at, is_reply}
+use Rattle.amqp_model.specs.Wire.Contents.{Payload}
+use Rattle.amqp_model.specs.Wire.Gathering.{Gathering, Nothing, HeaderDue, BodyDue, Keeps, Completes, Breaks, Misfit, step, remains, gathering}
+use Rattle.amqp_model.specs.Wire.Items.{Item, item_of, completed, item_ended, items_taken, items}
+use Rattle.amqp_model.specs.Wire.Readings.{Reading, Calls, UnknownMethod, MalformedMethod, HeaderOf, MalformedHeader, BodyOf, Beat, reading, payload_of}
+use Rattle.amqp_model.specs.History.Histories.{History, entries_on, notes, entries_before_leaving}
+use Rattle.amqp_model.specs.End.Channels.{Life, Open, Phase, Handshake, Running, Closing, Closed, Failed, End}
+use Rattle.amqp_model.specs.History.Negotiation.{Config}
+use Rattle.amqp_model.specs.End.Answers.{first_of, due_by, reply_due}
+use Rattle.amqp_model.specs.End.EndVerdict.{takes_octets}
+use Rattle.amqp_model.specs.End.ReadingBack.{WritesReadBack}
+use Rattle.amqp_model.specs.End.LawfulHistories.{Lawful}
+use Rattle.amqp_model.specs.End.Machine.{ChannelStandsFor}
+use Rattle.amqp_model.specs.Laws.EndLaws.{notes_on}
+use Rattle.amqp_model.specs.Output.Prefixes.{IsPrefixOf}
+use Rattle.amqp_model.specs.Pair.Sent.{payload_in, items_in, items_sent, items_acted}
+use Rattle.amqp_model.specs.Pair.Pairs.{PairAt}
+use Rattle.amqp_model.specs.Pair.WholeMessages.{FitsNext, FitAfter, AreWholeMessages}
+use Rattle.amqp_model.specs.Pair.InTurn.{requests_in, replies_in, InTurn, requests_at, replies_at, unanswered_at, AnswersInTurn, AsksOneAtATime, KeepsUnanswered, DueIsFirst, PairAnswersInTurn}
 use Rattle.amqp_model.proofs.Standing.{notes-before}
 use Rattle.amqp_model.proofs.WholeMessages.{puts-whole-messages}
 use Rattle.amqp_model.proofs.Pairing.{pair-lawful}

@@ -4,19 +4,19 @@ use Rattle.std.specs.Option.{option_to_list}
 use Rattle.std.proofs.lemmas.Bool.{false≢true, true≢false}
 use Rattle.std.proofs.lemmas.List.{map-append, drop-append-le, drop-drop}
 use Rattle.amqp_method.specs.declared.kinds.Kind.TheVariants as kinds
-use Rattle.amqp_model.specs.Frame.{Frame}
-use Rattle.amqp_model.specs.Notes.{Client, Kind, Other, is_message}
-use Rattle.amqp_model.specs.Methods.{MethodKind, Method, Properties, begins_content, sort_by, bit_at, wants, is_wanted, is_reply}
-use Rattle.amqp_model.specs.Contents.{Payload}
-use Rattle.amqp_model.specs.Gathering.{Gathering, Nothing, HeaderDue, BodyDue, Step, Keeps, Completes, Breaks, Misfit, step, gathering}
-use Rattle.amqp_model.specs.Items.{Item, item_of, completed, item_ended, items}
-use Rattle.amqp_model.specs.Readings.{Reading, Calls, UnknownMethod, MalformedMethod, HeaderOf, MalformedHeader, BodyOf, Beat, reading, kind_of, payload_of}
-use Rattle.amqp_model.specs.Histories.{TookHere}
-use Rattle.amqp_model.specs.Replies.{request_made, begins_reply, completes_reply, answered_by, one_if}
-use Rattle.amqp_model.specs.FrameVerdict.{answers_first}
-use Rattle.amqp_model.specs.Machine.{IsAnswerable, HasItsRequest}
-use Rattle.amqp_model.specs.Sent.{payload_in, items_in}
-use Rattle.amqp_model.specs.InTurn.{request_in, reply_in, requests_in, replies_in, InTurn}
+use Rattle.amqp_model.specs.Wire.Frame.{Frame}
+use Rattle.amqp_model.specs.Wire.Notes.{Client, Kind, Other, is_message}
+use Rattle.amqp_model.specs.Wire.Methods.{MethodKind, Method, Properties, begins_content, sort_by, bit_at, wants, is_wanted, is_reply}
+use Rattle.amqp_model.specs.Wire.Contents.{Payload}
+use Rattle.amqp_model.specs.Wire.Gathering.{Gathering, Nothing, HeaderDue, BodyDue, Step, Keeps, Completes, Breaks, Misfit, step, gathering}
+use Rattle.amqp_model.specs.Wire.Items.{Item, item_of, completed, item_ended, items}
+use Rattle.amqp_model.specs.Wire.Readings.{Reading, Calls, UnknownMethod, MalformedMethod, HeaderOf, MalformedHeader, BodyOf, Beat, reading, kind_of, payload_of}
+use Rattle.amqp_model.specs.History.Histories.{TookHere}
+use Rattle.amqp_model.specs.History.Replies.{request_made, begins_reply, completes_reply, answered_by, one_if}
+use Rattle.amqp_model.specs.End.FrameVerdict.{answers_first}
+use Rattle.amqp_model.specs.End.Machine.{IsAnswerable, HasItsRequest}
+use Rattle.amqp_model.specs.Pair.Sent.{payload_in, items_in}
+use Rattle.amqp_model.specs.Pair.InTurn.{request_in, reply_in, requests_in, replies_in, InTurn}
 use Rattle.amqp_model.proofs.ItemLemmas.{items-more}
 use Rattle.amqp_model.proofs.ClassMethods.{is_class_kind, class-plain}
 

@@ -1,23 +1,23 @@
 -- Replies are in turn to the requests of their life, along each channel of a lawful history.
 use Rattle.std.proofs.Common.{◌≡◌, ◌⊎◌, inl, inr, Bool, true, false, ℕ, zero, suc, ◌==◌, arith, List, [], ◌∷◌, map, reverse, drop, length, Option, refl, sym, ap, ◌∙◌, subst}
 use Rattle.std.proofs.lemmas.Bool.{false≢true, true≢false}
-use Rattle.amqp_model.specs.Frame.{Frame}
-use Rattle.amqp_model.specs.Notes.{Role, Client, Server, is_client, Kind, Open, OpenOk, Close, CloseOk, Note, Took, Leaving, is_message}
-use Rattle.amqp_model.specs.Lives.{lives, has_left, state}
-use Rattle.amqp_model.specs.Carried.{acts_next, sent, acted}
-use Rattle.amqp_model.specs.Carried as carried
-use Rattle.amqp_model.specs.Methods.{MethodKind, Method}
-use Rattle.amqp_model.specs.Gathering.{gathering}
-use Rattle.amqp_model.specs.Readings.{Calls, reading, kind_of}
-use Rattle.amqp_model.specs.Histories.{ChannelEntry, PutHere, TookHere, LeftHere, notes, entries_before_leaving}
-use Rattle.amqp_model.specs.Channels.{Life, Channel, Free, Opening, Closing, Agreed, new_life, state_of}
-use Rattle.amqp_model.specs.Channels as channels
-use Rattle.amqp_model.specs.Negotiation.{Config}
-use Rattle.amqp_model.specs.FrameVerdict.{verdict_on}
-use Rattle.amqp_model.specs.EndVerdict.{goes_on}
-use Rattle.amqp_model.specs.Machine.{life_after, free_after_taking, opening_after_taking, closing_after_taking, open_after_taking, after_put, after_taken, may_put_here, HasItsRequest, Counts, ChannelStandsFor}
-use Rattle.amqp_model.specs.Sent.{payload_in, items_in}
-use Rattle.amqp_model.specs.InTurn.{requests_in, InTurn}
+use Rattle.amqp_model.specs.Wire.Frame.{Frame}
+use Rattle.amqp_model.specs.Wire.Notes.{Role, Client, Server, is_client, Kind, Open, OpenOk, Close, CloseOk, Note, Took, Leaving, is_message}
+use Rattle.amqp_model.specs.History.Lives.{lives, has_left, state}
+use Rattle.amqp_model.specs.Pair.Carried.{acts_next, sent, acted}
+use Rattle.amqp_model.specs.Pair.Carried as carried
+use Rattle.amqp_model.specs.Wire.Methods.{MethodKind, Method}
+use Rattle.amqp_model.specs.Wire.Gathering.{gathering}
+use Rattle.amqp_model.specs.Wire.Readings.{Calls, reading, kind_of}
+use Rattle.amqp_model.specs.History.Histories.{ChannelEntry, PutHere, TookHere, LeftHere, notes, entries_before_leaving}
+use Rattle.amqp_model.specs.End.Channels.{Life, Channel, Free, Opening, Closing, Agreed, new_life, state_of}
+use Rattle.amqp_model.specs.End.Channels as channels
+use Rattle.amqp_model.specs.History.Negotiation.{Config}
+use Rattle.amqp_model.specs.End.FrameVerdict.{verdict_on}
+use Rattle.amqp_model.specs.End.EndVerdict.{goes_on}
+use Rattle.amqp_model.specs.End.Machine.{life_after, free_after_taking, opening_after_taking, closing_after_taking, open_after_taking, after_put, after_taken, may_put_here, HasItsRequest, Counts, ChannelStandsFor}
+use Rattle.amqp_model.specs.Pair.Sent.{payload_in, items_in}
+use Rattle.amqp_model.specs.Pair.InTurn.{requests_in, InTurn}
 use Rattle.amqp_model.proofs.Standing.{counted, state-reads}
 use Rattle.amqp_model.proofs.Following.{all-before, follows-put, takes-counted}
 use Rattle.amqp_model.proofs.Going.{running, running-free, running-opening, running-open, OpenTakes}

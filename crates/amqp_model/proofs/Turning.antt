@@ -3,23 +3,23 @@ use Rattle.std.proofs.Common.{◌≡◌, ◌≤◌, ◌<◌, Bool, true, false, 
 use Rattle.std.proofs.lemmas.Bool.{false≢true, true≢false, eqb-true, eq-eqb, ne_eqb, and_parts, not-true}
 use Rattle.std.proofs.lemmas.List.{length-drop}
 use Rattle.std.proofs.lemmas.List.{map-append, reverse-append}
-use Rattle.amqp_model.specs.Frame.{Frame}
-use Rattle.amqp_model.specs.Notes.{Role, Client, Server, is_client, Kind, Open, Close, CloseOk, Flow, FlowOk, Other, Note, Put, Took, Leaving, is_message}
-use Rattle.amqp_model.specs.Lives.{lives, is_opening}
-use Rattle.amqp_model.specs.Carried.{At, puts as puts_of, acts_next, acted_takes, messages, sent, acted}
-use Rattle.amqp_model.specs.Methods.{MethodKind, Method, is_request}
-use Rattle.amqp_model.specs.Gathering.{step, remains, gathering}
-use Rattle.amqp_model.specs.Readings.{Reading, Calls, reading, kind_of}
-use Rattle.amqp_model.specs.Replies.{request_made}
-use Rattle.amqp_model.specs.Histories.{ChannelEntry, PutHere, TookHere, notes, entries_before_leaving}
-use Rattle.amqp_model.specs.Channels.{Life, Channel, Free, Opening, Closing, Agreed, new_life, state_of}
-use Rattle.amqp_model.specs.Channels as channels
-use Rattle.amqp_model.specs.Negotiation.{Config}
-use Rattle.amqp_model.specs.FrameVerdict.{on_open, on_idle, is_gathering, verdict_on}
-use Rattle.amqp_model.specs.EndVerdict.{goes_on}
-use Rattle.amqp_model.specs.Machine.{is_open, is_close_ok, requests_after, life_after, after_put, answers_in_turn, may_put_here, IsAnswerable, ChannelStandsFor}
-use Rattle.amqp_model.specs.Sent.{payload_in, items_in}
-use Rattle.amqp_model.specs.InTurn.{requests_in, replies_in, InTurn}
+use Rattle.amqp_model.specs.Wire.Frame.{Frame}
+use Rattle.amqp_model.specs.Wire.Notes.{Role, Client, Server, is_client, Kind, Open, Close, CloseOk, Flow, FlowOk, Other, Note, Put, Took, Leaving, is_message}
+use Rattle.amqp_model.specs.History.Lives.{lives, is_opening}
+use Rattle.amqp_model.specs.Pair.Carried.{At, puts as puts_of, acts_next, acted_takes, messages, sent, acted}
+use Rattle.amqp_model.specs.Wire.Methods.{MethodKind, Method, is_request}
+use Rattle.amqp_model.specs.Wire.Gathering.{step, remains, gathering}
+use Rattle.amqp_model.specs.Wire.Readings.{Reading, Calls, reading, kind_of}
+use Rattle.amqp_model.specs.History.Replies.{request_made}
+use Rattle.amqp_model.specs.History.Histories.{ChannelEntry, PutHere, TookHere, notes, entries_before_leaving}
+use Rattle.amqp_model.specs.End.Channels.{Life, Channel, Free, Opening, Closing, Agreed, new_life, state_of}
+use Rattle.amqp_model.specs.End.Channels as channels
+use Rattle.amqp_model.specs.History.Negotiation.{Config}
+use Rattle.amqp_model.specs.End.FrameVerdict.{on_open, on_idle, is_gathering, verdict_on}
+use Rattle.amqp_model.specs.End.EndVerdict.{goes_on}
+use Rattle.amqp_model.specs.End.Machine.{is_open, is_close_ok, requests_after, life_after, after_put, answers_in_turn, may_put_here, IsAnswerable, ChannelStandsFor}
+use Rattle.amqp_model.specs.Pair.Sent.{payload_in, items_in}
+use Rattle.amqp_model.specs.Pair.InTurn.{requests_in, replies_in, InTurn}
 use Rattle.amqp_model.proofs.Lists.{messages-append, messages_other, messages_elsewhere}
 use Rattle.amqp_model.proofs.Standing.{counted}
 use Rattle.amqp_model.proofs.ChannelSteps.{with-asked}

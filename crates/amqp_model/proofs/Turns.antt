@@ -2,7 +2,7 @@
 use Rattle.std.proofs.Common.{◌≡◌, ℕ, ◌+◌, ◌-◌, ◌<◌, ◌≤◌, Bool, true, false, not, ◌&&◌, ◌==◌, nat_lt, ◌⊎◌, inl, inr, refl, sym, ap, ◌∙◌, arith, lt-ltb, le-ltb, eq-eqb, ne_eqb, ltb-true, ap₂}
 use Rattle.std.proofs.lemmas.Bool.{cases_lt, cond-true, cond-false, and_parts, eqb-true, eqb-false, not-true, and_from, and_left, not_from_false}
 use Rattle.amqp_frame.specs.Frame.{Frame}
-use Rattle.amqp_model.specs.Arrangement.{is_leaving, Queue, PlainFrames, FramesOn, LeavingFrames, is_in, steps, turn, last_after, HasChannel}
+use Rattle.amqp_model.specs.Output.Arrangement.{is_leaving, Queue, PlainFrames, FramesOn, LeavingFrames, is_in, steps, turn, last_after, HasChannel}
 
 abbrev pub Up : (from to : ℕ) → Type 0
 Up from to = (from < to) × (steps from to ≡ to - from)

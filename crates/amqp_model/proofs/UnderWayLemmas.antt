@@ -3,9 +3,9 @@ use Rattle.std.proofs.Common.{◌≡◌, ◌≢◌, true, false, ℕ, ◌-◌, �
 use Rattle.std.specs.List.{concat}
 use Rattle.std.proofs.lemmas.List.{reverse-append, reverse-reverse, length-replicate}
 use Rattle.std.proofs.lemmas.Bool.Decides.{nat_tests}
-use Rattle.amqp_model.specs.Methods.{Method, Properties, carries_content}
-use Rattle.amqp_model.specs.Contents.{Payload, Calls, Header, Body, Content, EndsFull, IsContent, UnderWay}
-use Rattle.amqp_model.specs.Gathering.{Gathering, Nothing, HeaderDue, BodyDue, Keeps, begun, gathered, step, gathering, remains}
+use Rattle.amqp_model.specs.Wire.Methods.{Method, Properties, carries_content}
+use Rattle.amqp_model.specs.Wire.Contents.{Payload, Calls, Header, Body, Content, EndsFull, IsContent, UnderWay}
+use Rattle.amqp_model.specs.Wire.Gathering.{Gathering, Nothing, HeaderDue, BodyDue, Keeps, begun, gathered, step, gathering, remains}
 use Rattle.amqp_model.proofs.ContentLemmas.{concat-append, full-after, full-snoc, full-some, BodiesPrefix, bodies_prefix, bodies-prefix}
 
 -- `since` are the payloads of a content under way, the newest first, and so much there is of it

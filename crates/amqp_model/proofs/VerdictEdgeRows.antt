@@ -2,14 +2,14 @@
 use Rattle.std.proofs.Common.{◌≡◌, true, false, ℕ, List, [], ◌∷◌, map, codes, Some, None, refl}
 use Rattle.amqp_method.specs.declared.kinds.Kind.TheVariants as kinds
 use Rattle.amqp_value.specs.Values.{no_pairs}
-use Rattle.amqp_model.specs.Notes.{Client, Server}
+use Rattle.amqp_model.specs.Wire.Notes.{Client, Server}
 use Rattle.amqp_method.specs.Arguments.{bit, short, long, short_string}
-use Rattle.amqp_model.specs.Readings.{Calls, MalformedMethod, UnknownMethod, HeaderOf, BodyOf, Beat}
-use Rattle.amqp_model.specs.Histories.{PutHere}
-use Rattle.amqp_model.specs.Negotiation.{Config, OfServer, start, start_ok, tune}
-use Rattle.amqp_model.specs.Closes.{CloseCode, ContentTooLarge, FrameError, SyntaxError, CommandInvalid, ChannelError, UnexpectedFrame, ResourceError, NotImplemented, without_arguments, connection_close}
-use Rattle.amqp_model.specs.Events.{ChannelClosed, ConnectionClosed, Discarded, FlowOk, Negotiated, Fatal, FrameVerdict, Proceeds, RefusesContent, Faults}
-use Rattle.amqp_model.specs.Machine.{end_after, new_end}
+use Rattle.amqp_model.specs.Wire.Readings.{Calls, MalformedMethod, UnknownMethod, HeaderOf, BodyOf, Beat}
+use Rattle.amqp_model.specs.History.Histories.{PutHere}
+use Rattle.amqp_model.specs.History.Negotiation.{Config, OfServer, start, start_ok, tune}
+use Rattle.amqp_model.specs.End.Closes.{CloseCode, ContentTooLarge, FrameError, SyntaxError, CommandInvalid, ChannelError, UnexpectedFrame, ResourceError, NotImplemented, without_arguments, connection_close}
+use Rattle.amqp_model.specs.End.Events.{ChannelClosed, ConnectionClosed, Discarded, FlowOk, Negotiated, Fatal, FrameVerdict, Proceeds, RefusesContent, Faults}
+use Rattle.amqp_model.specs.End.Machine.{end_after, new_end}
 use Rattle.amqp_model.proofs.VerdictRows.{Came, On, some_frame, verdicts, quietly, silently, closed_with, server_config, client_config, calls, greeted, publish, no_properties, bye, closing_client, open_client, asking_server, server_says, leaving_server, owes}
 
 -- The limits that a client settles on: the smaller of its own, 8192 and 10, and the server's, where 0 means none.

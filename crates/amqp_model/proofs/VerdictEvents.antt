@@ -2,24 +2,24 @@
 use Rattle.std.proofs.Common.{◌≡◌, ◌≢◌, Bool, true, false, cond, not, ◌&&◌, ℕ, ◌==◌, nat_lt, nat_le, List, [], ◌∷◌, length, Option, Some, None, refl, sym, ap, ◌∙◌, subst}
 use Rattle.std.proofs.lemmas.Bool.{false≢true, true≢false, eqb-true}
 use Rattle.amqp_method.specs.declared.kinds.Kind.TheVariants as kinds
-use Rattle.amqp_model.specs.Notes.{Role, Client, Server, is_client, Kind, Close, Other}
-use Rattle.amqp_model.specs.Verdict as lives
-use Rattle.amqp_model.specs.Verdict.{verdict_at, when_open}
-use Rattle.amqp_model.specs.Methods.{Method, MethodKind, same_kind, class_of, sends, carries_content, is_request, is_reply}
-use Rattle.amqp_model.specs.Gathering.{Gathering, HeaderDue, PastSize, Step, Keeps, Completes, Breaks, step}
-use Rattle.amqp_model.specs.Readings.{Reading, Calls, UnknownMethod, MalformedMethod, HeaderOf, MalformedHeader, BodyOf, Beat, kind_of, payload_of}
-use Rattle.amqp_model.specs.Channels.{Life, Channel, Free, Opening, Closing, Phase, Handshake, Running, Closed, Failed, Agreed, state_of}
-use Rattle.amqp_model.specs.Channels as channels
-use Rattle.amqp_model.specs.Negotiation.{Config}
-use Rattle.amqp_model.specs.Closes.{UnexpectedFrame, CommandInvalid, ChannelError, FrameError, ResourceError}
-use Rattle.amqp_model.specs.Events as Events
-use Rattle.amqp_model.specs.Events.{Event, FrameVerdict, Proceeds, RefusesContent, Faults, Peer}
-use Rattle.amqp_model.specs.FrameVerdict.{Facts, MOST_REQUESTS, first_of, event_of, as_lives, awaits_in, after_part, on_part, on_content, on_connection, on_message, answers_first, on_matched, on_idle, by_state, on_open, is_gathering, is_no_channel, verdict_on, event_told}
-use Rattle.amqp_model.specs.EndVerdict.{goes_on}
-use Rattle.amqp_model.specs.Items.{item_ended}
-use Rattle.amqp_model.specs.Traces.{item_in_event}
-use Rattle.amqp_model.specs.EndLaws.{is_over}
-use Rattle.amqp_model.specs.VerdictInWords.{SaysAsLives, Tells, TellsItemEnded}
+use Rattle.amqp_model.specs.Wire.Notes.{Role, Client, Server, is_client, Kind, Close, Other}
+use Rattle.amqp_model.specs.History.Verdict as lives
+use Rattle.amqp_model.specs.History.Verdict.{verdict_at, when_open}
+use Rattle.amqp_model.specs.Wire.Methods.{Method, MethodKind, same_kind, class_of, sends, carries_content, is_request, is_reply}
+use Rattle.amqp_model.specs.Wire.Gathering.{Gathering, HeaderDue, PastSize, Step, Keeps, Completes, Breaks, step}
+use Rattle.amqp_model.specs.Wire.Readings.{Reading, Calls, UnknownMethod, MalformedMethod, HeaderOf, MalformedHeader, BodyOf, Beat, kind_of, payload_of}
+use Rattle.amqp_model.specs.End.Channels.{Life, Channel, Free, Opening, Closing, Phase, Handshake, Running, Closed, Failed, Agreed, state_of}
+use Rattle.amqp_model.specs.End.Channels as channels
+use Rattle.amqp_model.specs.History.Negotiation.{Config}
+use Rattle.amqp_model.specs.End.Closes.{UnexpectedFrame, CommandInvalid, ChannelError, FrameError, ResourceError}
+use Rattle.amqp_model.specs.End.Events as Events
+use Rattle.amqp_model.specs.End.Events.{Event, FrameVerdict, Proceeds, RefusesContent, Faults, Peer}
+use Rattle.amqp_model.specs.End.FrameVerdict.{Facts, MOST_REQUESTS, first_of, event_of, as_lives, awaits_in, after_part, on_part, on_content, on_connection, on_message, answers_first, on_matched, on_idle, by_state, on_open, is_gathering, is_no_channel, verdict_on, event_told}
+use Rattle.amqp_model.specs.End.EndVerdict.{goes_on}
+use Rattle.amqp_model.specs.Wire.Items.{item_ended}
+use Rattle.amqp_model.specs.Stream.Traces.{item_in_event}
+use Rattle.amqp_model.specs.Laws.EndLaws.{is_over}
+use Rattle.amqp_model.specs.Laws.VerdictInWords.{SaysAsLives, Tells, TellsItemEnded}
 use Rattle.amqp_model.proofs.Agreeing.{facts_in, handshake-stops}
 use Rattle.amqp_model.proofs.Going.{running}
 use Rattle.amqp_model.proofs.Tracing.{last-is, no-part, no-beat, running-tells}

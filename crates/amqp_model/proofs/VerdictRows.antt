@@ -3,20 +3,20 @@ use Rattle.std.proofs.Common.{◌≡◌, true, false, ℕ, List, [], ◌∷◌, 
 use Rattle.amqp_frame.specs.declared.frames.FrameKind.{FrameKind}
 use Rattle.amqp_method.specs.declared.kinds.Kind.TheVariants as kinds
 use Rattle.amqp_value.specs.Values.{no_pairs}
-use Rattle.amqp_model.specs.Frame.{Frame}
-use Rattle.amqp_model.specs.Notes.{Role, Client, Server}
+use Rattle.amqp_model.specs.Wire.Frame.{Frame}
+use Rattle.amqp_model.specs.Wire.Notes.{Role, Client, Server}
 use Rattle.amqp_method.specs.Arguments.{Argument, bit, octet, short, long, short_string, long_string, table}
-use Rattle.amqp_model.specs.Methods.{MethodKind, Method, Properties}
-use Rattle.amqp_model.specs.Gathering.{Nothing}
-use Rattle.amqp_model.specs.Readings.{Reading, Calls, UnknownMethod, MalformedMethod, HeaderOf, BodyOf, Beat}
-use Rattle.amqp_model.specs.Histories.{PutHere}
-use Rattle.amqp_model.specs.Channels.{Opening, Open, Running, Agreed, End}
-use Rattle.amqp_model.specs.Negotiation.{Config, OfClient, OfServer, start, start_ok, tune}
-use Rattle.amqp_model.specs.Closes.{CloseCode, FrameError, SyntaxError, CommandInvalid, ChannelError, UnexpectedFrame, ResourceError, NotImplemented, Owed, close_as, without_arguments, flow_as}
-use Rattle.amqp_model.specs.Events.{Message, Plain, Whole, Negotiated, Opened, Told, Flow, FlowOk, ChannelClosed, Discarded, Blocked, Quiet, Peer, Fatal, AlreadyClosed, AlreadyFailed, FrameVerdict, Proceeds, RefusesContent, Faults}
-use Rattle.amqp_model.specs.Asks as asks
-use Rattle.amqp_model.specs.Asks.{Refusal, Ask, refusal, paused, flow_pending, reply_pending, no_such_request}
-use Rattle.amqp_model.specs.Machine.{end_after, end_after_taken, taken_verdict, new_end}
+use Rattle.amqp_model.specs.Wire.Methods.{MethodKind, Method, Properties}
+use Rattle.amqp_model.specs.Wire.Gathering.{Nothing}
+use Rattle.amqp_model.specs.Wire.Readings.{Reading, Calls, UnknownMethod, MalformedMethod, HeaderOf, BodyOf, Beat}
+use Rattle.amqp_model.specs.History.Histories.{PutHere}
+use Rattle.amqp_model.specs.End.Channels.{Opening, Open, Running, Agreed, End}
+use Rattle.amqp_model.specs.History.Negotiation.{Config, OfClient, OfServer, start, start_ok, tune}
+use Rattle.amqp_model.specs.End.Closes.{CloseCode, FrameError, SyntaxError, CommandInvalid, ChannelError, UnexpectedFrame, ResourceError, NotImplemented, Owed, close_as, without_arguments, flow_as}
+use Rattle.amqp_model.specs.End.Events.{Message, Plain, Whole, Negotiated, Opened, Told, Flow, FlowOk, ChannelClosed, Discarded, Blocked, Quiet, Peer, Fatal, AlreadyClosed, AlreadyFailed, FrameVerdict, Proceeds, RefusesContent, Faults}
+use Rattle.amqp_model.specs.End.Asks as asks
+use Rattle.amqp_model.specs.End.Asks.{Refusal, Ask, refusal, paused, flow_pending, reply_pending, no_such_request}
+use Rattle.amqp_model.specs.End.Machine.{end_after, end_after_taken, taken_verdict, new_end}
 
 -- a frame that says this, on its channel
 pub data Came : Type 0 where

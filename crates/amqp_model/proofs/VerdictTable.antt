@@ -6,15 +6,15 @@
 use Rattle.std.proofs.Common.{◌≡◌, true, false, cond, ℕ, List, [], ◌∷◌, ◌++◌, map, Option, Some, None, ◌==◌, refl}
 use Rattle.amqp_method.specs.declared.kinds.Kind.TheVariants as kinds
 use Rattle.amqp_value.specs.Values.{no_pairs}
-use Rattle.amqp_model.specs.Notes.{Role, Client, Server}
-use Rattle.amqp_model.specs.Methods.{MethodKind, Method, Properties, class_of}
-use Rattle.amqp_model.specs.Gathering.{Gathering, Nothing, HeaderDue, BodyDue}
-use Rattle.amqp_model.specs.Readings.{Reading, Calls, UnknownMethod, MalformedMethod, HeaderOf, MalformedHeader, BodyOf, Beat}
-use Rattle.amqp_model.specs.Channels.{Channel, Free, Opening, Open, Phase, Handshake, Running, AwaitsStart, AwaitsStartOk, AwaitsTune, AwaitsTuneOk, AwaitsOpen, AwaitsOpenOk}
-use Rattle.amqp_model.specs.Negotiation.{Config, OfClient, OfServer}
-use Rattle.amqp_model.specs.Closes.{number_of}
-use Rattle.amqp_model.specs.Events.{Event, Peer, FrameVerdict, Proceeds, RefusesContent, Faults}
-use Rattle.amqp_model.specs.FrameVerdict.{verdict_on}
+use Rattle.amqp_model.specs.Wire.Notes.{Role, Client, Server}
+use Rattle.amqp_model.specs.Wire.Methods.{MethodKind, Method, Properties, class_of}
+use Rattle.amqp_model.specs.Wire.Gathering.{Gathering, Nothing, HeaderDue, BodyDue}
+use Rattle.amqp_model.specs.Wire.Readings.{Reading, Calls, UnknownMethod, MalformedMethod, HeaderOf, MalformedHeader, BodyOf, Beat}
+use Rattle.amqp_model.specs.End.Channels.{Channel, Free, Opening, Open, Phase, Handshake, Running, AwaitsStart, AwaitsStartOk, AwaitsTune, AwaitsTuneOk, AwaitsOpen, AwaitsOpenOk}
+use Rattle.amqp_model.specs.History.Negotiation.{Config, OfClient, OfServer}
+use Rattle.amqp_model.specs.End.Closes.{number_of}
+use Rattle.amqp_model.specs.End.Events.{Event, Peer, FrameVerdict, Proceeds, RefusesContent, Faults}
+use Rattle.amqp_model.specs.End.FrameVerdict.{verdict_on}
 
 -- an event, apart from what it carries
 data EventName : Type 0 where

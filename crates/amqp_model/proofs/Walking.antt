@@ -1,16 +1,16 @@
 -- What each entry of a lawful history is to what its end keeps: one walk along a history, for all that such entries keep.
 use Rattle.std.proofs.Common.{◌≡◌, ◌⊎◌, inl, inr, Bool, true, false, ◌||◌, ℕ, List, [], ◌∷◌, refl}
-use Rattle.amqp_model.specs.Frame.{Frame}
-use Rattle.amqp_model.specs.Notes.{Role, Client, Server}
-use Rattle.amqp_model.specs.Methods.{MethodKind}
-use Rattle.amqp_model.specs.Readings.{Reading, reading}
-use Rattle.amqp_model.specs.Replies.{request_made}
-use Rattle.amqp_model.specs.Histories.{Entry, Put, Took, History, PutHere, TookHere}
-use Rattle.amqp_model.specs.Channels.{Channel, Free, Open, HandshakeStep, Handshake, Running, End}
-use Rattle.amqp_model.specs.Negotiation.{Config}
-use Rattle.amqp_model.specs.EndVerdict.{end_verdict, goes_on}
-use Rattle.amqp_model.specs.Machine.{may_put_here, end_after, StandsFor}
-use Rattle.amqp_model.specs.EndLaws.{EntryFits}
+use Rattle.amqp_model.specs.Wire.Frame.{Frame}
+use Rattle.amqp_model.specs.Wire.Notes.{Role, Client, Server}
+use Rattle.amqp_model.specs.Wire.Methods.{MethodKind}
+use Rattle.amqp_model.specs.Wire.Readings.{Reading, reading}
+use Rattle.amqp_model.specs.History.Replies.{request_made}
+use Rattle.amqp_model.specs.History.Histories.{Entry, Put, Took, History, PutHere, TookHere}
+use Rattle.amqp_model.specs.End.Channels.{Channel, Free, Open, HandshakeStep, Handshake, Running, End}
+use Rattle.amqp_model.specs.History.Negotiation.{Config}
+use Rattle.amqp_model.specs.End.EndVerdict.{end_verdict, goes_on}
+use Rattle.amqp_model.specs.End.Machine.{may_put_here, end_after, StandsFor}
+use Rattle.amqp_model.specs.Laws.EndLaws.{EntryFits}
 use Rattle.amqp_model.proofs.EndSteps.{end-follows}
 
 abbrev pub is_none : List MethodKind → Bool

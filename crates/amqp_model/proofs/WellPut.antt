@@ -5,31 +5,31 @@ use Rattle.std.specs.List.{AllByRecursion}
 use Rattle.std.proofs.lemmas.Bool.{false≢true, true≢false, ne_eqb, eqb-false, ltb-false}
 use Rattle.amqp_frame.specs.Frame.{frame_length}
 use Rattle.amqp_method.specs.declared.kinds.Kind.TheVariants as kinds
-use Rattle.amqp_model.specs.Frame.{Frame}
-use Rattle.amqp_model.specs.Notes.{Role, Client, Server, is_client, Kind, Open, OpenOk, Close, Flow, FlowOk, Other}
-use Rattle.amqp_model.specs.States.{State}
-use Rattle.amqp_model.specs.Verdict as lives
-use Rattle.amqp_model.specs.Verdict.{verdict_at}
-use Rattle.amqp_model.specs.Arrangement.{on}
-use Rattle.amqp_model.specs.Methods.{Method, ReadsBack, class_of, sends}
-use Rattle.amqp_model.specs.Contents as contents
-use Rattle.amqp_model.specs.Contents.{Payload, pieces, room_in}
-use Rattle.amqp_model.specs.Readings.{Reading, header_reading, reading}
-use Rattle.amqp_model.specs.Histories.{History}
-use Rattle.amqp_model.specs.Channels.{Phase, Handshake, Running, Closed, Failed, Agreed, End}
-use Rattle.amqp_model.specs.Negotiation.{Config, FRAME_MIN}
-use Rattle.amqp_model.specs.StateFromHistory.{end_from}
-use Rattle.amqp_model.specs.Closes.{ContentTooLarge, Owed, AllReadBack, method_frame, frame_of, reply_to, channel_close}
-use Rattle.amqp_model.specs.Events.{Message, Plain, Whole, method_of, FrameVerdict}
-use Rattle.amqp_model.specs.FrameVerdict.{on_channel, verdict_on, methods_put}
-use Rattle.amqp_model.specs.Asks.{Ask, Refusal, channel_max, frame_max, lowest_free, opens_on, payload_frame, message_payloads, method_asked, frames_asked, refusal, Puts, ask_verdict}
-use Rattle.amqp_model.specs.EndVerdict.{facts_at, end_verdict, end_puts, goes_on}
-use Rattle.amqp_model.specs.ReadingBack.{AskReadsBack, HeaderAskedReadsBack, WritesReadBack}
-use Rattle.amqp_model.specs.Machine.{StandsFor}
-use Rattle.amqp_model.specs.EndLaws.{is_over, AgreesWithLives, agrees, refuses, FindsLowest}
-use Rattle.amqp_model.specs.Fitting.{ConfigWrites}
-use Rattle.amqp_model.specs.FittingLaws.{AllWithin}
-use Rattle.amqp_model.specs.WellPut.{SaysWell, calls, heads, fills, IsWellPut}
+use Rattle.amqp_model.specs.Wire.Frame.{Frame}
+use Rattle.amqp_model.specs.Wire.Notes.{Role, Client, Server, is_client, Kind, Open, OpenOk, Close, Flow, FlowOk, Other}
+use Rattle.amqp_model.specs.History.States.{State}
+use Rattle.amqp_model.specs.History.Verdict as lives
+use Rattle.amqp_model.specs.History.Verdict.{verdict_at}
+use Rattle.amqp_model.specs.Output.Arrangement.{on}
+use Rattle.amqp_model.specs.Wire.Methods.{Method, ReadsBack, class_of, sends}
+use Rattle.amqp_model.specs.Wire.Contents as contents
+use Rattle.amqp_model.specs.Wire.Contents.{Payload, pieces, room_in}
+use Rattle.amqp_model.specs.Wire.Readings.{Reading, header_reading, reading}
+use Rattle.amqp_model.specs.History.Histories.{History}
+use Rattle.amqp_model.specs.End.Channels.{Phase, Handshake, Running, Closed, Failed, Agreed, End}
+use Rattle.amqp_model.specs.History.Negotiation.{Config, FRAME_MIN}
+use Rattle.amqp_model.specs.End.StateFromHistory.{end_from}
+use Rattle.amqp_model.specs.End.Closes.{ContentTooLarge, Owed, AllReadBack, method_frame, frame_of, reply_to, channel_close}
+use Rattle.amqp_model.specs.End.Events.{Message, Plain, Whole, method_of, FrameVerdict}
+use Rattle.amqp_model.specs.End.FrameVerdict.{on_channel, verdict_on, methods_put}
+use Rattle.amqp_model.specs.End.Asks.{Ask, Refusal, channel_max, frame_max, lowest_free, opens_on, payload_frame, message_payloads, method_asked, frames_asked, refusal, Puts, ask_verdict}
+use Rattle.amqp_model.specs.End.EndVerdict.{facts_at, end_verdict, end_puts, goes_on}
+use Rattle.amqp_model.specs.End.ReadingBack.{AskReadsBack, HeaderAskedReadsBack, WritesReadBack}
+use Rattle.amqp_model.specs.End.Machine.{StandsFor}
+use Rattle.amqp_model.specs.Laws.EndLaws.{is_over, AgreesWithLives, agrees, refuses, FindsLowest}
+use Rattle.amqp_model.specs.End.Fitting.{ConfigWrites}
+use Rattle.amqp_model.specs.Laws.FittingLaws.{AllWithin}
+use Rattle.amqp_model.specs.Pair.WellPut.{SaysWell, calls, heads, fills, IsWellPut}
 use Rattle.amqp_model.proofs.Acting.{reads-back}
 use Rattle.amqp_model.proofs.Agreeing.{facts_in, is_closing, handshake-stops, frame-agrees}
 use Rattle.amqp_model.proofs.Taking.{puts-none}

@@ -2,25 +2,25 @@
 use Rattle.std.proofs.Common.{◌≡◌, ◌≤◌, true, false, ℕ, zero, suc, arith, List, [], ◌∷◌, ◌++◌, map, Option, refl, sym, ap, ◌∙◌, subst}
 use Rattle.std.proofs.lemmas.List.{append_cancel_left}
 use Rattle.amqp_frame.specs.Frame.{frame_length}
-use Rattle.amqp_model.specs.Frame.{Frame}
-use Rattle.amqp_model.specs.Notes.{Role, Client, Server}
-use Rattle.amqp_model.specs.Arrangement.{on}
-use Rattle.amqp_model.specs.Methods.{ReadsBack}
-use Rattle.amqp_model.specs.Histories.{Took, History}
-use Rattle.amqp_model.specs.Channels.{HandshakeStep, Handshake, Running, Agreed}
-use Rattle.amqp_model.specs.Negotiation.{Config, FRAME_MIN}
-use Rattle.amqp_model.specs.Negotiation as negotiation
-use Rattle.amqp_model.specs.StateFromHistory.{end_from}
-use Rattle.amqp_model.specs.Closes.{method_frame}
-use Rattle.amqp_model.specs.EndVerdict.{end_verdict, end_puts, goes_on}
-use Rattle.amqp_model.specs.LawfulHistories.{then_put, then_taken, Goes, greets, takes, asks}
-use Rattle.amqp_model.specs.Machine.{StandsFor}
-use Rattle.amqp_model.specs.Fitting.{ConfigWrites}
-use Rattle.amqp_model.specs.FittingLaws.{MethodReadsBack}
-use Rattle.amqp_model.specs.Octets.{frames_put, frames_taken}
-use Rattle.amqp_model.specs.Pairs.{ComesNext, AllComeNext, Pair, both_begin, client_goes, server_goes, config_of}
-use Rattle.amqp_model.specs.Agreement.{PairWrites, smaller_limits}
-use Rattle.amqp_model.specs.WellPut.{IsWellPut, PutsWell, NextIsWellPut}
+use Rattle.amqp_model.specs.Wire.Frame.{Frame}
+use Rattle.amqp_model.specs.Wire.Notes.{Role, Client, Server}
+use Rattle.amqp_model.specs.Output.Arrangement.{on}
+use Rattle.amqp_model.specs.Wire.Methods.{ReadsBack}
+use Rattle.amqp_model.specs.History.Histories.{Took, History}
+use Rattle.amqp_model.specs.End.Channels.{HandshakeStep, Handshake, Running, Agreed}
+use Rattle.amqp_model.specs.History.Negotiation.{Config, FRAME_MIN}
+use Rattle.amqp_model.specs.History.Negotiation as negotiation
+use Rattle.amqp_model.specs.End.StateFromHistory.{end_from}
+use Rattle.amqp_model.specs.End.Closes.{method_frame}
+use Rattle.amqp_model.specs.End.EndVerdict.{end_verdict, end_puts, goes_on}
+use Rattle.amqp_model.specs.End.LawfulHistories.{then_put, then_taken, Goes, greets, takes, asks}
+use Rattle.amqp_model.specs.End.Machine.{StandsFor}
+use Rattle.amqp_model.specs.End.Fitting.{ConfigWrites}
+use Rattle.amqp_model.specs.Laws.FittingLaws.{MethodReadsBack}
+use Rattle.amqp_model.specs.Stream.Octets.{frames_put, frames_taken}
+use Rattle.amqp_model.specs.Pair.Pairs.{ComesNext, AllComeNext, Pair, both_begin, client_goes, server_goes, config_of}
+use Rattle.amqp_model.specs.Pair.Agreement.{PairWrites, smaller_limits}
+use Rattle.amqp_model.specs.Pair.WellPut.{IsWellPut, PutsWell, NextIsWellPut}
 use Rattle.amqp_model.proofs.Lawfulness.{lawful-stands}
 use Rattle.amqp_model.proofs.Pairing.{pair-lawful}
 use Rattle.amqp_model.proofs.PutLast.{put-then}

@@ -3,30 +3,30 @@ use Rattle.std.proofs.Common.{◌≡◌, ◌<◌, ◌≤◌, Bool, true, false, 
 use Rattle.std.specs.List.{concat}
 use Rattle.std.proofs.lemmas.Bool.{true≢false, eqb-true, eq-eqb, ne_eqb, not-true, ltb-false, lt-ltb, cond-true, cond-false}
 use Rattle.std.proofs.lemmas.List.{map-append, reverse-append}
-use Rattle.amqp_model.specs.Frame.{Frame}
-use Rattle.amqp_model.specs.Notes.{Role, Server, Kind, Other, Note, is_message}
-use Rattle.amqp_model.specs.Lives.{lives}
-use Rattle.amqp_model.specs.Carried.{puts, sent}
-use Rattle.amqp_model.specs.Methods.{Method, Properties, ReadsBack, carries_content, bit_at, header_at, plain_method, plain_header, class_of}
-use Rattle.amqp_model.specs.Contents.{Payload, Content, EndsFull, IsContent, cut, pieces, room_in}
-use Rattle.amqp_model.specs.Gathering.{Gathering, Nothing, HeaderDue, BodyDue, Step, Keeps, Completes, Breaks, gathered, step, remains, gathering}
-use Rattle.amqp_model.specs.Readings.{Reading, HeaderOf, reading, header_reading, kind_of, payload_of}
-use Rattle.amqp_model.specs.Histories.{Put, Took, History, TookHere, closes_connection, entries_on, notes}
-use Rattle.amqp_model.specs.Closes.{FrameError, Owed, AllReadBack, method_frame, frame_of}
-use Rattle.amqp_model.specs.Channels.{Phase, Handshake, Running, Closed, Failed, End}
-use Rattle.amqp_model.specs.Negotiation.{Config, Hello, OfServer}
-use Rattle.amqp_model.specs.Negotiation as negotiation
-use Rattle.amqp_model.specs.StateFromHistory.{end_from}
-use Rattle.amqp_model.specs.Events.{Plain, Whole, FrameVerdict, Proceeds, RefusesContent, Faults, Fault, Peer}
-use Rattle.amqp_model.specs.FrameVerdict.{Facts, verdict_on, methods_put}
-use Rattle.amqp_model.specs.Asks.{Ask, Refusal, is_made, frame_max, lowest_free, opens_on, method_asked, payload_frame, refusal, frames_asked}
-use Rattle.amqp_model.specs.EndVerdict.{facts_at, end_verdict, goes_on}
-use Rattle.amqp_model.specs.ReadingBack.{header_of, AskReadsBack, WritesReadBack}
-use Rattle.amqp_model.specs.LawfulHistories.{then_put, Goes, greets, takes, faults, meets_too_large, fails, asks, Lawful, begun, goes}
-use Rattle.amqp_model.specs.EndLaws.{notes_on}
-use Rattle.amqp_model.specs.Sent.{payload_in}
-use Rattle.amqp_model.specs.Gathering as contents
-use Rattle.amqp_model.specs.WholeMessages.{FitsNext, FitAfter, AreWholeMessages, EachFitsNext, PutsWholeMessages}
+use Rattle.amqp_model.specs.Wire.Frame.{Frame}
+use Rattle.amqp_model.specs.Wire.Notes.{Role, Server, Kind, Other, Note, is_message}
+use Rattle.amqp_model.specs.History.Lives.{lives}
+use Rattle.amqp_model.specs.Pair.Carried.{puts, sent}
+use Rattle.amqp_model.specs.Wire.Methods.{Method, Properties, ReadsBack, carries_content, bit_at, header_at, plain_method, plain_header, class_of}
+use Rattle.amqp_model.specs.Wire.Contents.{Payload, Content, EndsFull, IsContent, cut, pieces, room_in}
+use Rattle.amqp_model.specs.Wire.Gathering.{Gathering, Nothing, HeaderDue, BodyDue, Step, Keeps, Completes, Breaks, gathered, step, remains, gathering}
+use Rattle.amqp_model.specs.Wire.Readings.{Reading, HeaderOf, reading, header_reading, kind_of, payload_of}
+use Rattle.amqp_model.specs.History.Histories.{Put, Took, History, TookHere, closes_connection, entries_on, notes}
+use Rattle.amqp_model.specs.End.Closes.{FrameError, Owed, AllReadBack, method_frame, frame_of}
+use Rattle.amqp_model.specs.End.Channels.{Phase, Handshake, Running, Closed, Failed, End}
+use Rattle.amqp_model.specs.History.Negotiation.{Config, Hello, OfServer}
+use Rattle.amqp_model.specs.History.Negotiation as negotiation
+use Rattle.amqp_model.specs.End.StateFromHistory.{end_from}
+use Rattle.amqp_model.specs.End.Events.{Plain, Whole, FrameVerdict, Proceeds, RefusesContent, Faults, Fault, Peer}
+use Rattle.amqp_model.specs.End.FrameVerdict.{Facts, verdict_on, methods_put}
+use Rattle.amqp_model.specs.End.Asks.{Ask, Refusal, is_made, frame_max, lowest_free, opens_on, method_asked, payload_frame, refusal, frames_asked}
+use Rattle.amqp_model.specs.End.EndVerdict.{facts_at, end_verdict, goes_on}
+use Rattle.amqp_model.specs.End.ReadingBack.{header_of, AskReadsBack, WritesReadBack}
+use Rattle.amqp_model.specs.End.LawfulHistories.{then_put, Goes, greets, takes, faults, meets_too_large, fails, asks, Lawful, begun, goes}
+use Rattle.amqp_model.specs.Laws.EndLaws.{notes_on}
+use Rattle.amqp_model.specs.Pair.Sent.{payload_in}
+use Rattle.amqp_model.specs.Wire.Gathering as contents
+use Rattle.amqp_model.specs.Pair.WholeMessages.{FitsNext, FitAfter, AreWholeMessages, EachFitsNext, PutsWholeMessages}
 use Rattle.amqp_model.proofs.Lists.{messages-append}
 use Rattle.amqp_model.proofs.Acting.{seen-put, reads-back}
 use Rattle.amqp_model.proofs.Asking.{Accepted, accepted, accepted-none, not-when, first-false, frame-channel, sent-kind, message-class}

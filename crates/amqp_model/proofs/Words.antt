@@ -2,10 +2,10 @@
 use Rattle.std.proofs.Common.{◌≡◌, ◌⊎◌, inl, inr, ◌↔◌, Bool, true, false, cond, ◌||◌, suc, ◌+◌, arith, List, [], ◌∷◌, ◌++◌, refl, sym, ap, ◌∙◌, subst}
 use Rattle.std.proofs.lemmas.Bool.{true≢false, false≢true}
 use Rattle.std.proofs.lemmas.List.Sums.{sum_by-cons}
-use Rattle.amqp_model.specs.Notes.{Role, Client, Server, is_client, is_server, Note, Put, Took, Leaving}
-use Rattle.amqp_model.specs.States.{State, Free, Opening, Closing}
-use Rattle.amqp_model.specs.Lives.{Test, since, how_many, is_alive, waits, has_open_ok, has_left, before_leaving, state_word, state_by}
-use Rattle.amqp_model.specs.Sentences.{NoneSo, HasSince, Place, places, places_with, Waits, IsAlive, HasOpenOk, IsInState, HasLeft, IsBeforeLeaving, never_left, left_once}
+use Rattle.amqp_model.specs.Wire.Notes.{Role, Client, Server, is_client, is_server, Note, Put, Took, Leaving}
+use Rattle.amqp_model.specs.History.States.{State, Free, Opening, Closing}
+use Rattle.amqp_model.specs.History.Lives.{Test, since, how_many, is_alive, waits, has_open_ok, has_left, before_leaving, state_word, state_by}
+use Rattle.amqp_model.specs.Pair.Sentences.{NoneSo, HasSince, Place, places, places_with, Waits, IsAlive, HasOpenOk, IsInState, HasLeft, IsBeforeLeaving, never_left, left_once}
 use Rattle.amqp_model.proofs.Ends.{before_leaving_all}
 
 since_says : (such so : Test) (history : List Note) → since such so history ≡ true → HasSince such so history

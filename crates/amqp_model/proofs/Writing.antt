@@ -4,8 +4,8 @@ use Rattle.std.proofs.lemmas.Bool.{eqb-false}
 use Rattle.std.proofs.lemmas.List.{append_cancel_left, append_cancel_right, drop_at, drop-append-le, drop_all}
 use Rattle.amqp_frame.specs.Frame.{Frame, octets, frame_length}
 use Rattle.amqp_frame.specs.Splitting.{stream}
-use Rattle.amqp_model.specs.Arrangement.{last_after, last_after_all, IsArranged}
-use Rattle.amqp_model.specs.Outputs.{Output, output_octets, Writes, row_after_writing, after_writing}
+use Rattle.amqp_model.specs.Output.Arrangement.{last_after, last_after_all, IsArranged}
+use Rattle.amqp_model.specs.Output.Outputs.{Output, output_octets, Writes, row_after_writing, after_writing}
 use Rattle.amqp_model.proofs.Rows.{begun-arranged}
 
 pub length-octets : (f : Frame) → length (octets f) ≡ frame_length f

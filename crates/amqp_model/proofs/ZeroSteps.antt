@@ -2,27 +2,27 @@
 use Rattle.std.proofs.Common.{◌≡◌, ◌⊎◌, inl, inr, true, false, ℕ, zero, suc, ◌==◌, ◌≤◌, arith, List, [], ◌∷◌, ◌++◌, map, Option, Some, None, refl, sym, ap, ap₂, ◌∙◌, subst, append-nil}
 use Rattle.std.proofs.lemmas.Bool.{false≢true, true≢false, ne_eqb, cond-false}
 use Rattle.std.proofs.lemmas.List.Elements.{filter-append}
-use Rattle.amqp_model.specs.Frame.{Frame}
-use Rattle.amqp_model.specs.Notes.{Role, Client, Server}
-use Rattle.amqp_model.specs.Arrangement.{on}
-use Rattle.amqp_model.specs.Methods.{Method, ReadsBack}
-use Rattle.amqp_model.specs.Contents.{Payload}
-use Rattle.amqp_model.specs.Readings.{Reading, Calls, reading}
-use Rattle.amqp_model.specs.Histories.{Put, Took, History, TookHere, PutHere}
-use Rattle.amqp_model.specs.Channels as channels
-use Rattle.amqp_model.specs.Channels.{Life, Phase, Handshake, Running, Closed, Failed, End}
-use Rattle.amqp_model.specs.Negotiation.{Config}
-use Rattle.amqp_model.specs.StateFromHistory.{end_from}
-use Rattle.amqp_model.specs.Closes.{ContentTooLarge, Owed, AllReadBack, frame_of, reply_to, channel_close}
-use Rattle.amqp_model.specs.Events.{FrameVerdict}
-use Rattle.amqp_model.specs.FrameVerdict.{on_channel, verdict_on, methods_put}
-use Rattle.amqp_model.specs.Asks.{Ask, is_made, Refusal, channel_max, lowest_free, opens_on, payload_frame, message_payloads, method_asked, frame_max, frames_asked, refusal, Puts, ask_verdict}
-use Rattle.amqp_model.specs.EndVerdict.{facts_at, end_verdict, goes_on}
-use Rattle.amqp_model.specs.ReadingBack.{WritesReadBack}
-use Rattle.amqp_model.specs.LawfulHistories.{then_put, then_taken}
-use Rattle.amqp_model.specs.Machine.{end_after, end_after_owed, end_after_put, end_after_taken, StandsFor}
-use Rattle.amqp_model.specs.EndLaws.{is_over, AgreesWithLives, agrees, refuses, FindsLowest}
-use Rattle.amqp_model.specs.Octets.{frames_put, frames_taken}
+use Rattle.amqp_model.specs.Wire.Frame.{Frame}
+use Rattle.amqp_model.specs.Wire.Notes.{Role, Client, Server}
+use Rattle.amqp_model.specs.Output.Arrangement.{on}
+use Rattle.amqp_model.specs.Wire.Methods.{Method, ReadsBack}
+use Rattle.amqp_model.specs.Wire.Contents.{Payload}
+use Rattle.amqp_model.specs.Wire.Readings.{Reading, Calls, reading}
+use Rattle.amqp_model.specs.History.Histories.{Put, Took, History, TookHere, PutHere}
+use Rattle.amqp_model.specs.End.Channels as channels
+use Rattle.amqp_model.specs.End.Channels.{Life, Phase, Handshake, Running, Closed, Failed, End}
+use Rattle.amqp_model.specs.History.Negotiation.{Config}
+use Rattle.amqp_model.specs.End.StateFromHistory.{end_from}
+use Rattle.amqp_model.specs.End.Closes.{ContentTooLarge, Owed, AllReadBack, frame_of, reply_to, channel_close}
+use Rattle.amqp_model.specs.End.Events.{FrameVerdict}
+use Rattle.amqp_model.specs.End.FrameVerdict.{on_channel, verdict_on, methods_put}
+use Rattle.amqp_model.specs.End.Asks.{Ask, is_made, Refusal, channel_max, lowest_free, opens_on, payload_frame, message_payloads, method_asked, frame_max, frames_asked, refusal, Puts, ask_verdict}
+use Rattle.amqp_model.specs.End.EndVerdict.{facts_at, end_verdict, goes_on}
+use Rattle.amqp_model.specs.End.ReadingBack.{WritesReadBack}
+use Rattle.amqp_model.specs.End.LawfulHistories.{then_put, then_taken}
+use Rattle.amqp_model.specs.End.Machine.{end_after, end_after_owed, end_after_put, end_after_taken, StandsFor}
+use Rattle.amqp_model.specs.Laws.EndLaws.{is_over, AgreesWithLives, agrees, refuses, FindsLowest}
+use Rattle.amqp_model.specs.Stream.Octets.{frames_put, frames_taken}
 use Rattle.amqp_model.proofs.Standing.{end-stands}
 use Rattle.amqp_model.proofs.Acting.{reads-back}
 use Rattle.amqp_model.proofs.Agreeing.{facts_in, is_closing, handshake-stops, frame-agrees}

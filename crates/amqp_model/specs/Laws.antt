@@ -1,104 +1,16 @@
--- What holds of every run of a channel: the statements that the public laws carry.
-use Rattle.std.specs.Prelude.{◌≡◌, ◌⊎◌, true, false, ℕ, List, ◌∷◌, ◌++◌, map, All, Option, Some, slice_get}
-use Rattle.amqp_model.specs.Prefixes.{IsPrefixOf}
-use Rattle.amqp_model.specs.Frame.{Frame}
-use Rattle.amqp_model.specs.Notes.{Role, other_end, Kind, Close, Note, Put, Took, Leaving, is_content}
-use Rattle.amqp_model.specs.States.{State, Opening}
-use Rattle.amqp_model.specs.Lives.{lives, state, has_left, pauses_other}
-use Rattle.amqp_model.specs.Sentences.{PausesOther}
-use Rattle.amqp_model.specs.Verdict.{Event, GoesOn, verdict}
-use Rattle.amqp_model.specs.Carried.{Carried, Carry, message_frames, put_by, taken_by, NoteInLife, life_of, puts, takes, sent, acted}
-use Rattle.amqp_model.specs.Runs.{IsNext, RunAt}
-
--- A law of both ends of every run of a channel: `mine` are the notes of the end in this role, `theirs` those of the other.
-abbrev pub OnEachRun : (Role → (mine theirs : List Note) → Type 0) → Type 0
-OnEachRun Law = (role : Role) (mine theirs : List Note) → RunAt role mine theirs → Law role mine theirs
-
--- what the end took is, frame by frame, a prefix of what the other put
-abbrev pub TakesPrefix : Role → (mine theirs : List Note) → Type 0
-TakesPrefix role mine theirs = IsPrefixOf (takes role mine) (puts (other_end role) theirs)
-
--- the i-th note that an end took has the life of the i-th note that the other put
-abbrev pub SidesAgree : Role → (mine theirs : List Note) → Type 0
-SidesAgree role mine theirs =
-    (i life : ℕ) → slice_get (map life_of (takes role mine)) i ≡ Some life
-    → slice_get (map life_of (puts (other_end role) theirs)) i ≡ Some life
-
--- the verdict on a frame of this kind, if it comes next, is no fault
-abbrev pub GoesOnWith : Role → List Note → Kind → Type 0
-GoesOnWith role mine kind = (event : Event) × (owed : Option Kind) × (verdict role mine kind ≡ GoesOn event owed)
-
--- whatever comes next to the end, it goes on
-abbrev pub FindsNoFault : Role → (mine theirs : List Note) → Type 0
-FindsNoFault role mine theirs = (kind : Kind) (frame : Frame) → IsNext theirs mine (Carry kind frame) → GoesOnWith role mine kind
-
--- what an end acted on in a life is a prefix of what the other sent in it
-abbrev pub ActsOnPrefix : Role → (mine theirs : List Note) → Type 0
-ActsOnPrefix role mine theirs = (life : ℕ) → IsPrefixOf (acted role life mine) (sent (other_end role) life theirs)
-
--- the end has not put connection.close, and the channel is Opening or Open
-pub record IsLive (role : Role) (history : List Note) : Type 0 where
-  pub stays : has_left history ≡ false
-  pub state_is : (state role history ≡ Opening) ⊎ (state role history ≡ State.Open)
-
--- what the other put is what the end took, and then what is in flight
-abbrev pub IsOnItsWay : Role → (mine theirs : List Note) → List NoteInLife → Type 0
-IsOnItsWay role mine theirs rest = puts (other_end role) theirs ≡ takes role mine ++ rest
-
--- the end took the other's close in this life, before it put a close of the channel or the connection
-pub record EndedByPeer (role : Role) (life : ℕ) (history : List Note) : Type 0 where
-  pub later : List Note
-  pub frame : Frame
-  pub before : List Note
-  pub history_is : history ≡ later ++ Took Close frame ∷ before
-  pub live : IsLive role before
-  pub life_is : lives role before ≡ life
-
--- all that is in flight to a live end is of its own life
-abbrev pub OnItsWayIsOfItsLife : Role → (mine theirs : List Note) → Type 0
-OnItsWayIsOfItsLife role mine theirs =
-    (rest : List NoteInLife) → IsLive role mine → IsOnItsWay role mine theirs rest → All (λ entry. life_of entry ≡ lives role mine) rest
-
--- what the other sent in the life of a live end is what the end acted on in it, and then the messages in flight
-abbrev pub SentIsActedOnOrOnItsWay : Role → (mine theirs : List Note) → Type 0
-SentIsActedOnOrOnItsWay role mine theirs =
-    (rest : List Carried) → IsLive role mine → put_by theirs ≡ taken_by mine ++ rest
-    → sent (other_end role) (lives role mine) theirs ≡ acted role (lives role mine) mine ++ message_frames rest
-
--- all that the other sent in a life that its close ended was acted on
-abbrev pub AllActedOnAtClose : Role → (mine theirs : List Note) → Type 0
-AllActedOnAtClose role mine theirs = (life : ℕ) → EndedByPeer role life mine → acted role life mine ≡ sent (other_end role) life theirs
-
--- All that the other sent in the life of a live end was acted on, where the end has taken all that the other put. So
--- it is as the end takes the other's connection.close, which stands after every frame put before it.
-abbrev pub AllActedOnAtConnectionClose : Role → (mine theirs : List Note) → Type 0
-AllActedOnAtConnectionClose role mine theirs =
-    IsLive role mine → put_by theirs ≡ taken_by mine → acted role (lives role mine) mine ≡ sent (other_end role) (lives role mine) theirs
-
--- a content that an end takes comes at no moment at which the end has paused the other: none from where it took
--- flow-ok with active 0 in a life until it puts flow with active 1
-abbrev pub TakesNoContentPaused : Role → (mine theirs : List Note) → Type 0
-TakesNoContentPaused role mine theirs =
-    (later : List Note) (kind : Kind) (frame : Frame) (before : List Note) → mine ≡ later ++ Took kind frame ∷ before
-    → is_content kind ≡ true
-    → pauses_other role before ≡ false
-
--- the same in plain words: there was no flow-ok with active 0 taken after which came no opening note and no flow
--- with active 1 put
-abbrev pub NoPauseBeforeContent : Role → (mine theirs : List Note) → Type 0
-NoPauseBeforeContent role mine theirs =
-    (later : List Note) (kind : Kind) (frame : Frame) (before : List Note) → mine ≡ later ++ Took kind frame ∷ before
-    → is_content kind ≡ true
-    → PausesOther role before → ⊥
-
--- from where the end puts close in a life, it acts on nothing of that life
-abbrev pub ActsOnNothingAfterItsClose : Role → (mine : List Note) → Type 0
-ActsOnNothingAfterItsClose role mine =
-    (later : List Note) (frame : Frame) (before : List Note) → mine ≡ later ++ Put Close frame ∷ before
-    → acted role (lives role before) mine ≡ acted role (lives role before) before
-
--- from where the end puts connection.close, it acts on nothing
-abbrev pub ActsOnNothingAfterLeaving : Type 0
-ActsOnNothingAfterLeaving =
-    (role : Role) (mine : List Note)
-    → (life : ℕ) (later before : List Note) → mine ≡ later ++ Leaving ∷ before → acted role life mine ≡ acted role life before
+-- What is proved of all this, statement by statement.
+pub mod LifeLaws
+pub mod ContentLaws
+pub mod ArrangementLaws
+pub mod EndLaws
+pub mod VerdictInWords
+pub mod AnswersInWords
+pub mod FittingLaws
+pub mod OctetLaws
+pub mod CarryingLaws
+pub mod LeavingLaws
+pub mod SentLaws
+pub mod StreamingLaws
+pub mod Scripts
+pub mod ArrangementExamples
+pub mod PairExample

@@ -6,20 +6,20 @@
 //! the other.
 
 ghost use Rattle.std.specs.Prelude.{ℕ, List};
-ghost use Rattle.amqp_model.specs.Agreement.{AgreesOnSmaller, AgreesPastHandshake, ClosedHasTakenAll, GoesOnAtZero, RunsWhereNextIsAbove};
-ghost use Rattle.amqp_model.specs.Channels.{Agreed, End};
-ghost use Rattle.amqp_model.specs.Endpoint.{Endpoint};
-ghost use Rattle.amqp_model.specs.EndsAgree.{LivesAgree, NoContentFromPaused};
-ghost use Rattle.amqp_model.specs.EndsTogether.{AskStandsTogether, AskedStaysPair, CarryStandsTogether, NewStandTogether, StandTogetherTurned};
-ghost use Rattle.amqp_model.specs.Asks.{Ask};
-ghost use Rattle.amqp_model.specs.Frame.{Frame};
-ghost use Rattle.amqp_model.specs.Histories.{History};
-ghost use Rattle.amqp_model.specs.Negotiation.{Config};
-ghost use Rattle.amqp_model.specs.Notes.{Client, Role, Server};
-ghost use Rattle.amqp_model.specs.NoFault.{NextIsMatched, TakesWhatComesNext};
-ghost use Rattle.amqp_model.specs.OctetsInFlight.{FeedStaysPair, FindsNoFaultWithOctets, GrownStaysPair, ItemsSentAreActedOnOrWaiting, NothingWaitsForClosed, OctetsInFlightAreFrames};
-ghost use Rattle.amqp_model.specs.PairExample.{ExampleIsPair};
-ghost use Rattle.amqp_model.specs.WellPut.{NextIsWellPut, PutsWell};
+ghost use Rattle.amqp_model.specs.Pair.Agreement.{AgreesOnSmaller, AgreesPastHandshake, ClosedHasTakenAll, GoesOnAtZero, RunsWhereNextIsAbove};
+ghost use Rattle.amqp_model.specs.End.Channels.{Agreed, End};
+ghost use Rattle.amqp_model.specs.Stream.Endpoint.{Endpoint};
+ghost use Rattle.amqp_model.specs.Pair.EndsAgree.{LivesAgree, NoContentFromPaused};
+ghost use Rattle.amqp_model.specs.Pair.EndsTogether.{AskStandsTogether, AskedStaysPair, CarryStandsTogether, NewStandTogether, StandTogetherTurned};
+ghost use Rattle.amqp_model.specs.End.Asks.{Ask};
+ghost use Rattle.amqp_model.specs.Wire.Frame.{Frame};
+ghost use Rattle.amqp_model.specs.History.Histories.{History};
+ghost use Rattle.amqp_model.specs.History.Negotiation.{Config};
+ghost use Rattle.amqp_model.specs.Wire.Notes.{Client, Role, Server};
+ghost use Rattle.amqp_model.specs.Pair.NoFault.{NextIsMatched, TakesWhatComesNext};
+ghost use Rattle.amqp_model.specs.Pair.OctetsInFlight.{FeedStaysPair, FindsNoFaultWithOctets, GrownStaysPair, ItemsSentAreActedOnOrWaiting, NothingWaitsForClosed, OctetsInFlightAreFrames};
+ghost use Rattle.amqp_model.specs.Laws.PairExample.{ExampleIsPair};
+ghost use Rattle.amqp_model.specs.Pair.WellPut.{NextIsWellPut, PutsWell};
 
 use crate::fitting::written_reads_back;
 

@@ -3,12 +3,12 @@
 //! The record of a channel is what the history counts to; these laws say so of each answer, in words that know no record.
 
 ghost use Rattle.std.specs.Prelude.{ℕ, List};
-ghost use Rattle.amqp_model.specs.AnswersInWords.{ClosedIsFree, GatheredIsUnderWay, NoneIsGathered, OnlyOpenGathers, OnlyOpenIsDue, StateIsOfNotes};
-ghost use Rattle.amqp_model.specs.Channels.{End, Life};
-ghost use Rattle.amqp_model.specs.Contents.{Payload};
-ghost use Rattle.amqp_model.specs.Histories.{History};
-ghost use Rattle.amqp_model.specs.Negotiation.{Config};
-ghost use Rattle.amqp_model.specs.Notes.{Role};
+ghost use Rattle.amqp_model.specs.Laws.AnswersInWords.{ClosedIsFree, GatheredIsUnderWay, NoneIsGathered, OnlyOpenGathers, OnlyOpenIsDue, StateIsOfNotes};
+ghost use Rattle.amqp_model.specs.End.Channels.{End, Life};
+ghost use Rattle.amqp_model.specs.Wire.Contents.{Payload};
+ghost use Rattle.amqp_model.specs.History.Histories.{History};
+ghost use Rattle.amqp_model.specs.History.Negotiation.{Config};
+ghost use Rattle.amqp_model.specs.Wire.Notes.{Role};
 
 /// The state of a channel up to the agreed maximum is that of its notes, until the connection is closed and all are Free.
 pub fn states_are_of_notes()

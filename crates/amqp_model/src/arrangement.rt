@@ -8,8 +8,8 @@
 //! `IsArranged` is such a row, `placed` what a put makes of it, and `Writes` what a write leaves of an output.
 //! `IsOutputOf` joins an output with all that its end put and wrote.
 
-ghost use Rattle.amqp_model.specs.ArrangementExamples.{BegunAndPut, LeavingOnes, LongAndShort, RoundTheTop};
-ghost use Rattle.amqp_model.specs.ArrangementLaws.{AheadIsOfBegun, AllIsInOrder, AllIsPutAs, ArrangedByRules, ClosesStandAfter, LeavingIsPutLast, LeftIsArranged, LowestAboveComesFirst, NoFewerStepsLead, NothingLeavesAfter, NothingWritten, OneIsLeft, OneRow, OutputAfterPut, OutputAfterPuts, OutputAfterWrite, OutputBegins, OutputFollowsRules, PlaceIsAfterItsQueue, PutArranges, PutExtendsChannels, PutLeavesBegun, PutMovesNone, PutsMakeRow, StepsLead, WaitsWhatIsNotBegun, WriteLeaves, WrittenThenLeft};
+ghost use Rattle.amqp_model.specs.Laws.ArrangementExamples.{BegunAndPut, LeavingOnes, LongAndShort, RoundTheTop};
+ghost use Rattle.amqp_model.specs.Laws.ArrangementLaws.{AheadIsOfBegun, AllIsInOrder, AllIsPutAs, ArrangedByRules, ClosesStandAfter, LeavingIsPutLast, LeftIsArranged, LowestAboveComesFirst, NoFewerStepsLead, NothingLeavesAfter, NothingWritten, OneIsLeft, OneRow, OutputAfterPut, OutputAfterPuts, OutputAfterWrite, OutputBegins, OutputFollowsRules, PlaceIsAfterItsQueue, PutArranges, PutExtendsChannels, PutLeavesBegun, PutMovesNone, PutsMakeRow, StepsLead, WaitsWhatIsNotBegun, WriteLeaves, WrittenThenLeft};
 
 /// From one channel to another it is as many steps as counting up takes, where 1 comes after 65535. So the lowest
 /// channel above LAST comes first, else the lowest one.

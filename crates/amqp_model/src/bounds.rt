@@ -5,14 +5,14 @@
 //! no ask makes it keep more than that.
 
 ghost use Rattle.std.specs.Prelude.{ℕ, List};
-ghost use Rattle.amqp_model.specs.Asks.{Ask};
-ghost use Rattle.amqp_model.specs.Bounds.{AskStaysWithin, FrameStaysWithin, GatheredIsWithin, NewIsWithin, OthersAreFree, StandsWithin};
-ghost use Rattle.amqp_model.specs.Channels.{End};
-ghost use Rattle.amqp_model.specs.Frame.{Frame};
-ghost use Rattle.amqp_model.specs.Histories.{History};
-ghost use Rattle.amqp_model.specs.Negotiation.{Config};
-ghost use Rattle.amqp_model.specs.Notes.{Role};
-ghost use Rattle.amqp_model.specs.Numbers.{StandsNumbered};
+ghost use Rattle.amqp_model.specs.End.Asks.{Ask};
+ghost use Rattle.amqp_model.specs.End.Bounds.{AskStaysWithin, FrameStaysWithin, GatheredIsWithin, NewIsWithin, OthersAreFree, StandsWithin};
+ghost use Rattle.amqp_model.specs.End.Channels.{End};
+ghost use Rattle.amqp_model.specs.Wire.Frame.{Frame};
+ghost use Rattle.amqp_model.specs.History.Histories.{History};
+ghost use Rattle.amqp_model.specs.History.Negotiation.{Config};
+ghost use Rattle.amqp_model.specs.Wire.Notes.{Role};
+ghost use Rattle.amqp_model.specs.End.Numbers.{StandsNumbered};
 
 /// Each Open channel of an end is within its bounds: of a new end, after each frame and each ask, and so of every end that
 /// stands for a lawful history.

@@ -9,11 +9,11 @@
 //! Payloads are in their order, the oldest first; what was taken is a history, the newest first.
 
 ghost use Rattle.std.specs.Prelude.{ℕ, List, [], ◌∷◌};
-ghost use Rattle.amqp_model.specs.ContentLaws.{ContentEncodedAfter, CutFits, CutIsContent, CutIsShortest, CutsTo, GathersAfresh, GoesOnAsDue, GoesOnWith, IsAtMostOneContent, IsRefusedPastSize, IsToldAtHeader, IsToldAtLastPart, ItemsAreEncoded, ItemsOfPrefix, KeepsItsOctets, KeepsUnderWay, MethodStandsAlone, NoContentAtStart, NothingAfterContent, NothingAfterMethod, OneMoreEncoded, OneUnderWay, PartsInPlace, EncodedAfresh, TellsItems, TellsMisfits, TellsWhole, UnfinishedEncodesNothing};
-ghost use Rattle.amqp_model.specs.Contents.{Content, Payload};
-ghost use Rattle.amqp_model.specs.Gathering.{Gathering, Misfit};
-ghost use Rattle.amqp_model.specs.Items.{Item};
-ghost use Rattle.amqp_model.specs.Methods.{Method};
+ghost use Rattle.amqp_model.specs.Laws.ContentLaws.{ContentEncodedAfter, CutFits, CutIsContent, CutIsShortest, CutsTo, GathersAfresh, GoesOnAsDue, GoesOnWith, IsAtMostOneContent, IsRefusedPastSize, IsToldAtHeader, IsToldAtLastPart, ItemsAreEncoded, ItemsOfPrefix, KeepsItsOctets, KeepsUnderWay, MethodStandsAlone, NoContentAtStart, NothingAfterContent, NothingAfterMethod, OneMoreEncoded, OneUnderWay, PartsInPlace, EncodedAfresh, TellsItems, TellsMisfits, TellsWhole, UnfinishedEncodesNothing};
+ghost use Rattle.amqp_model.specs.Wire.Contents.{Content, Payload};
+ghost use Rattle.amqp_model.specs.Wire.Gathering.{Gathering, Misfit};
+ghost use Rattle.amqp_model.specs.Wire.Items.{Item};
+ghost use Rattle.amqp_model.specs.Wire.Methods.{Method};
 
 /// Payloads are at most one content, and no content is a prefix of another. So a list of payloads falls into contents
 /// in one way only.

@@ -5,17 +5,17 @@
 //! method, of what an end is set up with and of what an application asks.
 
 ghost use Rattle.std.specs.Prelude.{Bool, ℕ, List};
-ghost use Rattle.amqp_model.specs.Asks.{Ask};
-ghost use Rattle.amqp_model.specs.Channels.{End};
-ghost use Rattle.amqp_model.specs.Events.{Message};
-ghost use Rattle.amqp_model.specs.FittingLaws.{AgreedIsWithin, AgreedStaysWithin, AllReadsBack, AskKeepsAgreed, AskedAreWithin, AskedFit, AskedReadsBack, CloseFits, CloseIsShort, CloseReadsBack, FaultlessConfigFits, FittingConfigIsFaultless, FittingConfigWrites, FramesSayPayloads, HeaderReadsBack, MethodReadsBack, OwedAreShort, OwedFit, OwedReadBack, StartFits};
-ghost use Rattle.amqp_model.specs.Frame.{Frame};
-ghost use Rattle.amqp_model.specs.FrameVerdict.{Facts};
-ghost use Rattle.amqp_model.specs.Histories.{History};
-ghost use Rattle.amqp_model.specs.Methods.{Header, Method};
-ghost use Rattle.amqp_model.specs.Negotiation.{Config};
-ghost use Rattle.amqp_model.specs.Notes.{Role, Server};
-ghost use Rattle.amqp_model.specs.Readings.{Reading};
+ghost use Rattle.amqp_model.specs.End.Asks.{Ask};
+ghost use Rattle.amqp_model.specs.End.Channels.{End};
+ghost use Rattle.amqp_model.specs.End.Events.{Message};
+ghost use Rattle.amqp_model.specs.Laws.FittingLaws.{AgreedIsWithin, AgreedStaysWithin, AllReadsBack, AskKeepsAgreed, AskedAreWithin, AskedFit, AskedReadsBack, CloseFits, CloseIsShort, CloseReadsBack, FaultlessConfigFits, FittingConfigIsFaultless, FittingConfigWrites, FramesSayPayloads, HeaderReadsBack, MethodReadsBack, OwedAreShort, OwedFit, OwedReadBack, StartFits};
+ghost use Rattle.amqp_model.specs.Wire.Frame.{Frame};
+ghost use Rattle.amqp_model.specs.End.FrameVerdict.{Facts};
+ghost use Rattle.amqp_model.specs.History.Histories.{History};
+ghost use Rattle.amqp_model.specs.Wire.Methods.{Header, Method};
+ghost use Rattle.amqp_model.specs.History.Negotiation.{Config};
+ghost use Rattle.amqp_model.specs.Wire.Notes.{Role, Server};
+ghost use Rattle.amqp_model.specs.Wire.Readings.{Reading};
 
 /// What is written of a method, and of a content header, reads as it, where it fits its fields.
 pub fn written_reads_back()

@@ -9,17 +9,17 @@
 //! in that role, `theirs` those of the other.
 
 ghost use Rattle.std.specs.Prelude.{◌≡◌, ◌↔◌, true, ℕ, List};
-ghost use Rattle.amqp_model.specs.Carried.{puts, takes};
-ghost use Rattle.amqp_model.specs.Connections.{ConnectionRun, EachChannelRuns, notes_of, overtaken_client, overtaking_server};
-ghost use Rattle.amqp_model.specs.Frame.{Frame};
-ghost use Rattle.amqp_model.specs.Laws.{OnEachRun, TakesPrefix, ActsOnPrefix, ActsOnNothingAfterItsClose, ActsOnNothingAfterLeaving, AllActedOnAtClose, AllActedOnAtConnectionClose, FindsNoFault, NoPauseBeforeContent, OnItsWayIsOfItsLife, SentIsActedOnOrOnItsWay, SidesAgree, TakesNoContentPaused};
-ghost use Rattle.amqp_model.specs.Prefixes.{IsPrefixOf};
-ghost use Rattle.amqp_model.specs.Lives.{awaits_flow_ok, before_leaving, has_left, has_open_ok, pauses_other, is_alive, is_opening, is_paused, lives, state, waits};
-ghost use Rattle.amqp_model.specs.Notes.{Note, Role, other_end};
-ghost use Rattle.amqp_model.specs.Runs.{Run, RunAt};
-ghost use Rattle.amqp_model.specs.Scripts.{ClosedAndReopened, ClosedAtOnce, CrossingCloses, DiscardedContents, DroppedClient, MessageThenClose, PausedServer, RestartedServer, ServerLeaves, Step, crossing_closes, replay};
-ghost use Rattle.amqp_model.specs.Sentences.{StatesRead, AwaitsFlowOk, HasLeft, HasOpenOk, PausesOther, IsAlive, IsBeforeLeaving, IsInState, IsPaused, Waits, places_with};
-ghost use Rattle.amqp_model.specs.States.{State};
+ghost use Rattle.amqp_model.specs.Pair.Carried.{puts, takes};
+ghost use Rattle.amqp_model.specs.Pair.Connections.{ConnectionRun, EachChannelRuns, notes_of, overtaken_client, overtaking_server};
+ghost use Rattle.amqp_model.specs.Wire.Frame.{Frame};
+ghost use Rattle.amqp_model.specs.Laws.LifeLaws.{OnEachRun, TakesPrefix, ActsOnPrefix, ActsOnNothingAfterItsClose, ActsOnNothingAfterLeaving, AllActedOnAtClose, AllActedOnAtConnectionClose, FindsNoFault, NoPauseBeforeContent, OnItsWayIsOfItsLife, SentIsActedOnOrOnItsWay, SidesAgree, TakesNoContentPaused};
+ghost use Rattle.amqp_model.specs.Output.Prefixes.{IsPrefixOf};
+ghost use Rattle.amqp_model.specs.History.Lives.{awaits_flow_ok, before_leaving, has_left, has_open_ok, pauses_other, is_alive, is_opening, is_paused, lives, state, waits};
+ghost use Rattle.amqp_model.specs.Wire.Notes.{Note, Role, other_end};
+ghost use Rattle.amqp_model.specs.Pair.Runs.{Run, RunAt};
+ghost use Rattle.amqp_model.specs.Laws.Scripts.{ClosedAndReopened, ClosedAtOnce, CrossingCloses, DiscardedContents, DroppedClient, MessageThenClose, PausedServer, RestartedServer, ServerLeaves, Step, crossing_closes, replay};
+ghost use Rattle.amqp_model.specs.Pair.Sentences.{StatesRead, AwaitsFlowOk, HasLeft, HasOpenOk, PausesOther, IsAlive, IsBeforeLeaving, IsInState, IsPaused, Waits, places_with};
+ghost use Rattle.amqp_model.specs.History.States.{State};
 
 /// Both ends mean the same life: the i-th note that one took has the life of the i-th note that the other put, and
 /// what was taken is, frame by frame, a prefix of what was put.

@@ -7,13 +7,13 @@
 //! the frames put.
 
 ghost use Rattle.std.specs.Prelude.{ℕ, List};
-ghost use Rattle.amqp_model.specs.Asks.{Ask, Refusal};
-ghost use Rattle.amqp_model.specs.Endpoint.{Endpoint};
-ghost use Rattle.amqp_model.specs.Frame.{Frame};
-ghost use Rattle.amqp_model.specs.Histories.{History};
-ghost use Rattle.amqp_model.specs.Negotiation.{Config};
-ghost use Rattle.amqp_model.specs.Notes.{Role};
-ghost use Rattle.amqp_model.specs.OctetLaws.{AcceptedFollows, CutGoesOn, CutStops, FailedWrites, FeedFollows, FeedProgresses, FeedStaysClosed, FeedStaysFailed, FeedTakesAll, FeedTakesWithin, JudgedIsSaid, NewStands, OctetFollows, OneIsSaid, RefusedStays, WroteFollows};
+ghost use Rattle.amqp_model.specs.End.Asks.{Ask, Refusal};
+ghost use Rattle.amqp_model.specs.Stream.Endpoint.{Endpoint};
+ghost use Rattle.amqp_model.specs.Wire.Frame.{Frame};
+ghost use Rattle.amqp_model.specs.History.Histories.{History};
+ghost use Rattle.amqp_model.specs.History.Negotiation.{Config};
+ghost use Rattle.amqp_model.specs.Wire.Notes.{Role};
+ghost use Rattle.amqp_model.specs.Laws.OctetLaws.{AcceptedFollows, CutGoesOn, CutStops, FailedWrites, FeedFollows, FeedProgresses, FeedStaysClosed, FeedStaysFailed, FeedTakesAll, FeedTakesWithin, JudgedIsSaid, NewStands, OctetFollows, OneIsSaid, RefusedStays, WroteFollows};
 
 use crate::fitting::written_reads_back;
 

@@ -5,18 +5,18 @@
 //! each entry of that channel, and what the end does with a frame or with an ask is what its history gives.
 
 ghost use Rattle.std.specs.Prelude.{Bool, ℕ, List, Option};
-ghost use Rattle.amqp_model.specs.Asks.{Ask, first_free};
-ghost use Rattle.amqp_model.specs.Channels.{Channel, End};
-ghost use Rattle.amqp_model.specs.EndLaws.{AnswersOfHistory, AnyFails, AskFollows, AskOfHistory, AsksActs, EndFollows, EndSteps, FailedIsRead, FindsLowest, FollowsPut, FollowsTaken, FrameFails, FrameFollows, LawfulStands, LeavesOthers, NewEndStands, ReadsChannel, ReadsState, StandingHasNotFailed, StaysAtLeaving, StaysLeaving, StepFollows, TakesActs, TooLargeFails, VerdictAgrees, VerdictOfHistory};
-ghost use Rattle.amqp_model.specs.Frame.{Frame};
-ghost use Rattle.amqp_model.specs.FrameVerdict.{Facts};
-ghost use Rattle.amqp_model.specs.Histories.{ChannelEntry, Entry, History};
-ghost use Rattle.amqp_model.specs.LeavingLaws.{ClosesArePutLast, OctetsArePutAs};
-ghost use Rattle.amqp_model.specs.Negotiation.{Config};
-ghost use Rattle.amqp_model.specs.Notes.{Client, Note, Role, Server};
-ghost use Rattle.amqp_model.specs.Outputs.{Output};
-ghost use Rattle.amqp_model.specs.Pairs.{BothLawful, RunsOnEach};
-ghost use Rattle.amqp_model.specs.Readings.{Reading};
+ghost use Rattle.amqp_model.specs.End.Asks.{Ask, first_free};
+ghost use Rattle.amqp_model.specs.End.Channels.{Channel, End};
+ghost use Rattle.amqp_model.specs.Laws.EndLaws.{AnswersOfHistory, AnyFails, AskFollows, AskOfHistory, AsksActs, EndFollows, EndSteps, FailedIsRead, FindsLowest, FollowsPut, FollowsTaken, FrameFails, FrameFollows, LawfulStands, LeavesOthers, NewEndStands, ReadsChannel, ReadsState, StandingHasNotFailed, StaysAtLeaving, StaysLeaving, StepFollows, TakesActs, TooLargeFails, VerdictAgrees, VerdictOfHistory};
+ghost use Rattle.amqp_model.specs.Wire.Frame.{Frame};
+ghost use Rattle.amqp_model.specs.End.FrameVerdict.{Facts};
+ghost use Rattle.amqp_model.specs.History.Histories.{ChannelEntry, Entry, History};
+ghost use Rattle.amqp_model.specs.Laws.LeavingLaws.{ClosesArePutLast, OctetsArePutAs};
+ghost use Rattle.amqp_model.specs.History.Negotiation.{Config};
+ghost use Rattle.amqp_model.specs.Wire.Notes.{Client, Note, Role, Server};
+ghost use Rattle.amqp_model.specs.Output.Outputs.{Output};
+ghost use Rattle.amqp_model.specs.Pair.Pairs.{BothLawful, RunsOnEach};
+ghost use Rattle.amqp_model.specs.Wire.Readings.{Reading};
 
 /// What an end keeps of a channel follows from what it kept before, the entry, and the facts that its verdict rests
 /// on, and stands for that channel's entries extended.

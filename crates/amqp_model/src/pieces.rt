@@ -8,13 +8,13 @@
 ghost use Rattle.std.specs.Prelude.{ℕ, List};
 ghost use Rattle.amqp_frame.specs.Stream.{Stream};
 ghost use Rattle.amqp_frame.specs.declared.faults.FrameFaultKind.{FrameFaultKind};
-ghost use Rattle.amqp_model.specs.Asks.{Ask};
-ghost use Rattle.amqp_model.specs.Endpoint.{Endpoint};
-ghost use Rattle.amqp_model.specs.Frame.{Frame};
-ghost use Rattle.amqp_model.specs.Histories.{History};
-ghost use Rattle.amqp_model.specs.Negotiation.{Config};
-ghost use Rattle.amqp_model.specs.Notes.{Role};
-ghost use Rattle.amqp_model.specs.Pieces.{AskHolds, FeedBeginsOpening, FeedEndsOpening, FeedFindsFault, FeedGivesFrame, FeedHolds, FeedLeavesOpening, FeedWaits, NewHolds, StandsHolds, WroteHolds};
+ghost use Rattle.amqp_model.specs.End.Asks.{Ask};
+ghost use Rattle.amqp_model.specs.Stream.Endpoint.{Endpoint};
+ghost use Rattle.amqp_model.specs.Wire.Frame.{Frame};
+ghost use Rattle.amqp_model.specs.History.Histories.{History};
+ghost use Rattle.amqp_model.specs.History.Negotiation.{Config};
+ghost use Rattle.amqp_model.specs.Wire.Notes.{Role};
+ghost use Rattle.amqp_model.specs.Stream.Pieces.{AskHolds, FeedBeginsOpening, FeedEndsOpening, FeedFindsFault, FeedGivesFrame, FeedHolds, FeedLeavesOpening, FeedWaits, NewHolds, StandsHolds, WroteHolds};
 
 /// What is unfinished at an end is a proper prefix of the protocol header where that is awaited, and octets of one frame
 /// where frames are read: at a new end, at one that stands for a history, and after each piece, ask and write.

@@ -5,11 +5,11 @@
 //! and between two. What an end keeps is the requests that have no reply yet.
 
 ghost use Rattle.std.specs.Prelude.{ℕ};
-ghost use Rattle.amqp_model.specs.Channels.{End, Life};
-ghost use Rattle.amqp_model.specs.Histories.{History};
-ghost use Rattle.amqp_model.specs.InTurn.{AnswersInTurn, AsksOneAtATime, DueIsFirst, KeepsUnanswered, PairAnswersInTurn};
-ghost use Rattle.amqp_model.specs.Negotiation.{Config};
-ghost use Rattle.amqp_model.specs.Notes.{Client, Role, Server};
+ghost use Rattle.amqp_model.specs.End.Channels.{End, Life};
+ghost use Rattle.amqp_model.specs.History.Histories.{History};
+ghost use Rattle.amqp_model.specs.Pair.InTurn.{AnswersInTurn, AsksOneAtATime, DueIsFirst, KeepsUnanswered, PairAnswersInTurn};
+ghost use Rattle.amqp_model.specs.History.Negotiation.{Config};
+ghost use Rattle.amqp_model.specs.Wire.Notes.{Client, Role, Server};
 
 /// In each life of a channel the n-th reply of a server answers the n-th request that it acted on, and the n-th reply that
 /// a client acted on answers the n-th request that it sent. A client has at most one request without its reply.

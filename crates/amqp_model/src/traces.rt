@@ -5,16 +5,16 @@
 //! that leaves out an item, is none of them.
 
 ghost use Rattle.std.specs.Prelude.{ℕ, List};
-ghost use Rattle.amqp_model.specs.Asks.{Ask};
-ghost use Rattle.amqp_model.specs.Endpoint.{Endpoint};
-ghost use Rattle.amqp_model.specs.Events.{Message};
-ghost use Rattle.amqp_model.specs.Frame.{Frame};
-ghost use Rattle.amqp_model.specs.Histories.{History};
-ghost use Rattle.amqp_model.specs.Methods.{Method};
-ghost use Rattle.amqp_model.specs.Negotiation.{Config};
-ghost use Rattle.amqp_model.specs.Notes.{Role};
-ghost use Rattle.amqp_model.specs.RunningOut.{RanOutStays, RanOutWrites, RunsOut};
-ghost use Rattle.amqp_model.specs.Traces.{Direction, NotesFrame, PutsTellNothing, SaysAsk, SaysMessage, SaysMethod, TakenSaysNothing, TellsEvent, TracePuts, TraceTakes};
+ghost use Rattle.amqp_model.specs.End.Asks.{Ask};
+ghost use Rattle.amqp_model.specs.Stream.Endpoint.{Endpoint};
+ghost use Rattle.amqp_model.specs.End.Events.{Message};
+ghost use Rattle.amqp_model.specs.Wire.Frame.{Frame};
+ghost use Rattle.amqp_model.specs.History.Histories.{History};
+ghost use Rattle.amqp_model.specs.Wire.Methods.{Method};
+ghost use Rattle.amqp_model.specs.History.Negotiation.{Config};
+ghost use Rattle.amqp_model.specs.Wire.Notes.{Role};
+ghost use Rattle.amqp_model.specs.Stream.RunningOut.{RanOutStays, RanOutWrites, RunsOut};
+ghost use Rattle.amqp_model.specs.Stream.Traces.{Direction, NotesFrame, PutsTellNothing, SaysAsk, SaysMessage, SaysMethod, TakenSaysNothing, TellsEvent, TracePuts, TraceTakes};
 
 /// Each frame put or taken is noted once, after all earlier ones, with its channel and the word for what it is to its channel.
 pub fn frames_are_noted()

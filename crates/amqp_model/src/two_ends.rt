@@ -7,15 +7,15 @@
 //! octets of one end carry to the other, channel by channel.
 
 ghost use Rattle.std.specs.Prelude.{Bool, ℕ, suc, List, Option};
-ghost use Rattle.amqp_model.specs.CarryingLaws.{CompletedComesNext, FramesAreOfChannel, NotesAreOfFrames, OpeningsMeet, TakesPrefixOnEach};
-ghost use Rattle.amqp_model.specs.Contents.{Payload};
-ghost use Rattle.amqp_model.specs.Frame.{Frame};
-ghost use Rattle.amqp_model.specs.Histories.{History};
-ghost use Rattle.amqp_model.specs.Negotiation.{Config};
-ghost use Rattle.amqp_model.specs.Notes.{Client, Role, Server};
-ghost use Rattle.amqp_model.specs.Pairs.{NewEndsPair, PairAt, StepStaysPair};
-ghost use Rattle.amqp_model.specs.SentLaws.{OnEachPair, ActsOnPrefixOfItems, AllItemsActedOnAtClose, AllItemsActedOnAtConnectionClose, AllItemsActedOnOfEnded, FaultTellsNothing, ItemsSentAreActedOnOrInFlight, NoItemsBeforeFirstLife, NothingOfChannel0, SaysWhatIsSent, TellsWhatIsActedOn};
-ghost use Rattle.amqp_model.specs.WholeMessages.{EachFitsNext, FitsWhatIsKept, PutsWholeMessages};
+ghost use Rattle.amqp_model.specs.Laws.CarryingLaws.{CompletedComesNext, FramesAreOfChannel, NotesAreOfFrames, OpeningsMeet, TakesPrefixOnEach};
+ghost use Rattle.amqp_model.specs.Wire.Contents.{Payload};
+ghost use Rattle.amqp_model.specs.Wire.Frame.{Frame};
+ghost use Rattle.amqp_model.specs.History.Histories.{History};
+ghost use Rattle.amqp_model.specs.History.Negotiation.{Config};
+ghost use Rattle.amqp_model.specs.Wire.Notes.{Client, Role, Server};
+ghost use Rattle.amqp_model.specs.Pair.Pairs.{NewEndsPair, PairAt, StepStaysPair};
+ghost use Rattle.amqp_model.specs.Laws.SentLaws.{OnEachPair, ActsOnPrefixOfItems, AllItemsActedOnAtClose, AllItemsActedOnAtConnectionClose, AllItemsActedOnOfEnded, FaultTellsNothing, ItemsSentAreActedOnOrInFlight, NoItemsBeforeFirstLife, NothingOfChannel0, SaysWhatIsSent, TellsWhatIsActedOn};
+ghost use Rattle.amqp_model.specs.Pair.WholeMessages.{EachFitsNext, FitsWhatIsKept, PutsWholeMessages};
 
 /// Two new ends are a pair, and a pair stays one with each step of either end, where a frame that it takes is the next on
 /// its channel.

@@ -1,12 +1,12 @@
 //! What an end says of a frame, event included.
 
 ghost use Rattle.std.specs.Prelude.{Option};
-ghost use Rattle.amqp_model.specs.Channels.{Life};
-ghost use Rattle.amqp_model.specs.FrameVerdict.{Facts};
-ghost use Rattle.amqp_model.specs.Notes.{Kind, Role};
-ghost use Rattle.amqp_model.specs.Readings.{Reading};
-ghost use Rattle.amqp_model.specs.Verdict.{Event};
-ghost use Rattle.amqp_model.specs.VerdictInWords.{SaysAsLives, TellsItemEnded};
+ghost use Rattle.amqp_model.specs.End.Channels.{Life};
+ghost use Rattle.amqp_model.specs.End.FrameVerdict.{Facts};
+ghost use Rattle.amqp_model.specs.Wire.Notes.{Kind, Role};
+ghost use Rattle.amqp_model.specs.Wire.Readings.{Reading};
+ghost use Rattle.amqp_model.specs.History.Verdict.{Event};
+ghost use Rattle.amqp_model.specs.Laws.VerdictInWords.{SaysAsLives, TellsItemEnded};
 
 /// Where an end goes on after a frame of a channel above 0, its verdict is that of the lives of a channel, event and reply. Of a
 /// message it tells the item that is whole with the frame, if one is, on the channel of the frame.

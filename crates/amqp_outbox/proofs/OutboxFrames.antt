@@ -5,7 +5,7 @@ use Rattle.std.proofs.lemmas.List.{take_at}
 use Rattle.amqp_frame.specs.declared.frames.FrameKind.{FrameKind}
 use Rattle.amqp_frame.specs.declared.frames.FrameKind.TheVariants.{Method, Header, Body, Heartbeat}
 use Rattle.amqp_frame.specs.Frame.{Frame, header, octets, END}
-use Rattle.amqp_model.specs.Arrangement.{is_leaving, is_method, names_leaving}
+use Rattle.amqp_model.specs.Output.Arrangement.{is_leaving, is_method, names_leaving}
 use Rattle.amqp_frame.specs.Writing.{FinishesFrame}
 use Rattle.amqp_outbox.specs.OutboxSlots.{slot_of}
 use Rattle.amqp_outbox.proofs.OutboxRows.{length-octets}

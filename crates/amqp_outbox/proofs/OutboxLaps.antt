@@ -4,7 +4,7 @@ use Rattle.std.proofs.lemmas.Bool.{eqb-false, cond-true, cond-false, and_parts, 
 use Rattle.std.proofs.lemmas.List.{take_more, get_or_default}
 use Rattle.std.proofs.lemmas.List.Elements.{All-nil, All-cons, All-head, All-tail, All-weaker}
 use Rattle.amqp_frame.specs.Frame.{Frame}
-use Rattle.amqp_model.specs.Arrangement.{is_leaving, steps, turn, IsArranged, IsNext, HasChannel}
+use Rattle.amqp_model.specs.Output.Arrangement.{is_leaving, steps, turn, IsArranged, IsNext, HasChannel}
 use Rattle.amqp_outbox.specs.OutboxSlots.{slot_of, slot_last, slots_last, turns_before}
 use Rattle.amqp_outbox.specs.OutboxLaps.{lap_after, slot_lap, laps_of, laps_last, moment, is_after, count_until, AllAfter, AreInOrder, TakesLap}
 use Rattle.amqp_outbox.specs.declared.slots.Slot.{Slot}

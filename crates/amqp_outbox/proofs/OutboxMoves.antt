@@ -4,9 +4,9 @@ use Rattle.std.proofs.lemmas.List.{drop_at, take_at, length-map, length-take-le,
 use Rattle.std.proofs.lemmas.List.Elements.{All-nil, All-push, All-append, All-take, All-drop, All-cons, All-head, All-tail}
 use Rattle.amqp_frame.specs.Frame.{Frame, octets}
 use Rattle.amqp_frame.specs.Splitting.{stream}
-use Rattle.amqp_model.specs.Arrangement.{HasChannel, IsChannel, IsArranged, placed}
-use Rattle.amqp_model.specs.ArrangementLaws.{PutArranges}
-use Rattle.amqp_model.specs.Outputs.{output_octets, after_put, after_puts}
+use Rattle.amqp_model.specs.Output.Arrangement.{HasChannel, IsChannel, IsArranged, placed}
+use Rattle.amqp_model.specs.Laws.ArrangementLaws.{PutArranges}
+use Rattle.amqp_model.specs.Output.Outputs.{output_octets, after_put, after_puts}
 use Rattle.amqp_outbox.specs.OutboxSlots.{slot_of, slots_in, slot_length, slots_length, moved_up, moved_down}
 use Rattle.amqp_outbox.specs.OutboxView.{Outgoing, only, with_staged, all_put, IsPutOfFirst}
 use Rattle.amqp_outbox.specs.OutboxFields.{row_of, staged_of, outgoing_of, all_slots, IsSound}

@@ -3,8 +3,8 @@ use Rattle.std.proofs.Common.{◌≡◌, ℕ, ◌+◌, ◌<◌, ◌≤◌, true,
 use Rattle.std.proofs.lemmas.Bool.{cond-false, and_from}
 use Rattle.std.proofs.lemmas.List.{take-map, drop-map, length-map, length-take-le}
 use Rattle.amqp_frame.specs.Frame.{Frame}
-use Rattle.amqp_model.specs.Arrangement.{FramesOn, is_in, last_after, last_after_all, IsArranged, placed}
-use Rattle.amqp_model.specs.ArrangementLaws.{PlaceIsAfterItsQueue}
+use Rattle.amqp_model.specs.Output.Arrangement.{FramesOn, is_in, last_after, last_after_all, IsArranged, placed}
+use Rattle.amqp_model.specs.Laws.ArrangementLaws.{PlaceIsAfterItsQueue}
 use Rattle.amqp_outbox.specs.OutboxSlots.{slot_of, turns_before, EndsWithChannel}
 use Rattle.amqp_outbox.specs.declared.slots.Slot.{Slot}
 use Rattle.amqp_outbox.proofs.OutboxLists.{take_past, drop_past}

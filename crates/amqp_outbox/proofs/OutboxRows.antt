@@ -3,7 +3,7 @@ use Rattle.std.proofs.Common.{◌≡◌, ℕ, suc, Bool, true, false, cond, nat_
 use Rattle.std.proofs.lemmas.List.{take_at, drop_at}
 use Rattle.amqp_frame.specs.Frame.{Frame, octets, frame_length, END}
 use Rattle.amqp_frame.specs.Splitting.{stream}
-use Rattle.amqp_model.specs.Arrangement.{last_after, last_after_all, placed, turn}
+use Rattle.amqp_model.specs.Output.Arrangement.{last_after, last_after_all, placed, turn}
 use Rattle.amqp_outbox.specs.OutboxSlots.{slot_of, slot_length, slots_length, frame_in, frames_in, slots_last, turns_before}
 
 pub length-octets : (f : Frame) → length (octets f) ≡ frame_length f

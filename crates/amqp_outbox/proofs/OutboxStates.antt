@@ -3,7 +3,7 @@ use Rattle.std.proofs.Common.{◌≡◌, ℕ, ◌+◌, ◌^◌, ◌<◌, ◌≤�
 use Rattle.std.proofs.lemmas.List.{drop_at, length-map, length-take-le}
 use Rattle.amqp_frame.specs.Frame.{Frame}
 use Rattle.amqp_frame.specs.Splitting.{stream}
-use Rattle.amqp_model.specs.Arrangement.{IsArranged, HasChannel}
+use Rattle.amqp_model.specs.Output.Arrangement.{IsArranged, HasChannel}
 use Rattle.amqp_outbox.specs.OutboxSlots.{slot_of, frames_in}
 use Rattle.amqp_outbox.specs.OutboxLaps.{laps_of}
 use Rattle.amqp_outbox.specs.OutboxView.{Outgoing}

@@ -4,8 +4,8 @@ use Rattle.std.proofs.lemmas.Bool.{cond-false, and_parts}
 use Rattle.std.proofs.lemmas.List.{get_or_default, get_or-drop, get_or_at, take-map, drop-map, length-take-le, length-append, get_or-take}
 use Rattle.std.proofs.lemmas.List.Elements.{All-head, All-tail, All-take, All-drop}
 use Rattle.amqp_frame.specs.Frame.{Frame}
-use Rattle.amqp_model.specs.Arrangement.{is_leaving, steps, last_after, last_after_all, IsArranged, HasChannel}
-use Rattle.amqp_model.specs.ArrangementLaws.{PlaceIsAfterItsQueue}
+use Rattle.amqp_model.specs.Output.Arrangement.{is_leaving, steps, last_after, last_after_all, IsArranged, HasChannel}
+use Rattle.amqp_model.specs.Laws.ArrangementLaws.{PlaceIsAfterItsQueue}
 use Rattle.amqp_outbox.specs.OutboxSlots.{slot_of, slots_in, slots_last, turns_before, EndsWithChannel, IsPlace}
 use Rattle.amqp_outbox.specs.OutboxLaps.{lap_after, laps_in, laps_of, laps_last, moment, count_until, AreInOrder, Counts, TakesLap, IsLap}
 use Rattle.amqp_outbox.specs.declared.slots.Slot.{Slot}

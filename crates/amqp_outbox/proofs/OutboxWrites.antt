@@ -5,8 +5,8 @@ use Rattle.std.proofs.lemmas.List.{take_at, length-map, length-take-le, drop_all
 use Rattle.std.proofs.lemmas.List.Elements.{All-drop}
 use Rattle.amqp_frame.specs.Frame.{Frame, octets, frame_length}
 use Rattle.amqp_frame.specs.Splitting.{stream}
-use Rattle.amqp_model.specs.Arrangement.{IsArranged, HasChannel, last_after, last_after_all}
-use Rattle.amqp_model.specs.Outputs.{Output, output_octets, row_after_writing, after_writing}
+use Rattle.amqp_model.specs.Output.Arrangement.{IsArranged, HasChannel, last_after, last_after_all}
+use Rattle.amqp_model.specs.Output.Outputs.{Output, output_octets, row_after_writing, after_writing}
 use Rattle.amqp_outbox.specs.OutboxSlots.{slot_of, slots_length, slots_last, begun_by}
 use Rattle.amqp_outbox.specs.OutboxView.{Outgoing, with_output}
 use Rattle.amqp_outbox.specs.OutboxFields.{row_of, staged_of, outgoing_of, IsSound, all_slots}

@@ -4,7 +4,7 @@ use Rattle.amqp_method.specs.Encoding.{EncodesMethod}
 use Rattle.amqp_method.specs.Laws.{MethodIsRead, HeaderIsRead}
 use Rattle.amqp_method.specs.Plain as plain
 use Rattle.amqp_method.specs.Properties.{EncodesHeader}
-use Rattle.amqp_model.specs.Methods.{Method, Header, ReadsBack, method_at, header_at, method_read, header_read, plain_method, plain_header}
+use Rattle.amqp_model.specs.Wire.Methods.{Method, Header, ReadsBack, method_at, header_at, method_read, header_read, plain_method, plain_header}
 use Rattle.amqp_outbox.specs.OutboxFrames.{HeaderReadsBack}
 
 pub method_reads_back : (method : Method) → MethodIsRead → EncodesMethod method (plain.plain_method method) → ReadsBack method

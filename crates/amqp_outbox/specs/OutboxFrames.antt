@@ -2,9 +2,9 @@
 use Rattle.std.specs.Prelude.{◌≡◌, ℕ, List, Some}
 use Rattle.amqp_frame.specs.Frame.{Frame}
 use Rattle.amqp_method.specs.Properties.{ContentHeader}
-use Rattle.amqp_model.specs.Asks.{payload_frame}
-use Rattle.amqp_model.specs.Contents.{Header, Body}
-use Rattle.amqp_model.specs.Methods.{header_at, plain_header}
+use Rattle.amqp_model.specs.End.Asks.{payload_frame}
+use Rattle.amqp_model.specs.Wire.Contents.{Header, Body}
+use Rattle.amqp_model.specs.Wire.Methods.{header_at, plain_header}
 
 -- the frame of a content header, plainly encoded
 abbrev pub header_frame : (channel : ℕ) → ContentHeader → Frame

@@ -2,7 +2,7 @@
 -- lap: within a lap the frames of a row stand in the order of their channels.
 use Rattle.std.specs.Prelude.{◌≡◌, ℕ, suc, ◌+◌, ◌*◌, Bool, true, cond, ◌==◌, nat_lt, List, [], ◌∷◌, ◌++◌, map, take, drop, All}
 use Rattle.amqp_frame.specs.Frame.{Frame}
-use Rattle.amqp_model.specs.Arrangement.{IsArranged, HasChannel}
+use Rattle.amqp_model.specs.Output.Arrangement.{IsArranged, HasChannel}
 use Rattle.amqp_outbox.specs.OutboxSlots.{slot_of, slot_last}
 use Rattle.amqp_outbox.specs.declared.slots.Slot.{Slot}
 use Rattle.amqp_outbox.specs.declared.slots.Waiting.{Waiting}

@@ -1,7 +1,7 @@
 -- What the outbox keeps of a frame beside its octets, and what of a row can be read off that alone.
 use Rattle.std.specs.Prelude.{◌≡◌, ℕ, suc, ◌+◌, ◌-◌, cond, ◌==◌, nat_lt, ◌⊎◌, List, [], ◌∷◌, ◌++◌, length, map, take, drop, All}
 use Rattle.amqp_frame.specs.Frame.{Frame}
-use Rattle.amqp_model.specs.Arrangement.{is_leaving, steps, IsArranged, HasChannel, placed}
+use Rattle.amqp_model.specs.Output.Arrangement.{is_leaving, steps, IsArranged, HasChannel, placed}
 use Rattle.amqp_outbox.specs.declared.slots.Slot.{Slot}
 use Rattle.amqp_outbox.specs.declared.slots.Waiting.{Waiting}
 

@@ -1,8 +1,8 @@
 -- What callers see of an outbox.
 use Rattle.std.specs.Prelude.{◌≡◌, ℕ, List, [], ◌∷◌, ◌++◌}
 use Rattle.amqp_frame.specs.Frame.{Frame}
-use Rattle.amqp_model.specs.Outputs.{Output, after_put, after_puts}
-use Rattle.amqp_model.specs.Endpoint.{output_of}
+use Rattle.amqp_model.specs.Output.Outputs.{Output, after_put, after_puts}
+use Rattle.amqp_model.specs.Stream.Endpoint.{output_of}
 
 -- Frames are staged first, which may want memory, and then put all at once, which does not.
 pub record Outgoing : Type 0 where

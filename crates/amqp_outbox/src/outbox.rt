@@ -18,10 +18,10 @@ ghost use Rattle.std.specs.Prelude.{◌≡◌, ℕ, ◌+◌, ◌^◌, ◌<◌, �
 ghost use Rattle.amqp_method.specs.HeaderView.{header_view};
 ghost use Rattle.amqp_method.specs.MethodView.{method_view};
 ghost use Rattle.amqp_method.specs.Plain.{plain_method, plain_header, CountsAllFit, CountsPresentFit};
-ghost use Rattle.amqp_model.specs.ArrangementRules.{FollowsRules};
-ghost use Rattle.amqp_model.specs.Closes.{method_frame};
-ghost use Rattle.amqp_model.specs.Methods.{ReadsBack};
-ghost use Rattle.amqp_model.specs.Outputs.{output_octets, after_writing};
+ghost use Rattle.amqp_model.specs.Output.ArrangementRules.{FollowsRules};
+ghost use Rattle.amqp_model.specs.End.Closes.{method_frame};
+ghost use Rattle.amqp_model.specs.Wire.Methods.{ReadsBack};
+ghost use Rattle.amqp_model.specs.Output.Outputs.{output_octets, after_writing};
 ghost use Rattle.amqp_outbox.specs.OutboxFaults.{out_of_memory, too_long};
 ghost use Rattle.amqp_outbox.specs.OutboxFrames.{header_frame, body_frame, HeaderReadsBack};
 ghost use Rattle.amqp_outbox.specs.OutboxLaps.{laps_in};

@@ -2,7 +2,7 @@
 //!
 //! Only lengths are kept, never offsets, so that a frame that moves leaves the other slots as they are.
 ghost use Rattle.std.specs.Prelude.{◌≡◌, ◌+◌, ◌^◌, ◌<◌, ◌≤◌, length, take, drop};
-ghost use Rattle.amqp_model.specs.ArrangementLaws.{PlaceIsAfterItsQueue};
+ghost use Rattle.amqp_model.specs.Laws.ArrangementLaws.{PlaceIsAfterItsQueue};
 ghost use Rattle.amqp_outbox.specs.OutboxLaps.{lap_after, laps_in, laps_of, laps_last, moment, is_after, Counts, IsLap};
 ghost use Rattle.amqp_outbox.specs.OutboxSlots.{slot_length, slots_in, slots_length, slot_last, slots_last, begun_by, EndsWithChannel, IsPlace};
 

@@ -1,8 +1,8 @@
 -- What one sending more, or a refusal, says of the messages that wait.
 use Rattle.std.proofs.Common.{◌≡◌, ◌⊎◌, ◌<◌, List, [], ◌∷◌, length, drop, slice_index_or, Some, Result, Ok, Err, OnOk, IfErr, inl, inr, sym, ◌∙◌, ap, subst, arith}
-use Rattle.amqp_model.specs.Asks.{Send, Paused, ReplyPending}
-use Rattle.amqp_model.specs.Endpoint.{Endpoint}
-use Rattle.amqp_model.specs.Events.{Message}
+use Rattle.amqp_model.specs.End.Asks.{Send, Paused, ReplyPending}
+use Rattle.amqp_model.specs.Stream.Endpoint.{Endpoint}
+use Rattle.amqp_model.specs.End.Events.{Message}
 use Rattle.amqp_core.specs.Asking.{RefusesAsk}
 use Rattle.amqp_core.specs.Faults.{refusal_view}
 use Rattle.amqp_core.specs.Settings.{role_for}

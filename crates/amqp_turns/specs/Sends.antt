@@ -1,8 +1,8 @@
 -- Messages of a channel that are sent in turn: what waits, what one sending after another makes of it, and why it stops.
 use Rattle.std.specs.Prelude.{◌≡◌, ◌≢◌, ◌⊎◌, ℕ, List, [], ◌∷◌, Option, Some}
-use Rattle.amqp_model.specs.Asks.{Send, Paused, ReplyPending, Refusal, refusal}
-use Rattle.amqp_model.specs.Endpoint.{Endpoint}
-use Rattle.amqp_model.specs.Events.{Message}
+use Rattle.amqp_model.specs.End.Asks.{Send, Paused, ReplyPending, Refusal, refusal}
+use Rattle.amqp_model.specs.Stream.Endpoint.{Endpoint}
+use Rattle.amqp_model.specs.End.Events.{Message}
 use Rattle.amqp_core.specs.Asking.{AcceptsAsk, RefusesAsk}
 use Rattle.amqp_core.specs.Settings.{config_view, role_for}
 use Rattle.amqp_core.specs.declared.faults.AskFault.{AskFault}

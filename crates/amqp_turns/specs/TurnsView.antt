@@ -1,7 +1,7 @@
 -- What callers see of the messages that wait, and of them beside the end that is to send them.
 use Rattle.std.specs.Prelude.{List, map}
 use Rattle.amqp_method.specs.MessageView.{message_view}
-use Rattle.amqp_model.specs.Events.{Message}
+use Rattle.amqp_model.specs.End.Events.{Message}
 use Rattle.amqp_channel.specs.Messages.{message_of}
 use Rattle.amqp_core.specs.EndView.{endpoint_of, settings_at}
 use Rattle.amqp_core.specs.declared.end.End.{End}

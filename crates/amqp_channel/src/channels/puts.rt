@@ -1,13 +1,13 @@
 //! What an end puts on its channels.
 ghost use Rattle.std.specs.Prelude.{◌≡◌, ◌<◌, true, ℕ, List, OnOk, OnErr};
 ghost use Rattle.amqp_method.specs.MessageView.{message_view};
-ghost use Rattle.amqp_model.specs.Asks.{is_free, message_payloads};
-ghost use Rattle.amqp_model.specs.Closes.{close_as, flow_as, without_arguments};
-ghost use Rattle.amqp_model.specs.Frame.{Frame};
-ghost use Rattle.amqp_model.specs.Histories.{PutHere};
-ghost use Rattle.amqp_model.specs.Machine.{channel_after};
-ghost use Rattle.amqp_model.specs.Notes.{Client};
-ghost use Rattle.amqp_model.specs.Readings.{Calls, kind_of};
+ghost use Rattle.amqp_model.specs.End.Asks.{is_free, message_payloads};
+ghost use Rattle.amqp_model.specs.End.Closes.{close_as, flow_as, without_arguments};
+ghost use Rattle.amqp_model.specs.Wire.Frame.{Frame};
+ghost use Rattle.amqp_model.specs.History.Histories.{PutHere};
+ghost use Rattle.amqp_model.specs.End.Machine.{channel_after};
+ghost use Rattle.amqp_model.specs.Wire.Notes.{Client};
+ghost use Rattle.amqp_model.specs.Wire.Readings.{Calls, kind_of};
 ghost use Rattle.amqp_channel.specs.LifeView.{IsOther};
 ghost use Rattle.amqp_channel.specs.Messages.{message_of};
 ghost use Rattle.amqp_channel.specs.Puts.{after_payloads};

@@ -3,7 +3,7 @@
 //! The order is protocol header, start, start-ok, tune, tune-ok, open, open-ok. A close is answered at any step, and
 //! secure is not there.
 ghost use Rattle.std.specs.Prelude.{◌≡◌, ◌≤◌, ◌<◌, ◌^◌, ◌==◌, ◌&&◌, not, nat_lt, true};
-ghost use Rattle.amqp_model.specs.Negotiation.{smaller as smaller_limit};
+ghost use Rattle.amqp_model.specs.History.Negotiation.{smaller as smaller_limit};
 ghost use Rattle.amqp_channel.specs.Roles.{role_of};
 ghost use Rattle.amqp_core.specs.Handshakes.{answered_in, awaits_at, within};
 ghost use Rattle.amqp_core.specs.Stages.{phase_at};

@@ -1,10 +1,10 @@
 //! What an end puts of itself in reply to what it takes: all of it, or, out of memory, nothing.
 ghost use Rattle.std.specs.Prelude.{◌≡◌, cond, true, false, [], map, IsOk, OnOk, OnErr};
-ghost use Rattle.amqp_model.specs.Channels.{End, Free};
-ghost use Rattle.amqp_model.specs.Closes.{frame_of};
-ghost use Rattle.amqp_model.specs.Endpoint.{Found, fault_told, owed_at_fault};
-ghost use Rattle.amqp_model.specs.Machine.{as_failed};
-ghost use Rattle.amqp_model.specs.Outputs.{after_puts};
+ghost use Rattle.amqp_model.specs.End.Channels.{End, Free};
+ghost use Rattle.amqp_model.specs.End.Closes.{frame_of};
+ghost use Rattle.amqp_model.specs.Stream.Endpoint.{Found, fault_told, owed_at_fault};
+ghost use Rattle.amqp_model.specs.End.Machine.{as_failed};
+ghost use Rattle.amqp_model.specs.Output.Outputs.{after_puts};
 ghost use Rattle.amqp_outbox.specs.OutboxView.{only};
 ghost use Rattle.amqp_core.specs.Answering.{Reports, is_out_of_memory, stopped};
 ghost use Rattle.amqp_core.specs.ConnectionView.{connection_end, fault_of};

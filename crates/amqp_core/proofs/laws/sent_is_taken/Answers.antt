@@ -1,6 +1,6 @@
 use Rattle.std.proofs.Common.{refl}
-use Rattle.amqp_model.specs.Notes.{Role, Client, Server}
-use Rattle.amqp_model.specs.Methods.{MethodKind}
+use Rattle.amqp_model.specs.Wire.Notes.{Role, Client, Server}
+use Rattle.amqp_model.specs.Wire.Methods.{MethodKind}
 use Rattle.amqp_channel.specs.Roles.{SentIsTaken}
 use Rattle.amqp_core.proofs.laws.sent_is_taken.Goals as goal
 

@@ -1,12 +1,12 @@
 -- In the other two cases it has failed.
 use Rattle.std.proofs.Common.{◌≢◌, sym}
-use Rattle.amqp_model.specs.Histories.{History}
-use Rattle.amqp_model.specs.Negotiation.{Config}
-use Rattle.amqp_model.specs.Notes.{Role}
+use Rattle.amqp_model.specs.History.Histories.{History}
+use Rattle.amqp_model.specs.History.Negotiation.{Config}
+use Rattle.amqp_model.specs.Wire.Notes.{Role}
 use Rattle.amqp_core.specs.Tracing as tracing
 use Rattle.amqp_core.specs.Tracing.{Kept, Stands, StandsUnlessFailed}
-use Rattle.amqp_model.specs.Channels.{Failed}
-use Rattle.amqp_model.specs.OctetLaws.{EndpointStandsFor}
+use Rattle.amqp_model.specs.End.Channels.{Failed}
+use Rattle.amqp_model.specs.Laws.OctetLaws.{EndpointStandsFor}
 use Rattle.amqp_core.proofs.laws.unfailed_traces_stand.Goals as goal
 
 by_standing : (role : Role) (config : Config role) (kept : Kept) (history : History) → Stands role config kept history → kept.endpoint.end.phase ≢ Failed → EndpointStandsFor role config kept.endpoint history kept.fed kept.written

@@ -1,4 +1,4 @@
-use Rattle.amqp_model.specs.Methods.{plain_header}
+use Rattle.amqp_model.specs.Wire.Methods.{plain_header}
 use Rattle.amqp_core.proofs.refusing.header_passes.Goals as goal
 
 pub returns : goal.returns

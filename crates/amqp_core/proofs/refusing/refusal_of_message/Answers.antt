@@ -1,7 +1,7 @@
 use Rattle.std.proofs.Common.{rules, ◌≡◌, ◌&&◌, true, false, ap, sym, ◌∙◌}
 use Rattle.amqp_method.specs.MessageView.{message_view}
-use Rattle.amqp_model.specs.Asks.{is_pausable, is_sendable}
-use Rattle.amqp_model.specs.Events.{method_of}
+use Rattle.amqp_model.specs.End.Asks.{is_pausable, is_sendable}
+use Rattle.amqp_model.specs.End.Events.{method_of}
 use Rattle.amqp_channel.specs.LifeView.{life_view}
 use Rattle.amqp_channel.specs.Messages.{message_of}
 use Rattle.amqp_channel.specs.Roles.{role_of}

@@ -1,6 +1,6 @@
 use Rattle.std.proofs.Common.{rules, ◌≡◌, ◌<◌, ◌++◌, min, map, length, ap, ◌∙◌, arith}
 use Rattle.std.proofs.lemmas.List.{nil_from_length}
-use Rattle.amqp_model.specs.Contents.{pieces}
+use Rattle.amqp_model.specs.Wire.Contents.{pieces}
 use Rattle.amqp_outbox.specs.OutboxFrames.{body_frame}
 use Rattle.amqp_outbox.specs.OutboxView.{Outgoing}
 use Rattle.amqp_core.proofs.PieceLemmas.{part_staged, all_staged}

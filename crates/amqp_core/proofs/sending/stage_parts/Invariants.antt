@@ -1,5 +1,5 @@
 use Rattle.std.proofs.Common.{◌≡◌, ◌++◌, map, length}
-use Rattle.amqp_model.specs.Contents.{pieces}
+use Rattle.amqp_model.specs.Wire.Contents.{pieces}
 use Rattle.amqp_outbox.specs.OutboxFrames.{body_frame}
 use Rattle.amqp_core.proofs.sending.stage_parts.Given as goal
 

@@ -1,7 +1,7 @@
 -- The lists go on with the frames that are put.
 use Rattle.std.proofs.Common.{false, map}
 use Rattle.std.proofs.Math.Logic.{∥∥₁_map}
-use Rattle.amqp_model.specs.Asks.{frames_asked}
+use Rattle.amqp_model.specs.End.Asks.{frames_asked}
 use Rattle.amqp_channel.specs.Roles.{role_of}
 use Rattle.amqp_core.specs.AskView.{ask_view, lent_view}
 use Rattle.amqp_core.specs.EndView.{config_at, endpoint_of, role_played}

@@ -1,10 +1,10 @@
 -- The lists go on with what came of the piece, or, out of memory, stay as they are.
 use Rattle.std.proofs.Common.{◌≡◌, ◌≢◌, ◌<◌, ◌≤◌, ◌++◌, [], take, length, Bool, true, false, suc, Result, IfOk, refl, ap, sym, ◌∙◌, subst, arith}
 use Rattle.std.proofs.lemmas.List.{length-take-le}
-use Rattle.amqp_model.specs.Endpoint.{after_feed}
-use Rattle.amqp_model.specs.EndVerdict.{takes_octets}
-use Rattle.amqp_model.specs.Histories.{entries_on}
-use Rattle.amqp_model.specs.Outputs.{Output}
+use Rattle.amqp_model.specs.Stream.Endpoint.{after_feed}
+use Rattle.amqp_model.specs.End.EndVerdict.{takes_octets}
+use Rattle.amqp_model.specs.History.Histories.{entries_on}
+use Rattle.amqp_model.specs.Output.Outputs.{Output}
 use Rattle.amqp_channel.specs.PartsView.{parts_there}
 use Rattle.amqp_channel.specs.Roles.{role_of}
 use Rattle.amqp_core.specs.EndView.{config_at, endpoint_of, role_played, settings_at}

@@ -1,7 +1,7 @@
 -- An end is set up with a copy, on trial.
 use Rattle.std.proofs.Common.{subst}
-use Rattle.amqp_model.specs.Negotiation.{Config}
-use Rattle.amqp_model.specs.Notes.{Role}
+use Rattle.amqp_model.specs.History.Negotiation.{Config}
+use Rattle.amqp_model.specs.Wire.Notes.{Role}
 use Rattle.amqp_link.specs.LinkSteps.{Fits, IsFaultOf}
 use Rattle.amqp_link.proofs.link.try_config.Goals as goal
 

@@ -1,7 +1,7 @@
 -- The items of the life so far.
 use Rattle.std.proofs.Common.{◌≡◌, map, take}
 use Rattle.amqp_core.specs.NoteView.{item_view, telling_view}
-use Rattle.amqp_model.specs.Sent as sent
+use Rattle.amqp_model.specs.Pair.Sent as sent
 use Rattle.amqp_link.proofs.lives.items_of.Given as goal
 
 abbrev pub invariant-loop-telling : goal.invariant-loop-telling

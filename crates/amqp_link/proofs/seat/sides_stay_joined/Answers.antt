@@ -1,6 +1,6 @@
 -- Each of these laws is one of the definitions.
-use Rattle.amqp_model.specs.Notes.{other_end}
-use Rattle.amqp_model.specs.Pairs.{config_of}
+use Rattle.amqp_model.specs.Wire.Notes.{other_end}
+use Rattle.amqp_model.specs.Pair.Pairs.{config_of}
 use Rattle.amqp_link.proofs.seat.sides_stay_joined.Goals as goal
 
 pub returns : goal.returns

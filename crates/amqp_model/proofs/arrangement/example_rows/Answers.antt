@@ -1,7 +1,7 @@
 -- The rows compute. In the last of them header 1 would stand before publish 2.
 use Rattle.std.proofs.Common.{◌≤◌, refl, arith}
 use Rattle.amqp_frame.specs.Frame.{octets}
-use Rattle.amqp_model.specs.ArrangementExamples.{close}
+use Rattle.amqp_model.specs.Laws.ArrangementExamples.{close}
 use Rattle.amqp_model.proofs.arrangement.example_rows.Goals as goal
 
 pub returns-clause-long_and_short : goal.returns-clause-long_and_short

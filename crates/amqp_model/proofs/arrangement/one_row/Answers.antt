@@ -1,7 +1,7 @@
 -- Rows of the same frames that wait have the same queues.
 use Rattle.std.proofs.Common.{sym, ◌∙◌}
 use Rattle.amqp_model.proofs.Rows.{one-row, same-queues-all, arranged-arranges}
-use Rattle.amqp_model.specs.Arrangement.{HasChannel}
+use Rattle.amqp_model.specs.Output.Arrangement.{HasChannel}
 use Rattle.amqp_model.proofs.arrangement.one_row.Goals as goal
 
 pub returns-clause-one : goal.returns-clause-one

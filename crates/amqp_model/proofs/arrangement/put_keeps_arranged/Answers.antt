@@ -1,7 +1,7 @@
 -- The clauses are lemmas on rows.
 use Rattle.std.proofs.Common.{refl, sym, ◌∷◌, [], ◌++◌, ◌==◌, ◌∙◌}
 use Rattle.std.proofs.lemmas.List.Elements.{filter-append}
-use Rattle.amqp_model.specs.Arrangement.{FramesOn, placed}
+use Rattle.amqp_model.specs.Output.Arrangement.{FramesOn, placed}
 use Rattle.amqp_model.proofs.Rows.{placed-arranges, placed-gains, placed-after-queue, gains-queued}
 use Rattle.amqp_model.proofs.Departing.{placed-leaves}
 use Rattle.amqp_model.proofs.LeavingLast.{on-above}

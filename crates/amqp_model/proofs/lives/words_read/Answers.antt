@@ -1,5 +1,5 @@
 -- Five of the words are one recursion, `since`; the others are read by themselves.
-use Rattle.amqp_model.specs.Lives.{before_leaving, is_opening}
+use Rattle.amqp_model.specs.History.Lives.{before_leaving, is_opening}
 use Rattle.amqp_model.proofs.Words.{since_reads, how_many_reads, state_reads, has_left_reads, before_leaving_reads}
 use Rattle.amqp_model.proofs.lives.words_read.Goals as goal
 

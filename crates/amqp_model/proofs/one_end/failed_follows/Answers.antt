@@ -1,7 +1,7 @@
 -- Each clause is a lemma on histories.
 use Rattle.amqp_model.proofs.Failing.{frame-fails, too-large-fails, any-fails, failed-is-read}
 use Rattle.amqp_model.proofs.OctetHistories.{not-failed}
-use Rattle.amqp_model.specs.Histories.{entries_on}
+use Rattle.amqp_model.specs.History.Histories.{entries_on}
 use Rattle.amqp_model.proofs.one_end.failed_follows.Goals as goal
 
 pub returns-clause-frame : goal.returns-clause-frame

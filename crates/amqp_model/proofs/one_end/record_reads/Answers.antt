@@ -1,5 +1,5 @@
 -- Each clause is a lemma on the entries of a channel.
-use Rattle.amqp_model.specs.Histories.{entries_before_leaving}
+use Rattle.amqp_model.specs.History.Histories.{entries_before_leaving}
 use Rattle.amqp_model.proofs.Standing.{counted, state-reads}
 use Rattle.amqp_model.proofs.one_end.record_reads.Goals as goal
 

@@ -1,7 +1,7 @@
 use Rattle.std.proofs.Common.{◌++◌, ap, ◌∙◌, arith}
 use Rattle.std.proofs.lemmas.Result.{on_ok_weaker}
 use Rattle.amqp_method.specs.HeaderView.{header_view}
-use Rattle.amqp_model.specs.Methods.{plain_header}
+use Rattle.amqp_model.specs.Wire.Methods.{plain_header}
 use Rattle.amqp_outbox.specs.OutboxFrames.{header_frame}
 use Rattle.amqp_outbox.proofs.OutboxFrames.{finished-is}
 use Rattle.amqp_outbox.proofs.ReadLemmas.{header_reads_back}

@@ -1,8 +1,8 @@
 use Rattle.std.proofs.Common.{◌++◌, ap, ◌∙◌, arith}
 use Rattle.std.proofs.lemmas.Result.{on_ok_weaker}
 use Rattle.amqp_method.specs.MethodView.{method_view}
-use Rattle.amqp_model.specs.Methods.{plain_method}
-use Rattle.amqp_model.specs.Closes.{method_frame}
+use Rattle.amqp_model.specs.Wire.Methods.{plain_method}
+use Rattle.amqp_model.specs.End.Closes.{method_frame}
 use Rattle.amqp_outbox.proofs.OutboxFrames.{finished-is}
 use Rattle.amqp_outbox.proofs.ReadLemmas.{method_reads_back}
 use Rattle.amqp_outbox.proofs.staging.append_method.Goals as goal

@@ -1,5 +1,5 @@
 use Rattle.std.proofs.Common.{◌≡◌, length, ap, sym, ◌∙◌, ◌==◌}
-use Rattle.amqp_model.specs.Arrangement.{is_leaving, names_leaving}
+use Rattle.amqp_model.specs.Output.Arrangement.{is_leaving, names_leaving}
 use Rattle.amqp_outbox.proofs.OutboxFrames.{payload-is, slot-is, leaves-at_0, leaves-above, leaves-other}
 use Rattle.amqp_outbox.proofs.staging.slot_for.Goals as goal
 use Rattle.amqp_outbox.proofs.staging.slot_for.Goals.{in-Method+then-channel-eq0, in-Method+else-channel-eq0, in-Header}

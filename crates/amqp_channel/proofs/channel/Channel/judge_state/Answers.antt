@@ -1,6 +1,6 @@
 -- On an Open channel the verdict by its life is the verdict, since no earlier rule applies.
 use Rattle.amqp_method.specs.MethodRefView.{lent_call}
-use Rattle.amqp_model.specs.Channels.{Open}
+use Rattle.amqp_model.specs.End.Channels.{Open}
 use Rattle.amqp_channel.specs.LifeView.{life_view}
 use Rattle.amqp_channel.proofs.VerdictLemmas.{state_rules}
 use Rattle.amqp_channel.proofs.channel.Channel.judge_state.Goals as goal

@@ -1,5 +1,5 @@
 use Rattle.std.proofs.Common.{rules, ◌≡◌, true, false, arith}
-use Rattle.amqp_model.specs.Asks.{is_free}
+use Rattle.amqp_model.specs.End.Asks.{is_free}
 use Rattle.amqp_channel.specs.Used.{used_view}
 use Rattle.amqp_channel.proofs.FreeLemmas.{lowest_is, none_is, one_more}
 use Rattle.amqp_channel.proofs.channels.Channels.find_free.Goals as goal

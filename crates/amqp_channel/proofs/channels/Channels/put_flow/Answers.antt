@@ -1,6 +1,6 @@
 use Rattle.std.proofs.Common.{rules, ◌≡◌, ◌≢◌, ◌<◌, nat_eq, false, ℕ, suc, Some, ap, ◌∙◌}
 use Rattle.std.specs.HashMap.{get}
-use Rattle.amqp_model.specs.Asks.{is_free}
+use Rattle.amqp_model.specs.End.Asks.{is_free}
 use Rattle.amqp_channel.specs.Used.{kept_at, used_view}
 use Rattle.amqp_channel.proofs.FreeLemmas.{still_taken}
 use Rattle.amqp_channel.proofs.PlaceLemmas.{none_written}

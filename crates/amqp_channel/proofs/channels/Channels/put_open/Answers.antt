@@ -1,11 +1,11 @@
 use Rattle.std.proofs.Common.{ap, sym, ◌∙◌}
 use Rattle.std.proofs.lemmas.Result.{on_ok_weaker}
 use Rattle.amqp_method.specs.declared.kinds.Kind.TheVariants as kinds
-use Rattle.amqp_model.specs.Closes.{without_arguments}
-use Rattle.amqp_model.specs.Histories.{PutHere}
-use Rattle.amqp_model.specs.Machine.{channel_after}
-use Rattle.amqp_model.specs.Notes.{Client}
-use Rattle.amqp_model.specs.Readings.{Calls}
+use Rattle.amqp_model.specs.End.Closes.{without_arguments}
+use Rattle.amqp_model.specs.History.Histories.{PutHere}
+use Rattle.amqp_model.specs.End.Machine.{channel_after}
+use Rattle.amqp_model.specs.Wire.Notes.{Client}
+use Rattle.amqp_model.specs.Wire.Readings.{Calls}
 use Rattle.amqp_channel.specs.ChannelsView.{channels_view}
 use Rattle.amqp_channel.proofs.FreeLemmas.{free_is}
 use Rattle.amqp_channel.proofs.channels.Channels.put_open.Goals as goal

@@ -1,10 +1,10 @@
 use Rattle.std.proofs.Common.{◌≡◌, ℕ, ap, sym, ◌∙◌}
 use Rattle.std.proofs.lemmas.Result.{err_from_is_err_and}
 use Rattle.amqp_method.specs.MessageView.{message_view}
-use Rattle.amqp_model.specs.Asks as asks
-use Rattle.amqp_model.specs.Asks.{refusal}
-use Rattle.amqp_model.specs.Channels.{Life}
-use Rattle.amqp_model.specs.Events.{Message}
+use Rattle.amqp_model.specs.End.Asks as asks
+use Rattle.amqp_model.specs.End.Asks.{refusal}
+use Rattle.amqp_model.specs.End.Channels.{Life}
+use Rattle.amqp_model.specs.End.Events.{Message}
 use Rattle.amqp_channel.specs.EventView.{agreed_view}
 use Rattle.amqp_channel.specs.LifeView.{life_view}
 use Rattle.amqp_channel.specs.Messages.{message_of}

@@ -1,6 +1,6 @@
 use Rattle.std.proofs.Common.{Some, refl}
 use Rattle.std.proofs.lemmas.Result.{err_from_is_err_and}
-use Rattle.amqp_model.specs.Asks as asks
+use Rattle.amqp_model.specs.End.Asks as asks
 use Rattle.amqp_channel.specs.ChannelsView.{channels_view}
 use Rattle.amqp_core.specs.ConnectionView.{connection_end}
 use Rattle.amqp_core.specs.Settings.{role_for}

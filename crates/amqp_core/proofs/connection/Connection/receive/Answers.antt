@@ -2,12 +2,12 @@
 use Rattle.std.proofs.Common.{Bool, cond, refl, ap, sym, ◌∙◌, subst}
 use Rattle.std.proofs.lemmas.Bool.{false≢true}
 use Rattle.amqp_frame.specs.Frame.{lent}
-use Rattle.amqp_model.specs.Channels.{End}
-use Rattle.amqp_model.specs.EndVerdict.{end_puts}
-use Rattle.amqp_model.specs.Endpoint.{Outcome}
-use Rattle.amqp_model.specs.Machine.{as_failed, end_after_taken}
-use Rattle.amqp_model.specs.Outputs.{Output, after_puts}
-use Rattle.amqp_model.specs.Readings.{Reading, reading as says}
+use Rattle.amqp_model.specs.End.Channels.{End}
+use Rattle.amqp_model.specs.End.EndVerdict.{end_puts}
+use Rattle.amqp_model.specs.Stream.Endpoint.{Outcome}
+use Rattle.amqp_model.specs.End.Machine.{as_failed, end_after_taken}
+use Rattle.amqp_model.specs.Output.Outputs.{Output, after_puts}
+use Rattle.amqp_model.specs.Wire.Readings.{Reading, reading as says}
 use Rattle.amqp_outbox.specs.OutboxView.{only}
 use Rattle.amqp_channel.specs.ChannelsView.{channels_view}
 use Rattle.amqp_channel.specs.PartsView.{parts_there}

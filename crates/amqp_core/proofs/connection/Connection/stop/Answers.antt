@@ -1,8 +1,8 @@
 -- The end has failed, with what was agreed before.
 use Rattle.std.proofs.Common.{refl, sym, subst, cond, Bool}
-use Rattle.amqp_model.specs.Channels.{End}
-use Rattle.amqp_model.specs.Endpoint.{owed_at_fault}
-use Rattle.amqp_model.specs.Machine.{as_failed, end_after_owed}
+use Rattle.amqp_model.specs.End.Channels.{End}
+use Rattle.amqp_model.specs.Stream.Endpoint.{owed_at_fault}
+use Rattle.amqp_model.specs.End.Machine.{as_failed, end_after_owed}
 use Rattle.amqp_core.specs.Answering.{stopped}
 use Rattle.amqp_core.specs.ConnectionView.{connection_end}
 use Rattle.amqp_core.specs.Outcomes.{SameEnd}

@@ -1,6 +1,6 @@
 use Rattle.std.proofs.Common.{rules, ◌≡◌, false, ap, ◌∙◌}
 use Rattle.amqp_method.specs.MethodRefView.{lent_call}
-use Rattle.amqp_model.specs.Negotiation.{smaller, tunes_too_small}
+use Rattle.amqp_model.specs.History.Negotiation.{smaller, tunes_too_small}
 use Rattle.amqp_core.proofs.VerdictLemmas.{settled_rules}
 use Rattle.amqp_core.proofs.connection.receive.judge_tune.Goals as goal
 

@@ -1,4 +1,4 @@
-use Rattle.amqp_model.specs.Channels.{Free}
+use Rattle.amqp_model.specs.End.Channels.{Free}
 use Rattle.amqp_core.proofs.connection.receive.judge_zero.Goals as goal
 
 pub returns-in-Method-clause-rules : goal.returns-in-Method-clause-rules

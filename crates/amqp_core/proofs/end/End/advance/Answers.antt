@@ -1,6 +1,6 @@
 -- What holds of the end holds of its endpoint.
 use Rattle.std.proofs.Common.{◌≡◌, Bool, ap, sym, ◌∙◌, subst, arith}
-use Rattle.amqp_model.specs.Endpoint.{after_feed}
+use Rattle.amqp_model.specs.Stream.Endpoint.{after_feed}
 use Rattle.amqp_channel.specs.PartsView.{parts_there}
 use Rattle.amqp_core.specs.AccountView.{taken_by}
 use Rattle.amqp_core.specs.Answering.{ran_out}

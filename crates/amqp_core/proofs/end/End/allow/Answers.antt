@@ -1,6 +1,6 @@
 -- What holds of the end holds of its endpoint.
 use Rattle.std.proofs.Common.{subst, IfErr}
-use Rattle.amqp_model.specs.Asks.{Ask}
+use Rattle.amqp_model.specs.End.Asks.{Ask}
 use Rattle.amqp_core.specs.Asking.{RefusesAsk}
 use Rattle.amqp_core.specs.EndView.{endpoint_of, role_played}
 use Rattle.amqp_core.proofs.KeptLemmas.{kept_sound}

@@ -1,6 +1,6 @@
 -- What holds of the end holds of its endpoint.
 use Rattle.std.proofs.Common.{ap, ◌∙◌, subst, OnOk, IfErr}
-use Rattle.amqp_model.specs.Asks.{Ask}
+use Rattle.amqp_model.specs.End.Asks.{Ask}
 use Rattle.amqp_core.specs.Asking.{AcceptsAsk, RefusesAsk}
 use Rattle.amqp_core.specs.EndView.{config_at, endpoint_of, role_played}
 use Rattle.amqp_core.specs.EndpointView.{endpoint_view}

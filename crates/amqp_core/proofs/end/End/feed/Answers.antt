@@ -1,6 +1,6 @@
 -- What came of the piece is answered.
 use Rattle.std.proofs.Common.{◌≡◌, ◌≢◌, ◌<◌, ◌≤◌, Bool, [], length, suc, Result, IfOk, IsOk, ap, sym, ◌∙◌, subst}
-use Rattle.amqp_model.specs.Histories.{entries_on}
+use Rattle.amqp_model.specs.History.Histories.{entries_on}
 use Rattle.amqp_channel.specs.PartsView.{parts_there}
 use Rattle.amqp_core.specs.Answering.{ran_out}
 use Rattle.amqp_core.specs.EndView.{config_at, endpoint_of, role_played}

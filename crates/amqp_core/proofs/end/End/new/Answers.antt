@@ -1,8 +1,8 @@
 -- What holds of an endpoint holds of the end.
 use Rattle.std.proofs.Common.{[], sym, ap, ◌∙◌, subst}
 use Rattle.std.proofs.Math.Logic.{∥∥₁_map}
-use Rattle.amqp_model.specs.Endpoint.{Endpoint, new_endpoint}
-use Rattle.amqp_model.specs.OctetLaws.{EndpointStandsFor}
+use Rattle.amqp_model.specs.Stream.Endpoint.{Endpoint, new_endpoint}
+use Rattle.amqp_model.specs.Laws.OctetLaws.{EndpointStandsFor}
 use Rattle.amqp_core.specs.EndpointView.{role_at}
 use Rattle.amqp_core.specs.Settings.{config_view, role_for}
 use Rattle.amqp_core.specs.declared.settings.Settings.{Settings}

@@ -1,6 +1,6 @@
 -- The request that is due is the one that every history counts.
 use Rattle.std.proofs.Common.{false}
-use Rattle.amqp_model.specs.Histories.{entries_on}
+use Rattle.amqp_model.specs.History.Histories.{entries_on}
 use Rattle.std.proofs.Common.{suc}
 use Rattle.amqp_core.specs.EndView.{config_at, endpoint_of, role_played}
 use Rattle.amqp_core.proofs.QueryLemmas.{due_is}

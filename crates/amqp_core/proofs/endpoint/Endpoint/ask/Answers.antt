@@ -4,7 +4,7 @@ use Rattle.amqp_core.specs.AskView.{lent_view}
 use Rattle.amqp_core.specs.ConnectionView.{connection_end}
 use Rattle.amqp_core.specs.EndpointView.{endpoint_view, role_at}
 use Rattle.amqp_core.specs.Settings.{config_view}
-use Rattle.amqp_model.specs.Asks.{frames_asked}
+use Rattle.amqp_model.specs.End.Asks.{frames_asked}
 use Rattle.amqp_core.proofs.AskedLemmas.{accepts, accepted_sound, refuses, refused_sound}
 use Rattle.amqp_core.proofs.endpoint.Endpoint.ask.Goals as goal
 

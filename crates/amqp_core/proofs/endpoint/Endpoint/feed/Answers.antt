@@ -1,9 +1,9 @@
 -- A piece that has octets loses one.
 use Rattle.std.proofs.Common.{◌≢◌, refl, sym, ap, ◌∙◌}
 use Rattle.std.proofs.lemmas.Bool.{true≢false}
-use Rattle.amqp_model.specs.Channels.{Failed}
-use Rattle.amqp_model.specs.EndVerdict.{takes_octets}
-use Rattle.amqp_model.specs.Endpoint.{after_feed}
+use Rattle.amqp_model.specs.End.Channels.{Failed}
+use Rattle.amqp_model.specs.End.EndVerdict.{takes_octets}
+use Rattle.amqp_model.specs.Stream.Endpoint.{after_feed}
 use Rattle.amqp_core.specs.AccountView.{taken_by}
 use Rattle.amqp_core.specs.ConnectionView.{connection_end}
 use Rattle.amqp_core.specs.EndpointView.{endpoint_view, role_at}

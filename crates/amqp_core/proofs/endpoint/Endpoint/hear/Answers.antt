@@ -1,7 +1,7 @@
 -- Octets of the protocol header are compared with it.
 use Rattle.std.proofs.Common.{◌+◌, ◌<◌, length, Option, None, refl, sym, ap, ◌∙◌, subst, arith}
-use Rattle.amqp_model.specs.Channels.{End}
-use Rattle.amqp_model.specs.Fitting.{IfAgreedFits}
+use Rattle.amqp_model.specs.End.Channels.{End}
+use Rattle.amqp_model.specs.End.Fitting.{IfAgreedFits}
 use Rattle.amqp_outbox.specs.OutboxView.{Outgoing}
 use Rattle.amqp_channel.specs.ChannelsView.{channels_view}
 use Rattle.amqp_channel.specs.PartsView.{parts_there}

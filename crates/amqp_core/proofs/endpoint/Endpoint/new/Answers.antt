@@ -1,11 +1,11 @@
 -- Nothing was taken or put yet.
 use Rattle.std.proofs.Common.{◌≡◌, sym, ap, ◌∙◌, subst}
-use Rattle.amqp_model.specs.Bounds.{EndIsWithin}
-use Rattle.amqp_model.specs.Channels.{End}
-use Rattle.amqp_model.specs.Endpoint as model
-use Rattle.amqp_model.specs.Endpoint.{output_of}
-use Rattle.amqp_model.specs.Octets.{opening_written}
-use Rattle.amqp_model.specs.Pieces.{HoldsUnfinished}
+use Rattle.amqp_model.specs.End.Bounds.{EndIsWithin}
+use Rattle.amqp_model.specs.End.Channels.{End}
+use Rattle.amqp_model.specs.Stream.Endpoint as model
+use Rattle.amqp_model.specs.Stream.Endpoint.{output_of}
+use Rattle.amqp_model.specs.Stream.Octets.{opening_written}
+use Rattle.amqp_model.specs.Stream.Pieces.{HoldsUnfinished}
 use Rattle.amqp_outbox.specs.OutboxView.{Outgoing}
 use Rattle.amqp_channel.specs.Roles.{role_of}
 use Rattle.amqp_core.specs.ConnectionView.{connection_end}

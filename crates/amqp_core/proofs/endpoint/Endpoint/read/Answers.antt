@@ -4,9 +4,9 @@ use Rattle.std.proofs.lemmas.Bool.{false≢true}
 use Rattle.amqp_frame.specs.Frame.{lent}
 use Rattle.amqp_frame.specs.Splitter.{Completes, Waits, after_feed_ref, place_after}
 use Rattle.amqp_frame.specs.Stream.{Stream}
-use Rattle.amqp_model.specs.EndVerdict.{end_verdict, facts_at}
-use Rattle.amqp_model.specs.Endpoint.{outcome_of}
-use Rattle.amqp_model.specs.Readings.{reading}
+use Rattle.amqp_model.specs.End.EndVerdict.{end_verdict, facts_at}
+use Rattle.amqp_model.specs.Stream.Endpoint.{outcome_of}
+use Rattle.amqp_model.specs.Wire.Readings.{reading}
 use Rattle.amqp_outbox.specs.OutboxView.{Outgoing}
 use Rattle.amqp_channel.specs.PartsView.{parts_there}
 use Rattle.amqp_channel.specs.declared.parts.EventParts.{EventParts}

@@ -1,7 +1,7 @@
 -- Of an end that has failed no octets are unfinished.
 use Rattle.std.proofs.Common.{refl, sym, ap, subst}
-use Rattle.amqp_model.specs.Channels.{End}
-use Rattle.amqp_model.specs.Fitting.{IfAgreedFits}
+use Rattle.amqp_model.specs.End.Channels.{End}
+use Rattle.amqp_model.specs.End.Fitting.{IfAgreedFits}
 use Rattle.amqp_core.specs.ConnectionView.{connection_end}
 use Rattle.amqp_core.specs.EndpointView.{endpoint_view, role_at}
 use Rattle.amqp_core.proofs.BoundLemmas.{bounded_failed}

@@ -1,8 +1,8 @@
 -- The lists go on with the frames that are put; a refused ask leaves them.
 use Rattle.std.proofs.Common.{◌+◌, ◌*◌, ◌≤◌, length, vec_len, vec_capacity, refl, ap, sym, ◌∙◌, subst, arith}
-use Rattle.amqp_model.specs.Asks.{frames_asked}
-use Rattle.amqp_model.specs.LawfulHistories.{then_put}
-use Rattle.amqp_model.specs.Outputs.{output_octets}
+use Rattle.amqp_model.specs.End.Asks.{frames_asked}
+use Rattle.amqp_model.specs.End.LawfulHistories.{then_put}
+use Rattle.amqp_model.specs.Output.Outputs.{output_octets}
 use Rattle.amqp_channel.specs.Roles.{role_of}
 use Rattle.amqp_core.specs.AskNoting.{count_asked}
 use Rattle.amqp_core.specs.AskView.{ask_view}

@@ -1,8 +1,8 @@
 -- The lists go on with what came of the piece, or, out of memory, stay as they are.
 use Rattle.std.proofs.Common.{suc, Err, ◌≡◌, ◌+◌, ◌≤◌, length, vec_len, vec_capacity, refl, ap, sym, ◌∙◌, subst, arith}
-use Rattle.amqp_model.specs.Endpoint.{after_feed}
-use Rattle.amqp_model.specs.Histories.{entries_on}
-use Rattle.amqp_model.specs.Outputs.{Output, output_octets}
+use Rattle.amqp_model.specs.Stream.Endpoint.{after_feed}
+use Rattle.amqp_model.specs.History.Histories.{entries_on}
+use Rattle.amqp_model.specs.Output.Outputs.{Output, output_octets}
 use Rattle.amqp_channel.specs.Roles.{role_of}
 use Rattle.amqp_core.specs.Answering.{ran_out}
 use Rattle.amqp_core.specs.EndView.{config_at, endpoint_of, role_played, settings_at}

@@ -1,6 +1,6 @@
 -- The request that is due is the one that its history counts.
 use Rattle.std.proofs.Common.{suc}
-use Rattle.amqp_model.specs.Histories.{entries_on}
+use Rattle.amqp_model.specs.History.Histories.{entries_on}
 use Rattle.amqp_core.specs.Counted.{is_failed}
 use Rattle.amqp_core.specs.TracedView.{config_at, role_played, traced_of}
 use Rattle.amqp_core.proofs.QueryLemmas.{due_is, standing}

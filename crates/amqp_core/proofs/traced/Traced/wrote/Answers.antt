@@ -1,8 +1,8 @@
 -- What is written of the output goes to what was written before.
 use Rattle.std.proofs.Common.{◌≡◌, ◌+◌, ◌-◌, ◌≤◌, ◌++◌, length, map, drop, take, vec_len, ap, sym, ◌∙◌, subst, arith}
 use Rattle.std.proofs.lemmas.List.{length-drop, length-take-le}
-use Rattle.amqp_model.specs.Endpoint.{Endpoint}
-use Rattle.amqp_model.specs.Outputs.{output_octets}
+use Rattle.amqp_model.specs.Stream.Endpoint.{Endpoint}
+use Rattle.amqp_model.specs.Output.Outputs.{output_octets}
 use Rattle.amqp_channel.specs.Roles.{role_of}
 use Rattle.amqp_core.specs.EndView.{config_at, endpoint_of, role_played, settings_at}
 use Rattle.amqp_core.specs.NoteView.{note_view, telling_view}

@@ -1,5 +1,5 @@
 -- The side that reads stays joined to the one that writes.
-use Rattle.amqp_model.specs.Notes.{Client, Server}
+use Rattle.amqp_model.specs.Wire.Notes.{Client, Server}
 use Rattle.amqp_link.specs.SeatView.{seat_view}
 use Rattle.amqp_link.proofs.Joining.{turned-there}
 use Rattle.amqp_link.proofs.Ways.{to-client, to-server}

@@ -1,6 +1,6 @@
 -- Two new sides are joined.
-use Rattle.amqp_model.specs.Negotiation.{Config}
-use Rattle.amqp_model.specs.Notes.{Client, Server}
+use Rattle.amqp_model.specs.History.Negotiation.{Config}
+use Rattle.amqp_model.specs.Wire.Notes.{Client, Server}
 use Rattle.amqp_link.specs.SeatView.{seat_view}
 use Rattle.amqp_link.specs.SetUps.{client_set_up, server_set_up}
 use Rattle.amqp_link.proofs.Joining.{new-joined}

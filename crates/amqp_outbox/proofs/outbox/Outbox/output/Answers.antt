@@ -1,5 +1,5 @@
 use Rattle.std.proofs.Common.{rules}
-use Rattle.amqp_model.specs.Arrangement.{IsChannel}
+use Rattle.amqp_model.specs.Output.Arrangement.{IsChannel}
 use Rattle.amqp_outbox.specs.OutboxFields.{row_of}
 use Rattle.amqp_outbox.proofs.OutboxMoves.{output-is}
 use Rattle.amqp_outbox.proofs.outbox.Outbox.output.Goals as goal

@@ -1,7 +1,7 @@
 use Rattle.std.proofs.Common.{refl, ◌∙◌, arith}
 use Rattle.amqp_frame.specs.Frame.{Frame}
 use Rattle.amqp_method.specs.HeaderView.{header_view}
-use Rattle.amqp_model.specs.Methods.{plain_header}
+use Rattle.amqp_model.specs.Wire.Methods.{plain_header}
 use Rattle.amqp_outbox.specs.OutboxFrames.{header_frame}
 use Rattle.amqp_outbox.specs.declared.outbox.Outbox.TheInside.{Inside}
 use Rattle.amqp_outbox.proofs.OutboxLapMoves.{laps-staged}

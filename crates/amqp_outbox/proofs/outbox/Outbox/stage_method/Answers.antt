@@ -1,8 +1,8 @@
 use Rattle.std.proofs.Common.{refl, ◌∙◌, arith}
 use Rattle.amqp_frame.specs.Frame.{Frame}
 use Rattle.amqp_method.specs.MethodView.{method_view}
-use Rattle.amqp_model.specs.Methods.{plain_method}
-use Rattle.amqp_model.specs.Closes.{method_frame}
+use Rattle.amqp_model.specs.Wire.Methods.{plain_method}
+use Rattle.amqp_model.specs.End.Closes.{method_frame}
 use Rattle.amqp_outbox.specs.declared.outbox.Outbox.TheInside.{Inside}
 use Rattle.amqp_outbox.proofs.OutboxLapMoves.{laps-staged}
 use Rattle.amqp_outbox.proofs.OutboxMoves.{frame-staged, frame-appended, length-appended, kept-staged, staged_view}
