@@ -1,10 +1,10 @@
 -- The counts of a tally are the numbers of the items sent and acted on.
-use Rattle.std.proofs.Common.{◌≡◌, Bool, true, false, ℕ, zero, suc, ◌+◌, ◌<◌, List, [], ◌∷◌, ◌++◌, length, map, flat_map, Option, Some, slice_get, refl, sym, ap, ◌∙◌, subst, arith}
+use Rattle.std.proofs.Common.{◌≡◌, Bool, true, false, ℕ, zero, suc, ◌+◌, List, [], ◌∷◌, ◌++◌, map, flat_map, Some, slice_get, sym, ap, ◌∙◌, subst, arith}
 use Rattle.std.specs.List.{All, enumerate_from}
 use Rattle.amqp_link.specs.Items.{CountsItems, said_at, tallies_at, tally_in, told_at}
 use Rattle.amqp_link.specs.LinkSteps.{Linked}
 use Rattle.amqp_link.specs.Seats.{Joint}
-use Rattle.amqp_link.specs.Tallies.{Tallied, begun_on, count_in, last_begun, numbers_to, tallies_in, tallies_on, two_entries}
+use Rattle.amqp_link.specs.Tallies.{Tallied, begun_on, count_in, last_begun, numbers_to, tallies_in, tallies_on}
 use Rattle.amqp_link.specs.TallyView.{tally_view}
 use Rattle.amqp_link.specs.declared.lives.Life.{Life}
 use Rattle.amqp_link.specs.declared.steps.Direction.{Direction}
