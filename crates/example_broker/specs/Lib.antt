@@ -1,0 +1,4 @@
+pub mod Credits
+pub mod Standing
+pub mod Topic
+pub mod TopicRows
