@@ -31,8 +31,11 @@ def says(what, wanted, found):
         print(f"failed: {what}: wanted {wanted!r:.300}, and not {found!r:.300}", flush=True)
 
 
-def connect():
-    where = pika.ConnectionParameters("127.0.0.1", PORT, heartbeat=0, blocked_connection_timeout=30)
+def connect(**properties):
+    """A connection, as a client with these properties beside pika's own."""
+    where = pika.ConnectionParameters(
+        "127.0.0.1", PORT, heartbeat=0, blocked_connection_timeout=30, client_properties=properties
+    )
     return pika.BlockingConnection(where)
 
 
@@ -349,6 +352,10 @@ def lives_of_queues():
     method, _, body = other.basic_get("b.left", auto_ack=True)
     says("pika: back after its connection is lost", (b"m", True), (body, method and method.redelivered))
     other.queue_delete("b.left")
+    second.close()
+    # RabbitMQ tells a client of a consumer that went with its queue if the client says that it wants that, as pika does
+    second = connect(capabilities={"consumer_cancel_notify": False})
+    other = second.channel()
     for _ in range(2):
         other.queue_declare("b.gone")
         # pika itself refuses to use a tag twice
