@@ -8,6 +8,7 @@ import os
 import pathlib
 import subprocess
 import sys
+import tempfile
 import time
 
 import amqp
@@ -487,7 +488,7 @@ def with_program(name, command):
     """A client in another language, which prints the same lines."""
     global failed
     go = {"GO111MODULE": "off", "GOPATH": "/usr/share/gocode", "GOFLAGS": ""}
-    go["GOCACHE"] = os.environ.get("GOCACHE", "/tmp/interop-go")
+    go["GOCACHE"] = os.environ.get("GOCACHE", os.path.join(tempfile.gettempdir(), "interop-go"))
     words = [*command, str(PORT)]
     ran = subprocess.run(words, capture_output=True, timeout=300, check=False, text=True, env={**os.environ, **go})
     lines = ran.stdout.splitlines()
