@@ -25,7 +25,7 @@ pub struct PlainMethod {
 /// What an event is made of: a message is still a method, or a content in its box, and all else is as in [`Event`].
 ///
 /// Each variant begins at a word, so that it is moved word by word: with parts that begin at any octet a small frame takes a
-/// third longer.
+/// tenth longer.
 #[derive(Drop)]
 pub enum EventParts {
     Negotiated(Aligned<Agreed>),
