@@ -3,5 +3,6 @@
 mod faults;
 mod large;
 mod memory;
+mod places;
 mod splitting;
 mod writing;

@@ -1,12 +1,12 @@
 -- What octets are, as a function of them, from what a look at them finds.
-use Rattle.std.proofs.Common.{◌≡◌, true, false, ℕ, ◌+◌, ◌-◌, ◌<◌, ◌≤◌, ◌==◌, nat_lt, List, [], ◌∷◌, length, take, drop, get_or, Some, refl, sym, ap, ◌∙◌, arith, eq-eqb}
+use Rattle.std.proofs.Common.{◌≡◌, Bool, true, false, cond, ℕ, ◌+◌, ◌-◌, ◌<◌, ◌≤◌, ◌==◌, nat_lt, List, [], ◌∷◌, length, take, drop, get_or, Option, Some, None, refl, sym, ap, ◌∙◌, arith, eq-eqb}
 use Rattle.std.proofs.lemmas.Bool.Decides.{nat_tests}
 use Rattle.byteorder.specs.Endian.{big_number}
 use Rattle.amqp_frame.specs.Frame.{Frame, END, type_octet}
 use Rattle.amqp_frame.specs.Splitting.{size_of}
-use Rattle.amqp_frame.specs.Judged.{Whole, Wrong, kind_of_type, channel_in, frame_in, judged_by_type, judged}
+use Rattle.amqp_frame.specs.Judged.{Begun, Whole, Wrong, kind_of_type, channel_in, frame_in, frame_of_type, frame_read, judged_by_end, judged_by_size, judged_by_type, judged}
 use Rattle.amqp_frame.specs.declared.faults.FrameFaultKind.{FrameFaultKind}
-use Rattle.amqp_frame.specs.declared.faults.FrameFaultKind.TheVariants.{BadEnd}
+use Rattle.amqp_frame.specs.declared.faults.FrameFaultKind.TheVariants.{TooLarge, BadEnd}
 use Rattle.amqp_frame.specs.declared.frames.FrameKind.{FrameKind}
 use Rattle.amqp_frame.proofs.FrameLemmas.{same_frame}
 use Rattle.amqp_frame.specs.declared.frames.FrameKind.TheVariants.{Method, Header, Body, Heartbeat}
@@ -67,3 +67,28 @@ judged_ended limit xs kind n long n_is within here type ended fault wrong =
     let whole : judged limit xs ≡ Whole (frame_in kind xs) = sym (typed limit xs kind (omega arith) type) ∙ simp (seven, limited, there, ending) in
     let clash : Whole (frame_in kind xs) ≡ Wrong fault = sym whole ∙ wrong in
     cc
+
+-- octets that are judged to begin with a frame read as that frame
+pub judged_is_read : (limit : ℕ) (xs : List ℕ) (f : Frame) → Whole f ≡ judged limit xs → frame_read xs ≡ Some f
+judged_is_read limit [] f e = absurd cc
+judged_is_read limit (x ∷ xs) f e = by_type (kind_of_type x) e
+  where
+    by_end : (kind : FrameKind) (b : Bool) → Whole f ≡ cond b (Whole (frame_in kind (x ∷ xs))) (Wrong BadEnd) → frame_of_type (Some kind) (x ∷ xs) ≡ Some f
+    by_end kind true e = cc
+    by_end kind false e = absurd cc
+
+    by_length : (kind : FrameKind) (b : Bool) → Whole f ≡ cond b Begun (judged_by_end kind (x ∷ xs)) → frame_of_type (Some kind) (x ∷ xs) ≡ Some f
+    by_length kind true e = absurd cc
+    by_length kind false e = by_end kind _ e
+
+    by_limit : (kind : FrameKind) (b : Bool) → Whole f ≡ cond b (Wrong TooLarge) (cond (nat_lt (length (x ∷ xs)) (size_of (x ∷ xs) + 8)) Begun (judged_by_end kind (x ∷ xs))) → frame_of_type (Some kind) (x ∷ xs) ≡ Some f
+    by_limit kind true e = absurd cc
+    by_limit kind false e = by_length kind _ e
+
+    by_seven : (kind : FrameKind) (b : Bool) → Whole f ≡ cond b Begun (judged_by_size limit kind (x ∷ xs)) → frame_of_type (Some kind) (x ∷ xs) ≡ Some f
+    by_seven kind true e = absurd cc
+    by_seven kind false e = by_limit kind _ e
+
+    by_type : (kind : Option FrameKind) → Whole f ≡ judged_by_type limit kind (x ∷ xs) → frame_of_type kind (x ∷ xs) ≡ Some f
+    by_type None e = absurd cc
+    by_type (Some kind) e = by_seven kind _ e

@@ -1,13 +1,14 @@
 -- What a splitter answers, from what it found in its buffer.
-use Rattle.std.proofs.Common.{◌≡◌, ℕ, zero, suc, inl, inr, ◌+◌, ◌-◌, ◌<◌, ◌≤◌, List, [], ◌∷◌, ◌++◌, length, take, drop, None, Option, refl, sym, ap, ◌∙◌, subst, arith, append_assoc, length-append}
+use Rattle.std.proofs.Common.{◌≡◌, ℕ, zero, suc, inl, inr, ◌+◌, ◌-◌, ◌<◌, ◌≤◌, List, [], ◌∷◌, ◌++◌, length, take, drop, None, Some, Option, refl, sym, ap, ◌∙◌, subst, arith, append_assoc, length-append}
 use Rattle.std.proofs.lemmas.List.{take_all, take-append-le, take-append-drop, append-nil, nil_from_length}
 use Rattle.std.proofs.lemmas.Bool.{cases_lt}
 use Rattle.amqp_frame.specs.Frame.{Frame, octets, Fits, frame_length}
 use Rattle.amqp_frame.specs.Splitting.{size_of, TellsFirst}
-use Rattle.amqp_frame.specs.Judged.{Wrong, judged, fault_place}
+use Rattle.amqp_frame.specs.Judged.{Wrong, judged, fault_place, frame_read}
 use Rattle.amqp_frame.specs.Stream.{Stream}
-use Rattle.amqp_frame.specs.Splitter.{place_after, taken_to, LacksMemoryIfNeeded, MayLackMemory, Completes, Waits, ToldAt, FirstFault, Faults, HasFrameAtStart}
-use Rattle.amqp_frame.specs.Judging.{IsBegun, IsFilled}
+use Rattle.amqp_frame.specs.Splitter.{place_after, taken_to, LacksMemoryIfNeeded, MayLackMemory, Completes, Waits, ToldAt, FirstFault, Faults, HasFrameAtStart, OfGiven, given_after}
+use Rattle.amqp_frame.specs.Judging.{IsBegun, IsFilled, IsWhole}
+use Rattle.amqp_frame.specs.declared.splitting.Place.TheVariants.{Buffer}
 use Rattle.amqp_frame.specs.declared.faults.FrameFaultKind.{FrameFaultKind}
 use Rattle.amqp_frame.specs.declared.faults.FrameFaultKind.TheVariants.{UnknownType, TooLarge, BadEnd, OutOfMemory, Failed}
 use Rattle.amqp_frame.proofs.FrameLemmas.{size-at_start}
@@ -113,9 +114,11 @@ some_octets [] some = absurd (some refl)
 some_octets (x ∷ xs) some = omega arith
 
 -- splitters with equal parts are equal
-pub same_stream : (pending others : List ℕ) (limit taken other : ℕ) (fault : Option ℕ) (to_fault : ℕ) → pending ≡ others → taken ≡ other
-    → ◌≡◌ {A = Stream} (record { pending = pending; limit = limit; taken = taken; fault = fault; taken_to_fault = to_fault }) (record { pending = others; limit = limit; taken = other; fault = fault; taken_to_fault = to_fault })
-same_stream pending others limit taken other fault to_fault p t = rw (p, t) refl
+pub same_stream : (pending others : List ℕ) (limit taken other : ℕ) (fault : Option ℕ) (to_fault : ℕ) (given another : Option Frame)
+    → pending ≡ others → taken ≡ other → given ≡ another
+    → ◌≡◌ {A = Stream} (record { pending = pending; limit = limit; taken = taken; fault = fault; taken_to_fault = to_fault; given = given })
+    (record { pending = others; limit = limit; taken = other; fault = fault; taken_to_fault = to_fault; given = another })
+same_stream pending others limit taken other fault to_fault given another p t g = rw (p, t, g) refl
 
 -- a fault is shown after the octets that were pending
 pub shown_after : (limit : ℕ) (old piece : List ℕ) (kind : FrameFaultKind) (place : ℕ) → IsBegun limit old → TellsFirst limit (old ++ piece) kind place → length old ≤ place
@@ -136,7 +139,8 @@ taken_to_is old piece Failed place n told is after n_is = absurd told.told
 
 -- after a fault that was shown
 pub failed_stream : (limit taken : ℕ) (fault : Option ℕ) (n m : ℕ) → n ≡ m
-    → ◌≡◌ {A = Stream} (record { pending = []; limit = limit; taken = taken; fault = fault; taken_to_fault = n }) (record { pending = []; limit = limit; taken = taken; fault = fault; taken_to_fault = m })
+    → ◌≡◌ {A = Stream} (record { pending = []; limit = limit; taken = taken; fault = fault; taken_to_fault = n; given = None })
+    (record { pending = []; limit = limit; taken = taken; fault = fault; taken_to_fault = m; given = None })
 failed_stream limit taken fault n m e = rw e refl
 
 -- a fault that octets show is no refusal of memory
@@ -181,3 +185,36 @@ lacks_at_frame old piece taken f begun within completes =
       no_fault = λ kind wrong. told_without_frame old.limit (old.pending ++ piece) kind (fault_place kind (old.pending ++ piece)) (judged_is_first old.limit (old.pending ++ piece) kind wrong)
           (record { f = f; tail = drop taken piece; fits = completes.fits; within = completes.within; at_start = at_start });
     }
+
+-- A frame that the octets taken alone are stands at the start of the piece.
+pub none_pending_none_given : (old : Stream) (piece : List ℕ) (taken : ℕ) (f : Frame) → Completes old (take taken piece) f
+    → (old.pending ≡ [] → HasFrameAtStart old.limit piece → ⊥) → old.pending ≡ [] → ⊥
+none_pending_none_given old piece taken f completes none empty =
+    let alone : take taken piece ≡ octets f = rw empty at completes.is_frame in
+    none empty (record {
+      f = f;
+      tail = drop taken piece;
+      fits = completes.fits;
+      within = completes.within;
+      at_start = sym (take-append-drop taken piece) ∙ ap (λ (zs : List ℕ). zs ++ drop taken piece) alone;
+    })
+
+-- the frame in a buffer that holds pending octets and those taken
+pub given_is : (pending taken buffer : List ℕ) → buffer ≡ pending ++ taken → (pending ≡ [] → ⊥) → frame_read buffer ≡ given_after pending taken
+given_is [] taken buffer joined some = absurd (some refl)
+given_is (octet ∷ pending) taken buffer joined some = ap frame_read joined
+
+-- the buffer ends where its frame does
+pub buffer_is_whole : (old : Stream) (piece buffer : List ℕ) (taken : ℕ) (f : Frame)
+    → IsFilled old.limit old.pending piece buffer taken
+    → frame_length f ≤ length buffer → frame_length f ≤ old.limit → Fits f → take (frame_length f) buffer ≡ octets f
+    → IsWhole buffer
+buffer_is_whole old piece buffer taken f filled long within fits is_frame =
+    let at_start : buffer ≡ octets f ++ drop (frame_length f) buffer = sym (take-append-drop (frame_length f) buffer) ∙ ap (λ (zs : List ℕ). zs ++ drop (frame_length f) buffer) is_frame in
+    let size : size_of buffer ≡ length f.payload = ap size_of at_start ∙ size-at_start f (drop (frame_length f) buffer) fits in
+    let short = filled.no_further (omega arith) (omega arith) in
+    record { header = omega arith; all = omega arith }
+
+-- what is lent of the buffer is what completes the frame
+pub given_completes : (old : Stream) (taken buffer : List ℕ) (f : Frame) → frame_read buffer ≡ Some f → Completes old taken f → OfGiven Buffer (frame_read buffer) (Completes old taken)
+given_completes old taken buffer f is completes = subst (λ given. OfGiven Buffer given (Completes old taken)) (sym is) completes

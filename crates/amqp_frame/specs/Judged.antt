@@ -30,6 +30,16 @@ channel_in octets = 256 * slice_index octets 1 + slice_index octets 2
 abbrev pub frame_in : FrameKind → List ℕ → Frame
 frame_in kind octets = record { kind = kind; channel = channel_in octets; payload = take (size_of octets) (drop 7 octets) }
 
+-- the frame of a kind that a type octet may stand for
+abbrev pub frame_of_type : Option FrameKind → List ℕ → Option Frame
+frame_of_type None octets = None
+frame_of_type (Some kind) octets = Some (frame_in kind octets)
+
+-- the frame that octets begin with, as their first seven have it: none where the type octet stands for no kind
+abbrev pub frame_read : List ℕ → Option Frame
+frame_read [] = None
+frame_read (type_octet ∷ later) = frame_of_type (kind_of_type type_octet) (type_octet ∷ later)
+
 -- the octet is there that is to end the frame
 abbrev pub judged_by_end : FrameKind → List ℕ → Judgement
 judged_by_end kind octets = cond (slice_index octets (size_of octets + 7) == END) (Whole (frame_in kind octets)) (Wrong BadEnd)

@@ -1,16 +1,42 @@
 -- How a splitter judges the octets of a frame begun, from the facts that it looks at.
-use Rattle.std.specs.Prelude.{◌≡◌, ◌≢◌, ℕ, ◌+◌, ◌<◌, ◌≤◌, Bool, true, false, List, [], ◌++◌, length, take, slice_index}
-use Rattle.amqp_frame.specs.Frame.{octets, Fits, frame_length, lent}
+use Rattle.std.specs.Prelude.{◌≡◌, ◌≢◌, ℕ, ◌+◌, ◌<◌, ◌≤◌, List, [], ◌++◌, length, take, slice_index, Option, Some, None}
+use Rattle.amqp_frame.specs.Frame.{Frame, octets, Fits, frame_length, lent}
 use Rattle.amqp_frame.specs.Splitting.{IsTypeOctet, size_of, TellsFirst}
 use Rattle.amqp_frame.specs.Judged as judged
 use Rattle.amqp_frame.specs.declared.faults.FrameFaultKind.{FrameFaultKind}
+use Rattle.amqp_frame.specs.declared.frames.FrameRef.{FrameRef}
+use Rattle.amqp_frame.specs.declared.judging.Held.{Held}
+use Rattle.amqp_frame.specs.declared.judging.Held.TheVariants as held
 use Rattle.amqp_frame.specs.declared.judging.Judgement.{Judgement}
 use Rattle.amqp_frame.specs.declared.judging.Judgement.TheVariants.{Begun, Wrong, Whole}
 
--- the buffer's octets, until they are spent
-abbrev pub pending_of : Bool → List ℕ → List ℕ
-pending_of true buffer = []
-pending_of false buffer = buffer
+-- the buffer's octets, as long as they are a frame begun
+abbrev pub pending_of : Held → List ℕ → List ℕ
+pending_of held.Begun buffer = buffer
+pending_of held.Given buffer = []
+pending_of held.Spent buffer = []
+
+-- the frame in the buffer, once a call has given it and until the next
+abbrev pub given_of : Held → List ℕ → Option Frame
+given_of held.Begun buffer = None
+given_of held.Given buffer = judged.frame_read buffer
+given_of held.Spent buffer = None
+
+-- the octets are as many as the payload's size in them says
+pub record IsWhole (xs : List ℕ) : Type 0 where
+  pub header : 7 ≤ length xs
+  pub all : length xs ≡ size_of xs + 8
+
+-- so are those of a frame that was given
+abbrev pub IsWholeIfGiven : Held → List ℕ → Type 0
+IsWholeIfGiven held.Begun buffer = Unit {0}
+IsWholeIfGiven held.Given buffer = IsWhole buffer
+IsWholeIfGiven held.Spent buffer = Unit {0}
+
+-- the frame lent, if one is
+abbrev pub lent_of : Option FrameRef → Option Frame
+lent_of None = None
+lent_of (Some f) = Some (lent f)
 
 -- nothing is wrong with what is there, and the end octet isn't
 pub record IsBegun (limit : ℕ) (xs : List ℕ) : Type 0 where

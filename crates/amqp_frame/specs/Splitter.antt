@@ -1,17 +1,20 @@
 -- What a piece of the stream does to a splitter, and what the splitter answers.
-use Rattle.std.specs.Prelude.{◌≡◌, ◌≢◌, ℕ, ◌+◌, ◌-◌, ◌^◌, ◌≤◌, List, [], ◌++◌, length, min, Option, Some, None, Result, Ok, Err}
+use Rattle.std.specs.Prelude.{◌≡◌, ◌≢◌, ℕ, ◌+◌, ◌-◌, ◌^◌, ◌≤◌, List, [], ◌∷◌, ◌++◌, length, take, min, Option, Some, None, Result, Ok, Err}
 use Rattle.std.specs.Borrow.{MutBor, Fml}
 use Rattle.std.specs.Io.BufRead.{Rests}
-use Rattle.amqp_frame.specs.Frame.{Frame, octets, Fits, frame_length}
+use Rattle.amqp_frame.specs.Frame.{Frame, octets, Fits, frame_length, lent}
 use Rattle.amqp_frame.specs.Splitting.{IsRest, TellsFirst}
-use Rattle.amqp_frame.specs.Judged.{Wrong, judged, fault_place}
+use Rattle.amqp_frame.specs.Judged.{Wrong, judged, fault_place, frame_read}
 use Rattle.amqp_frame.specs.Stream.{Stream}
 use Rattle.amqp_frame.specs.contracts.splitting.Splitter.{the_row}
 use Rattle.amqp_frame.specs.declared.faults.FrameFault.{FrameFault}
 use Rattle.amqp_frame.specs.declared.faults.FrameFaultKind.{FrameFaultKind}
 use Rattle.amqp_frame.specs.declared.faults.FrameFaultKind.TheVariants.{UnknownType, TooLarge, BadEnd, OutOfMemory, Failed}
+use Rattle.amqp_frame.specs.declared.splitting.Advanced.{Advanced}
 use Rattle.amqp_frame.specs.declared.splitting.Fed.{Fed}
 use Rattle.amqp_frame.specs.declared.splitting.FedRef.{FedRef}
+use Rattle.amqp_frame.specs.declared.splitting.Place.{Place}
+use Rattle.amqp_frame.specs.declared.splitting.Place.TheVariants.{Piece, Buffer}
 
 -- A place in the stream, counted from 0. The count stays at the greatest number of 64 bits.
 abbrev pub place_after : ℕ → ℕ → ℕ
@@ -66,10 +69,17 @@ pub record HasFrameAtStart (limit : ℕ) (piece : List ℕ) : Type 0 where
   pub within : frame_length f ≤ limit
   pub at_start : piece ≡ octets f ++ tail
 
+-- A frame of which octets were pending is given by way of the buffer; one of which none were lies in the piece.
+abbrev pub given_after : (pending taken : List ℕ) → Option Frame
+given_after [] taken = None
+given_after (octet ∷ pending) taken = frame_read (octet ∷ (pending ++ taken))
+
 -- after octets were taken: after a frame nothing is pending
 abbrev pub after_taking : {A : Type 0} → Stream → List ℕ → ℕ → Option A → Stream
-after_taking old piece taken None = record old { pending = old.pending ++ piece; taken = place_after old.taken taken }
-after_taking old piece taken (Some f) = record old { pending = []; taken = place_after old.taken taken }
+after_taking old piece taken None =
+    record old { pending = old.pending ++ piece; taken = place_after old.taken taken; given = None }
+after_taking old piece taken (Some f) =
+    record old { pending = []; taken = place_after old.taken taken; given = given_after old.pending (take taken piece) }
 
 -- how many octets of a piece are taken up to the octet that shows a fault, that octet included: none where memory was refused
 abbrev pub taken_to : FrameFaultKind → Stream → (piece : List ℕ) → ℕ
@@ -81,7 +91,8 @@ taken_to Failed old piece = old.taken_to_fault
 
 -- after a fault nothing is pending, and the place of the first fault stays
 abbrev pub after_fault : Stream → (piece : List ℕ) → FrameFault → Stream
-after_fault old piece fault = record old { pending = []; fault = Some fault.at; taken_to_fault = taken_to fault.kind old piece }
+after_fault old piece fault =
+    record old { pending = []; fault = Some fault.at; taken_to_fault = taken_to fault.kind old piece; given = None }
 
 abbrev pub after_feed : Stream → List ℕ → Result Fed FrameFault → Stream
 after_feed old piece (Ok fed) = after_taking old piece fed.taken fed.frame
@@ -90,6 +101,21 @@ after_feed old piece (Err fault) = after_fault old piece fault
 abbrev pub after_feed_ref : Stream → List ℕ → Result FedRef FrameFault → Stream
 after_feed_ref old piece (Ok fed) = after_taking old piece fed.taken fed.frame
 after_feed_ref old piece (Err fault) = after_fault old piece fault
+
+abbrev pub after_advance : Stream → List ℕ → Result Advanced FrameFault → Stream
+after_advance old piece (Ok advanced) = after_taking old piece advanced.taken advanced.place
+after_advance old piece (Err fault) = after_fault old piece fault
+
+-- The frame given meets P: the one in the piece, or the one in the buffer of the splitter as it was left.
+abbrev pub OfGiven : Place → (left : Option Frame) → (Frame → Type 0) → Type 0
+OfGiven (Piece f) left P = P (lent f)
+OfGiven Buffer None P = ⊥
+OfGiven Buffer (Some f) P = P f
+
+-- The frame lies in the piece where no octet of it was pending, and in the buffer otherwise.
+abbrev pub LiesAt : (pending : List ℕ) → Place → Type 0
+LiesAt pending (Piece f) = pending ≡ []
+LiesAt pending Buffer = pending ≢ []
 
 -- what the splitter is once the frame that it lent is given up
 abbrev pub LeavesAfter : MutBor Stream → List ℕ → Result FedRef FrameFault → Fml

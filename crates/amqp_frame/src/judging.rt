@@ -1,13 +1,24 @@
 //! Whether octets are a frame begun, a whole frame, or none.
 ghost use Rattle.std.specs.Prelude.{◌≡◌, ◌+◌, ◌≤◌, ◌^◌, ◌<◌, ◌++◌, [], length, slice_index, IfOk, IsTrue, MatchOption, None, vec_len};
 ghost use Rattle.amqp_frame.specs.Splitting.{size_of};
-ghost use Rattle.amqp_frame.specs.Judged.{judged as judgement_on};
-ghost use Rattle.amqp_frame.specs.Judging.{IsBegun, IsJudged, IsFilled, IsPlaced, ShowsFault, ShowsNoFault, judgement_view, pending_of};
+ghost use Rattle.amqp_frame.specs.Judged.{frame_read, judged as judgement_on};
+ghost use Rattle.amqp_frame.specs.Judging.{IsBegun, IsJudged, IsWhole, lent_of, IsFilled, IsPlaced, ShowsFault, ShowsNoFault, judgement_view, pending_of};
 
 use crate::faults::FrameFaultKind;
 use crate::frames::{END, FrameKind, FrameRef, HEADER_LENGTH, OVERHEAD};
 use byteorder::{BigEndian, ByteOrder};
 use std::alloc::AllocError;
+
+/// What a splitter's buffer holds.
+#[derive(Clone, Copy)]
+pub(crate) enum Held {
+    /// Octets of a frame that isn't whole yet, or none.
+    Begun,
+    /// The frame that the last call gave.
+    Given,
+    /// Octets that are needed no more.
+    Spent,
+}
 
 /// What octets that a frame begins are.
 #[derive(Clone, Copy)]
@@ -124,15 +135,19 @@ pub(crate) fn fault_across(
 
 /// Whether no fault was told and no octets are pending.
 #[inline(always)]
-pub(crate) fn is_between_frames(fault: Option<u64>, spent: bool, buffer: &Vec<u8>) -> bool
+pub(crate) fn is_between_frames(fault: Option<u64>, held: Held, buffer: &Vec<u8>) -> bool
     ensures no_fault { IsTrue result → fault ≡ None }
-    ensures none_pending { IsTrue result → pending_of spent buffer.now.items ≡ [] }
-    ensures otherwise { fault ≡ None → pending_of spent buffer.now.items ≡ [] → IsTrue result }
+    ensures none_pending { IsTrue result → pending_of held buffer.now.items ≡ [] }
+    ensures otherwise { fault ≡ None → pending_of held buffer.now.items ≡ [] → IsTrue result }
 {
     if fault.is_some() {
         return false;
     }
-    spent || buffer.is_empty()
+    match held {
+        Held::Begun => buffer.is_empty(),
+        Held::Given => true,
+        Held::Spent => true,
+    }
 }
 
 /// A buffer of at most so many octets keeps its room, used or not.
@@ -155,14 +170,29 @@ pub(crate) fn give_back(buffer: &mut Vec<u8>, unused: u8) -> u8
     0
 }
 
-/// Empties a buffer whose octets are spent.
+/// Empties a buffer whose octets are pending no more.
 #[inline]
-pub(crate) fn renew(buffer: &mut Vec<u8>, spent: bool)
-    ensures { buffer.new.items ≡ pending_of spent buffer.old.items }
+pub(crate) fn renew(buffer: &mut Vec<u8>, held: Held)
+    ensures { buffer.new.items ≡ pending_of held buffer.old.items }
 {
-    if spent {
-        buffer.clear();
+    match held {
+        Held::Begun => {}
+        Held::Given => buffer.clear(),
+        Held::Spent => buffer.clear(),
     }
+}
+
+/// The frame that these octets are, of which no more is looked at than the type octet and the channel.
+pub(crate) fn whole_frame(octets: &[u8]) -> Option<FrameRef<'_>>
+    requires { IsWhole octets.now }
+    ensures { lent_of result ≡ frame_read octets.now }
+{
+    let kind = FrameKind::from_octet(octets[0])?;
+    Some(FrameRef {
+        kind,
+        channel: BigEndian::read_u16(&octets[1..]),
+        payload: &octets[HEADER_LENGTH..octets.len() - 1],
+    })
 }
 
 /// Appends octets of the piece up to the end of the frame that the buffer begins, or to the octet that shows that the

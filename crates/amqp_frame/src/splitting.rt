@@ -2,12 +2,14 @@
 ghost use Rattle.std.specs.Prelude.{◌≡◌, ◌≢◌, ◌+◌, ◌<◌, ◌≤◌, [], ◌++◌, length, take, None, IsOk, IfOk, IfErr, IfSome, IfNone};
 ghost use Rattle.std.specs.Borrow.{sem};
 ghost use Rattle.amqp_frame.specs.Frame.{owned, lent};
-ghost use Rattle.amqp_frame.specs.Splitter.{Completes, Waits, Faults, LacksMemoryIfNeeded, HasFrameAtStart, after_feed, LeavesAfter};
+ghost use Rattle.amqp_frame.specs.Judging.{lent_of};
+ghost use Rattle.amqp_frame.specs.Splitter.{Completes, Waits, Faults, LacksMemoryIfNeeded, HasFrameAtStart, OfGiven, LiesAt, after_advance, after_feed, LeavesAfter};
 
 use crate::faults::{FrameFault, FrameFaultKind};
 use crate::frames::{FrameRef, OVERHEAD, RawFrame};
 use crate::judging::{
-    Judgement, KEPT, fault_across, fill, give_back, is_between_frames, judge, renew,
+    Held, Judgement, KEPT, fault_across, fill, give_back, is_between_frames, judge, renew,
+    whole_frame,
 };
 use std::alloc::Global;
 use std::marker::Model;
@@ -26,6 +28,22 @@ pub struct FedRef<'a> {
     pub frame: Option<FrameRef<'a>>,
 }
 
+/// Where the frame lies that the taken octets end.
+#[derive(Clone, Copy, PartialEq, Eq, Debug)]
+pub enum Place<'a> {
+    /// In the piece.
+    Piece(FrameRef<'a>),
+    /// In the splitter's buffer, which [`Splitter::buffered`] lends.
+    Buffer,
+}
+
+/// What a piece gave: how many of its octets were taken, and where the frame lies that the last of them ends.
+#[derive(Clone, Copy, PartialEq, Eq, Debug)]
+pub struct Advanced<'a> {
+    pub taken: usize,
+    pub place: Option<Place<'a>>,
+}
+
 /// Splits a stream into its frames, piece by piece.
 ///
 /// A frame that is cut is gathered in a buffer. A buffer of more than 16,384 octets is given back once sixteen frames in a row
@@ -40,8 +58,8 @@ pub struct Splitter {
     fault: Option<u64>,
     /// how many octets of its piece were taken up to the octet that showed it
     taken_to_fault: usize,
-    /// the buffer's octets are pending no more: their frame was given, or a fault was told
-    spent: bool,
+    /// what the buffer's octets are
+    held: Held,
     buffer: Vec<u8>,
     /// how many frames in a row needed no buffer while it had more room than is kept
     unused: u8,
@@ -68,6 +86,7 @@ impl Splitter {
         ensures taken { result.taken ≡ 0 }
         ensures fault { result.fault ≡ None }
         ensures taken_to_fault { result.taken_to_fault ≡ 0 }
+        ensures given { result.given ≡ None }
     {
         Splitter {
             alloc,
@@ -75,7 +94,7 @@ impl Splitter {
             taken: 0,
             fault: None,
             taken_to_fault: 0,
-            spent: false,
+            held: Held::Begun,
             buffer: Vec::new(alloc),
             unused: 0,
         }
@@ -86,7 +105,11 @@ impl Splitter {
         ensures value { result ≡ length self.now.pending }
         ensures below_limit { result < self.now.limit }
     {
-        if self.spent { 0 } else { self.buffer.len() }
+        match self.held {
+            Held::Begun => self.buffer.len(),
+            Held::Given => 0,
+            Held::Spent => 0,
+        }
     }
 
     /// How many octets a frame may have.
@@ -113,7 +136,132 @@ impl Splitter {
         self.limit = limit;
     }
 
-    /// Takes octets up to the end of the next frame and no further, and lends that frame.
+    /// Takes octets up to the end of the next frame and no further, and says where that frame lies.
+    ///
+    /// It lies in the piece where no octet of it was pending, and no memory is taken then. Otherwise it lies in the
+    /// buffer: [`Splitter::buffered`] lends it, until the next call that is to take octets. An empty piece gives no
+    /// frame. After a fault each call answers [`FrameFaultKind::Failed`].
+    #[inline]
+    pub fn advance<'a>(&mut self, piece: &'a [u8]) -> Result<Advanced<'a>, FrameFault>
+        // With a frame, the octets pending and taken are that frame, no longer than the limit.
+        ensures frame { IfOk result (λ advanced. IfSome advanced.place
+            (λ place. OfGiven place self.new.given (Completes self.old (take advanced.taken piece.now)))) }
+        // Without one, all was taken, and what is pending now is a rest that shows no fault.
+        ensures rest { IfOk result (λ advanced. IfNone advanced.place (Waits self.old piece.now advanced.taken)) }
+        // A fault is reported by the stream, at the first octet that shows it, or it is out of memory.
+        ensures fault { IfErr result (λ fault. Faults self.old.fault self.old piece.now fault) }
+        // Memory is refused only where an octet has to be kept, and never in place of a fault.
+        ensures memory { IfErr result (λ fault. LacksMemoryIfNeeded fault.kind self.old piece.now) }
+        // After a fault there is no other answer.
+        ensures running { IsOk result → self.old.fault ≡ None }
+
+        ensures within { IfOk result (λ advanced. advanced.taken ≤ length piece.now) }
+        ensures progress { IfOk result (λ advanced. piece.now ≢ [] → 0 < advanced.taken) }
+        ensures lies { IfOk result (λ advanced. IfSome advanced.place (LiesAt self.old.pending)) }
+        ensures in_place { self.old.fault ≡ None → self.old.pending ≡ []
+            → HasFrameAtStart self.old.limit piece.now → IsOk result }
+        ensures after { self.new ≡ after_advance self.old piece.now result }
+    {
+        if is_between_frames(self.fault, self.held, &self.buffer) {
+            match judge(piece, self.limit) {
+                Judgement::Whole(frame) => {
+                    let taken = frame.payload.len() + OVERHEAD;
+                    self.taken = self.taken.saturating_add(taken as u64);
+                    self.held = Held::Spent;
+                    if self.buffer.capacity() > KEPT {
+                        self.unused = give_back(&mut self.buffer, self.unused);
+                    }
+                    return Ok(Advanced {
+                        taken,
+                        place: Some(Place::Piece(frame)),
+                    });
+                }
+                Judgement::Wrong(_, _) => {}
+                Judgement::Begun => {}
+            }
+        }
+        self.advance_buffer(piece)
+    }
+
+    /// The same by way of the buffer, where no whole frame lies in the piece. It stands apart so that the path above,
+    /// which takes a frame in place, stays small.
+    #[inline(never)]
+    fn advance_buffer<'a>(&mut self, piece: &'a [u8]) -> Result<Advanced<'a>, FrameFault>
+        requires { self.old.fault ≡ None → self.old.pending ≡ [] → HasFrameAtStart self.old.limit piece.now → ⊥ }
+        ensures frame { IfOk result (λ advanced. IfSome advanced.place
+            (λ place. OfGiven place self.new.given (Completes self.old (take advanced.taken piece.now)))) }
+        ensures rest { IfOk result (λ advanced. IfNone advanced.place (Waits self.old piece.now advanced.taken)) }
+        ensures fault { IfErr result (λ fault. Faults self.old.fault self.old piece.now fault) }
+        ensures memory { IfErr result (λ fault. LacksMemoryIfNeeded fault.kind self.old piece.now) }
+        ensures running { IsOk result → self.old.fault ≡ None }
+
+        ensures within { IfOk result (λ advanced. advanced.taken ≤ length piece.now) }
+        ensures progress { IfOk result (λ advanced. piece.now ≢ [] → 0 < advanced.taken) }
+        ensures lies { IfOk result (λ advanced. IfSome advanced.place (LiesAt self.old.pending)) }
+        ensures after { self.new ≡ after_advance self.old piece.now result }
+    {
+        if let Some(at) = self.fault {
+            return Err(FrameFault {
+                at,
+                kind: FrameFaultKind::Failed,
+            });
+        }
+        renew(&mut self.buffer, self.held);
+        self.held = Held::Begun;
+        self.unused = 0;
+        if piece.is_empty() {
+            return Ok(Advanced {
+                taken: 0,
+                place: None,
+            });
+        }
+        let before = self.taken;
+        if let Some((kind, place)) = fault_across(&self.buffer, piece, self.limit) {
+            let passed = place - self.buffer.len();
+            let at = before.saturating_add(passed as u64);
+            self.fault = Some(at);
+            self.taken_to_fault = passed + 1;
+            self.held = Held::Spent;
+            return Err(FrameFault { at, kind });
+        }
+        let Ok(taken) = fill(&mut self.buffer, piece, self.limit) else {
+            self.fault = Some(before);
+            self.taken_to_fault = 0;
+            self.held = Held::Spent;
+            return Err(FrameFault {
+                at: before,
+                kind: FrameFaultKind::OutOfMemory,
+            });
+        };
+        match judge(&self.buffer, self.limit) {
+            Judgement::Whole(_) => {
+                self.taken = before.saturating_add(taken as u64);
+                self.held = Held::Given;
+                Ok(Advanced {
+                    taken,
+                    place: Some(Place::Buffer),
+                })
+            }
+            Judgement::Wrong(_, _) => unreachable!(),
+            Judgement::Begun => {
+                self.taken = before.saturating_add(taken as u64);
+                Ok(Advanced { taken, place: None })
+            }
+        }
+    }
+
+    /// The frame that the last call gave by way of the buffer. It is there until the next call that is to take octets.
+    pub fn buffered(&self) -> Option<FrameRef<'_>>
+        ensures { lent_of result ≡ self.now.given }
+    {
+        match self.held {
+            Held::Begun => None,
+            Held::Given => whole_frame(&self.buffer),
+            Held::Spent => None,
+        }
+    }
+
+    /// Takes octets as [`Splitter::advance`] does, and lends the frame.
     ///
     /// The payload is a part of the piece where the frame lies whole in it, and of the splitter's buffer otherwise. Where
     /// nothing is pending and a whole frame within the limit stands at the start, no memory is taken. An empty piece gives
@@ -137,87 +285,18 @@ impl Splitter {
             → HasFrameAtStart self.old.limit piece.now → IsOk result }
         ensures* after { sem 𝓛 (LeavesAfter self.entry piece.now result) }
     {
-        if is_between_frames(self.fault, self.spent, &self.buffer) {
-            match judge(piece, self.limit) {
-                Judgement::Whole(frame) => {
-                    let taken = frame.payload.len() + OVERHEAD;
-                    self.taken = self.taken.saturating_add(taken as u64);
-                    if self.buffer.capacity() > KEPT {
-                        self.unused = give_back(&mut self.buffer, self.unused);
-                    }
-                    return Ok(FedRef {
-                        taken,
-                        frame: Some(frame),
-                    });
-                }
-                Judgement::Wrong(_, _) => {}
-                Judgement::Begun => {}
-            }
-        }
-        self.feed_buffer(piece)
-    }
-
-    /// The same by way of the buffer, wherever the frame lies. It stands apart so that the path above, which takes a frame in
-    /// place, stays small.
-    #[inline(never)]
-    fn feed_buffer<'a>(&'a mut self, piece: &'a [u8]) -> Result<FedRef<'a>, FrameFault>
-        ensures frame { IfOk result (λ fed. IfSome fed.frame (λ f. Completes self.old (take fed.taken piece.now) (lent f))) }
-        ensures rest { IfOk result (λ fed. IfNone fed.frame (Waits self.old piece.now fed.taken)) }
-        ensures fault { IfErr result (λ fault. Faults self.old.fault self.old piece.now fault) }
-        ensures memory { IfErr result (λ fault. LacksMemoryIfNeeded fault.kind self.old piece.now) }
-        ensures running { IsOk result → self.old.fault ≡ None }
-
-        ensures within { IfOk result (λ fed. fed.taken ≤ length piece.now) }
-        ensures progress { IfOk result (λ fed. piece.now ≢ [] → 0 < fed.taken) }
-        ensures* after { sem 𝓛 (LeavesAfter self.entry piece.now result) }
-    {
-        if let Some(at) = self.fault {
-            return Err(FrameFault {
-                at,
-                kind: FrameFaultKind::Failed,
-            });
-        }
-        renew(&mut self.buffer, self.spent);
-        self.spent = false;
-        self.unused = 0;
-        if piece.is_empty() {
-            return Ok(FedRef {
-                taken: 0,
-                frame: None,
-            });
-        }
-        let before = self.taken;
-        if let Some((kind, place)) = fault_across(&self.buffer, piece, self.limit) {
-            let passed = place - self.buffer.len();
-            let at = before.saturating_add(passed as u64);
-            self.fault = Some(at);
-            self.taken_to_fault = passed + 1;
-            self.spent = true;
-            return Err(FrameFault { at, kind });
-        }
-        let Ok(taken) = fill(&mut self.buffer, piece, self.limit) else {
-            self.fault = Some(before);
-            self.taken_to_fault = 0;
-            self.spent = true;
-            return Err(FrameFault {
-                at: before,
-                kind: FrameFaultKind::OutOfMemory,
-            });
-        };
-        match judge(&self.buffer, self.limit) {
-            Judgement::Whole(frame) => {
-                self.taken = before.saturating_add(taken as u64);
-                self.spent = true;
-                Ok(FedRef {
-                    taken,
-                    frame: Some(frame),
-                })
-            }
-            Judgement::Wrong(_, _) => unreachable!(),
-            Judgement::Begun => {
-                self.taken = before.saturating_add(taken as u64);
-                Ok(FedRef { taken, frame: None })
-            }
+        let advanced = self.advance(piece)?;
+        let taken = advanced.taken;
+        match advanced.place {
+            Some(Place::Piece(frame)) => Ok(FedRef {
+                taken,
+                frame: Some(frame),
+            }),
+            Some(Place::Buffer) => Ok(FedRef {
+                taken,
+                frame: self.buffered(),
+            }),
+            None => Ok(FedRef { taken, frame: None }),
         }
     }
 
@@ -249,7 +328,7 @@ impl Splitter {
         self.taken = start;
         self.fault = Some(start);
         self.taken_to_fault = 0;
-        self.spent = true;
+        self.held = Held::Spent;
         Err(FrameFault {
             at: start,
             kind: FrameFaultKind::OutOfMemory,
