@@ -7,6 +7,7 @@ mod kinds;
 mod large;
 mod layouts;
 mod memory;
+mod misfits;
 mod quotes;
 mod samples;
 mod views;

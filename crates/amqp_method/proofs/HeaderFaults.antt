@@ -363,6 +363,3 @@ pub header_fault : {X : Type 0} (view : X → ContentHeader) (octets : List ℕ)
 header_fault view octets (Ok x) fits given = tt
 header_fault view octets (Err e) fits (inl memory) = inl memory
 header_fault view octets (Err e) fits (inr is) = inr (header_at-told octets e fits is)
-
-pub header_told : {X : Type 0} (view : X → ContentHeader) (octets : List ℕ) (r : Result X MethodFault) → Gives view r (header_at octets) → (e : MethodFault) → FirstFaultOfHeader octets e → Gives view r (Err e)
-header_told view octets r given e first = subst (Gives view r) (first_fault_of_header octets e first) given

@@ -1,6 +1,6 @@
 -- Views of content headers: the properties of octets that are known to be read.
 use Rattle.std.proofs.Common.{◌≡◌, ℕ, zero, suc, ◌+◌, ◌-◌, ◌%◌, ◌^◌, ◌==◌, ◌<◌, ◌≤◌, List, [], ◌∷◌, length, drop, true, false, Option, Some, None, Result, Ok, Err, refl, sym, ap, subst, ◌∙◌, arith}
-use Rattle.std.specs.Prelude.{IsOk, IsTrue, is_ok, MatchOption}
+use Rattle.std.specs.Prelude.{IsOk, IsTrue, is_ok, MatchOption, replicate}
 use Rattle.std.proofs.Math.Nat.{mod-eq_of_lt}
 use Rattle.std.proofs.lemmas.Bool.{eqb-true}
 use Rattle.std.proofs.lemmas.List.{drop-drop, length-drop}
@@ -13,6 +13,7 @@ use Rattle.amqp_value.proofs.Numbers.{IsBytes}
 use Rattle.amqp_method.specs.Arguments.{Argument, table}
 use Rattle.amqp_method.specs.HeaderChecking.{kind_at, size_read}
 use Rattle.amqp_method.specs.HeaderReading.{has_flag, optional_at, properties_at, header_at}
+use Rattle.amqp_method.specs.HeaderRefs.{PropertiesLeft, ReadsProperty}
 use Rattle.amqp_method.specs.HeaderRefView.{properties_read, property_at, property_ref_view}
 use Rattle.amqp_method.specs.ArgRefView.{arg_ref_view}
 use Rattle.amqp_method.specs.declared.arg_ref.ArgRef.{ArgRef}
@@ -20,11 +21,12 @@ use Rattle.amqp_method.specs.Properties.{ContentHeader, header, EncodesHeader, p
 use Rattle.amqp_method.specs.Reading.{Read, Bits, no_bits, number_at, after_table, ends_run, field_at}
 use Rattle.amqp_value.specs.Whole.{BeginsTable}
 use Rattle.amqp_method.specs.declared.faults.MethodFault.{MethodFault}
+use Rattle.amqp_method.specs.declared.header_ref.HeaderRef.{HeaderRef}
 use Rattle.amqp_method.specs.declared.fields.FieldKind.{FieldKind}
 use Rattle.amqp_method.specs.declared.fields.FieldKind.TheVariants.{Table}
 use Rattle.amqp_method.proofs.FieldLemmas.{same_ok, number_at-takes}
 use Rattle.amqp_method.proofs.HeaderChecks.{kind_here, flag_of, flag_at}
-use Rattle.amqp_method.proofs.HeaderLemmas.{properties_at-takes, all_own, header_at-again, test_ok}
+use Rattle.amqp_method.proofs.HeaderLemmas.{properties_at-takes, all_own, header_at-again, test_ok, none_there, no_later}
 use Rattle.amqp_method.proofs.MethodLemmas.{whole-ok}
 use Rattle.amqp_method.proofs.RefLemmas.{is_number}
 
@@ -150,7 +152,7 @@ split (suc n) (q ∷ all) p others e =
 pub record Next (i flags end : ℕ) (octets : List ℕ) (all : List (Option Argument)) : Type 0 where
   pub reads : IsOk (optional_at (has_flag (15 - i) flags) (kind_at i) end octets)
   pub after : (p : Option Argument) (after : List ℕ) → optional_at (has_flag (15 - i) flags) (kind_at i) end octets ≡ Ok (p, after)
-      → (properties_at (drop (i + 1) property_kinds) flags end after ≡ Ok (drop (i + 1) all, [])) × (property_at i all ≡ p)
+      → (properties_at (drop (i + 1) property_kinds) flags end after ≡ Ok (drop (i + 1) all, [])) × (drop i all ≡ p ∷ drop (i + 1) all)
 
 ok_of : (read : Read (Option Argument)) (x : Option Argument × List ℕ) → read ≡ Ok x → IsOk read
 ok_of read x is = rw is refl
@@ -167,7 +169,8 @@ next i flags end octets all h read =
     let a = bind_ok (optional_at flag (kind_at i) end octets) _ (drop i all, []) whole_read in
     let b = bind_ok (properties_at kinds flags end a.0.1) _ (drop i all, []) a.2 in
     let same = same_ok (a.0.0 ∷ b.0.0, b.0.1) (drop i all, []) b.2 in
-    let s = split i all a.0.0 b.0.0 (sym (ap (λ (x : List (Option Argument) × List ℕ). x.0) same)) in
+    let here_are : drop i all ≡ a.0.0 ∷ b.0.0 = sym (ap (λ (x : List (Option Argument) × List ℕ). x.0) same) in
+    let s = split i all a.0.0 b.0.0 here_are in
     let done : b.0.1 ≡ [] = ap (λ (x : List (Option Argument) × List ℕ). x.1) same in
     record {
       reads = ok_of _ a.0 a.1;
@@ -175,9 +178,65 @@ next i flags end octets all h read =
           let here : a.0 ≡ (p, after) = same_ok a.0 (p, after) (sym a.1 ∙ is) in (
             ap (λ (x : Option Argument × List ℕ). properties_at kinds flags end x.1) (sym here) ∙ b.1
                 ∙ ap (λ (o : List ℕ). Ok (b.0.0, o)) done ∙ ap (λ (o : List (Option Argument)). Ok (o, [])) (sym s.later),
-            s.here ∙ ap (λ (x : Option Argument × List ℕ). x.0) here,
+            here_are ∙ ap (λ (x : Option Argument × List ℕ). x.0 ∷ b.0.0) here ∙ ap (λ (o : List (Option Argument)). p ∷ o) (sym s.later),
           );
     }
+
+pub first_of : (i : ℕ) (all : List (Option Argument)) (p : Option Argument) → drop i all ≡ p ∷ drop (i + 1) all → property_at i all ≡ p
+first_of i all p is = (split i all p (drop (i + 1) all) is).here
+
+-- the properties of a view, from the first on
+pub properties_lent : (h : HeaderRef) (octets : List ℕ) → octets ≡ drop 14 h.payload.now → PropertiesLeft h 0 octets
+properties_lent h octets is =
+    let p = lent_properties h.payload.now h.body_size h.flags h.below h.flagged h.reads in
+    record {
+      within = omega (arith, ap length is, length-drop 14 h.payload.now);
+      reads = rw is p.properties;
+    }
+
+pub property_reads : (h : HeaderRef) (i : ℕ) (octets : List ℕ) → i < 14 → PropertiesLeft h i octets
+    → IsOk (optional_at (has_flag (15 - i) h.flags) (kind_at i) (length h.payload.now) octets)
+property_reads h i octets small left = (next i h.flags (length h.payload.now) octets (properties_read (header_at h.payload.now)) small left.reads).reads
+
+pub property_read : (h : HeaderRef) (i : ℕ) (p : Option Argument) (octets after : List ℕ) → i < 14 → PropertiesLeft h i octets → length after ≤ length octets
+    → optional_at (has_flag (15 - i) h.flags) (kind_at i) (length h.payload.now) octets ≡ Ok (p, after) → ReadsProperty h i p after
+property_read h i p octets after small left within read =
+    let n = (next i h.flags (length h.payload.now) octets (properties_read (header_at h.payload.now)) small left.reads).after p after read in
+    record { is = n.1; left = record { within = omega (arith, within, left.within); reads = n.0 } }
+
+-- where no flag is set, or none from the sixth property on
+pub none_lent : (h : HeaderRef) → h.flags ≡ 0 → replicate 14 None ≡ properties_read (header_at h.payload.now)
+none_lent h none =
+    let p = lent_properties h.payload.now h.body_size h.flags h.below h.flagged h.reads in
+    let end = length h.payload.now in
+    let rest = drop 14 h.payload.now in
+    let read : properties_at property_kinds 0 end rest ≡ Ok (properties_read (header_at h.payload.now), []) =
+    subst (λ (n : ℕ). properties_at property_kinds n end rest ≡ Ok (properties_read (header_at h.payload.now), [])) none p.properties in
+    ap (λ (x : List (Option Argument) × List ℕ). x.0) (same_ok _ _ (sym (none_there end rest) ∙ read))
+
+pub none_later : (h : HeaderRef) (octets : List ℕ) → PropertiesLeft h 5 octets → h.flags % 2048 ≡ 0 → drop 5 (properties_read (header_at h.payload.now)) ≡ replicate 9 None
+none_later h octets left low =
+    sym (ap (λ (x : List (Option Argument) × List ℕ). x.0) (same_ok _ _ (sym (no_later h.flags (length h.payload.now) octets low) ∙ left.reads)))
+
+-- the properties from the sixth on, which were read one after another
+pub later_in_order : (all : List (Option Argument)) (o p q r s t u v w : Option Argument) → drop 5 all ≡ o ∷ drop 6 all → drop 6 all ≡ p ∷ drop 7 all
+    → drop 7 all ≡ q ∷ drop 8 all → drop 8 all ≡ r ∷ drop 9 all → drop 9 all ≡ s ∷ drop 10 all → drop 10 all ≡ t ∷ drop 11 all
+    → drop 11 all ≡ u ∷ drop 12 all → drop 12 all ≡ v ∷ drop 13 all → drop 13 all ≡ w ∷ drop 14 all → drop 14 all ≡ []
+    → drop 5 all ≡ o ∷ p ∷ q ∷ r ∷ s ∷ t ∷ u ∷ v ∷ w ∷ []
+later_in_order all o p q r s t u v w first second third fourth fifth sixth seventh eighth ninth none =
+    first ∙ ap (λ (l : List (Option Argument)). o ∷ l)
+    (second ∙ ap (λ (l : List (Option Argument)). p ∷ l)
+    (third ∙ ap (λ (l : List (Option Argument)). q ∷ l)
+    (fourth ∙ ap (λ (l : List (Option Argument)). r ∷ l)
+    (fifth ∙ ap (λ (l : List (Option Argument)). s ∷ l)
+    (sixth ∙ ap (λ (l : List (Option Argument)). t ∷ l)
+    (seventh ∙ ap (λ (l : List (Option Argument)). u ∷ l)
+    (eighth ∙ ap (λ (l : List (Option Argument)). v ∷ l)
+    (ninth ∙ ap (λ (l : List (Option Argument)). w ∷ l) none))))))))
+
+pub none_after : (h : HeaderRef) (octets : List ℕ) → PropertiesLeft h 14 octets → drop 14 (properties_read (header_at h.payload.now)) ≡ []
+unfolding properties_at
+none_after h octets left = sym (ap (λ (x : List (Option Argument) × List ℕ). x.0) (same_ok _ _ left.reads))
 
 pub match_property : (lent : Option ArgRef) (p : Option Argument) → p ≡ property_ref_view lent → MatchOption lent (p ≡ None) (λ value. p ≡ Some (arg_ref_view value))
 match_property None p is = is

@@ -13,12 +13,12 @@ pub mod KindLemmas
 pub mod LengthLemmas
 pub mod MethodFaults
 pub mod MethodLemmas
+pub mod OwningLemmas
 pub mod PlaceLemmas
 pub mod PlainLemmas
 pub mod PresentLemmas
 pub mod PropertyKinds
 pub mod PropertySteps
-pub mod ReadingLemmas
 pub mod RefLemmas
 pub mod RunLemmas
 pub mod TableFaults

@@ -258,6 +258,3 @@ pub fault : {X : Type 0} (view : X → Call) (octets : List ℕ) (r : Result X M
 fault view octets (Ok x) fits given = tt
 fault view octets (Err e) fits (inl memory) = inl memory
 fault view octets (Err e) fits (inr is) = inr (method_at-told octets e fits is)
-
-pub told : {X : Type 0} (view : X → Call) (octets : List ℕ) (r : Result X MethodFault) → Gives view r (method_at octets) → (e : MethodFault) → FirstFaultOfMethod octets e → Gives view r (Err e)
-told view octets r given e first = subst (Gives view r) (first_fault_of_method octets e first) given

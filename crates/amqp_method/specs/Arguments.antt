@@ -1,5 +1,5 @@
 -- The arguments of methods, apart from where they lie in memory, and which of them fit a method.
-use Rattle.std.specs.Prelude.{◌≡◌, ℕ, List, [], ◌∷◌, map, Bool, true, false}
+use Rattle.std.specs.Prelude.{◌≡◌, ◌≢◌, ℕ, List, [], ◌∷◌, ◌++◌, length, map, Bool, true, false}
 use Rattle.amqp_value.specs.Values.{Pairs, no_pairs}
 use Rattle.amqp_method.specs.Kinds.{fields_of}
 use Rattle.amqp_method.specs.Methods.{FieldRow}
@@ -62,6 +62,23 @@ wanted (f ∷ fields) = wanted_kind f.reserved f.kind (wanted fields)
 -- the arguments are, in number, order and kind, those of the fields that aren't reserved
 abbrev pub Fit : List FieldRow → List Argument → Type 0
 Fit fields args = map kind_of args ≡ wanted fields
+
+-- where arguments of these kinds are given and these are due, the first lacks, is over, or is of another kind
+abbrev pub StartUnlike : List FieldKind → List FieldKind → Type 0
+StartUnlike [] [] = ⊥
+StartUnlike [] (kind ∷ due) = Unit {0}
+StartUnlike (kind ∷ given) [] = Unit {0}
+StartUnlike (kind ∷ given) (other ∷ due) = kind ≢ other
+
+-- the place of the first argument that doesn't fit: those before it are, in order and kind, those that are wanted
+pub record FirstMisfit (fields : List FieldRow) (args : List Argument) (place : ℕ) : Type 0 where
+  pub before : List FieldKind
+  pub given : List FieldKind
+  pub due : List FieldKind
+  pub args_are : map kind_of args ≡ before ++ given
+  pub wanted_are : wanted fields ≡ before ++ due
+  pub place_is : place ≡ length before
+  pub unlike : StartUnlike given due
 
 -- a method with its arguments
 pub record Call : Type 0 where

@@ -26,5 +26,21 @@ later_view p =
     present short_string p.app_id ∷
     present short_string p.cluster_id ∷ []
 
+-- the later ones in two parts
+abbrev pub middle_view : Properties → List (Option Argument)
+middle_view p =
+    present short_string p.correlation_id ∷
+    present short_string p.reply_to ∷
+    present short_string p.expiration ∷
+    present short_string p.message_id ∷
+    present long_long p.timestamp ∷ []
+
+abbrev pub last_view : Properties → List (Option Argument)
+last_view p =
+    present short_string p.type_name ∷
+    present short_string p.user_id ∷
+    present short_string p.app_id ∷
+    present short_string p.cluster_id ∷ []
+
 abbrev pub later_kinds : List FieldKind
 later_kinds = ShortStr ∷ ShortStr ∷ ShortStr ∷ ShortStr ∷ LongLong ∷ ShortStr ∷ ShortStr ∷ ShortStr ∷ ShortStr ∷ []

@@ -1,5 +1,5 @@
 -- What the code's properties and headers stand for.
-use Rattle.std.specs.Prelude.{List, [], ◌∷◌, Option, Some, None}
+use Rattle.std.specs.Prelude.{ℕ, zero, suc, List, [], ◌∷◌, Option, Some, None}
 use Rattle.amqp_value.specs.Tables.{table_view}
 use Rattle.amqp_value.specs.declared.tables.Table.{Table}
 use Rattle.amqp_method.specs.Arguments.{Argument, octet, long_long, short_string, table}
@@ -31,6 +31,12 @@ properties_view p =
     present short_string p.user_id ∷
     present short_string p.app_id ∷
     present short_string p.cluster_id ∷ []
+
+-- the properties, with this one at a place
+abbrev pub with_property : ℕ → Argument → List (Option Argument) → List (Option Argument)
+with_property place value [] = []
+with_property zero value (property ∷ later) = Some value ∷ later
+with_property (suc n) value (property ∷ later) = property ∷ with_property n value later
 
 abbrev pub header_view : Header → ContentHeader
 header_view h = header h.body_size (properties_view h.properties)

@@ -15,6 +15,8 @@ pub mod ArgRefView
 pub mod MethodRefs
 pub mod MethodRefView
 pub mod HeaderRefView
+pub mod HeaderRefs
+pub mod Owning
 pub mod Properties
 pub mod HeaderReading
 pub mod HeaderChecking
@@ -31,7 +33,6 @@ pub mod Messages
 pub mod MessageView
 pub mod Fitting
 pub mod Laws
-pub mod EarlyFaults
 pub mod Lengths
 pub mod Places
 pub mod Replies

@@ -3,6 +3,7 @@ ghost use Rattle.std.specs.Prelude.{◌≡◌, ◌≤◌, ℕ, length, IfOk, Ok,
 ghost use Rattle.amqp_method.specs.ArgRefView.{arg_ref_view};
 ghost use Rattle.amqp_method.specs.Arguments.{kind_of};
 ghost use Rattle.amqp_method.specs.BitsView.{bits_view};
+ghost use Rattle.amqp_method.specs.Owning.{IsValueOf};
 ghost use Rattle.amqp_method.specs.Places.{bit_of, octet_of, short_of, long_of, long_long_of, short_string_of, long_string_of, table_of};
 ghost use Rattle.amqp_method.specs.Reading.{Equals, field_at, field_table_at};
 ghost use Rattle.amqp_value.specs.Lent.{table_ref_view};
@@ -55,6 +56,7 @@ pub(crate) fn read_arg<'a>(
     requires checked { kind ≡ kinds.Table → BeginsTable octets.now }
     ensures read { Equals (λ x. ((arg_ref_view x.0, bits_view bits.new), x.1.now)) result (field_at kind (bits_view bits.old) end octets.now) }
     ensures within { IfOk result (λ x. length x.1.now ≤ length octets.now) }
+    ensures value { IfOk result (λ x. IsValueOf kind (arg_ref_view x.0)) }
 {
     match kind {
         FieldKind::Bit => {

@@ -6,12 +6,12 @@ ghost use Rattle.amqp_method.specs.Rows.{field_view};
 
 use crate::arg_ref::{ArgRef, read_arg};
 use crate::field_octets::Bits;
-use crate::fields::Field;
+use crate::fields::{Field, FieldKind};
 
 /// The arguments of a method that are left, as they lie in its payload. Reserved fields have none.
 #[derive(Clone, Copy)]
 pub struct ArgsRef<'a> {
-    fields: &'static [Field],
+    pub(crate) fields: &'static [Field],
     bits: Bits,
     octets: &'a [u8],
     end: usize,
@@ -20,10 +20,11 @@ pub struct ArgsRef<'a> {
 }
 
 impl<'a> ArgsRef<'a> {
-    ghost use Rattle.std.specs.Prelude.{◌<◌, MatchOption, [], Some};
+    ghost use Rattle.std.specs.Prelude.{◌∷◌, ◌<◌, MatchOption, [], Some};
     ghost use Rattle.amqp_method.specs.Arguments.{keep};
     ghost use Rattle.amqp_method.specs.ArgRefView.{arg_ref_view};
     ghost use Rattle.amqp_method.specs.MethodRefs.{args_left, values_read, NextArg, FirstValue};
+    ghost use Rattle.amqp_method.specs.Owning.{IsShort};
     ghost use Rattle.amqp_method.specs.Reading.{no_bits};
 
     /// The arguments for these fields, which begin with the first of the octets, in a payload that ends at `end`.
@@ -40,16 +41,23 @@ impl<'a> ArgsRef<'a> {
         }
     }
 
-    /// The value of the next field, whether the field is reserved, and what is left after it.
+    /// The value of the first field, which is of this kind, and what is left after it.
     #[inline(always)]
-    fn next_value(self) -> Option<(bool, ArgRef<'a>, ArgsRef<'a>)>
-        ensures { FirstValue self.entry result }
+    pub(crate) fn first_value(
+        self,
+        kind: FieldKind,
+        field: &Field,
+        fields: &'static [Field],
+    ) -> (ArgRef<'a>, ArgsRef<'a>)
+        requires first { self.fields.now ≡ field.now ∷ fields.now }
+        requires kind { kind ≡ field.now.kind }
+        ensures value { args_left self.entry ≡ keep field.now.reserved (arg_ref_view result.0) (args_left result.1) }
+        ensures left { result.1.fields.now ≡ fields.now }
+        ensures short { IsShort (arg_ref_view result.0) }
     {
-        let (field, fields) = self.fields.split_first()?;
         let mut bits = self.bits;
-        match read_arg(field.kind, &mut bits, self.octets, self.end) {
-            Ok((arg, octets)) => Some((
-                field.reserved,
+        match read_arg(kind, &mut bits, self.octets, self.end) {
+            Ok((arg, octets)) => (
                 arg,
                 ArgsRef {
                     fields,
@@ -57,9 +65,19 @@ impl<'a> ArgsRef<'a> {
                     octets,
                     end: self.end,
                 },
-            )),
+            ),
             Err(_) => unreachable!(),
         }
+    }
+
+    /// The value of the next field, whether the field is reserved, and what is left after it.
+    #[inline(always)]
+    fn next_value(self) -> Option<(bool, ArgRef<'a>, ArgsRef<'a>)>
+        ensures { FirstValue self.entry result }
+    {
+        let (field, fields) = self.fields.split_first()?;
+        let (arg, after) = self.first_value(field.kind, field, fields);
+        Some((field.reserved, arg, after))
     }
 
     /// The next argument, and those after it.

@@ -109,7 +109,7 @@ impl Content {
 impl DropInBox for Content {
     #[inline(never)]
     fn drop_in_box(content: Box<Content>) {
-        if content.header.properties.are_none() {
+        if content.header.properties.is_empty() {
             drop_parts(content);
         } else {
             drop_with_properties(content);

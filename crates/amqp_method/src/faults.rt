@@ -90,6 +90,14 @@ impl MethodFault {
     };
 }
 
+impl From<OutOfMemory> for MethodFault {
+    ghost from_gives = { λ _ e. e ≡ out_of_memory };
+
+    fn from(_: OutOfMemory) -> MethodFault {
+        MethodFault::NO_MEMORY
+    }
+}
+
 impl From<AllocError> for MethodFault {
     ghost from_gives = { λ _ e. e ≡ out_of_memory };
 

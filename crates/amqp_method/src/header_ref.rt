@@ -6,21 +6,18 @@ ghost use Rattle.amqp_method.specs.HeaderChecking.{size_read};
 ghost use Rattle.amqp_method.specs.HeaderReading.{header_at};
 
 use crate::arg_ref::{ArgRef, read_arg};
-use crate::faults::{MethodFault, OutOfMemory};
+use crate::faults::MethodFault;
 use crate::field_octets::Bits;
 use crate::header_checker::check_start;
-use crate::header_octets::read_header;
 use crate::header_start::START_LENGTH;
-use crate::headers::Header;
 use crate::properties::property_at;
 use amqp_value::TableRef;
-use std::alloc::Global;
 
 /// A content header as it lies in its payload, which is known to encode it. Beside it stands [`Header`], which owns its properties.
 #[derive(Clone, Copy)]
 pub struct HeaderRef<'a> {
     body_size: u64,
-    flags: u16,
+    pub(crate) flags: u16,
     payload: &'a [u8],
     ghost below: { AreBelow256 payload.now },
     ghost flagged: { flags ≡ big_number 2 (drop 12 payload.now) },
@@ -28,13 +25,13 @@ pub struct HeaderRef<'a> {
 }
 
 impl<'a> HeaderRef<'a> {
-    ghost use Rattle.std.specs.Prelude.{◌≡◌, ◌-◌, ◌≤◌, ◌<◌, ℕ, length, IfOk, IfErr, Ok, Some, None, IsOk, MatchOption};
+    ghost use Rattle.std.specs.Prelude.{◌≡◌, ◌<◌, ℕ, IfOk, IfErr, IfSome, Ok, Some, None, MatchOption};
     ghost use Rattle.amqp_method.specs.FirstFault.{FirstFaultOfHeader};
     ghost use Rattle.amqp_method.specs.HeaderChecking.{kind_at};
-    ghost use Rattle.amqp_method.specs.HeaderReading.{has_flag, optional_at};
+    ghost use Rattle.amqp_method.specs.HeaderRefs.{PropertiesLeft, ReadsProperty};
     ghost use Rattle.amqp_method.specs.ArgRefView.{arg_ref_view};
     ghost use Rattle.amqp_method.specs.HeaderRefView.{lent_header, lent_header_payload, property_at as at_place, property_ref_view};
-    ghost use Rattle.amqp_method.specs.HeaderView.{header_view};
+    ghost use Rattle.amqp_method.specs.Owning.{IsValueOf};
     ghost use Rattle.amqp_method.specs.Places.{found, octet_of, long_long_of, short_string_of, table_of};
     ghost use Rattle.amqp_method.specs.Properties.{ContentHeader, EncodesHeader, flags_of};
     ghost use Rattle.amqp_method.specs.Reading.{Equals};
@@ -78,26 +75,26 @@ impl<'a> HeaderRef<'a> {
         self.flags
     }
 
-    /// The same header with properties of its own, as [`read_header`](crate::read_header) reads it.
-    pub fn to_owned(self, alloc: Global) -> Result<Header, OutOfMemory>
-        ensures { IfOk result (λ h. header_view h ≡ lent_header self.entry) }
+    /// The octets of the properties.
+    #[inline(always)]
+    pub(crate) fn properties(self) -> &'a [u8]
+        ensures { PropertiesLeft self.entry 0 result.now }
     {
-        let Ok(header) = read_header(alloc, self.payload) else {
-            return Err(OutOfMemory);
-        };
-        Ok(header)
+        let (_, properties) = self.payload.split_at(START_LENGTH);
+        properties
     }
 
     /// The property at a place, if its flag is set, and the octets after it.
     #[inline(always)]
-    fn next_property(self, place: usize, octets: &'a [u8]) -> (Option<ArgRef<'a>>, &'a [u8])
+    pub(crate) fn next_property(
+        self,
+        place: usize,
+        octets: &'a [u8],
+    ) -> (Option<ArgRef<'a>>, &'a [u8])
         requires place { place < 14 }
-        requires within { length octets.now ≤ length (lent_header_payload self) }
-        requires reads { IsOk (optional_at (has_flag (15 - place) self.flags) (kind_at place)
-            (length (lent_header_payload self)) octets.now) }
-        ensures read { optional_at (has_flag (15 - place) self.entry.flags) (kind_at place) (length (lent_header_payload self.entry)) octets.now
-            ≡ Ok (property_ref_view result.0, result.1.now) }
-        ensures within { length result.1.now ≤ length octets.now }
+        requires left { PropertiesLeft self place octets.now }
+        ensures read { ReadsProperty self.entry place (property_ref_view result.0) result.1.now }
+        ensures value { IfSome result.0 (λ value. IsValueOf (kind_at place) (arg_ref_view value)) }
     {
         let property = property_at(place);
         if !property.is_flagged(self.flags) {
@@ -116,8 +113,7 @@ impl<'a> HeaderRef<'a> {
         ensures { MatchOption result (at_place place (lent_header self.entry).properties ≡ None)
             (λ value. at_place place (lent_header self.entry).properties ≡ Some (arg_ref_view value)) }
     {
-        let (_, properties) = self.payload.split_at(START_LENGTH);
-        let mut rest = properties;
+        let mut rest = self.properties();
         for earlier in 0..place {
             let (_, after) = self.next_property(earlier, rest);
             rest = after;

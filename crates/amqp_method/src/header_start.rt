@@ -1,7 +1,6 @@
 //! What stands before the properties of a content header.
-ghost use Rattle.std.specs.Prelude.{◌≡◌, drop, IfOk, IfErr, Err, Some};
+ghost use Rattle.std.specs.Prelude.{◌≡◌, drop, IfOk, IfErr, Err};
 ghost use Rattle.byteorder.specs.Endian.{big_number};
-ghost use Rattle.amqp_method.specs.EarlyFaults.{fault_of_start};
 ghost use Rattle.amqp_method.specs.HeaderChecking.{Starts};
 ghost use Rattle.amqp_method.specs.HeaderReading.{header_at};
 
@@ -23,12 +22,11 @@ pub(crate) struct Start {
 
 /// The class, which is 60, the weight, which is 0, the size of the body and the flags.
 #[inline(always)]
-#[tactic(auto, unfolding(crate::specs::HeaderReading::header_at, crate::specs::EarlyFaults::fault_of_start))]
+#[tactic(auto, unfolding(crate::specs::HeaderReading::header_at))]
 pub(crate) fn read_start(payload: &[u8]) -> Result<Start, MethodFault>
     ensures starts { IfOk result (λ start. Starts payload.now start.body_size start.flags) }
     ensures flags { IfOk result (λ start. start.flags ≡ big_number 2 (drop 12 payload.now)) }
     ensures err { IfErr result (λ e. header_at payload.now ≡ Err e) }
-    ensures early { (e : MethodFault) → fault_of_start payload.now ≡ Some e → result ≡ Err e }
 {
     let end = payload.len();
     let (class, after) = read_short(payload, end)?;

@@ -1,8 +1,8 @@
 //! Content headers.
-ghost use Rattle.std.specs.Prelude.{◌≡◌, ℕ, length, replicate, true, None, IfOk, OnOk};
+ghost use Rattle.std.specs.Prelude.{◌≡◌, ◌↔◌, ℕ, length, replicate, None, IsTrue, IfOk, OnOk};
 ghost use Rattle.amqp_value.specs.Lengths.{capped};
 ghost use Rattle.amqp_method.specs.Arguments.{short_string};
-ghost use Rattle.amqp_method.specs.HeaderParts.{earlier_view, later_view};
+ghost use Rattle.amqp_method.specs.HeaderParts.{earlier_view, later_view, middle_view, last_view};
 ghost use Rattle.amqp_method.specs.HeaderView.{present, table_argument, properties_view, header_view};
 ghost use Rattle.amqp_method.specs.Plain.{plain_header};
 ghost use Rattle.amqp_method.specs.Properties.{header};
@@ -57,7 +57,7 @@ fn copy_table(table: &Option<Table>) -> Result<Option<Table>, OutOfMemory>
 
 /// Most properties are not there, and to look is less than to write.
 #[inline(always)]
-fn clear_place<T: Drop>(place: &mut Option<T>)
+pub(crate) fn clear_place<T: Drop>(place: &mut Option<T>)
     ensures { place.new ≡ None }
 {
     if place.is_some() {
@@ -83,17 +83,17 @@ impl Header {
 }
 
 impl Properties {
-    /// Whether there are none, so that none has to be taken away.
+    /// Whether there are none.
     #[inline(always)]
-    pub(crate) fn are_none(&self) -> bool
-        ensures { result ≡ true → properties_view self.now ≡ replicate 14 None }
+    pub fn is_empty(&self) -> bool
+        ensures { IsTrue result ↔ (properties_view self.now ≡ replicate 14 None) }
     {
         self.earlier_are_none() && self.later_are_none()
     }
 
     #[inline(always)]
     fn earlier_are_none(&self) -> bool
-        ensures { result ≡ true → earlier_view self.now ≡ replicate 5 None }
+        ensures { IsTrue result ↔ (earlier_view self.now ≡ replicate 5 None) }
     {
         self.content_type.is_none()
             && self.content_encoding.is_none()
@@ -104,14 +104,27 @@ impl Properties {
 
     #[inline(always)]
     pub(crate) fn later_are_none(&self) -> bool
-        ensures { result ≡ true → later_view self.now ≡ replicate 9 None }
+        ensures { IsTrue result ↔ (later_view self.now ≡ replicate 9 None) }
+    {
+        self.middle_are_none() && self.last_are_none()
+    }
+
+    #[inline(always)]
+    fn middle_are_none(&self) -> bool
+        ensures { IsTrue result ↔ (middle_view self.now ≡ replicate 5 None) }
     {
         self.correlation_id.is_none()
             && self.reply_to.is_none()
             && self.expiration.is_none()
             && self.message_id.is_none()
             && self.timestamp.is_none()
-            && self.type_name.is_none()
+    }
+
+    #[inline(always)]
+    fn last_are_none(&self) -> bool
+        ensures { IsTrue result ↔ (last_view self.now ≡ replicate 4 None) }
+    {
+        self.type_name.is_none()
             && self.user_id.is_none()
             && self.app_id.is_none()
             && self.cluster_id.is_none()

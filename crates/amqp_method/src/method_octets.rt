@@ -1,6 +1,5 @@
 //! Methods as octets.
 ghost use Rattle.std.specs.Prelude.{◌⊎◌, ◌≡◌, ◌++◌, length, take, IfOk, IfErr, OnOk, OnErr, Ok, Err, Some};
-ghost use Rattle.amqp_method.specs.EarlyFaults.{fault_of_ids};
 ghost use Rattle.amqp_method.specs.Arguments.{Call};
 ghost use Rattle.amqp_method.specs.Faults.{out_of_memory, too_long};
 ghost use Rattle.amqp_method.specs.FirstFault.{FirstFaultOfMethod};
@@ -11,8 +10,8 @@ ghost use Rattle.amqp_method.specs.Encoding.{EncodesMethod};
 
 use crate::faults::MethodFault;
 use crate::kinds::schema;
+use crate::method_ref::MethodRef;
 use crate::methods::Method;
-use crate::reading::read_call;
 use crate::writing::{append_args, append_short};
 use std::alloc::Global;
 
@@ -31,12 +30,9 @@ pub fn read_method(alloc: Global, octets: &[u8]) -> Result<Method, MethodFault>
     // Every other fault comes where the octets encode no method.
     ensures refused { IfErr result (λ e. (e ≡ out_of_memory) ⊎ ((c : Call) → EncodesMethod c octets.now → ⊥)) }
 
-    // It is the fault of the first field that can't be read, and that one is reported, unless memory runs out.
+    // It is the fault of the first field that can't be read, and that one is reported whatever memory there is.
     ensures fault { IfErr result (λ e. (e ≡ out_of_memory) ⊎ FirstFaultOfMethod octets.now e) }
-    ensures told { (e : MethodFault) → FirstFaultOfMethod octets.now e → Gives method_view result (Err e) }
-
-    // A fault of the ids is reported whatever memory there is.
-    ensures early { (e : MethodFault) → fault_of_ids octets.now ≡ Some e → result ≡ Err e }
+    ensures told { (e : MethodFault) → FirstFaultOfMethod octets.now e → result ≡ Err e }
 
     // What is read, as a function of the octets.
     ensures exact { Gives method_view result (method_at octets.now) }
@@ -46,11 +42,12 @@ pub fn read_method(alloc: Global, octets: &[u8]) -> Result<Method, MethodFault>
 
 fn exact_method(alloc: Global, octets: &[u8]) -> Result<Method, MethodFault>
     ensures exact { Gives method_view result (method_at octets.now) }
-    ensures early { (e : MethodFault) → fault_of_ids octets.now ≡ Some e → result ≡ Err e }
+    ensures faulty { (e : MethodFault) → method_at octets.now ≡ Err e → result ≡ Err e }
 {
+    let lent = MethodRef::new(octets)?;
     let mut args = Vec::new(alloc);
-    let kind = read_call(alloc, octets, &mut args)?;
-    Ok(Method::new(kind, args))
+    lent.own_args(alloc, &mut args)?;
+    Ok(Method::new(lent.kind(), args))
 }
 
 /// Appends the method's payload: the class id, the method id and the arguments. Free bits are 0, and reserved fields are

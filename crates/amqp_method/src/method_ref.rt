@@ -6,9 +6,10 @@ ghost use Rattle.amqp_method.specs.Reading.{method_at};
 use crate::args_ref::ArgsRef;
 use crate::checker::check_method;
 use crate::faults::{MethodFault, OutOfMemory};
+use crate::fields::Arg;
 use crate::kinds::{Kind, schema, sends};
-use crate::method_octets::read_method;
 use crate::methods::Method;
+use crate::table::row_for;
 use std::alloc::Global;
 
 /// How many octets stand before the arguments: the class id and the method id.
@@ -24,7 +25,7 @@ pub struct MethodRef<'a> {
 }
 
 impl<'a> MethodRef<'a> {
-    ghost use Rattle.std.specs.Prelude.{◌≡◌, IfOk, IfErr, Ok, Err, List};
+    ghost use Rattle.std.specs.Prelude.{◌≡◌, IfOk, IfErr, OnOk, Ok, Err, List};
     ghost use Rattle.amqp_method.specs.Arguments.{Call, call, Fits};
     ghost use Rattle.amqp_method.specs.Encoding.{EncodesMethod};
     ghost use Rattle.amqp_method.specs.FirstFault.{FirstFaultOfMethod};
@@ -33,6 +34,7 @@ impl<'a> MethodRef<'a> {
     ghost use Rattle.amqp_method.specs.MethodRefView.{lent_call, lent_payload};
     ghost use Rattle.amqp_method.specs.MethodView.{method_view};
     ghost use Rattle.amqp_method.specs.Reading.{Equals, method_at};
+    ghost use Rattle.amqp_method.specs.Views.{args_view};
 
     /// The method that a payload encodes. The faults are those of [`read_method`](crate::read_method), and no memory is taken.
     pub fn new(payload: &'a [u8]) -> Result<MethodRef<'a>, MethodFault>
@@ -90,13 +92,23 @@ impl<'a> MethodRef<'a> {
         ArgsRef::new(schema(self.kind), octets, self.payload.len())
     }
 
-    /// The same method with arguments of its own, as [`read_method`](crate::read_method) reads it.
+    /// Builds the arguments, in the place of those that were there.
+    #[inline(never)]
+    pub(crate) fn own_args(self, alloc: Global, args: &mut Vec<Arg>) -> Result<(), OutOfMemory>
+        ensures args { OnOk result (args_view args.new.items ≡ (lent_call self.entry).args) }
+        ensures fit { Fits (lent_call self.entry) }
+    {
+        let lent = self.args();
+        *args = Vec::with_capacity(alloc, row_for(self.kind).arguments)?;
+        lent.own_into(args)
+    }
+
+    /// The same method with arguments of its own. Nothing is checked again, so it fails for memory alone.
     pub fn to_owned(self, alloc: Global) -> Result<Method, OutOfMemory>
         ensures { IfOk result (λ m. method_view m ≡ lent_call self.entry) }
     {
-        let Ok(method) = read_method(alloc, self.payload) else {
-            return Err(OutOfMemory);
-        };
-        Ok(method)
+        let mut args = Vec::new(alloc);
+        self.own_args(alloc, &mut args)?;
+        Ok(Method::new(self.kind, args))
     }
 }

@@ -1,6 +1,7 @@
 //! A method with its arguments.
-ghost use Rattle.std.specs.Prelude.{◌≡◌, ◌↔◌, IsTrue};
-ghost use Rattle.amqp_method.specs.Arguments.{call, Fits};
+ghost use Rattle.std.specs.Prelude.{◌≡◌, ◌↔◌, IsTrue, MatchOption};
+ghost use Rattle.amqp_method.specs.Arguments.{call, Fits, FirstMisfit};
+ghost use Rattle.amqp_method.specs.Kinds.{fields_of};
 ghost use Rattle.amqp_method.specs.Views.{args_view};
 
 use crate::faults::OutOfMemory;
@@ -13,9 +14,14 @@ use std::alloc::Global;
 use thiserror::Error;
 
 /// Arguments that are not, in number, order and kind, those of a method's fields that aren't reserved.
-#[derive(Clone, Copy, PartialEq, Eq, Debug, Error)]
-#[error("arguments that don't fit the method")]
-pub struct Misfit;
+#[derive(Debug, Drop, PartialEq, Eq, Error)]
+#[error("argument {place} doesn't fit the method")]
+pub struct Misfit {
+    /// The place of the first that doesn't fit, from 0: of one that lacks, is over, or is of another kind.
+    pub place: usize,
+    /// The arguments, all of them.
+    pub args: Vec<Arg>,
+}
 
 /// A method with its arguments, which fit it.
 #[derive(Debug, PartialEq, Eq)]
@@ -34,27 +40,37 @@ impl Drop for Method {
     }
 }
 
-/// Whether the arguments are, in number, order and kind, those of the method's fields that aren't reserved.
-pub fn fits(kind: Kind, args: &[Arg]) -> bool
-    ensures { IsTrue result ↔ Fits (call kind (args_view args.now)) }
+/// The place of the first argument that doesn't fit, if not all do.
+fn first_misfit(kind: Kind, args: &[Arg]) -> Option<usize>
+    ensures { MatchOption result (Fits (call kind (args_view args.now)))
+        (λ place. FirstMisfit (fields_of kind) (args_view args.now) place) }
 {
+    let mut place = 0;
     let mut rest = args;
     for field in schema(kind) {
         if !field.reserved {
             let Some((arg, others)) = rest.split_first() else {
-                return false;
+                return Some(place);
             };
             if !arg.kind().is(field.kind) {
-                return false;
+                return Some(place);
             }
+            place += 1;
             rest = others;
         }
     }
-    rest.is_empty()
+    if rest.is_empty() { None } else { Some(place) }
+}
+
+/// Whether the arguments are, in number, order and kind, those of the method's fields that aren't reserved.
+pub fn fits(kind: Kind, args: &[Arg]) -> bool
+    ensures { IsTrue result ↔ Fits (call kind (args_view args.now)) }
+{
+    first_misfit(kind, args).is_none()
 }
 
 impl Method {
-    ghost use Rattle.std.specs.Prelude.{length, IsOk, IfOk};
+    ghost use Rattle.std.specs.Prelude.{length, IsOk, IfOk, IfErr};
     ghost use Rattle.amqp_value.specs.Lengths.{capped};
     ghost use Rattle.amqp_method.specs.MethodView.{method_view};
     ghost use Rattle.amqp_method.specs.Kinds.{class_of, has_content, sends};
@@ -73,13 +89,16 @@ impl Method {
         }
     }
 
-    /// The method with these arguments, if they fit it. Those that don't are dropped.
+    /// The method with these arguments, if they fit it. Otherwise they are given back, with the place of the first that
+    /// doesn't.
     pub fn try_new(kind: Kind, args: Vec<Arg>) -> Result<Method, Misfit>
         ensures ok { IfOk result (λ m. method_view m ≡ call kind (args_view args.items)) }
         ensures fits { IsOk result ↔ Fits (call kind (args_view args.items)) }
+        ensures place { IfErr result (λ m. FirstMisfit (fields_of kind) (args_view args.items) m.place) }
+        ensures back { IfErr result (λ m. m.args.items ≡ args.items) }
     {
-        if !fits(kind, &args) {
-            return Err(Misfit);
+        if let Some(place) = first_misfit(kind, &args) {
+            return Err(Misfit { place, args });
         }
         Ok(Method::new(kind, args))
     }

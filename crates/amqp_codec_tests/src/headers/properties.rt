@@ -161,3 +161,18 @@ fn each_property_has_its_field_and_its_bit(rt: HostRuntime) -> Result<(), Fail> 
     }
     Ok(())
 }
+
+#[test]
+fn properties_are_made_in_a_line(rt: HostRuntime) -> Result<(), Fail> {
+    let text = ShortStr::new(rt.alloc(), b"pa")?;
+    let none = Properties::default();
+    assert!(rt; none.is_empty());
+    let properties = none.with_content_type(text).with_delivery_mode(2);
+    assert!(rt; !properties.is_empty());
+    let header = Header {
+        body_size: 1,
+        properties,
+    };
+    let wanted = "003c00000000000000000001900002706102";
+    assert_octets(&rt, rt.alloc(), &header, wanted)
+}

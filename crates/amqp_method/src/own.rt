@@ -1,0 +1,115 @@
+//! Lent arguments, built with memory of their own: of octets that were checked, so that it fails for memory alone.
+ghost use Rattle.std.specs.Prelude.{◌≡◌, ◌≤◌, ◌++◌, ◌∷◌, [], length, IfOk, OnOk};
+ghost use Rattle.amqp_method.specs.ArgRefView.{arg_ref_view};
+ghost use Rattle.amqp_method.specs.Arguments.{keep as keeping};
+ghost use Rattle.amqp_method.specs.MethodRefs.{args_left, AddsFirst};
+ghost use Rattle.amqp_method.specs.Owning.{IsShort};
+ghost use Rattle.amqp_method.specs.Views.{args_view};
+
+use crate::arg_ref::ArgRef;
+use crate::args_ref::ArgsRef;
+use crate::faults::OutOfMemory;
+use crate::fields::{Arg, Field, FieldKind};
+use amqp_value::{ShortStr, ValueFaultKind};
+use std::alloc::Global;
+
+/// A short string of these octets.
+pub(crate) fn own_short_string(alloc: Global, octets: &[u8]) -> Result<ShortStr, OutOfMemory>
+    requires { length octets.now ≤ 255 }
+    ensures { IfOk result (λ text. text ≡ octets.now) }
+{
+    match ShortStr::new(alloc, octets) {
+        Ok(text) => Ok(text),
+        Err(fault) => {
+            let memory = fault.kind == ValueFaultKind::OutOfMemory;
+            prove!(memory);
+            Err(OutOfMemory)
+        }
+    }
+}
+
+/// Adds an argument, unless its field is reserved.
+#[inline(always)]
+fn keep_owned(args: &mut Vec<Arg>, reserved: bool, arg: ArgRef<'_>) -> Result<(), OutOfMemory>
+    requires { IsShort (arg_ref_view arg) }
+    ensures { OnOk result (args_view args.new.items
+        ≡ args_view args.old.items ++ keeping reserved (arg_ref_view arg.entry) []) }
+{
+    if reserved {
+        return Ok(());
+    }
+    let alloc = *args.allocator();
+    match arg {
+        ArgRef::Bit(holds) => args.push(Arg::Bit(holds))?,
+        ArgRef::Octet(number) => args.push(Arg::Octet(number))?,
+        ArgRef::Short(number) => args.push(Arg::Short(number))?,
+        ArgRef::Long(number) => args.push(Arg::Long(number))?,
+        ArgRef::LongLong(number) => args.push(Arg::LongLong(number))?,
+        ArgRef::ShortStr(text) => args.push(Arg::ShortStr(own_short_string(alloc, text)?))?,
+        ArgRef::LongStr(text) => args.push(Arg::LongStr(Vec::from_slice(alloc, text)?))?,
+        ArgRef::Table(table) => args.push(Arg::Table(table.to_owned(alloc)?))?,
+    }
+    Ok(())
+}
+
+impl<'a> ArgsRef<'a> {
+    /// Builds the value of the first field, which is of this kind, and adds it, unless the field is reserved. The answer
+    /// is what is left after it.
+    #[inline(always)]
+    fn own_kind(
+        self,
+        kind: FieldKind,
+        field: &Field,
+        fields: &'static [Field],
+        args: &mut Vec<Arg>,
+    ) -> Result<ArgsRef<'a>, OutOfMemory>
+        requires first { self.fields.now ≡ field.now ∷ fields.now }
+        requires kind { kind ≡ field.now.kind }
+        ensures { IfOk result (λ after.
+            AddsFirst self.entry (args_view args.old.items) fields.now (args_view args.new.items) after) }
+    {
+        let (arg, after) = self.first_value(kind, field, fields);
+        keep_owned(args, field.reserved, arg)?;
+        Ok(after)
+    }
+
+    /// The same for a field of any kind.
+    ///
+    /// Each kind is built by a call of its own: arguments of all kinds that meet in one place are put together octet by
+    /// octet.
+    #[inline(always)]
+    fn own_first(
+        self,
+        field: &Field,
+        fields: &'static [Field],
+        args: &mut Vec<Arg>,
+    ) -> Result<ArgsRef<'a>, OutOfMemory>
+        requires { self.fields.now ≡ field.now ∷ fields.now }
+        ensures { IfOk result (λ after.
+            AddsFirst self.entry (args_view args.old.items) fields.now (args_view args.new.items) after) }
+    {
+        match field.kind {
+            FieldKind::Bit => self.own_kind(FieldKind::Bit, field, fields, args),
+            FieldKind::Octet => self.own_kind(FieldKind::Octet, field, fields, args),
+            FieldKind::Short => self.own_kind(FieldKind::Short, field, fields, args),
+            FieldKind::Long => self.own_kind(FieldKind::Long, field, fields, args),
+            FieldKind::LongLong => self.own_kind(FieldKind::LongLong, field, fields, args),
+            FieldKind::ShortStr => self.own_kind(FieldKind::ShortStr, field, fields, args),
+            FieldKind::LongStr => self.own_kind(FieldKind::LongStr, field, fields, args),
+            FieldKind::Table => self.own_kind(FieldKind::Table, field, fields, args),
+        }
+    }
+
+    /// Builds the arguments that are left, into a vector that has none yet.
+    #[inline(always)]
+    pub(crate) fn own_into(self, args: &mut Vec<Arg>) -> Result<(), OutOfMemory>
+        requires { args.old.items ≡ [] }
+        ensures { OnOk result (args_view args.new.items ≡ args_left self.entry) }
+    {
+        let mut left = self;
+        while let Some((field, fields)) = left.fields.split_first() {
+            left = left.own_first(field, fields, args)?;
+        }
+        Ok(())
+    }
+}

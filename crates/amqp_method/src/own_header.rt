@@ -1,0 +1,213 @@
+//! A lent content header, built with memory of its own: of octets that were checked, so that it fails for memory alone.
+ghost use Rattle.std.specs.Prelude.{◌≡◌, ◌≤◌, ◌<◌, length, drop, IfOk, IfSome, OnOk, Some};
+ghost use Rattle.amqp_method.specs.ArgRefView.{arg_ref_view};
+ghost use Rattle.amqp_method.specs.Arguments.{octet, long_long, short_string};
+ghost use Rattle.amqp_method.specs.HeaderChecking.{kind_at};
+ghost use Rattle.amqp_method.specs.HeaderParts.{earlier_view, later_view};
+ghost use Rattle.amqp_method.specs.HeaderRefs.{PropertiesLeft, ReadsProperty};
+ghost use Rattle.amqp_method.specs.HeaderRefView.{lent_header, property_ref_view};
+ghost use Rattle.amqp_method.specs.HeaderView.{present, table_argument, properties_view, header_view};
+ghost use Rattle.amqp_method.specs.Owning.{IsValueOf};
+ghost use Rattle.amqp_method.specs.declared.fields.FieldKind.TheVariants as kinds;
+
+use crate::arg_ref::ArgRef;
+use crate::faults::OutOfMemory;
+use crate::header_checker::LATER_FLAGS;
+use crate::header_ref::HeaderRef;
+use crate::headers::{Header, Properties, clear_place};
+use crate::own::own_short_string;
+use amqp_value::{ShortStr, Table};
+use std::alloc::Global;
+
+/// A short string of these octets, in its place. It stands apart, since most properties are not there.
+#[inline(never)]
+fn put_text(alloc: Global, text: &[u8], property: &mut Option<ShortStr>) -> Result<(), OutOfMemory>
+    requires { length text.now ≤ 255 }
+    ensures { OnOk result (present short_string property.new ≡ Some (short_string text.now)) }
+{
+    *property = Some(own_short_string(alloc, text)?);
+    Ok(())
+}
+
+/// A property of one kind, or none, where it is kept.
+#[inline(always)]
+fn own_text(
+    alloc: Global,
+    value: Option<ArgRef<'_>>,
+    property: &mut Option<ShortStr>,
+) -> Result<(), OutOfMemory>
+    requires { IfSome value (λ value. IsValueOf kinds.ShortStr (arg_ref_view value)) }
+    ensures { OnOk result (present short_string property.new ≡ property_ref_view value.entry) }
+{
+    let Some(value) = value else {
+        clear_place(property);
+        return Ok(());
+    };
+    let Some(text) = value.as_short_str() else {
+        unreachable!()
+    };
+    put_text(alloc, text, property)
+}
+
+fn own_table(
+    alloc: Global,
+    value: Option<ArgRef<'_>>,
+    property: &mut Option<Table>,
+) -> Result<(), OutOfMemory>
+    requires { IfSome value (λ value. IsValueOf kinds.Table (arg_ref_view value)) }
+    ensures { OnOk result (present table_argument property.new ≡ property_ref_view value.entry) }
+{
+    let Some(value) = value else {
+        clear_place(property);
+        return Ok(());
+    };
+    let Some(table) = value.as_table() else {
+        unreachable!()
+    };
+    *property = Some(table.to_owned(alloc)?);
+    Ok(())
+}
+
+#[inline(always)]
+fn octet_in(value: Option<ArgRef<'_>>) -> Option<u8>
+    requires { IfSome value (λ value. IsValueOf kinds.Octet (arg_ref_view value)) }
+    ensures { present octet result ≡ property_ref_view value.entry }
+{
+    value?.as_octet()
+}
+
+#[inline(always)]
+fn long_long_in(value: Option<ArgRef<'_>>) -> Option<u64>
+    requires { IfSome value (λ value. IsValueOf kinds.LongLong (arg_ref_view value)) }
+    ensures { present long_long result ≡ property_ref_view value.entry }
+{
+    value?.as_long_long()
+}
+
+/// Each builds the property at a place, whose octets are the first, where it is kept. The answer is the octets after it.
+impl<'a> HeaderRef<'a> {
+    #[inline(always)]
+    fn text(
+        self,
+        alloc: Global,
+        place: usize,
+        octets: &'a [u8],
+        property: &mut Option<ShortStr>,
+    ) -> Result<&'a [u8], OutOfMemory>
+        requires place { place < 14 }
+        requires kind { kind_at place ≡ kinds.ShortStr }
+        requires left { PropertiesLeft self place octets.now }
+        ensures { IfOk result (λ after. ReadsProperty self.entry place (present short_string property.new) after.now) }
+    {
+        let (value, after) = self.next_property(place, octets);
+        own_text(alloc, value, property)?;
+        Ok(after)
+    }
+
+    #[inline(always)]
+    fn table(
+        self,
+        alloc: Global,
+        place: usize,
+        octets: &'a [u8],
+        property: &mut Option<Table>,
+    ) -> Result<&'a [u8], OutOfMemory>
+        requires place { place < 14 }
+        requires kind { kind_at place ≡ kinds.Table }
+        requires left { PropertiesLeft self place octets.now }
+        ensures { IfOk result (λ after.
+            ReadsProperty self.entry place (present table_argument property.new) after.now) }
+    {
+        let (value, after) = self.next_property(place, octets);
+        own_table(alloc, value, property)?;
+        Ok(after)
+    }
+
+    #[inline(always)]
+    fn octet(self, place: usize, octets: &'a [u8], property: &mut Option<u8>) -> &'a [u8]
+        requires place { place < 14 }
+        requires kind { kind_at place ≡ kinds.Octet }
+        requires left { PropertiesLeft self place octets.now }
+        ensures { ReadsProperty self.entry place (present octet property.new) result.now }
+    {
+        let (value, after) = self.next_property(place, octets);
+        *property = octet_in(value);
+        after
+    }
+
+    #[inline(always)]
+    fn long_long(self, place: usize, octets: &'a [u8], property: &mut Option<u64>) -> &'a [u8]
+        requires place { place < 14 }
+        requires kind { kind_at place ≡ kinds.LongLong }
+        requires left { PropertiesLeft self place octets.now }
+        ensures { ReadsProperty self.entry place (present long_long property.new) result.now }
+    {
+        let (value, after) = self.next_property(place, octets);
+        *property = long_long_in(value);
+        after
+    }
+}
+
+impl<'a> HeaderRef<'a> {
+    /// All properties. Many headers have none, and where there were none before, none has to be written.
+    fn own_properties(self, alloc: Global, properties: &mut Properties) -> Result<(), OutOfMemory>
+        ensures { OnOk result (properties_view properties.new ≡ (lent_header self.entry).properties) }
+    {
+        if self.flags == 0 && properties.is_empty() {
+            return Ok(());
+        }
+        let octets = self.properties();
+        let octets = self.text(alloc, 0, octets, &mut properties.content_type)?;
+        let octets = self.text(alloc, 1, octets, &mut properties.content_encoding)?;
+        let octets = self.table(alloc, 2, octets, &mut properties.headers)?;
+        let octets = self.octet(3, octets, &mut properties.delivery_mode);
+        let octets = self.octet(4, octets, &mut properties.priority);
+        self.own_later(alloc, octets, properties)
+    }
+
+    /// Those from the sixth on. Few headers have any of them.
+    fn own_later(
+        self,
+        alloc: Global,
+        octets: &'a [u8],
+        properties: &mut Properties,
+    ) -> Result<(), OutOfMemory>
+        requires { PropertiesLeft self 5 octets.now }
+        ensures later { OnOk result (drop 5 (lent_header self.entry).properties ≡ later_view properties.new) }
+        ensures kept { earlier_view properties.new ≡ earlier_view properties.old }
+    {
+        if self.flags % LATER_FLAGS == 0 && properties.later_are_none() {
+            return Ok(());
+        }
+        let octets = self.text(alloc, 5, octets, &mut properties.correlation_id)?;
+        let octets = self.text(alloc, 6, octets, &mut properties.reply_to)?;
+        let octets = self.text(alloc, 7, octets, &mut properties.expiration)?;
+        let octets = self.text(alloc, 8, octets, &mut properties.message_id)?;
+        let octets = self.long_long(9, octets, &mut properties.timestamp);
+        let octets = self.text(alloc, 10, octets, &mut properties.type_name)?;
+        let octets = self.text(alloc, 11, octets, &mut properties.user_id)?;
+        let octets = self.text(alloc, 12, octets, &mut properties.app_id)?;
+        self.text(alloc, 13, octets, &mut properties.cluster_id)?;
+        Ok(())
+    }
+
+    /// Makes another header the same as this one, with memory of its own: what it was before is gone. Nothing is checked
+    /// again, so it fails for memory alone, after which the header has some of the properties.
+    ///
+    /// A header is large, so who keeps it in a box builds it there.
+    pub fn read_into(self, alloc: Global, header: &mut Header) -> Result<(), OutOfMemory>
+        ensures { OnOk result (header_view header.new ≡ lent_header self.entry) }
+    {
+        header.body_size = self.body_size();
+        self.own_properties(alloc, &mut header.properties)
+    }
+
+    /// The same header with properties of its own. Nothing is checked again, so it fails for memory alone.
+    pub fn to_owned(self, alloc: Global) -> Result<Header, OutOfMemory>
+        ensures { IfOk result (λ h. header_view h ≡ lent_header self.entry) }
+    {
+        let mut header = Header::default();
+        self.read_into(alloc, &mut header)?;
+        Ok(header)
+    }
+}
