@@ -1,6 +1,6 @@
 #!/usr/bin/env python3
 """Writes the files of the crate amqp_typed that restate the table of methods in docs/PROTOCOL.md: a struct for each method, its
-borrowed form, the enum of all, and the definitions of their calls.
+borrowed forms, the enum of all, and the definitions of their calls.
 
     tools/typed_methods.py            writes the files
     tools/typed_methods.py --check    writes nothing, names each file that would change, and answers 1 if there is one
@@ -153,6 +153,8 @@ KINDS = {
     "long-string": ("LongStr", "Vec<u8>", "&'a [u8]", "long_str", "long_string"),
     "table": ("Table", "Table", "&'a Table", "table", "table"),
 }
+# the type of a field that lies in a payload, where it isn't the type that is lent
+IN_PAYLOAD = {"short-string": "&'a [u8]", "table": "TableRef<'a>"}
 # the functions that take an array of so many arguments apart
 COUNTS = {1: "one", 2: "two", 3: "three", 4: "four", 5: "five", 7: "seven", 8: "eight"}
 PLAIN = {"bit", "octet", "short", "long", "long-long"}
@@ -176,6 +178,7 @@ class Field:
         self.label = name
         self.name = "type_name" if name == "type" else snake(name)
         self.variant, self.owned, self.lent, self.helper, self.argument = KINDS[kind]
+        self.in_payload = IN_PAYLOAD.get(kind, self.lent)
 
     def is_plain(self):
         return self.kind in PLAIN
@@ -194,8 +197,10 @@ class Field:
             return "Table::new(alloc)", "table no_pairs"
         return str(DEFAULTS[self.label]), f"{self.argument} {DEFAULTS[self.label]}"
 
-    def term(self, value, lent=False):
+    def term(self, value, lent=False, in_payload=False):
         """The argument that a value of the field stands for."""
+        if self.kind == "table" and in_payload:
+            return f"table (table_ref_view {value})"
         if self.kind == "table":
             return f"table (table_view {value}{'.now' if lent else ''})"
         if self.kind == "long-string":
@@ -224,6 +229,10 @@ class Method:
 
     def is_bare(self):
         return not self.fields
+
+    def in_payload(self):
+        """The struct that is read from a payload."""
+        return self.name if self.is_plain() else f"{self.name}View<'a>"
 
     def sentence(self):
         return f"/// {SUMMARIES[self.label]} `{self.label}`, class {self.class_id}, method {self.id}."
@@ -409,10 +418,25 @@ def from_ref_of(method):
     return lines + lent_body(method, method.name) + ["    }", ""]
 
 
-def lent_body(method, name):
-    lines = [f"        if !is_kind(method, Kind::{method.kind}) {{", "            return None;", "        }"]
-    body = [f"{field.name}: {field.helper}_at(method, {place})" for place, field in enumerate(method.fields)]
+def lent_body(method, name, test="is_kind", suffix="_at"):
+    lines = [f"        if !{test}(method, Kind::{method.kind}) {{", "            return None;", "        }"]
+    body = [f"{field.name}: {field.helper}{suffix}(method, {place})" for place, field in enumerate(method.fields)]
     return lines + literal("        ", name, body, ")", "Some(")
+
+
+def from_view_of(method, name, call, lifetime):
+    """Read from a method that lies in its payload."""
+    lines = ["    /// What the method says, if it is this one."]
+    lines.append(f"    pub fn from_view(method: MethodRef<{lifetime}>) -> Option<{name}>")
+    lines += view_clauses(method, call) + ["    {"]
+    return lines + lent_body(method, name.split("<")[0], "is_view_of", "_in") + ["    }"]
+
+
+def view_clauses(method, name):
+    return [
+        clause("args", f"IfSome result (λ m. {name}_call m ≡ lent_call method.entry)"),
+        clause("when", f"IsSome result ↔ ((lent_call method.entry).kind ≡ {method.kind})"),
+    ]
 
 
 def message_of(method):
@@ -440,7 +464,7 @@ def impl_of(method):
     lines = [f"impl {method.name} {{"]
     parts = new_of(method) + into_method_of(method) + message_of(method) + from_method_of(method)
     if method.is_plain():
-        parts += from_ref_of(method)
+        parts += from_ref_of(method) + from_view_of(method, method.name, method.snake, "'_") + [""]
     return lines + parts[:-1] + ["}", ""]
 
 
@@ -460,6 +484,17 @@ def ref_of(method):
     return lines + ["    }", "}", ""]
 
 
+def view_of(method):
+    if method.is_plain():
+        return []
+    name = method.name + "View"
+    lines = [f"/// [`{method.name}`], as it lies in its payload."]
+    lines += ["#[derive(Clone, Copy)]", f"pub struct {name}<'a> {{"]
+    lines += [f"    pub {field.name}: {field.in_payload}," for field in method.fields]
+    lines += ["}", "", f"impl<'a> {name}<'a> {{"]
+    return lines + from_view_of(method, f"{name}<'a>", method.snake + "_view", "'a") + ["}", ""]
+
+
 def uses(text, names):
     """Those of the names that the text has as words."""
     return [name for name in names if re.search(rf"(?<![\w.:]){name}\b", text)]
@@ -469,7 +504,10 @@ def class_file(name, all_methods):
     of_class = [method for method in all_methods if method.class_name == name]
     items = []
     for method in of_class:
-        items += alias_of(method) if method.is_bare() else struct_of(method) + impl_of(method) + ref_of(method)
+        if method.is_bare():
+            items += alias_of(method)
+        else:
+            items += struct_of(method) + impl_of(method) + ref_of(method) + view_of(method)
     code = "\n".join(items[:-1])
     clauses = "\n".join(line for line in items if "ensures" in line or line.startswith("            "))
     prelude = ["◌≡◌", "◌↔◌"]
@@ -497,24 +535,31 @@ def class_file(name, all_methods):
         lines.append("ghost use Rattle.amqp_method.specs.MessageView.{message_view};")
         lines.append("ghost use Rattle.amqp_method.specs.Messages.{letter_with};")
     if own:
+        lines.append("ghost use Rattle.amqp_method.specs.MethodRefView.{lent_call};")
         lines.append("ghost use Rattle.amqp_method.specs.MethodView.{method_view};")
         kinds = ", ".join(method.kind for method in own)
         lines.append(f"ghost use Rattle.amqp_method.specs.declared.kinds.Kind.TheVariants.{{{kinds}}};")
         calls = [method.snake + "_call" for method in own]
         calls += [method.snake + "_ref_call" for method in own if not method.is_plain()]
+        calls += [method.snake + "_view_call" for method in own if not method.is_plain()]
         lines.append(f"ghost use Rattle.amqp_typed.specs.{camel(name)}.{{{', '.join(calls)}}};")
         lines.append("")
     helpers = sorted(word for word in [row[3] for row in KINDS.values()] + [row[3] + "_at" for row in KINDS.values()] + list(COUNTS.values()) + ["bare_method", "is_kind", "method_of", "own_args"] if re.search(rf"(?<![\w.:]){word}(\(|::<)", code))
     if helpers:
         lines += use_lines("crate::args", helpers)
+    views = [row[3] + "_in" for row in KINDS.values()] + ["is_view_of"]
+    in_payload = sorted(word for word in views if re.search(rf"(?<![\w.:]){word}\(", code))
     bare = [method.kind for method in of_class if method.is_bare()]
     if bare:
         lines.append("use crate::bare::Bare;")
         lines += use_lines("crate::bare_kinds", sorted(bare))
-    types = [word for word in ("Arg", "Kind", "Message", "Method", "OutOfMemory", "Properties") if re.search(rf"\b{word}\b", code)]
+    if in_payload:
+        lines += use_lines("crate::views", in_payload)
+    types = ("Arg", "Kind", "Message", "Method", "MethodRef", "OutOfMemory", "Properties")
+    types = [word for word in types if re.search(rf"\b{word}\b", code)]
     if types:
         lines += use_lines("amqp_method", types)
-    values = [word for word in ("ShortStr", "Table") if re.search(rf"(?<!Arg::)\b{word}\b", code)]
+    values = [word for word in ("ShortStr", "Table", "TableRef") if re.search(rf"(?<!Arg::)\b{word}\b", code)]
     if values:
         lines += use_lines("amqp_value", values)
     if own:
@@ -571,11 +616,13 @@ def class_spec(name, all_methods):
         body += spec_of(method, method.name, method.snake + "_call", False)
         if not method.is_plain():
             body += spec_of(method, method.name + "Ref", method.snake + "_ref_call", True)
+            body += spec_of(method, method.name + "View", method.snake + "_view_call", True, True)
     text = "\n".join(body)
     lines = [f"-- What the structs of the class {name} stand for: each the call of its method, with the fields as arguments in the order of the table."]
     lines += ["-- " + line[3:] for line in HEAD.rstrip().split("\n")]
     lines.append("use Rattle.std.specs.Prelude.{[], ◌∷◌}")
     if "table_view" in text:
+        lines.append("use Rattle.amqp_value.specs.Lent.{table_ref_view}")
         lines.append("use Rattle.amqp_value.specs.Tables.{table_view}")
     arguments = [row[4] for row in KINDS.values() if re.search(rf"[(∷] ?{row[4]}\b", text)]
     lines.append(f"use Rattle.amqp_method.specs.Arguments.{{{', '.join(['Call', 'call'] + arguments)}}}")
@@ -585,12 +632,13 @@ def class_spec(name, all_methods):
         lines.append(f"use Rattle.amqp_typed.specs.declared.{name}.{method.name}.{{{method.name}}}")
         if not method.is_plain():
             lines.append(f"use Rattle.amqp_typed.specs.declared.{name}.{method.name}Ref.{{{method.name}Ref}}")
+            lines.append(f"use Rattle.amqp_typed.specs.declared.{name}.{method.name}View.{{{method.name}View}}")
     return "\n".join(lines) + "\n\n" + text.rstrip() + "\n"
 
 
-def spec_of(method, struct, call, lent):
+def spec_of(method, struct, call, lent, in_payload=False):
     lines = [f"abbrev pub {call} : {struct} → Call"]
-    terms = [field.term(f"m.{field.name}", lent) for field in method.fields]
+    terms = [field.term(f"m.{field.name}", lent, in_payload) for field in method.fields]
     one = f"{call} m = call {method.kind} ({' '.join(list_words(terms))})"
     if len(one) <= 100:
         return lines + [one, ""]
@@ -612,19 +660,37 @@ def steps(fields, suffix):
     return names
 
 
-def lent_answer(method, struct, function):
-    """That what is read by place is all that the method says."""
-    place = f"Rattle.amqp_typed.proofs.{method.class_name}.{struct}.{function}.Goals"
-    facts = " ".join(f"c.{helper}{count}.ensures" for helper, count in steps(method.fields, "_at"))
-    return f"""use Rattle.std.proofs.Common.{{refl}}
-use Rattle.amqp_typed.proofs.Places.{{call_{len(method.fields)}}}
-use {place} as goal
+def lent_answer(method, struct, function, suffix, test, fit, said):
+    """Of which kind each argument is, and that what is read by place is all that the method says."""
+    calls = steps(method.fields, suffix)
+    same = f"(c.{test}.0 c.if-not-{test.split('.')[0]}.false)"
+    word = said[1:].split(" ")[0]
+    lines = [
+        "use Rattle.std.proofs.Common.{refl}",
+        f"use Rattle.amqp_method.specs.{'MethodView' if word == 'method_view' else 'MethodRefView'}.{{{word}}}",
+        f"use Rattle.amqp_method.specs.declared.kinds.Kind.TheVariants.{{{method.kind}}}",
+        f"use Rattle.amqp_typed.proofs.Places.{{at_place, call_{len(method.fields)}}}",
+        f"use Rattle.amqp_typed.proofs.{method.class_name}.{struct}.{function}.Goals as goal",
+    ]
+    for place, (helper, number) in enumerate(calls):
+        goal = f"{helper}-requires{number}"
+        lines += ["", f"pub {goal} : goal.{goal}", f"{goal} c = at_place {said} {method.kind} {place} {same} refl"]
+    facts = " ".join(f"c.{helper}{number}.ensures" for helper, number in calls)
+    lines += ["", "pub returns-clause-args : goal.returns-clause-args", "returns-clause-args c ="]
+    lines += [f"    call_{len(method.fields)} _ _ {same} {fit} refl", f"    {facts}"]
+    return "\n".join(lines) + "\n"
 
-pub returns-clause-args : goal.returns-clause-args
-returns-clause-args c =
-    call_{len(method.fields)} _ _ (c.is_kind.ensures.0 c.if-not-is_kind.false) c.args.method.now.fit refl
-    {facts}
-"""
+
+def ref_answer(method, struct, function):
+    """Of a method that is lent."""
+    method_said = "(method_view c.args.method.now)"
+    return lent_answer(method, struct, function, "_at", "is_kind.ensures", "c.args.method.now.fit", method_said)
+
+
+def view_answer(method, struct):
+    """Of a method that lies in its payload."""
+    kind, fit = "is_view_of.ensures.kind", "c.is_view_of.ensures.fit"
+    return lent_answer(method, struct, "from_view", "_in", kind, fit, "(lent_call c.args.method)")
 
 
 def owned_answer(method):
@@ -651,17 +717,41 @@ def owned_answer(method):
     return "\n".join(lines) + "\n"
 
 
+def any_answer(module, function, read, of_class):
+    """That each method is read, being of its kind, and that its struct stands for it."""
+    lines = [
+        "use Rattle.std.proofs.Common.{sym, ◌∙◌}",
+        f"use Rattle.amqp_typed.proofs.{module}.{function}.Goals as goal",
+    ]
+    for place, method in enumerate(of_class):
+        arm, step = f"in-{method.kind}", f"-in-{method.kind}" if place else ""
+        goal = f"unwrap-requires{step}"
+        lines += ["", f"pub {goal} : goal.{goal}"]
+        lines.append(f"{goal} c = c.{read}{step}.ensures.when.1 (sym c.kind.ensures ∙ c.{arm}.is)")
+        goal = f"returns-{arm}"
+        lines += ["", f"pub {goal} : goal.{goal}"]
+        lines.append(f"{goal} c = rw c.unwrap{step}.ensures at c.{read}{step}.ensures.args")
+    return "\n".join(lines) + "\n"
+
+
 def answers(all_methods):
     found = {}
+    for name in CLASSES:
+        of_class = [method for method in all_methods if method.class_name == name]
+        path = CRATE / "proofs" / "any_method_view" / f"any_{name}" / "Answers.antt"
+        found[path] = any_answer("any_method_view", f"any_{name}", "from_view", of_class)
     for method in all_methods:
         if not method.fields:
             continue
         folder = CRATE / "proofs" / method.class_name
         if method.is_plain():
-            found[folder / method.name / "from_ref" / "Answers.antt"] = lent_answer(method, method.name, "from_ref")
+            found[folder / method.name / "from_ref" / "Answers.antt"] = ref_answer(method, method.name, "from_ref")
+            found[folder / method.name / "from_view" / "Answers.antt"] = view_answer(method, method.name)
             continue
         lent = method.name + "Ref"
-        found[folder / lent / "from_method" / "Answers.antt"] = lent_answer(method, lent, "from_method")
+        found[folder / lent / "from_method" / "Answers.antt"] = ref_answer(method, lent, "from_method")
+        view = method.name + "View"
+        found[folder / view / "from_view" / "Answers.antt"] = view_answer(method, view)
         found[folder / method.name / "from_method" / "Answers.antt"] = owned_answer(method)
     return found
 
@@ -737,6 +827,48 @@ def debug_of_any(all_methods):
     return lines + ['        f.write_str(")")', "    }", "}"]
 
 
+def any_view_file(all_methods):
+    lines = ["//! Every method as it lies in its payload, as one of the structs."]
+    lines += HEAD.rstrip().split("\n")
+    lines.append("ghost use Rattle.std.specs.Prelude.{◌≡◌};")
+    lines.append("ghost use Rattle.amqp_method.specs.Methods.{row};")
+    lines.append("ghost use Rattle.amqp_method.specs.MethodRefView.{lent_call};")
+    lines.append("ghost use Rattle.amqp_typed.specs.AnyMethodView.{any_view_call};")
+    lines.append("")
+    lines.append(f"use crate::{{{', '.join(sorted(CLASSES))}}};")
+    lines += use_lines("amqp_method", ["Kind", "MethodRef"])
+    lines.append("")
+    lines.append("/// A method of any kind, as it lies in its payload. The variants have the names of [`Kind`]'s.")
+    lines += ["#[derive(Clone, Copy)]", "pub enum AnyMethodView<'a> {"]
+    lines += [f"    {method.kind}({method.class_name}::{method.in_payload()})," for method in all_methods]
+    lines += ["}", ""]
+    for name in CLASSES:
+        lines += any_view_of_class(name, [method for method in all_methods if method.class_name == name])
+    lines += ["impl<'a> AnyMethodView<'a> {", "    pub fn kind(self) -> Kind"]
+    lines.append(clause("", "result ≡ (any_view_call self.entry).kind"))
+    lines += ["    {", "        match self {"]
+    for method in all_methods:
+        lines += arm(f"AnyMethodView::{method.kind}(_)", f"Kind::{method.kind}", "            ")
+    lines += ["        }", "    }", ""]
+    lines += ["    /// What a method says.", "    pub fn from_view(method: MethodRef<'a>) -> AnyMethodView<'a>"]
+    lines.append(clause("", "any_view_call result ≡ lent_call method.entry"))
+    lines += by_class("method", lambda name: f"any_{name}(method)", all_methods)
+    return "\n".join(lines + ["}"]) + "\n"
+
+
+def any_view_of_class(name, of_class):
+    lines = [f"/// What a method of the class {name} says."]
+    lines.append(f"fn any_{name}<'a>(method: MethodRef<'a>) -> AnyMethodView<'a>")
+    lines.append(f"    requires {{ (row (lent_call method).kind).class ≡ {of_class[0].class_id} }}")
+    lines.append(clause("", "any_view_call result ≡ lent_call method.entry", "    "))
+    lines += ["{", "    match method.kind() {"]
+    for method in of_class:
+        struct = method.in_payload().split("<")[0]
+        value = f"AnyMethodView::{method.kind}({name}::{struct}::from_view(method).unwrap())"
+        lines += arm(f"Kind::{method.kind}", value, "        ")
+    return lines + ["        _ => unreachable!(),", "    }", "}", ""]
+
+
 def any_of_class(name, of_class):
     lines = [f"/// What a method of the class {name} says."]
     lines.append(f"fn any_{name}(method: Method) -> AnyMethod")
@@ -772,6 +904,24 @@ def any_spec(all_methods):
     return "\n".join(lines) + "\n"
 
 
+def any_view_spec(all_methods):
+    lines = ["-- What a method of any kind, as it lies in its payload, stands for."]
+    lines += ["-- " + line[3:] for line in HEAD.rstrip().split("\n")]
+    lines.append("use Rattle.std.specs.Prelude.{[]}")
+    lines.append("use Rattle.amqp_method.specs.Arguments.{Call, call}")
+    lines.append("use Rattle.amqp_method.specs.declared.kinds.Kind.TheVariants as kind")
+    lines.append("use Rattle.amqp_typed.specs.declared.any_method_view.AnyMethodView.{AnyMethodView}")
+    lines.append("use Rattle.amqp_typed.specs.declared.any_method_view.AnyMethodView.TheVariants as any")
+    own = [name for name in CLASSES if with_fields(name, all_methods)]
+    lines += [f"use Rattle.amqp_typed.specs.{camel(name)} as {name}" for name in own]
+    lines += ["", "abbrev pub any_view_call : AnyMethodView → Call"]
+    for method in all_methods:
+        words = method.snake + ("_call" if method.is_plain() else "_view_call")
+        of = f"call kind.{method.kind} []" if method.is_bare() else f"{method.class_name}.{words} m"
+        lines.append(f"any_view_call (any.{method.kind} m) = {of}")
+    return "\n".join(lines) + "\n"
+
+
 # ---- files
 
 
@@ -785,6 +935,8 @@ def files():
     found[CRATE / "src" / "bare_kinds.rt"] = bare_kinds_file(all_methods)
     found[CRATE / "src" / "any_method.rt"] = any_file(all_methods)
     found[CRATE / "specs" / "AnyMethod.antt"] = any_spec(all_methods)
+    found[CRATE / "src" / "any_method_view.rt"] = any_view_file(all_methods)
+    found[CRATE / "specs" / "AnyMethodView.antt"] = any_view_spec(all_methods)
     return found
 
 

@@ -1,5 +1,5 @@
 -- The arguments of a method by their place.
-use Rattle.std.proofs.Common.{◌≡◌, ℕ, zero, suc, List, [], ◌∷◌, map, Some, None, refl, sym, ap, ◌∙◌}
+use Rattle.std.proofs.Common.{◌≡◌, ℕ, zero, suc, List, [], ◌∷◌, map, Option, Some, None, refl, sym, ap, ◌∙◌}
 use Rattle.amqp_method.specs.Arguments.{Argument, Call, call, Fits, kind_of, wanted}
 use Rattle.amqp_method.specs.Kinds.{fields_of}
 use Rattle.amqp_method.specs.Places.{argument_at}
@@ -27,6 +27,11 @@ kind_there c place a fit e = ap (nth_kind place) (sym fit) ∙ kind_nth c.args p
 pub none_there : (c : Call) (place : ℕ) → Fits c → argument_at place c.args ≡ None → kind_at place c ≡ None
 none_there c place fit e = ap (nth_kind place) (sym fit) ∙ none_nth c.args place e
 
+-- the kind of a place in a call of a known kind
+pub at_place : (c : Call) (kind : Kind) (place : ℕ) {k : Option FieldKind} → c.kind ≡ kind
+    → nth_kind place (wanted (fields_of kind)) ≡ k → kind_at place c ≡ k
+at_place c kind place same e = ap (λ (k : Kind). nth_kind place (wanted (fields_of k))) same ∙ e
+
 no_more : (args : List Argument) → map kind_of args ≡ [] → args ≡ []
 no_more [] e = refl
 no_more (a ∷ args) e = absurd cc
@@ -36,6 +41,10 @@ same_call c kind args same known = sym (ap (λ (k : Kind). call k c.args) same �
 
 kinds_of : (c : Call) (kind : Kind) → c.kind ≡ kind → Fits c → map kind_of c.args ≡ wanted (fields_of kind)
 kinds_of c kind same fit = fit ∙ ap (λ (k : Kind). wanted (fields_of k)) same
+
+-- a call without arguments
+pub call_0 : (c : Call) (kind : Kind) → c.kind ≡ kind → Fits c → wanted (fields_of kind) ≡ [] → call kind [] ≡ c
+call_0 c kind same fit none = same_call c kind [] same (no_more c.args (kinds_of c kind same fit ∙ none))
 
 known_1 : {k0 : FieldKind} {v0 : Argument} (args : List Argument) → map kind_of args ≡ k0 ∷ []
     → argument_at 0 args ≡ Some v0 → args ≡ v0 ∷ []

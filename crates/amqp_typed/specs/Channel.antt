@@ -7,6 +7,7 @@ use Rattle.amqp_typed.specs.declared.channel.Flow.{Flow}
 use Rattle.amqp_typed.specs.declared.channel.FlowOk.{FlowOk}
 use Rattle.amqp_typed.specs.declared.channel.Close.{Close}
 use Rattle.amqp_typed.specs.declared.channel.CloseRef.{CloseRef}
+use Rattle.amqp_typed.specs.declared.channel.CloseView.{CloseView}
 
 abbrev pub flow_call : Flow → Call
 flow_call m = call ChannelFlow (bit m.active ∷ [])
@@ -21,5 +22,10 @@ close_call m =
 
 abbrev pub close_ref_call : CloseRef → Call
 close_ref_call m =
+    call ChannelClose
+    (short m.reply_code ∷ short_string m.reply_text.now ∷ short m.class_id ∷ short m.method_id ∷ [])
+
+abbrev pub close_view_call : CloseView → Call
+close_view_call m =
     call ChannelClose
     (short m.reply_code ∷ short_string m.reply_text.now ∷ short m.class_id ∷ short m.method_id ∷ [])

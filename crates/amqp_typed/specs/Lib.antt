@@ -5,4 +5,5 @@ pub mod Queue
 pub mod Basic
 pub mod Confirm
 pub mod AnyMethod
+pub mod AnyMethodView
 pub mod Kinds

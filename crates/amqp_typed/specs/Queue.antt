@@ -1,22 +1,29 @@
 -- What the structs of the class queue stand for: each the call of its method, with the fields as arguments in the order of the table.
 -- Written by `tools/typed_methods.py` from the table of methods in `docs/PROTOCOL.md`: change those and run it again.
 use Rattle.std.specs.Prelude.{[], ◌∷◌}
+use Rattle.amqp_value.specs.Lent.{table_ref_view}
 use Rattle.amqp_value.specs.Tables.{table_view}
 use Rattle.amqp_method.specs.Arguments.{Call, call, bit, long, short_string, table}
 use Rattle.amqp_method.specs.declared.kinds.Kind.TheVariants.{QueueDeclare, QueueDeclareOk, QueueBind, QueueUnbind, QueuePurge, QueuePurgeOk, QueueDelete, QueueDeleteOk}
 use Rattle.amqp_typed.specs.declared.queue.Declare.{Declare}
 use Rattle.amqp_typed.specs.declared.queue.DeclareRef.{DeclareRef}
+use Rattle.amqp_typed.specs.declared.queue.DeclareView.{DeclareView}
 use Rattle.amqp_typed.specs.declared.queue.DeclareOk.{DeclareOk}
 use Rattle.amqp_typed.specs.declared.queue.DeclareOkRef.{DeclareOkRef}
+use Rattle.amqp_typed.specs.declared.queue.DeclareOkView.{DeclareOkView}
 use Rattle.amqp_typed.specs.declared.queue.Bind.{Bind}
 use Rattle.amqp_typed.specs.declared.queue.BindRef.{BindRef}
+use Rattle.amqp_typed.specs.declared.queue.BindView.{BindView}
 use Rattle.amqp_typed.specs.declared.queue.Unbind.{Unbind}
 use Rattle.amqp_typed.specs.declared.queue.UnbindRef.{UnbindRef}
+use Rattle.amqp_typed.specs.declared.queue.UnbindView.{UnbindView}
 use Rattle.amqp_typed.specs.declared.queue.Purge.{Purge}
 use Rattle.amqp_typed.specs.declared.queue.PurgeRef.{PurgeRef}
+use Rattle.amqp_typed.specs.declared.queue.PurgeView.{PurgeView}
 use Rattle.amqp_typed.specs.declared.queue.PurgeOk.{PurgeOk}
 use Rattle.amqp_typed.specs.declared.queue.Delete.{Delete}
 use Rattle.amqp_typed.specs.declared.queue.DeleteRef.{DeleteRef}
+use Rattle.amqp_typed.specs.declared.queue.DeleteView.{DeleteView}
 use Rattle.amqp_typed.specs.declared.queue.DeleteOk.{DeleteOk}
 
 abbrev pub declare_call : Declare → Call
@@ -31,6 +38,12 @@ declare_ref_call m =
     (short_string m.queue.now ∷ bit m.passive ∷ bit m.durable ∷ bit m.exclusive ∷ bit m.auto_delete
     ∷ bit m.no_wait ∷ table (table_view m.arguments.now) ∷ [])
 
+abbrev pub declare_view_call : DeclareView → Call
+declare_view_call m =
+    call QueueDeclare
+    (short_string m.queue.now ∷ bit m.passive ∷ bit m.durable ∷ bit m.exclusive ∷ bit m.auto_delete
+    ∷ bit m.no_wait ∷ table (table_ref_view m.arguments) ∷ [])
+
 abbrev pub declare_ok_call : DeclareOk → Call
 declare_ok_call m =
     call QueueDeclareOk
@@ -38,6 +51,11 @@ declare_ok_call m =
 
 abbrev pub declare_ok_ref_call : DeclareOkRef → Call
 declare_ok_ref_call m =
+    call QueueDeclareOk
+    (short_string m.queue.now ∷ long m.message_count ∷ long m.consumer_count ∷ [])
+
+abbrev pub declare_ok_view_call : DeclareOkView → Call
+declare_ok_view_call m =
     call QueueDeclareOk
     (short_string m.queue.now ∷ long m.message_count ∷ long m.consumer_count ∷ [])
 
@@ -53,6 +71,12 @@ bind_ref_call m =
     (short_string m.queue.now ∷ short_string m.exchange.now ∷ short_string m.routing_key.now
     ∷ bit m.no_wait ∷ table (table_view m.arguments.now) ∷ [])
 
+abbrev pub bind_view_call : BindView → Call
+bind_view_call m =
+    call QueueBind
+    (short_string m.queue.now ∷ short_string m.exchange.now ∷ short_string m.routing_key.now
+    ∷ bit m.no_wait ∷ table (table_ref_view m.arguments) ∷ [])
+
 abbrev pub unbind_call : Unbind → Call
 unbind_call m =
     call QueueUnbind
@@ -65,11 +89,20 @@ unbind_ref_call m =
     (short_string m.queue.now ∷ short_string m.exchange.now ∷ short_string m.routing_key.now
     ∷ table (table_view m.arguments.now) ∷ [])
 
+abbrev pub unbind_view_call : UnbindView → Call
+unbind_view_call m =
+    call QueueUnbind
+    (short_string m.queue.now ∷ short_string m.exchange.now ∷ short_string m.routing_key.now
+    ∷ table (table_ref_view m.arguments) ∷ [])
+
 abbrev pub purge_call : Purge → Call
 purge_call m = call QueuePurge (short_string m.queue ∷ bit m.no_wait ∷ [])
 
 abbrev pub purge_ref_call : PurgeRef → Call
 purge_ref_call m = call QueuePurge (short_string m.queue.now ∷ bit m.no_wait ∷ [])
+
+abbrev pub purge_view_call : PurgeView → Call
+purge_view_call m = call QueuePurge (short_string m.queue.now ∷ bit m.no_wait ∷ [])
 
 abbrev pub purge_ok_call : PurgeOk → Call
 purge_ok_call m = call QueuePurgeOk (long m.message_count ∷ [])
@@ -81,6 +114,11 @@ delete_call m =
 
 abbrev pub delete_ref_call : DeleteRef → Call
 delete_ref_call m =
+    call QueueDelete
+    (short_string m.queue.now ∷ bit m.if_unused ∷ bit m.if_empty ∷ bit m.no_wait ∷ [])
+
+abbrev pub delete_view_call : DeleteView → Call
+delete_view_call m =
     call QueueDelete
     (short_string m.queue.now ∷ bit m.if_unused ∷ bit m.if_empty ∷ bit m.no_wait ∷ [])
 

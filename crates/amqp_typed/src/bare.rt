@@ -4,10 +4,12 @@ ghost use Rattle.std.specs.Cmp.Rules.{comparing};
 ghost use Rattle.std.proofs.Common.{rules};
 ghost use Rattle.amqp_method.specs.Arguments.{call, wanted};
 ghost use Rattle.amqp_method.specs.Kinds.{fields_of};
+ghost use Rattle.amqp_method.specs.MethodRefView.{lent_call};
 ghost use Rattle.amqp_method.specs.MethodView.{method_view};
 
 use crate::args::{bare_method, is_kind};
-use amqp_method::{Kind, Method, OutOfMemory};
+use crate::views::is_view_of;
+use amqp_method::{Kind, Method, MethodRef, OutOfMemory};
 use std::alloc::Global;
 use std::fmt;
 use std::marker::PhantomData;
@@ -59,6 +61,17 @@ impl<K: BareKind> Bare<K> {
         ensures when { IsSome result ↔ ((method_view method.now).kind ≡ K.KIND) }
     {
         if is_kind(method, K::KIND) {
+            return Some(Bare::new());
+        }
+        None
+    }
+
+    /// What the method says, if it is this one.
+    pub fn from_view(method: MethodRef<'_>) -> Option<Bare<K>>
+        ensures args { IfSome result (λ m. call K.KIND [] ≡ lent_call method.entry) }
+        ensures when { IsSome result ↔ ((lent_call method.entry).kind ≡ K.KIND) }
+    {
+        if is_view_of(method, K::KIND) {
             return Some(Bare::new());
         }
         None

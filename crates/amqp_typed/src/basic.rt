@@ -6,9 +6,10 @@ ghost use Rattle.amqp_method.specs.Arguments.{call, bit, short, long, long_long,
 ghost use Rattle.amqp_method.specs.HeaderView.{properties_view};
 ghost use Rattle.amqp_method.specs.MessageView.{message_view};
 ghost use Rattle.amqp_method.specs.Messages.{letter_with};
+ghost use Rattle.amqp_method.specs.MethodRefView.{lent_call};
 ghost use Rattle.amqp_method.specs.MethodView.{method_view};
 ghost use Rattle.amqp_method.specs.declared.kinds.Kind.TheVariants.{BasicQos, BasicConsume, BasicConsumeOk, BasicCancel, BasicCancelOk, BasicPublish, BasicReturn, BasicDeliver, BasicGet, BasicGetOk, BasicAck, BasicReject, BasicRecoverAsync, BasicRecover, BasicNack};
-ghost use Rattle.amqp_typed.specs.Basic.{qos_call, consume_call, consume_ok_call, cancel_call, cancel_ok_call, publish_call, return_call, deliver_call, get_call, get_ok_call, ack_call, reject_call, recover_async_call, recover_call, nack_call, consume_ref_call, consume_ok_ref_call, cancel_ref_call, cancel_ok_ref_call, publish_ref_call, return_ref_call, deliver_ref_call, get_ref_call, get_ok_ref_call};
+ghost use Rattle.amqp_typed.specs.Basic.{qos_call, consume_call, consume_ok_call, cancel_call, cancel_ok_call, publish_call, return_call, deliver_call, get_call, get_ok_call, ack_call, reject_call, recover_async_call, recover_call, nack_call, consume_ref_call, consume_ok_ref_call, cancel_ref_call, cancel_ok_ref_call, publish_ref_call, return_ref_call, deliver_ref_call, get_ref_call, get_ok_ref_call, consume_view_call, consume_ok_view_call, cancel_view_call, cancel_ok_view_call, publish_view_call, return_view_call, deliver_view_call, get_view_call, get_ok_view_call};
 
 use crate::args::{
     bit, bit_at, five, four, is_kind, long, long_at, long_long, long_long_at, method_of, one,
@@ -16,8 +17,9 @@ use crate::args::{
 };
 use crate::bare::Bare;
 use crate::bare_kinds::{BasicGetEmpty, BasicQosOk, BasicRecoverOk};
-use amqp_method::{Arg, Kind, Message, Method, OutOfMemory, Properties};
-use amqp_value::{ShortStr, Table};
+use crate::views::{bit_in, is_view_of, long_in, long_long_in, short_in, short_str_in, table_in};
+use amqp_method::{Arg, Kind, Message, Method, MethodRef, OutOfMemory, Properties};
+use amqp_value::{ShortStr, Table, TableRef};
 use std::alloc::Global;
 
 /// Limits what the server sends ahead of acknowledgements. `basic.qos`, class 60, method 10.
@@ -82,6 +84,21 @@ impl Qos {
             prefetch_size: long_at(method, 0),
             prefetch_count: short_at(method, 1),
             global: bit_at(method, 2),
+        })
+    }
+
+    /// What the method says, if it is this one.
+    pub fn from_view(method: MethodRef<'_>) -> Option<Qos>
+        ensures args { IfSome result (λ m. qos_call m ≡ lent_call method.entry) }
+        ensures when { IsSome result ↔ ((lent_call method.entry).kind ≡ BasicQos) }
+    {
+        if !is_view_of(method, Kind::BasicQos) {
+            return None;
+        }
+        Some(Qos {
+            prefetch_size: long_in(method, 0),
+            prefetch_count: short_in(method, 1),
+            global: bit_in(method, 2),
         })
     }
 }
@@ -196,6 +213,39 @@ impl<'a> ConsumeRef<'a> {
     }
 }
 
+/// [`Consume`], as it lies in its payload.
+#[derive(Clone, Copy)]
+pub struct ConsumeView<'a> {
+    pub queue: &'a [u8],
+    pub consumer_tag: &'a [u8],
+    pub no_local: bool,
+    pub no_ack: bool,
+    pub exclusive: bool,
+    pub no_wait: bool,
+    pub arguments: TableRef<'a>,
+}
+
+impl<'a> ConsumeView<'a> {
+    /// What the method says, if it is this one.
+    pub fn from_view(method: MethodRef<'a>) -> Option<ConsumeView<'a>>
+        ensures args { IfSome result (λ m. consume_view_call m ≡ lent_call method.entry) }
+        ensures when { IsSome result ↔ ((lent_call method.entry).kind ≡ BasicConsume) }
+    {
+        if !is_view_of(method, Kind::BasicConsume) {
+            return None;
+        }
+        Some(ConsumeView {
+            queue: short_str_in(method, 0),
+            consumer_tag: short_str_in(method, 1),
+            no_local: bit_in(method, 2),
+            no_ack: bit_in(method, 3),
+            exclusive: bit_in(method, 4),
+            no_wait: bit_in(method, 5),
+            arguments: table_in(method, 6),
+        })
+    }
+}
+
 /// Gives the tag of the consumer that was started. `basic.consume-ok`, class 60, method 21.
 #[derive(Debug, Drop, PartialEq, Eq)]
 pub struct ConsumeOk {
@@ -252,6 +302,27 @@ impl<'a> ConsumeOkRef<'a> {
         }
         Some(ConsumeOkRef {
             consumer_tag: short_str_at(method, 0),
+        })
+    }
+}
+
+/// [`ConsumeOk`], as it lies in its payload.
+#[derive(Clone, Copy)]
+pub struct ConsumeOkView<'a> {
+    pub consumer_tag: &'a [u8],
+}
+
+impl<'a> ConsumeOkView<'a> {
+    /// What the method says, if it is this one.
+    pub fn from_view(method: MethodRef<'a>) -> Option<ConsumeOkView<'a>>
+        ensures args { IfSome result (λ m. consume_ok_view_call m ≡ lent_call method.entry) }
+        ensures when { IsSome result ↔ ((lent_call method.entry).kind ≡ BasicConsumeOk) }
+    {
+        if !is_view_of(method, Kind::BasicConsumeOk) {
+            return None;
+        }
+        Some(ConsumeOkView {
+            consumer_tag: short_str_in(method, 0),
         })
     }
 }
@@ -325,6 +396,29 @@ impl<'a> CancelRef<'a> {
     }
 }
 
+/// [`Cancel`], as it lies in its payload.
+#[derive(Clone, Copy)]
+pub struct CancelView<'a> {
+    pub consumer_tag: &'a [u8],
+    pub no_wait: bool,
+}
+
+impl<'a> CancelView<'a> {
+    /// What the method says, if it is this one.
+    pub fn from_view(method: MethodRef<'a>) -> Option<CancelView<'a>>
+        ensures args { IfSome result (λ m. cancel_view_call m ≡ lent_call method.entry) }
+        ensures when { IsSome result ↔ ((lent_call method.entry).kind ≡ BasicCancel) }
+    {
+        if !is_view_of(method, Kind::BasicCancel) {
+            return None;
+        }
+        Some(CancelView {
+            consumer_tag: short_str_in(method, 0),
+            no_wait: bit_in(method, 1),
+        })
+    }
+}
+
 /// Confirms that the consumer has ended. `basic.cancel-ok`, class 60, method 31.
 #[derive(Debug, Drop, PartialEq, Eq)]
 pub struct CancelOk {
@@ -381,6 +475,27 @@ impl<'a> CancelOkRef<'a> {
         }
         Some(CancelOkRef {
             consumer_tag: short_str_at(method, 0),
+        })
+    }
+}
+
+/// [`CancelOk`], as it lies in its payload.
+#[derive(Clone, Copy)]
+pub struct CancelOkView<'a> {
+    pub consumer_tag: &'a [u8],
+}
+
+impl<'a> CancelOkView<'a> {
+    /// What the method says, if it is this one.
+    pub fn from_view(method: MethodRef<'a>) -> Option<CancelOkView<'a>>
+        ensures args { IfSome result (λ m. cancel_ok_view_call m ≡ lent_call method.entry) }
+        ensures when { IsSome result ↔ ((lent_call method.entry).kind ≡ BasicCancelOk) }
+    {
+        if !is_view_of(method, Kind::BasicCancelOk) {
+            return None;
+        }
+        Some(CancelOkView {
+            consumer_tag: short_str_in(method, 0),
         })
     }
 }
@@ -484,6 +599,33 @@ impl<'a> PublishRef<'a> {
     }
 }
 
+/// [`Publish`], as it lies in its payload.
+#[derive(Clone, Copy)]
+pub struct PublishView<'a> {
+    pub exchange: &'a [u8],
+    pub routing_key: &'a [u8],
+    pub mandatory: bool,
+    pub immediate: bool,
+}
+
+impl<'a> PublishView<'a> {
+    /// What the method says, if it is this one.
+    pub fn from_view(method: MethodRef<'a>) -> Option<PublishView<'a>>
+        ensures args { IfSome result (λ m. publish_view_call m ≡ lent_call method.entry) }
+        ensures when { IsSome result ↔ ((lent_call method.entry).kind ≡ BasicPublish) }
+    {
+        if !is_view_of(method, Kind::BasicPublish) {
+            return None;
+        }
+        Some(PublishView {
+            exchange: short_str_in(method, 0),
+            routing_key: short_str_in(method, 1),
+            mandatory: bit_in(method, 2),
+            immediate: bit_in(method, 3),
+        })
+    }
+}
+
 /// Returns a message that could not be routed or delivered. `basic.return`, class 60, method 50.
 #[derive(Debug, Drop, PartialEq, Eq)]
 pub struct Return {
@@ -582,6 +724,33 @@ impl<'a> ReturnRef<'a> {
             reply_text: short_str_at(method, 1),
             exchange: short_str_at(method, 2),
             routing_key: short_str_at(method, 3),
+        })
+    }
+}
+
+/// [`Return`], as it lies in its payload.
+#[derive(Clone, Copy)]
+pub struct ReturnView<'a> {
+    pub reply_code: u16,
+    pub reply_text: &'a [u8],
+    pub exchange: &'a [u8],
+    pub routing_key: &'a [u8],
+}
+
+impl<'a> ReturnView<'a> {
+    /// What the method says, if it is this one.
+    pub fn from_view(method: MethodRef<'a>) -> Option<ReturnView<'a>>
+        ensures args { IfSome result (λ m. return_view_call m ≡ lent_call method.entry) }
+        ensures when { IsSome result ↔ ((lent_call method.entry).kind ≡ BasicReturn) }
+    {
+        if !is_view_of(method, Kind::BasicReturn) {
+            return None;
+        }
+        Some(ReturnView {
+            reply_code: short_in(method, 0),
+            reply_text: short_str_in(method, 1),
+            exchange: short_str_in(method, 2),
+            routing_key: short_str_in(method, 3),
         })
     }
 }
@@ -696,6 +865,35 @@ impl<'a> DeliverRef<'a> {
     }
 }
 
+/// [`Deliver`], as it lies in its payload.
+#[derive(Clone, Copy)]
+pub struct DeliverView<'a> {
+    pub consumer_tag: &'a [u8],
+    pub delivery_tag: u64,
+    pub redelivered: bool,
+    pub exchange: &'a [u8],
+    pub routing_key: &'a [u8],
+}
+
+impl<'a> DeliverView<'a> {
+    /// What the method says, if it is this one.
+    pub fn from_view(method: MethodRef<'a>) -> Option<DeliverView<'a>>
+        ensures args { IfSome result (λ m. deliver_view_call m ≡ lent_call method.entry) }
+        ensures when { IsSome result ↔ ((lent_call method.entry).kind ≡ BasicDeliver) }
+    {
+        if !is_view_of(method, Kind::BasicDeliver) {
+            return None;
+        }
+        Some(DeliverView {
+            consumer_tag: short_str_in(method, 0),
+            delivery_tag: long_long_in(method, 1),
+            redelivered: bit_in(method, 2),
+            exchange: short_str_in(method, 3),
+            routing_key: short_str_in(method, 4),
+        })
+    }
+}
+
 /// Asks for one message of a queue. `basic.get`, class 60, method 70.
 #[derive(Debug, Drop, PartialEq, Eq)]
 pub struct Get {
@@ -760,6 +958,29 @@ impl<'a> GetRef<'a> {
         Some(GetRef {
             queue: short_str_at(method, 0),
             no_ack: bit_at(method, 1),
+        })
+    }
+}
+
+/// [`Get`], as it lies in its payload.
+#[derive(Clone, Copy)]
+pub struct GetView<'a> {
+    pub queue: &'a [u8],
+    pub no_ack: bool,
+}
+
+impl<'a> GetView<'a> {
+    /// What the method says, if it is this one.
+    pub fn from_view(method: MethodRef<'a>) -> Option<GetView<'a>>
+        ensures args { IfSome result (λ m. get_view_call m ≡ lent_call method.entry) }
+        ensures when { IsSome result ↔ ((lent_call method.entry).kind ≡ BasicGet) }
+    {
+        if !is_view_of(method, Kind::BasicGet) {
+            return None;
+        }
+        Some(GetView {
+            queue: short_str_in(method, 0),
+            no_ack: bit_in(method, 1),
         })
     }
 }
@@ -875,6 +1096,35 @@ impl<'a> GetOkRef<'a> {
     }
 }
 
+/// [`GetOk`], as it lies in its payload.
+#[derive(Clone, Copy)]
+pub struct GetOkView<'a> {
+    pub delivery_tag: u64,
+    pub redelivered: bool,
+    pub exchange: &'a [u8],
+    pub routing_key: &'a [u8],
+    pub message_count: u32,
+}
+
+impl<'a> GetOkView<'a> {
+    /// What the method says, if it is this one.
+    pub fn from_view(method: MethodRef<'a>) -> Option<GetOkView<'a>>
+        ensures args { IfSome result (λ m. get_ok_view_call m ≡ lent_call method.entry) }
+        ensures when { IsSome result ↔ ((lent_call method.entry).kind ≡ BasicGetOk) }
+    {
+        if !is_view_of(method, Kind::BasicGetOk) {
+            return None;
+        }
+        Some(GetOkView {
+            delivery_tag: long_long_in(method, 0),
+            redelivered: bit_in(method, 1),
+            exchange: short_str_in(method, 2),
+            routing_key: short_str_in(method, 3),
+            message_count: long_in(method, 4),
+        })
+    }
+}
+
 /// Says that the queue has no message. `basic.get-empty`, class 60, method 72.
 pub type GetEmpty = Bare<BasicGetEmpty>;
 
@@ -932,6 +1182,20 @@ impl Ack {
         Some(Ack {
             delivery_tag: long_long_at(method, 0),
             multiple: bit_at(method, 1),
+        })
+    }
+
+    /// What the method says, if it is this one.
+    pub fn from_view(method: MethodRef<'_>) -> Option<Ack>
+        ensures args { IfSome result (λ m. ack_call m ≡ lent_call method.entry) }
+        ensures when { IsSome result ↔ ((lent_call method.entry).kind ≡ BasicAck) }
+    {
+        if !is_view_of(method, Kind::BasicAck) {
+            return None;
+        }
+        Some(Ack {
+            delivery_tag: long_long_in(method, 0),
+            multiple: bit_in(method, 1),
         })
     }
 }
@@ -992,6 +1256,20 @@ impl Reject {
             requeue: bit_at(method, 1),
         })
     }
+
+    /// What the method says, if it is this one.
+    pub fn from_view(method: MethodRef<'_>) -> Option<Reject>
+        ensures args { IfSome result (λ m. reject_call m ≡ lent_call method.entry) }
+        ensures when { IsSome result ↔ ((lent_call method.entry).kind ≡ BasicReject) }
+    {
+        if !is_view_of(method, Kind::BasicReject) {
+            return None;
+        }
+        Some(Reject {
+            delivery_tag: long_long_in(method, 0),
+            requeue: bit_in(method, 1),
+        })
+    }
 }
 
 /// Asks for all unacknowledged messages again, without a reply. `basic.recover-async`, class 60, method 100.
@@ -1040,6 +1318,19 @@ impl RecoverAsync {
             requeue: bit_at(method, 0),
         })
     }
+
+    /// What the method says, if it is this one.
+    pub fn from_view(method: MethodRef<'_>) -> Option<RecoverAsync>
+        ensures args { IfSome result (λ m. recover_async_call m ≡ lent_call method.entry) }
+        ensures when { IsSome result ↔ ((lent_call method.entry).kind ≡ BasicRecoverAsync) }
+    {
+        if !is_view_of(method, Kind::BasicRecoverAsync) {
+            return None;
+        }
+        Some(RecoverAsync {
+            requeue: bit_in(method, 0),
+        })
+    }
 }
 
 /// Asks for all unacknowledged messages again. `basic.recover`, class 60, method 110.
@@ -1086,6 +1377,19 @@ impl Recover {
         }
         Some(Recover {
             requeue: bit_at(method, 0),
+        })
+    }
+
+    /// What the method says, if it is this one.
+    pub fn from_view(method: MethodRef<'_>) -> Option<Recover>
+        ensures args { IfSome result (λ m. recover_call m ≡ lent_call method.entry) }
+        ensures when { IsSome result ↔ ((lent_call method.entry).kind ≡ BasicRecover) }
+    {
+        if !is_view_of(method, Kind::BasicRecover) {
+            return None;
+        }
+        Some(Recover {
+            requeue: bit_in(method, 0),
         })
     }
 }
@@ -1156,6 +1460,21 @@ impl Nack {
             delivery_tag: long_long_at(method, 0),
             multiple: bit_at(method, 1),
             requeue: bit_at(method, 2),
+        })
+    }
+
+    /// What the method says, if it is this one.
+    pub fn from_view(method: MethodRef<'_>) -> Option<Nack>
+        ensures args { IfSome result (λ m. nack_call m ≡ lent_call method.entry) }
+        ensures when { IsSome result ↔ ((lent_call method.entry).kind ≡ BasicNack) }
+    {
+        if !is_view_of(method, Kind::BasicNack) {
+            return None;
+        }
+        Some(Nack {
+            delivery_tag: long_long_in(method, 0),
+            multiple: bit_in(method, 1),
+            requeue: bit_in(method, 2),
         })
     }
 }

@@ -2,16 +2,18 @@
 // Written by `tools/typed_methods.py` from the table of methods in `docs/PROTOCOL.md`: change those and run it again.
 ghost use Rattle.std.specs.Prelude.{◌≡◌, ◌↔◌, IfOk, IfErr, IfSome, IsOk, IsSome, ◌∷◌, []};
 ghost use Rattle.amqp_method.specs.Arguments.{call, bit, short, short_string};
+ghost use Rattle.amqp_method.specs.MethodRefView.{lent_call};
 ghost use Rattle.amqp_method.specs.MethodView.{method_view};
 ghost use Rattle.amqp_method.specs.declared.kinds.Kind.TheVariants.{ChannelFlow, ChannelFlowOk, ChannelClose};
-ghost use Rattle.amqp_typed.specs.Channel.{flow_call, flow_ok_call, close_call, close_ref_call};
+ghost use Rattle.amqp_typed.specs.Channel.{flow_call, flow_ok_call, close_call, close_ref_call, close_view_call};
 
 use crate::args::{
     bit_at, four, is_kind, method_of, own_args, short, short_at, short_str, short_str_at,
 };
 use crate::bare::Bare;
 use crate::bare_kinds::{ChannelCloseOk, ChannelOpen, ChannelOpenOk};
-use amqp_method::{Arg, Kind, Method, OutOfMemory};
+use crate::views::{bit_in, is_view_of, short_in, short_str_in};
+use amqp_method::{Arg, Kind, Method, MethodRef, OutOfMemory};
 use amqp_value::ShortStr;
 use std::alloc::Global;
 
@@ -67,6 +69,19 @@ impl Flow {
             active: bit_at(method, 0),
         })
     }
+
+    /// What the method says, if it is this one.
+    pub fn from_view(method: MethodRef<'_>) -> Option<Flow>
+        ensures args { IfSome result (λ m. flow_call m ≡ lent_call method.entry) }
+        ensures when { IsSome result ↔ ((lent_call method.entry).kind ≡ ChannelFlow) }
+    {
+        if !is_view_of(method, Kind::ChannelFlow) {
+            return None;
+        }
+        Some(Flow {
+            active: bit_in(method, 0),
+        })
+    }
 }
 
 /// Confirms a flow. `channel.flow-ok`, class 20, method 21.
@@ -113,6 +128,19 @@ impl FlowOk {
         }
         Some(FlowOk {
             active: bit_at(method, 0),
+        })
+    }
+
+    /// What the method says, if it is this one.
+    pub fn from_view(method: MethodRef<'_>) -> Option<FlowOk>
+        ensures args { IfSome result (λ m. flow_ok_call m ≡ lent_call method.entry) }
+        ensures when { IsSome result ↔ ((lent_call method.entry).kind ≡ ChannelFlowOk) }
+    {
+        if !is_view_of(method, Kind::ChannelFlowOk) {
+            return None;
+        }
+        Some(FlowOk {
+            active: bit_in(method, 0),
         })
     }
 }
@@ -198,6 +226,33 @@ impl<'a> CloseRef<'a> {
             reply_text: short_str_at(method, 1),
             class_id: short_at(method, 2),
             method_id: short_at(method, 3),
+        })
+    }
+}
+
+/// [`Close`], as it lies in its payload.
+#[derive(Clone, Copy)]
+pub struct CloseView<'a> {
+    pub reply_code: u16,
+    pub reply_text: &'a [u8],
+    pub class_id: u16,
+    pub method_id: u16,
+}
+
+impl<'a> CloseView<'a> {
+    /// What the method says, if it is this one.
+    pub fn from_view(method: MethodRef<'a>) -> Option<CloseView<'a>>
+        ensures args { IfSome result (λ m. close_view_call m ≡ lent_call method.entry) }
+        ensures when { IsSome result ↔ ((lent_call method.entry).kind ≡ ChannelClose) }
+    {
+        if !is_view_of(method, Kind::ChannelClose) {
+            return None;
+        }
+        Some(CloseView {
+            reply_code: short_in(method, 0),
+            reply_text: short_str_in(method, 1),
+            class_id: short_in(method, 2),
+            method_id: short_in(method, 3),
         })
     }
 }

@@ -2,6 +2,7 @@
 // Written by `tools/typed_methods.py` from the table of methods in `docs/PROTOCOL.md`: change those and run it again.
 ghost use Rattle.std.specs.Prelude.{◌≡◌, ◌↔◌, IfOk, IfErr, IfSome, IsOk, IsSome, false, ◌∷◌, []};
 ghost use Rattle.amqp_method.specs.Arguments.{call, bit};
+ghost use Rattle.amqp_method.specs.MethodRefView.{lent_call};
 ghost use Rattle.amqp_method.specs.MethodView.{method_view};
 ghost use Rattle.amqp_method.specs.declared.kinds.Kind.TheVariants.{ConfirmSelect};
 ghost use Rattle.amqp_typed.specs.Confirm.{select_call};
@@ -9,7 +10,8 @@ ghost use Rattle.amqp_typed.specs.Confirm.{select_call};
 use crate::args::{bit_at, is_kind, method_of};
 use crate::bare::Bare;
 use crate::bare_kinds::ConfirmSelectOk;
-use amqp_method::{Arg, Kind, Method, OutOfMemory};
+use crate::views::{bit_in, is_view_of};
+use amqp_method::{Arg, Kind, Method, MethodRef, OutOfMemory};
 use std::alloc::Global;
 
 /// Asks the server to confirm what is published on the channel. `confirm.select`, class 85, method 10.
@@ -56,6 +58,19 @@ impl Select {
         }
         Some(Select {
             no_wait: bit_at(method, 0),
+        })
+    }
+
+    /// What the method says, if it is this one.
+    pub fn from_view(method: MethodRef<'_>) -> Option<Select>
+        ensures args { IfSome result (λ m. select_call m ≡ lent_call method.entry) }
+        ensures when { IsSome result ↔ ((lent_call method.entry).kind ≡ ConfirmSelect) }
+    {
+        if !is_view_of(method, Kind::ConfirmSelect) {
+            return None;
+        }
+        Some(Select {
+            no_wait: bit_in(method, 0),
         })
     }
 }

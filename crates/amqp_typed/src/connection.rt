@@ -3,9 +3,10 @@
 ghost use Rattle.std.specs.Prelude.{◌≡◌, ◌↔◌, IfOk, IfErr, IfSome, IsOk, IsSome, ◌∷◌, []};
 ghost use Rattle.amqp_value.specs.Values.{no_pairs};
 ghost use Rattle.amqp_method.specs.Arguments.{call, octet, short, long, short_string, long_string, table};
+ghost use Rattle.amqp_method.specs.MethodRefView.{lent_call};
 ghost use Rattle.amqp_method.specs.MethodView.{method_view};
 ghost use Rattle.amqp_method.specs.declared.kinds.Kind.TheVariants.{ConnectionStart, ConnectionStartOk, ConnectionSecure, ConnectionSecureOk, ConnectionTune, ConnectionTuneOk, ConnectionOpen, ConnectionClose, ConnectionBlocked};
-ghost use Rattle.amqp_typed.specs.Connection.{start_call, start_ok_call, secure_call, secure_ok_call, tune_call, tune_ok_call, open_call, close_call, blocked_call, start_ref_call, start_ok_ref_call, secure_ref_call, secure_ok_ref_call, open_ref_call, close_ref_call, blocked_ref_call};
+ghost use Rattle.amqp_typed.specs.Connection.{start_call, start_ok_call, secure_call, secure_ok_call, tune_call, tune_ok_call, open_call, close_call, blocked_call, start_ref_call, start_ok_ref_call, secure_ref_call, secure_ok_ref_call, open_ref_call, close_ref_call, blocked_ref_call, start_view_call, start_ok_view_call, secure_view_call, secure_ok_view_call, open_view_call, close_view_call, blocked_view_call};
 
 use crate::args::{
     five, four, is_kind, long_at, long_str, long_str_at, method_of, octet, octet_at, one, own_args,
@@ -13,8 +14,9 @@ use crate::args::{
 };
 use crate::bare::Bare;
 use crate::bare_kinds::{ConnectionCloseOk, ConnectionOpenOk, ConnectionUnblocked};
-use amqp_method::{Arg, Kind, Method, OutOfMemory};
-use amqp_value::{ShortStr, Table};
+use crate::views::{is_view_of, long_in, long_str_in, octet_in, short_in, short_str_in, table_in};
+use amqp_method::{Arg, Kind, Method, MethodRef, OutOfMemory};
+use amqp_value::{ShortStr, Table, TableRef};
 use std::alloc::Global;
 
 /// Begins the negotiation: names the server, and the mechanisms and locales that it has. `connection.start`, class 10, method 10.
@@ -109,6 +111,35 @@ impl<'a> StartRef<'a> {
     }
 }
 
+/// [`Start`], as it lies in its payload.
+#[derive(Clone, Copy)]
+pub struct StartView<'a> {
+    pub version_major: u8,
+    pub version_minor: u8,
+    pub server_properties: TableRef<'a>,
+    pub mechanisms: &'a [u8],
+    pub locales: &'a [u8],
+}
+
+impl<'a> StartView<'a> {
+    /// What the method says, if it is this one.
+    pub fn from_view(method: MethodRef<'a>) -> Option<StartView<'a>>
+        ensures args { IfSome result (λ m. start_view_call m ≡ lent_call method.entry) }
+        ensures when { IsSome result ↔ ((lent_call method.entry).kind ≡ ConnectionStart) }
+    {
+        if !is_view_of(method, Kind::ConnectionStart) {
+            return None;
+        }
+        Some(StartView {
+            version_major: octet_in(method, 0),
+            version_minor: octet_in(method, 1),
+            server_properties: table_in(method, 2),
+            mechanisms: long_str_in(method, 3),
+            locales: long_str_in(method, 4),
+        })
+    }
+}
+
 /// Picks a mechanism and a locale, and carries the first response of that mechanism. `connection.start-ok`, class 10, method 11.
 #[derive(Debug, Drop, PartialEq, Eq)]
 pub struct StartOk {
@@ -194,6 +225,33 @@ impl<'a> StartOkRef<'a> {
     }
 }
 
+/// [`StartOk`], as it lies in its payload.
+#[derive(Clone, Copy)]
+pub struct StartOkView<'a> {
+    pub client_properties: TableRef<'a>,
+    pub mechanism: &'a [u8],
+    pub response: &'a [u8],
+    pub locale: &'a [u8],
+}
+
+impl<'a> StartOkView<'a> {
+    /// What the method says, if it is this one.
+    pub fn from_view(method: MethodRef<'a>) -> Option<StartOkView<'a>>
+        ensures args { IfSome result (λ m. start_ok_view_call m ≡ lent_call method.entry) }
+        ensures when { IsSome result ↔ ((lent_call method.entry).kind ≡ ConnectionStartOk) }
+    {
+        if !is_view_of(method, Kind::ConnectionStartOk) {
+            return None;
+        }
+        Some(StartOkView {
+            client_properties: table_in(method, 0),
+            mechanism: short_str_in(method, 1),
+            response: long_str_in(method, 2),
+            locale: short_str_in(method, 3),
+        })
+    }
+}
+
 /// Challenges the client, as a mechanism in several steps wants it. `connection.secure`, class 10, method 20.
 #[derive(Debug, Drop, PartialEq, Eq)]
 pub struct Secure {
@@ -251,6 +309,27 @@ impl<'a> SecureRef<'a> {
         }
         Some(SecureRef {
             challenge: long_str_at(method, 0),
+        })
+    }
+}
+
+/// [`Secure`], as it lies in its payload.
+#[derive(Clone, Copy)]
+pub struct SecureView<'a> {
+    pub challenge: &'a [u8],
+}
+
+impl<'a> SecureView<'a> {
+    /// What the method says, if it is this one.
+    pub fn from_view(method: MethodRef<'a>) -> Option<SecureView<'a>>
+        ensures args { IfSome result (λ m. secure_view_call m ≡ lent_call method.entry) }
+        ensures when { IsSome result ↔ ((lent_call method.entry).kind ≡ ConnectionSecure) }
+    {
+        if !is_view_of(method, Kind::ConnectionSecure) {
+            return None;
+        }
+        Some(SecureView {
+            challenge: long_str_in(method, 0),
         })
     }
 }
@@ -313,6 +392,27 @@ impl<'a> SecureOkRef<'a> {
         }
         Some(SecureOkRef {
             response: long_str_at(method, 0),
+        })
+    }
+}
+
+/// [`SecureOk`], as it lies in its payload.
+#[derive(Clone, Copy)]
+pub struct SecureOkView<'a> {
+    pub response: &'a [u8],
+}
+
+impl<'a> SecureOkView<'a> {
+    /// What the method says, if it is this one.
+    pub fn from_view(method: MethodRef<'a>) -> Option<SecureOkView<'a>>
+        ensures args { IfSome result (λ m. secure_ok_view_call m ≡ lent_call method.entry) }
+        ensures when { IsSome result ↔ ((lent_call method.entry).kind ≡ ConnectionSecureOk) }
+    {
+        if !is_view_of(method, Kind::ConnectionSecureOk) {
+            return None;
+        }
+        Some(SecureOkView {
+            response: long_str_in(method, 0),
         })
     }
 }
@@ -382,6 +482,21 @@ impl Tune {
             heartbeat: short_at(method, 2),
         })
     }
+
+    /// What the method says, if it is this one.
+    pub fn from_view(method: MethodRef<'_>) -> Option<Tune>
+        ensures args { IfSome result (λ m. tune_call m ≡ lent_call method.entry) }
+        ensures when { IsSome result ↔ ((lent_call method.entry).kind ≡ ConnectionTune) }
+    {
+        if !is_view_of(method, Kind::ConnectionTune) {
+            return None;
+        }
+        Some(Tune {
+            channel_max: short_in(method, 0),
+            frame_max: long_in(method, 1),
+            heartbeat: short_in(method, 2),
+        })
+    }
 }
 
 /// Settles the limits of the connection. `connection.tune-ok`, class 10, method 31.
@@ -449,6 +564,21 @@ impl TuneOk {
             heartbeat: short_at(method, 2),
         })
     }
+
+    /// What the method says, if it is this one.
+    pub fn from_view(method: MethodRef<'_>) -> Option<TuneOk>
+        ensures args { IfSome result (λ m. tune_ok_call m ≡ lent_call method.entry) }
+        ensures when { IsSome result ↔ ((lent_call method.entry).kind ≡ ConnectionTuneOk) }
+    {
+        if !is_view_of(method, Kind::ConnectionTuneOk) {
+            return None;
+        }
+        Some(TuneOk {
+            channel_max: short_in(method, 0),
+            frame_max: long_in(method, 1),
+            heartbeat: short_in(method, 2),
+        })
+    }
 }
 
 /// Opens the connection to a virtual host. `connection.open`, class 10, method 40.
@@ -507,6 +637,27 @@ impl<'a> OpenRef<'a> {
         }
         Some(OpenRef {
             virtual_host: short_str_at(method, 0),
+        })
+    }
+}
+
+/// [`Open`], as it lies in its payload.
+#[derive(Clone, Copy)]
+pub struct OpenView<'a> {
+    pub virtual_host: &'a [u8],
+}
+
+impl<'a> OpenView<'a> {
+    /// What the method says, if it is this one.
+    pub fn from_view(method: MethodRef<'a>) -> Option<OpenView<'a>>
+        ensures args { IfSome result (λ m. open_view_call m ≡ lent_call method.entry) }
+        ensures when { IsSome result ↔ ((lent_call method.entry).kind ≡ ConnectionOpen) }
+    {
+        if !is_view_of(method, Kind::ConnectionOpen) {
+            return None;
+        }
+        Some(OpenView {
+            virtual_host: short_str_in(method, 0),
         })
     }
 }
@@ -599,6 +750,33 @@ impl<'a> CloseRef<'a> {
     }
 }
 
+/// [`Close`], as it lies in its payload.
+#[derive(Clone, Copy)]
+pub struct CloseView<'a> {
+    pub reply_code: u16,
+    pub reply_text: &'a [u8],
+    pub class_id: u16,
+    pub method_id: u16,
+}
+
+impl<'a> CloseView<'a> {
+    /// What the method says, if it is this one.
+    pub fn from_view(method: MethodRef<'a>) -> Option<CloseView<'a>>
+        ensures args { IfSome result (λ m. close_view_call m ≡ lent_call method.entry) }
+        ensures when { IsSome result ↔ ((lent_call method.entry).kind ≡ ConnectionClose) }
+    {
+        if !is_view_of(method, Kind::ConnectionClose) {
+            return None;
+        }
+        Some(CloseView {
+            reply_code: short_in(method, 0),
+            reply_text: short_str_in(method, 1),
+            class_id: short_in(method, 2),
+            method_id: short_in(method, 3),
+        })
+    }
+}
+
 /// Confirms that the connection is closed. `connection.close-ok`, class 10, method 51.
 pub type CloseOk = Bare<ConnectionCloseOk>;
 
@@ -654,6 +832,27 @@ impl<'a> BlockedRef<'a> {
         }
         Some(BlockedRef {
             reason: short_str_at(method, 0),
+        })
+    }
+}
+
+/// [`Blocked`], as it lies in its payload.
+#[derive(Clone, Copy)]
+pub struct BlockedView<'a> {
+    pub reason: &'a [u8],
+}
+
+impl<'a> BlockedView<'a> {
+    /// What the method says, if it is this one.
+    pub fn from_view(method: MethodRef<'a>) -> Option<BlockedView<'a>>
+        ensures args { IfSome result (λ m. blocked_view_call m ≡ lent_call method.entry) }
+        ensures when { IsSome result ↔ ((lent_call method.entry).kind ≡ ConnectionBlocked) }
+    {
+        if !is_view_of(method, Kind::ConnectionBlocked) {
+            return None;
+        }
+        Some(BlockedView {
+            reason: short_str_in(method, 0),
         })
     }
 }

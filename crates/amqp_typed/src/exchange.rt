@@ -3,9 +3,10 @@
 ghost use Rattle.std.specs.Prelude.{◌≡◌, ◌↔◌, IfOk, IfErr, IfSome, IsOk, IsSome, false, ◌∷◌, []};
 ghost use Rattle.amqp_value.specs.Values.{no_pairs};
 ghost use Rattle.amqp_method.specs.Arguments.{call, bit, short_string, table};
+ghost use Rattle.amqp_method.specs.MethodRefView.{lent_call};
 ghost use Rattle.amqp_method.specs.MethodView.{method_view};
 ghost use Rattle.amqp_method.specs.declared.kinds.Kind.TheVariants.{ExchangeDeclare, ExchangeDelete, ExchangeBind, ExchangeUnbind};
-ghost use Rattle.amqp_typed.specs.Exchange.{declare_call, delete_call, bind_call, unbind_call, declare_ref_call, delete_ref_call, bind_ref_call, unbind_ref_call};
+ghost use Rattle.amqp_typed.specs.Exchange.{declare_call, delete_call, bind_call, unbind_call, declare_ref_call, delete_ref_call, bind_ref_call, unbind_ref_call, declare_view_call, delete_view_call, bind_view_call, unbind_view_call};
 
 use crate::args::{
     bit, bit_at, eight, five, is_kind, method_of, own_args, short_str, short_str_at, table,
@@ -13,8 +14,9 @@ use crate::args::{
 };
 use crate::bare::Bare;
 use crate::bare_kinds::{ExchangeBindOk, ExchangeDeclareOk, ExchangeDeleteOk, ExchangeUnbindOk};
-use amqp_method::{Arg, Kind, Method, OutOfMemory};
-use amqp_value::{ShortStr, Table};
+use crate::views::{bit_in, is_view_of, short_str_in, table_in};
+use amqp_method::{Arg, Kind, Method, MethodRef, OutOfMemory};
+use amqp_value::{ShortStr, Table, TableRef};
 use std::alloc::Global;
 
 /// Creates an exchange if it doesn't exist yet. `exchange.declare`, class 40, method 10.
@@ -133,6 +135,41 @@ impl<'a> DeclareRef<'a> {
     }
 }
 
+/// [`Declare`], as it lies in its payload.
+#[derive(Clone, Copy)]
+pub struct DeclareView<'a> {
+    pub exchange: &'a [u8],
+    pub type_name: &'a [u8],
+    pub passive: bool,
+    pub durable: bool,
+    pub auto_delete: bool,
+    pub internal: bool,
+    pub no_wait: bool,
+    pub arguments: TableRef<'a>,
+}
+
+impl<'a> DeclareView<'a> {
+    /// What the method says, if it is this one.
+    pub fn from_view(method: MethodRef<'a>) -> Option<DeclareView<'a>>
+        ensures args { IfSome result (λ m. declare_view_call m ≡ lent_call method.entry) }
+        ensures when { IsSome result ↔ ((lent_call method.entry).kind ≡ ExchangeDeclare) }
+    {
+        if !is_view_of(method, Kind::ExchangeDeclare) {
+            return None;
+        }
+        Some(DeclareView {
+            exchange: short_str_in(method, 0),
+            type_name: short_str_in(method, 1),
+            passive: bit_in(method, 2),
+            durable: bit_in(method, 3),
+            auto_delete: bit_in(method, 4),
+            internal: bit_in(method, 5),
+            no_wait: bit_in(method, 6),
+            arguments: table_in(method, 7),
+        })
+    }
+}
+
 /// Confirms that the exchange exists. `exchange.declare-ok`, class 40, method 11.
 pub type DeclareOk = Bare<ExchangeDeclareOk>;
 
@@ -211,6 +248,31 @@ impl<'a> DeleteRef<'a> {
             exchange: short_str_at(method, 0),
             if_unused: bit_at(method, 1),
             no_wait: bit_at(method, 2),
+        })
+    }
+}
+
+/// [`Delete`], as it lies in its payload.
+#[derive(Clone, Copy)]
+pub struct DeleteView<'a> {
+    pub exchange: &'a [u8],
+    pub if_unused: bool,
+    pub no_wait: bool,
+}
+
+impl<'a> DeleteView<'a> {
+    /// What the method says, if it is this one.
+    pub fn from_view(method: MethodRef<'a>) -> Option<DeleteView<'a>>
+        ensures args { IfSome result (λ m. delete_view_call m ≡ lent_call method.entry) }
+        ensures when { IsSome result ↔ ((lent_call method.entry).kind ≡ ExchangeDelete) }
+    {
+        if !is_view_of(method, Kind::ExchangeDelete) {
+            return None;
+        }
+        Some(DeleteView {
+            exchange: short_str_in(method, 0),
+            if_unused: bit_in(method, 1),
+            no_wait: bit_in(method, 2),
         })
     }
 }
@@ -316,6 +378,35 @@ impl<'a> BindRef<'a> {
     }
 }
 
+/// [`Bind`], as it lies in its payload.
+#[derive(Clone, Copy)]
+pub struct BindView<'a> {
+    pub destination: &'a [u8],
+    pub source: &'a [u8],
+    pub routing_key: &'a [u8],
+    pub no_wait: bool,
+    pub arguments: TableRef<'a>,
+}
+
+impl<'a> BindView<'a> {
+    /// What the method says, if it is this one.
+    pub fn from_view(method: MethodRef<'a>) -> Option<BindView<'a>>
+        ensures args { IfSome result (λ m. bind_view_call m ≡ lent_call method.entry) }
+        ensures when { IsSome result ↔ ((lent_call method.entry).kind ≡ ExchangeBind) }
+    {
+        if !is_view_of(method, Kind::ExchangeBind) {
+            return None;
+        }
+        Some(BindView {
+            destination: short_str_in(method, 0),
+            source: short_str_in(method, 1),
+            routing_key: short_str_in(method, 2),
+            no_wait: bit_in(method, 3),
+            arguments: table_in(method, 4),
+        })
+    }
+}
+
 /// Confirms the binding. `exchange.bind-ok`, class 40, method 31.
 pub type BindOk = Bare<ExchangeBindOk>;
 
@@ -413,6 +504,35 @@ impl<'a> UnbindRef<'a> {
             routing_key: short_str_at(method, 2),
             no_wait: bit_at(method, 3),
             arguments: table_at(method, 4),
+        })
+    }
+}
+
+/// [`Unbind`], as it lies in its payload.
+#[derive(Clone, Copy)]
+pub struct UnbindView<'a> {
+    pub destination: &'a [u8],
+    pub source: &'a [u8],
+    pub routing_key: &'a [u8],
+    pub no_wait: bool,
+    pub arguments: TableRef<'a>,
+}
+
+impl<'a> UnbindView<'a> {
+    /// What the method says, if it is this one.
+    pub fn from_view(method: MethodRef<'a>) -> Option<UnbindView<'a>>
+        ensures args { IfSome result (λ m. unbind_view_call m ≡ lent_call method.entry) }
+        ensures when { IsSome result ↔ ((lent_call method.entry).kind ≡ ExchangeUnbind) }
+    {
+        if !is_view_of(method, Kind::ExchangeUnbind) {
+            return None;
+        }
+        Some(UnbindView {
+            destination: short_str_in(method, 0),
+            source: short_str_in(method, 1),
+            routing_key: short_str_in(method, 2),
+            no_wait: bit_in(method, 3),
+            arguments: table_in(method, 4),
         })
     }
 }

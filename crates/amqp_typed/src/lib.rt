@@ -8,14 +8,17 @@
 //! - `from_method` takes a method apart, without a copy, or gives back one of another kind.
 //! - `basic::DeliverRef` and its like are lent by a method, and take no memory. A struct of numbers and bits alone, as
 //!   [`basic::Ack`], is read by its `from_ref`.
+//! - `basic::DeliverView` and its like lie in the payload of a [`MethodRef`](amqp_method::MethodRef): strings are lent as
+//!   octets, tables as [`TableRef`](amqp_value::TableRef). Structs of numbers and bits alone have a `from_view`.
 //! - The methods without arguments are one struct, [`Bare`], with a type for each kind: [`tx::Select`] is one of these.
-//! - [`AnyMethod`] is a method of any kind, for a `match` over all of them.
+//! - [`AnyMethod`] is a method of any kind, for a `match` over all of them, and [`AnyMethodView`] one in its payload.
 //! - The four methods that a content follows have `message`, which makes the message with its properties and its body.
 //!
 //! The definitions of `specs/` give the call that each struct stands for: what the functions are proved to make and to read.
 #![tactic(auto)]
 
 mod any_method;
+mod any_method_view;
 mod args;
 mod bare;
 mod bare_kinds;
@@ -27,6 +30,8 @@ pub mod delivery_mode;
 pub mod exchange;
 pub mod queue;
 pub mod tx;
+mod views;
 
 pub use crate::any_method::AnyMethod;
+pub use crate::any_method_view::AnyMethodView;
 pub use crate::bare::{Bare, BareKind};

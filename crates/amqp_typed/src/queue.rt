@@ -3,9 +3,10 @@
 ghost use Rattle.std.specs.Prelude.{◌≡◌, ◌↔◌, IfOk, IfErr, IfSome, IsOk, IsSome, false, ◌∷◌, []};
 ghost use Rattle.amqp_value.specs.Values.{no_pairs};
 ghost use Rattle.amqp_method.specs.Arguments.{call, bit, long, short_string, table};
+ghost use Rattle.amqp_method.specs.MethodRefView.{lent_call};
 ghost use Rattle.amqp_method.specs.MethodView.{method_view};
 ghost use Rattle.amqp_method.specs.declared.kinds.Kind.TheVariants.{QueueDeclare, QueueDeclareOk, QueueBind, QueueUnbind, QueuePurge, QueuePurgeOk, QueueDelete, QueueDeleteOk};
-ghost use Rattle.amqp_typed.specs.Queue.{declare_call, declare_ok_call, bind_call, unbind_call, purge_call, purge_ok_call, delete_call, delete_ok_call, declare_ref_call, declare_ok_ref_call, bind_ref_call, unbind_ref_call, purge_ref_call, delete_ref_call};
+ghost use Rattle.amqp_typed.specs.Queue.{declare_call, declare_ok_call, bind_call, unbind_call, purge_call, purge_ok_call, delete_call, delete_ok_call, declare_ref_call, declare_ok_ref_call, bind_ref_call, unbind_ref_call, purge_ref_call, delete_ref_call, declare_view_call, declare_ok_view_call, bind_view_call, unbind_view_call, purge_view_call, delete_view_call};
 
 use crate::args::{
     bit, bit_at, five, four, is_kind, long, long_at, method_of, own_args, seven, short_str,
@@ -13,8 +14,9 @@ use crate::args::{
 };
 use crate::bare::Bare;
 use crate::bare_kinds::{QueueBindOk, QueueUnbindOk};
-use amqp_method::{Arg, Kind, Method, OutOfMemory};
-use amqp_value::{ShortStr, Table};
+use crate::views::{bit_in, is_view_of, long_in, short_str_in, table_in};
+use amqp_method::{Arg, Kind, Method, MethodRef, OutOfMemory};
+use amqp_value::{ShortStr, Table, TableRef};
 use std::alloc::Global;
 
 /// Creates a queue if it doesn't exist yet. `queue.declare`, class 50, method 10.
@@ -125,6 +127,39 @@ impl<'a> DeclareRef<'a> {
     }
 }
 
+/// [`Declare`], as it lies in its payload.
+#[derive(Clone, Copy)]
+pub struct DeclareView<'a> {
+    pub queue: &'a [u8],
+    pub passive: bool,
+    pub durable: bool,
+    pub exclusive: bool,
+    pub auto_delete: bool,
+    pub no_wait: bool,
+    pub arguments: TableRef<'a>,
+}
+
+impl<'a> DeclareView<'a> {
+    /// What the method says, if it is this one.
+    pub fn from_view(method: MethodRef<'a>) -> Option<DeclareView<'a>>
+        ensures args { IfSome result (λ m. declare_view_call m ≡ lent_call method.entry) }
+        ensures when { IsSome result ↔ ((lent_call method.entry).kind ≡ QueueDeclare) }
+    {
+        if !is_view_of(method, Kind::QueueDeclare) {
+            return None;
+        }
+        Some(DeclareView {
+            queue: short_str_in(method, 0),
+            passive: bit_in(method, 1),
+            durable: bit_in(method, 2),
+            exclusive: bit_in(method, 3),
+            auto_delete: bit_in(method, 4),
+            no_wait: bit_in(method, 5),
+            arguments: table_in(method, 6),
+        })
+    }
+}
+
 /// Confirms that the queue exists, and says how much it holds. `queue.declare-ok`, class 50, method 11.
 #[derive(Debug, Drop, PartialEq, Eq)]
 pub struct DeclareOk {
@@ -199,6 +234,31 @@ impl<'a> DeclareOkRef<'a> {
             queue: short_str_at(method, 0),
             message_count: long_at(method, 1),
             consumer_count: long_at(method, 2),
+        })
+    }
+}
+
+/// [`DeclareOk`], as it lies in its payload.
+#[derive(Clone, Copy)]
+pub struct DeclareOkView<'a> {
+    pub queue: &'a [u8],
+    pub message_count: u32,
+    pub consumer_count: u32,
+}
+
+impl<'a> DeclareOkView<'a> {
+    /// What the method says, if it is this one.
+    pub fn from_view(method: MethodRef<'a>) -> Option<DeclareOkView<'a>>
+        ensures args { IfSome result (λ m. declare_ok_view_call m ≡ lent_call method.entry) }
+        ensures when { IsSome result ↔ ((lent_call method.entry).kind ≡ QueueDeclareOk) }
+    {
+        if !is_view_of(method, Kind::QueueDeclareOk) {
+            return None;
+        }
+        Some(DeclareOkView {
+            queue: short_str_in(method, 0),
+            message_count: long_in(method, 1),
+            consumer_count: long_in(method, 2),
         })
     }
 }
@@ -294,6 +354,35 @@ impl<'a> BindRef<'a> {
     }
 }
 
+/// [`Bind`], as it lies in its payload.
+#[derive(Clone, Copy)]
+pub struct BindView<'a> {
+    pub queue: &'a [u8],
+    pub exchange: &'a [u8],
+    pub routing_key: &'a [u8],
+    pub no_wait: bool,
+    pub arguments: TableRef<'a>,
+}
+
+impl<'a> BindView<'a> {
+    /// What the method says, if it is this one.
+    pub fn from_view(method: MethodRef<'a>) -> Option<BindView<'a>>
+        ensures args { IfSome result (λ m. bind_view_call m ≡ lent_call method.entry) }
+        ensures when { IsSome result ↔ ((lent_call method.entry).kind ≡ QueueBind) }
+    {
+        if !is_view_of(method, Kind::QueueBind) {
+            return None;
+        }
+        Some(BindView {
+            queue: short_str_in(method, 0),
+            exchange: short_str_in(method, 1),
+            routing_key: short_str_in(method, 2),
+            no_wait: bit_in(method, 3),
+            arguments: table_in(method, 4),
+        })
+    }
+}
+
 /// Confirms the binding. `queue.bind-ok`, class 50, method 21.
 pub type BindOk = Bare<QueueBindOk>;
 
@@ -381,6 +470,33 @@ impl<'a> UnbindRef<'a> {
     }
 }
 
+/// [`Unbind`], as it lies in its payload.
+#[derive(Clone, Copy)]
+pub struct UnbindView<'a> {
+    pub queue: &'a [u8],
+    pub exchange: &'a [u8],
+    pub routing_key: &'a [u8],
+    pub arguments: TableRef<'a>,
+}
+
+impl<'a> UnbindView<'a> {
+    /// What the method says, if it is this one.
+    pub fn from_view(method: MethodRef<'a>) -> Option<UnbindView<'a>>
+        ensures args { IfSome result (λ m. unbind_view_call m ≡ lent_call method.entry) }
+        ensures when { IsSome result ↔ ((lent_call method.entry).kind ≡ QueueUnbind) }
+    {
+        if !is_view_of(method, Kind::QueueUnbind) {
+            return None;
+        }
+        Some(UnbindView {
+            queue: short_str_in(method, 0),
+            exchange: short_str_in(method, 1),
+            routing_key: short_str_in(method, 2),
+            arguments: table_in(method, 3),
+        })
+    }
+}
+
 /// Confirms that the binding is gone. `queue.unbind-ok`, class 50, method 51.
 pub type UnbindOk = Bare<QueueUnbindOk>;
 
@@ -452,6 +568,29 @@ impl<'a> PurgeRef<'a> {
     }
 }
 
+/// [`Purge`], as it lies in its payload.
+#[derive(Clone, Copy)]
+pub struct PurgeView<'a> {
+    pub queue: &'a [u8],
+    pub no_wait: bool,
+}
+
+impl<'a> PurgeView<'a> {
+    /// What the method says, if it is this one.
+    pub fn from_view(method: MethodRef<'a>) -> Option<PurgeView<'a>>
+        ensures args { IfSome result (λ m. purge_view_call m ≡ lent_call method.entry) }
+        ensures when { IsSome result ↔ ((lent_call method.entry).kind ≡ QueuePurge) }
+    {
+        if !is_view_of(method, Kind::QueuePurge) {
+            return None;
+        }
+        Some(PurgeView {
+            queue: short_str_in(method, 0),
+            no_wait: bit_in(method, 1),
+        })
+    }
+}
+
 /// Says how many messages were removed. `queue.purge-ok`, class 50, method 31.
 #[derive(Clone, Copy, PartialEq, Eq, Debug)]
 pub struct PurgeOk {
@@ -495,6 +634,19 @@ impl PurgeOk {
         }
         Some(PurgeOk {
             message_count: long_at(method, 0),
+        })
+    }
+
+    /// What the method says, if it is this one.
+    pub fn from_view(method: MethodRef<'_>) -> Option<PurgeOk>
+        ensures args { IfSome result (λ m. purge_ok_call m ≡ lent_call method.entry) }
+        ensures when { IsSome result ↔ ((lent_call method.entry).kind ≡ QueuePurgeOk) }
+    {
+        if !is_view_of(method, Kind::QueuePurgeOk) {
+            return None;
+        }
+        Some(PurgeOk {
+            message_count: long_in(method, 0),
         })
     }
 }
@@ -585,6 +737,33 @@ impl<'a> DeleteRef<'a> {
     }
 }
 
+/// [`Delete`], as it lies in its payload.
+#[derive(Clone, Copy)]
+pub struct DeleteView<'a> {
+    pub queue: &'a [u8],
+    pub if_unused: bool,
+    pub if_empty: bool,
+    pub no_wait: bool,
+}
+
+impl<'a> DeleteView<'a> {
+    /// What the method says, if it is this one.
+    pub fn from_view(method: MethodRef<'a>) -> Option<DeleteView<'a>>
+        ensures args { IfSome result (λ m. delete_view_call m ≡ lent_call method.entry) }
+        ensures when { IsSome result ↔ ((lent_call method.entry).kind ≡ QueueDelete) }
+    {
+        if !is_view_of(method, Kind::QueueDelete) {
+            return None;
+        }
+        Some(DeleteView {
+            queue: short_str_in(method, 0),
+            if_unused: bit_in(method, 1),
+            if_empty: bit_in(method, 2),
+            no_wait: bit_in(method, 3),
+        })
+    }
+}
+
 /// Says how many messages were deleted with the queue. `queue.delete-ok`, class 50, method 41.
 #[derive(Clone, Copy, PartialEq, Eq, Debug)]
 pub struct DeleteOk {
@@ -628,6 +807,19 @@ impl DeleteOk {
         }
         Some(DeleteOk {
             message_count: long_at(method, 0),
+        })
+    }
+
+    /// What the method says, if it is this one.
+    pub fn from_view(method: MethodRef<'_>) -> Option<DeleteOk>
+        ensures args { IfSome result (λ m. delete_ok_call m ≡ lent_call method.entry) }
+        ensures when { IsSome result ↔ ((lent_call method.entry).kind ≡ QueueDeleteOk) }
+    {
+        if !is_view_of(method, Kind::QueueDeleteOk) {
+            return None;
+        }
+        Some(DeleteOk {
+            message_count: long_in(method, 0),
         })
     }
 }

@@ -20,3 +20,5 @@ mod read;
 mod samples;
 #[cfg(test)]
 mod showing;
+#[cfg(test)]
+mod views;

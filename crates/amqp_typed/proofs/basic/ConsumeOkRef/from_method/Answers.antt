@@ -1,6 +1,11 @@
 use Rattle.std.proofs.Common.{refl}
-use Rattle.amqp_typed.proofs.Places.{call_1}
+use Rattle.amqp_method.specs.MethodView.{method_view}
+use Rattle.amqp_method.specs.declared.kinds.Kind.TheVariants.{BasicConsumeOk}
+use Rattle.amqp_typed.proofs.Places.{at_place, call_1}
 use Rattle.amqp_typed.proofs.basic.ConsumeOkRef.from_method.Goals as goal
+
+pub short_str_at-requires : goal.short_str_at-requires
+short_str_at-requires c = at_place (method_view c.args.method.now) BasicConsumeOk 0 (c.is_kind.ensures.0 c.if-not-is_kind.false) refl
 
 pub returns-clause-args : goal.returns-clause-args
 returns-clause-args c =

@@ -1,6 +1,29 @@
 use Rattle.std.proofs.Common.{refl}
-use Rattle.amqp_typed.proofs.Places.{call_7}
+use Rattle.amqp_method.specs.MethodView.{method_view}
+use Rattle.amqp_method.specs.declared.kinds.Kind.TheVariants.{BasicConsume}
+use Rattle.amqp_typed.proofs.Places.{at_place, call_7}
 use Rattle.amqp_typed.proofs.basic.ConsumeRef.from_method.Goals as goal
+
+pub short_str_at-requires : goal.short_str_at-requires
+short_str_at-requires c = at_place (method_view c.args.method.now) BasicConsume 0 (c.is_kind.ensures.0 c.if-not-is_kind.false) refl
+
+pub short_str_at-requires-2 : goal.short_str_at-requires-2
+short_str_at-requires-2 c = at_place (method_view c.args.method.now) BasicConsume 1 (c.is_kind.ensures.0 c.if-not-is_kind.false) refl
+
+pub bit_at-requires : goal.bit_at-requires
+bit_at-requires c = at_place (method_view c.args.method.now) BasicConsume 2 (c.is_kind.ensures.0 c.if-not-is_kind.false) refl
+
+pub bit_at-requires-2 : goal.bit_at-requires-2
+bit_at-requires-2 c = at_place (method_view c.args.method.now) BasicConsume 3 (c.is_kind.ensures.0 c.if-not-is_kind.false) refl
+
+pub bit_at-requires-3 : goal.bit_at-requires-3
+bit_at-requires-3 c = at_place (method_view c.args.method.now) BasicConsume 4 (c.is_kind.ensures.0 c.if-not-is_kind.false) refl
+
+pub bit_at-requires-4 : goal.bit_at-requires-4
+bit_at-requires-4 c = at_place (method_view c.args.method.now) BasicConsume 5 (c.is_kind.ensures.0 c.if-not-is_kind.false) refl
+
+pub table_at-requires : goal.table_at-requires
+table_at-requires c = at_place (method_view c.args.method.now) BasicConsume 6 (c.is_kind.ensures.0 c.if-not-is_kind.false) refl
 
 pub returns-clause-args : goal.returns-clause-args
 returns-clause-args c =

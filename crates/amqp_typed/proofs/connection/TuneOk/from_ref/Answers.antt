@@ -1,6 +1,17 @@
 use Rattle.std.proofs.Common.{refl}
-use Rattle.amqp_typed.proofs.Places.{call_3}
+use Rattle.amqp_method.specs.MethodView.{method_view}
+use Rattle.amqp_method.specs.declared.kinds.Kind.TheVariants.{ConnectionTuneOk}
+use Rattle.amqp_typed.proofs.Places.{at_place, call_3}
 use Rattle.amqp_typed.proofs.connection.TuneOk.from_ref.Goals as goal
+
+pub short_at-requires : goal.short_at-requires
+short_at-requires c = at_place (method_view c.args.method.now) ConnectionTuneOk 0 (c.is_kind.ensures.0 c.if-not-is_kind.false) refl
+
+pub long_at-requires : goal.long_at-requires
+long_at-requires c = at_place (method_view c.args.method.now) ConnectionTuneOk 1 (c.is_kind.ensures.0 c.if-not-is_kind.false) refl
+
+pub short_at-requires-2 : goal.short_at-requires-2
+short_at-requires-2 c = at_place (method_view c.args.method.now) ConnectionTuneOk 2 (c.is_kind.ensures.0 c.if-not-is_kind.false) refl
 
 pub returns-clause-args : goal.returns-clause-args
 returns-clause-args c =

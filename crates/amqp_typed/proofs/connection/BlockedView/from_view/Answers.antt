@@ -1,0 +1,13 @@
+use Rattle.std.proofs.Common.{refl}
+use Rattle.amqp_method.specs.MethodRefView.{lent_call}
+use Rattle.amqp_method.specs.declared.kinds.Kind.TheVariants.{ConnectionBlocked}
+use Rattle.amqp_typed.proofs.Places.{at_place, call_1}
+use Rattle.amqp_typed.proofs.connection.BlockedView.from_view.Goals as goal
+
+pub short_str_in-requires : goal.short_str_in-requires
+short_str_in-requires c = at_place (lent_call c.args.method) ConnectionBlocked 0 (c.is_view_of.ensures.kind.0 c.if-not-is_view_of.false) refl
+
+pub returns-clause-args : goal.returns-clause-args
+returns-clause-args c =
+    call_1 _ _ (c.is_view_of.ensures.kind.0 c.if-not-is_view_of.false) c.is_view_of.ensures.fit refl
+    c.short_str_in.ensures

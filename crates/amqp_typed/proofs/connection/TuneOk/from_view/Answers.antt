@@ -1,0 +1,19 @@
+use Rattle.std.proofs.Common.{refl}
+use Rattle.amqp_method.specs.MethodRefView.{lent_call}
+use Rattle.amqp_method.specs.declared.kinds.Kind.TheVariants.{ConnectionTuneOk}
+use Rattle.amqp_typed.proofs.Places.{at_place, call_3}
+use Rattle.amqp_typed.proofs.connection.TuneOk.from_view.Goals as goal
+
+pub short_in-requires : goal.short_in-requires
+short_in-requires c = at_place (lent_call c.args.method) ConnectionTuneOk 0 (c.is_view_of.ensures.kind.0 c.if-not-is_view_of.false) refl
+
+pub long_in-requires : goal.long_in-requires
+long_in-requires c = at_place (lent_call c.args.method) ConnectionTuneOk 1 (c.is_view_of.ensures.kind.0 c.if-not-is_view_of.false) refl
+
+pub short_in-requires-2 : goal.short_in-requires-2
+short_in-requires-2 c = at_place (lent_call c.args.method) ConnectionTuneOk 2 (c.is_view_of.ensures.kind.0 c.if-not-is_view_of.false) refl
+
+pub returns-clause-args : goal.returns-clause-args
+returns-clause-args c =
+    call_3 _ _ (c.is_view_of.ensures.kind.0 c.if-not-is_view_of.false) c.is_view_of.ensures.fit refl
+    c.short_in.ensures c.long_in.ensures c.short_in-2.ensures

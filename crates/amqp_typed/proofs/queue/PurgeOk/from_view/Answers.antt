@@ -1,0 +1,13 @@
+use Rattle.std.proofs.Common.{refl}
+use Rattle.amqp_method.specs.MethodRefView.{lent_call}
+use Rattle.amqp_method.specs.declared.kinds.Kind.TheVariants.{QueuePurgeOk}
+use Rattle.amqp_typed.proofs.Places.{at_place, call_1}
+use Rattle.amqp_typed.proofs.queue.PurgeOk.from_view.Goals as goal
+
+pub long_in-requires : goal.long_in-requires
+long_in-requires c = at_place (lent_call c.args.method) QueuePurgeOk 0 (c.is_view_of.ensures.kind.0 c.if-not-is_view_of.false) refl
+
+pub returns-clause-args : goal.returns-clause-args
+returns-clause-args c =
+    call_1 _ _ (c.is_view_of.ensures.kind.0 c.if-not-is_view_of.false) c.is_view_of.ensures.fit refl
+    c.long_in.ensures
