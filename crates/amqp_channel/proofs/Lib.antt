@@ -4,3 +4,5 @@ pub mod UsedLemmas
 pub mod PlaceLemmas
 pub mod PutLemmas
 pub mod FreeLemmas
+pub mod LentLemmas
+pub mod UnderWayLemmas

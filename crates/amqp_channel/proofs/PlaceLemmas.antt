@@ -9,7 +9,7 @@ use Rattle.indexmap.specs.IndexMap.{with_value_at, IsUnique}
 use Rattle.indexmap.proofs.CallerLemmas.{updates-with_value_at}
 use Rattle.amqp_model.specs.End.Asks.{is_free}
 use Rattle.amqp_channel.specs.ChannelView.{channel_view}
-use Rattle.amqp_channel.specs.Used.{Used, kept_at, used_view, HoldsAt, KeepsEntriesAt, KeepsOthersAt, NoneElseFree, NoneFreeBelow, NoneKeptFree, WritesAt}
+use Rattle.amqp_channel.specs.Used.{Used, kept_at, used_view, HoldsAt, KeepsEntriesAt, KeepsOthersAt, KeptAt, NoneElseFree, NoneFreeBelow, NoneKeptFree, PutAt, WritesAt}
 use Rattle.amqp_channel.specs.declared.channel.Channel.{Channel}
 use Rattle.amqp_channel.proofs.UsedLemmas.{at_used}
 
@@ -23,6 +23,14 @@ module _ (used : Used) (place number : ℕ) (channel : Channel) (above : 0 < num
   writes_at written =
       let updates = updates-with_value_at used place written nat_eq_equiv unique number channel at in
       at_used (with_value_at used place written) number above ∙ ap kept_at updates.1
+
+  pub kept_at_place : KeptAt used place number
+  kept_at_place other value =
+      let here : Some channel ≡ Some other = sym (ap (λ o. option_map (λ e. e.1) o) at) ∙ (sym (slice_get-map (λ e. e.1) used.entries place) ∙ value) in
+      hash_map_get_place nat_eq_equiv used place number channel unique at ∙ here
+
+  pub put_at_place : PutAt used place number
+  put_at_place written = (updates-with_value_at used place written nat_eq_equiv unique number channel at).1
 
   pub keeps_entries_at : KeepsEntriesAt used place number
   keeps_entries_at written other apart =

@@ -9,7 +9,7 @@ use Rattle.amqp_model.specs.Wire.Notes as notes
 use Rattle.amqp_channel.specs.LifeView.{IsOther}
 use Rattle.amqp_channel.specs.declared.verdict.Told.{Told}
 use Rattle.amqp_channel.specs.declared.verdict.Told.TheVariants as told
-use Rattle.amqp_model.specs.End.Channels.{Life, Channel, Free, Opening, Closing, Open}
+use Rattle.amqp_model.specs.End.Channels.{Agreed, Life, Channel, Free, Opening, Closing, Open}
 use Rattle.amqp_model.specs.End.Events.{FrameVerdict}
 use Rattle.amqp_model.specs.Wire.Frame.{Frame}
 use Rattle.amqp_model.specs.End.FrameVerdict.{first_of, by_state, on_open, on_matched, verdict_on}
@@ -36,17 +36,17 @@ abbrev pub IsNotClosing : Channel → Type 0
 IsNotClosing Closing = ⊥
 IsNotClosing channel = Unit {0}
 
-pub state_decides : (site : Site) (config : Config (role_of site.side)) (frame_max : ℕ) (channel : Channel) (method : Method) → SentOnChannel site method → IsNotClosing channel
-    → verdict_on (facts_here site config frame_max channel) (Calls method) ≡ by_state (facts_here site config frame_max channel) channel method
-state_decides site config frame_max Free method s h = no_rule (class_of method.kind == 10) (sends (not (is_client (role_of site.side))) method.kind) ((site.number == 0) || nat_lt site.channel_max site.number) _ _ _ _ s.not_of_connection s.by_other (is_channel site.number site.channel_max s.above s.within)
-state_decides site config frame_max Opening method s h = no_rule (class_of method.kind == 10) (sends (not (is_client (role_of site.side))) method.kind) ((site.number == 0) || nat_lt site.channel_max site.number) _ _ _ _ s.not_of_connection s.by_other (is_channel site.number site.channel_max s.above s.within)
-state_decides site config frame_max (Open life) method s h = no_rule (class_of method.kind == 10) (sends (not (is_client (role_of site.side))) method.kind) ((site.number == 0) || nat_lt site.channel_max site.number) _ _ _ _ s.not_of_connection s.by_other (is_channel site.number site.channel_max s.above s.within)
-state_decides site config frame_max Closing method s h = absurd h
+pub state_decides : (site : Site) (config : Config (role_of site.side)) (limits : Agreed) (channel : Channel) (method : Method) → SentOnChannel site method → IsNotClosing channel
+    → verdict_on (facts_here site config limits channel) (Calls method) ≡ by_state (facts_here site config limits channel) channel method
+state_decides site config limits Free method s h = no_rule (class_of method.kind == 10) (sends (not (is_client (role_of site.side))) method.kind) ((site.number == 0) || nat_lt site.channel_max site.number) _ _ _ _ s.not_of_connection s.by_other (is_channel site.number site.channel_max s.above s.within)
+state_decides site config limits Opening method s h = no_rule (class_of method.kind == 10) (sends (not (is_client (role_of site.side))) method.kind) ((site.number == 0) || nat_lt site.channel_max site.number) _ _ _ _ s.not_of_connection s.by_other (is_channel site.number site.channel_max s.above s.within)
+state_decides site config limits (Open life) method s h = no_rule (class_of method.kind == 10) (sends (not (is_client (role_of site.side))) method.kind) ((site.number == 0) || nat_lt site.channel_max site.number) _ _ _ _ s.not_of_connection s.by_other (is_channel site.number site.channel_max s.above s.within)
+state_decides site config limits Closing method s h = absurd h
 
 pub state_rules : (site : Site) (channel : Channel) (method : Method) (said : Verdict) → SentOnChannel site method → IsNotClosing channel → RulesByState site channel method said → Rules site channel (Calls method) said
 state_rules site channel method said s h r =
     record {
-      verdict = λ config frame_max most. r.verdict config frame_max ∙ sym (state_decides site config frame_max channel method s h);
+      verdict = λ config limits most. r.verdict config limits ∙ sym (state_decides site config limits channel method s h);
       leaves = r.leaves;
       fits = r.fits;
       unanswered = r.unanswered;
@@ -57,10 +57,10 @@ state_rules site channel method said s h r =
 none_whole : (life : Life) (method : Method) → life.content ≡ Nothing → whole_now (Open life) (Calls method) ≡ None
 none_whole life method idle = rw idle refl
 
-open_matches : (site : Site) (config : Config (role_of site.side)) (frame_max : ℕ) (life : Life) (method : Method) (kind : notes.Kind) → life.content ≡ Nothing → IsOther kind
-    → on_open (facts_here site config frame_max (Open life)) life method kind ≡ on_matched (role_of site.side) site.number life.requests method
-open_matches site config frame_max life method (notes.Other begins) idle h = rw idle refl
-open_matches site config frame_max life method kind idle h = absurd h
+open_matches : (site : Site) (config : Config (role_of site.side)) (limits : Agreed) (life : Life) (method : Method) (kind : notes.Kind) → life.content ≡ Nothing → IsOther kind
+    → on_open (facts_here site config limits (Open life)) life method kind ≡ on_matched (role_of site.side) site.number life.requests method
+open_matches site config limits life method (notes.Other begins) idle h = rw idle refl
+open_matches site config limits life method kind idle h = absurd h
 
 -- an other neither pauses the channel nor answers a flow, and leaves it Open
 paused_stays : (kind : notes.Kind) (paused : Bool) → IsOther kind → paused_by kind paused ≡ paused
@@ -139,9 +139,9 @@ pub message_rules : (site : Site) (life : Life) (method : Method) (said : Verdic
     → RulesByState site (Open life) method said
 message_rules site life method said idle other rules tells =
     record {
-      verdict = λ config frame_max.
+      verdict = λ config limits.
           ap (λ whole. verdict_view site.number (Calls method) whole said) (none_whole life method idle)
-          ∙ (rules site.number ∙ sym (open_matches site config frame_max life method (kind_of (Calls method)) idle other));
+          ∙ (rules site.number ∙ sym (open_matches site config limits life method (kind_of (Calls method)) idle other));
       leaves = λ frame. message_leaves (role_of site.side) site.number frame life method (whole_now (Open life) (Calls method)) said idle other tells;
       fits = message_fits (Open life) method said tells;
       unanswered = message_unanswered method said tells;

@@ -5,7 +5,7 @@ use Rattle.amqp_value.specs.Text.{quoted}
 use Rattle.amqp_method.specs.MessageView.{message_view}
 use Rattle.amqp_method.specs.Texts.{bit_text, text_of_message}
 use Rattle.amqp_channel.specs.declared.events.Event.{Event}
-use Rattle.amqp_channel.specs.declared.events.Event.TheVariants.{Negotiated, Opened, Told, Flow, FlowOk, ChannelClosed, ConnectionClosed, Discarded, Blocked, Unblocked, Quiet}
+use Rattle.amqp_channel.specs.declared.events.Event.TheVariants.{AnswerAsked, LoginAsked, OpenAsked, Negotiated, Opened, Told, Flow, FlowOk, ChannelClosed, ConnectionClosed, Discarded, Blocked, Unblocked, Quiet}
 use Rattle.amqp_channel.specs.declared.events.Reason.{Reason}
 use Rattle.amqp_channel.specs.declared.side.Side.{Side}
 use Rattle.amqp_channel.specs.declared.side.Side.TheVariants.{Client, Server}
@@ -30,6 +30,9 @@ closer_text None = codes "by-us"
 closer_text (Some reason) = reason_text reason
 
 abbrev pub event_text : Event → List ℕ
+event_text AnswerAsked = codes "answer-asked"
+event_text LoginAsked = codes "login-asked"
+event_text OpenAsked = codes "open-asked"
 event_text (Negotiated agreed) = codes "negotiated " ++ (decimal agreed.channel_max ++ (codes " " ++ decimal agreed.frame_max))
 event_text (Opened channel) = channel_text (codes "opened") channel
 event_text (Told channel message) = channel_text (codes "told") channel ++ (codes " " ++ text_of_message (message_view message))

@@ -7,11 +7,12 @@ use Rattle.amqp_channel.specs.Messages.{message_of}
 use Rattle.amqp_channel.specs.Reasons.{reason_view}
 use Rattle.amqp_channel.specs.declared.events.Agreed.{Agreed}
 use Rattle.amqp_channel.specs.declared.events.Event.{Event}
-use Rattle.amqp_channel.specs.declared.events.Event.TheVariants.{Negotiated, Opened, Told, Flow, FlowOk, ChannelClosed, ConnectionClosed, Discarded, Blocked, Unblocked, Quiet}
+use Rattle.amqp_channel.specs.declared.events.Event.TheVariants.{AnswerAsked, LoginAsked, OpenAsked, Negotiated, Opened, Told, Flow, FlowOk, ChannelClosed, ConnectionClosed, Discarded, Blocked, Unblocked, Quiet}
 use Rattle.amqp_channel.specs.declared.events.Reason.{Reason}
 
 abbrev pub agreed_view : Agreed → channels.Agreed
-agreed_view agreed = record { channel_max = agreed.channel_max; frame_max = agreed.frame_max }
+agreed_view agreed =
+    record { channel_max = agreed.channel_max; frame_max = agreed.frame_max; heartbeat = agreed.heartbeat }
 
 abbrev pub agreed_there : Option Agreed → Option channels.Agreed
 agreed_there None = None
@@ -22,6 +23,9 @@ reason_there None = None
 reason_there (Some reason) = Some (reason_view reason)
 
 abbrev pub event_view : Event → model.Event
+event_view AnswerAsked = model.AnswerAsked
+event_view LoginAsked = model.LoginAsked
+event_view OpenAsked = model.OpenAsked
 event_view (Negotiated agreed) = model.Negotiated (agreed_view agreed)
 event_view (Opened channel) = model.Opened channel
 event_view (Told channel message) = model.Told channel (message_of (message_view message))

@@ -1,6 +1,6 @@
 -- What a frame leaves of its channel, and what the verdict on it rests on.
 use Rattle.std.specs.Prelude.{◌≡◌, ℕ, List, [], ◌∷◌, Some}
-use Rattle.amqp_model.specs.End.Channels.{Channel, Running}
+use Rattle.amqp_model.specs.End.Channels.{Agreed, Channel, Running}
 use Rattle.amqp_model.specs.End.Closes.{Owed, ContentTooLarge, channel_close, frame_of}
 use Rattle.amqp_model.specs.End.Events.{FrameVerdict, Proceeds, RefusesContent, Faults}
 use Rattle.amqp_model.specs.Wire.Frame.{Frame}
@@ -26,6 +26,6 @@ LeavesAfter role number frame reading RefusesContent before after = after ≡ af
 LeavesAfter role number frame reading (Faults fault) before after = Unit {0}
 
 -- The verdict on a frame of this channel, on a connection that is Running, whatever else was agreed and configured.
-abbrev pub facts_here : (site : Site) → Config (role_of site.side) → (frame_max : ℕ) → Channel → Facts (role_of site.side)
-facts_here site config frame_max channel =
-    record { config = config; phase = Running; agreed = Some (record { channel_max = site.channel_max; frame_max = frame_max }); number = site.number; channel = channel }
+abbrev pub facts_here : (site : Site) → Config (role_of site.side) → (limits : Agreed) → Channel → Facts (role_of site.side)
+facts_here site config limits channel =
+    record { config = config; phase = Running; agreed = Some (record limits { channel_max = site.channel_max }); number = site.number; channel = channel }

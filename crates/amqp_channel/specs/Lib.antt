@@ -20,6 +20,7 @@ pub mod Leaving
 pub mod ProgressView
 pub mod ReadingView
 pub mod VerdictView
+pub mod LentView
 pub mod Unreads
 pub mod Reads
 pub mod Puts

@@ -6,9 +6,15 @@ use Rattle.amqp_model.specs.Wire.Notes.{Kind, Other}
 use Rattle.amqp_channel.specs.GatheringView.{gathering_view}
 use Rattle.amqp_channel.specs.StandingView.{awaits_in, paused_in, requests_in}
 use Rattle.amqp_channel.specs.declared.life.Life.{Life}
+use Rattle.amqp_channel.specs.declared.standing.Standing.{Standing}
 
 abbrev pub life_view : Life → model.Life
 life_view life = record { content = gathering_view life.content; paused = paused_in life.standing; awaits = awaits_in life.standing; requests = requests_in life.standing }
+
+-- an Open channel with this content under way, where all else stands so
+abbrev pub life_on : gathering.Gathering → Standing → model.Life
+life_on content standing =
+    record { content = content; paused = paused_in standing; awaits = awaits_in standing; requests = requests_in standing }
 
 -- no content is under way
 abbrev pub IsIdle : Life → Type 0

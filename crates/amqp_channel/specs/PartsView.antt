@@ -13,6 +13,9 @@ abbrev pub plain_view : PlainMethod → Method
 plain_view plain = method_view plain.method
 
 abbrev pub parts_view : EventParts → model.Event
+parts_view parts.AnswerAsked = model.AnswerAsked
+parts_view parts.LoginAsked = model.LoginAsked
+parts_view parts.OpenAsked = model.OpenAsked
 parts_view (parts.Negotiated agreed) = model.Negotiated (agreed_view agreed)
 parts_view (parts.Opened channel) = model.Opened channel
 parts_view (parts.Method channel plain) = model.Told channel (model.Plain (plain_view plain))

@@ -6,7 +6,9 @@ use Rattle.std.specs.HashMap.{get, values, HashMap}
 use Rattle.indexmap.specs.IndexMap.{with_value_at}
 use Rattle.amqp_model.specs.End.Asks.{is_free}
 use Rattle.amqp_model.specs.End.Channels as model
-use Rattle.amqp_channel.specs.ChannelView.{channel_view}
+use Rattle.amqp_model.specs.End.FrameVerdict.{is_gathering}
+use Rattle.amqp_channel.specs.LentView.{content_on}
+use Rattle.amqp_channel.specs.ChannelView.{channel_view, is_lent}
 use Rattle.amqp_channel.specs.declared.channel.Channel.{Channel}
 
 abbrev pub Used : Type 0
@@ -34,6 +36,29 @@ NoneKeptFree used = (number : ℕ) (channel : Channel) → get nat_eq used numbe
 abbrev pub NoneElseFree : Used → (number : ℕ) → Type 0
 NoneElseFree used number =
     (other : ℕ) (channel : Channel) → other ≢ number → get nat_eq used other ≡ Some channel → is_free (channel_view channel) ≡ false
+
+-- a content is under way there whose octets are lent
+abbrev pub is_lent_there : Option Channel → Bool
+is_lent_there None = false
+is_lent_there (Some channel) = is_lent channel
+
+-- no channel that is kept has such a content
+abbrev pub NoneLentIn : Used → Type 0
+NoneLentIn used = (number : ℕ) → 0 < number → is_lent_there (get nat_eq used number) ≡ false
+
+-- the channel at a place among those kept has no content under way; channel 0 is none
+abbrev pub IsIdleAt : Used → (place : ℕ) → Type 0
+IsIdleAt used place =
+    (number : ℕ) (channel : Channel) → slice_get used.entries place ≡ Some (number, channel) → 0 < number
+    → is_gathering (content_on (channel_view channel)) ≡ false
+
+-- what stands at the place is kept as the number's
+abbrev pub KeptAt : Used → (place number : ℕ) → Type 0
+KeptAt used place number = (channel : Channel) → slice_get (values used) place ≡ Some channel → get nat_eq used number ≡ Some channel
+
+-- and so is a channel that is put there
+abbrev pub PutAt : Used → (place number : ℕ) → Type 0
+PutAt used place number = (channel : Channel) → get nat_eq (with_value_at used place channel) number ≡ Some channel
 
 -- what stands at the place is the channel of the number
 abbrev pub HoldsAt : Used → (place number : ℕ) → Type 0

@@ -1,8 +1,7 @@
 -- What the rules say of a frame on a channel, in the words of the model, and the channel that they leave.
-use Rattle.std.specs.Prelude.{◌≡◌, ◌==◌, ◌<◌, ◌≤◌, ◌++◌, Bool, true, false, not, ℕ, drop, List, [], map, Option, Some, None}
-use Rattle.amqp_method.specs.HeaderView.{properties_view}
+use Rattle.std.specs.Prelude.{◌≡◌, ◌==◌, ◌<◌, ◌≤◌, ◌+◌, ◌++◌, length, Bool, true, false, not, ℕ, drop, List, [], map, Option, Some, None}
 use Rattle.amqp_method.specs.declared.kinds.Kind.TheVariants as kinds
-use Rattle.amqp_model.specs.End.Channels.{Life, Channel, Free, Closing, Open, new_life}
+use Rattle.amqp_model.specs.End.Channels.{Agreed, Life, Channel, Free, Closing, Open, new_life}
 use Rattle.amqp_model.specs.End.Closes.{reply_to}
 use Rattle.amqp_model.specs.Wire.Contents.{Content, Body}
 use Rattle.amqp_model.specs.End.Events as events
@@ -21,7 +20,6 @@ use Rattle.amqp_model.specs.History.Replies.{one_if, request_made}
 use Rattle.amqp_channel.specs.Closes.{code_view}
 use Rattle.amqp_channel.specs.Leaving.{LeavesAfter, facts_here}
 use Rattle.amqp_channel.specs.Roles.{role_of, taken_by}
-use Rattle.amqp_method.specs.declared.contents.Content.{Content as KeptContent}
 use Rattle.amqp_channel.specs.declared.site.Site.{Site}
 use Rattle.amqp_channel.specs.declared.verdict.Reply.{Reply}
 use Rattle.amqp_channel.specs.declared.verdict.Reply.TheVariants as reply
@@ -194,7 +192,7 @@ abbrev pub IsHeader : model.Reading → Type 0
 IsHeader (HeaderOf size properties) = Unit {0}
 IsHeader reading = ⊥
 
-abbrev IsBody : model.Reading → Type 0
+abbrev pub IsBody : model.Reading → Type 0
 IsBody (BodyOf octets) = Unit {0}
 IsBody reading = ⊥
 
@@ -211,11 +209,21 @@ abbrev HeadsContent : Channel → model.Reading → Type 0
 HeadsContent (Open life) reading = IsHeaderDue life.content × IsHeader reading
 HeadsContent channel reading = ⊥
 
+-- so many octets of a body have come, and more are due after these
+abbrev pub LeavesDue : Gathering → model.Reading → Type 0
+LeavesDue (BodyDue method size properties body) (BodyOf octets) = length body + length octets < size
+LeavesDue gathering reading = ⊥
+
+-- a part of a body comes, and is not the last
+abbrev ContinuesContent : Channel → model.Reading → Type 0
+ContinuesContent (Open life) reading = LeavesDue life.content reading × IsBody reading
+ContinuesContent channel reading = ⊥
+
 abbrev pub FitsTold : Channel → model.Reading → Told → Type 0
 FitsTold channel reading told.Method = StandsAlone reading
 FitsTold channel reading told.Begun = BeginsContent reading
 FitsTold channel reading told.Headed = HeadsContent channel reading
-FitsTold channel reading told.Continued = IsBody reading
+FitsTold channel reading told.Continued = ContinuesContent channel reading
 FitsTold channel reading told.Completed = IsWhole (whole_now channel reading)
 FitsTold channel reading told.ClosedByPeer = ClosesChannel reading
 FitsTold channel reading told = Unit {0}
@@ -240,8 +248,8 @@ IsUnanswered said = Unit {0}
 -- channel that the frame and the answer leave.
 pub record Rules (site : Site) (channel : Channel) (reading : model.Reading) (said : Verdict) : Type 0 where
   pub verdict :
-      (config : Config (role_of site.side)) (frame_max : ℕ) → config.max_body ≡ site.max_body
-      → verdict_view site.number reading (whole_now channel reading) said ≡ verdict_on (facts_here site config frame_max channel) reading
+      (config : Config (role_of site.side)) (limits : Agreed) → config.max_body ≡ site.max_body
+      → verdict_view site.number reading (whole_now channel reading) said ≡ verdict_on (facts_here site config limits channel) reading
   pub leaves :
       (frame : Frame)
       → LeavesAfter (role_of site.side) site.number frame reading (verdict_view site.number reading (whole_now channel reading) said) channel (left_by (role_of site.side) reading said channel)
@@ -259,8 +267,8 @@ pub record SentOnChannel (site : Site) (method : Method) : Type 0 where
 -- a verdict that is the verdict of the channel's state, where no earlier rule applies
 pub record RulesByState (site : Site) (channel : Channel) (method : Method) (said : Verdict) : Type 0 where
   pub verdict :
-      (config : Config (role_of site.side)) (frame_max : ℕ)
-      → verdict_view site.number (Calls method) (whole_now channel (Calls method)) said ≡ by_state (facts_here site config frame_max channel) channel method
+      (config : Config (role_of site.side)) (limits : Agreed)
+      → verdict_view site.number (Calls method) (whole_now channel (Calls method)) said ≡ by_state (facts_here site config limits channel) channel method
   pub leaves :
       (frame : Frame)
       → LeavesAfter (role_of site.side) site.number frame (Calls method) (verdict_view site.number (Calls method) (whole_now channel (Calls method)) said) channel (left_by (role_of site.side) (Calls method) said channel)
@@ -283,10 +291,6 @@ abbrev pub IsFlow : Told → Type 0
 IsFlow (told.Flow active) = Unit {0}
 IsFlow (told.FlowOk active) = Unit {0}
 IsFlow told = ⊥
-
--- the header of a content was read, and none of the body is there
-abbrev pub IsHeadedBy : KeptContent → model.Reading → Type 0
-IsHeadedBy content reading = (reading ≡ HeaderOf content.header.body_size (properties_view content.header.properties)) × (content.body.items ≡ [])
 
 -- Frames that are dropped.
 

@@ -6,50 +6,73 @@
 //!     Free --open put--> Opening --open-ok--> Open --close put--> Closing --close-ok--> Free
 //!     Free --open taken--> Open --close taken--> Free
 //!
-//! The rules only look. What a frame changes is done after, by what it tells.
-ghost use Rattle.std.specs.Prelude.{◌≡◌, ◌<◌, ◌≤◌, ◌==◌, true, false, ℕ, List, IfOk, IsOk, OnOk, OnErr};
+//! The rules only look. What a frame changes is done after, by what it tells: by an end that gathers contents, or by
+//! one that lends them as they come.
+ghost use Rattle.std.specs.Prelude.{◌≡◌, ◌<◌, ◌≤◌, ◌==◌, true, false, ℕ, List, IfOk, IsOk, MatchOption, OnOk, OnErr};
 ghost use Rattle.amqp_method.specs.HeaderRefView.{lent_header};
 ghost use Rattle.amqp_method.specs.MethodRefView.{lent_call};
-ghost use Rattle.amqp_model.specs.End.Channels.{Closing, Free, Opening};
+ghost use Rattle.amqp_method.specs.MethodView.{method_view};
+ghost use Rattle.amqp_model.specs.End.Channels as model;
+ghost use Rattle.amqp_model.specs.End.Channels.{Closing, Free, Open, Opening, new_life};
+ghost use Rattle.amqp_model.specs.End.FrameVerdict.{is_gathering};
+ghost use Rattle.amqp_model.specs.Lent.Alike.{AlikeChannels};
+ghost use Rattle.amqp_model.specs.Lent.Streaming.{gathered_as, streamed};
 ghost use Rattle.amqp_model.specs.Wire.Frame.{Frame};
 ghost use Rattle.amqp_model.specs.Wire.Readings.{BodyOf, Calls, HeaderOf, MalformedHeader, kind_of};
-ghost use Rattle.amqp_channel.specs.ChannelView.{channel_view, IsFree, IsOpen};
+ghost use Rattle.amqp_channel.specs.ChannelView.{channel_view, is_lent, IsFree, IsOpen};
 ghost use Rattle.amqp_channel.specs.ContentView.{content_there};
-ghost use Rattle.amqp_channel.specs.LifeView.{IsOther};
+ghost use Rattle.amqp_channel.specs.LentView.{content_on, known_on, stands_on};
+ghost use Rattle.amqp_channel.specs.LifeView.{life_on, IsOther};
+ghost use Rattle.amqp_channel.specs.ProgressView.{progress_view};
 ghost use Rattle.amqp_channel.specs.ReadingView.{reading_view};
 ghost use Rattle.amqp_channel.specs.Roles.{role_of};
 ghost use Rattle.amqp_channel.specs.Unreads.{unread_view};
-ghost use Rattle.amqp_channel.specs.Used.{is_closing_at};
-ghost use Rattle.amqp_channel.specs.VerdictView.{goes_on, handed_out, left_by, told_on, whole_now, whole_of, Drops, Fits, FitsTold, IsDiscarded, IsPart, Rules, SentOnChannel};
+ghost use Rattle.amqp_channel.specs.Used.{is_closing_at, is_open_at};
+ghost use Rattle.amqp_channel.specs.VerdictView.{goes_on, handed_out, left_by, told_on, whole_now, whole_of, Drops, Fits, FitsTold, IsDiscarded, IsPart, Rules, RulesByState, SentOnChannel};
 
 use crate::codes::CloseCode;
 use crate::gathering::Gathering;
-use crate::life::Life;
+use crate::life::{Life, judge_awaited, judge_part};
+use crate::progress::Progress;
 use crate::reading::{Reading, Unread};
 use crate::side::Side;
 use crate::site::Site;
+use crate::standing::Standing;
 use crate::verdict::{Reply, Told, Verdict};
-use amqp_method::{Content, HeaderRef, Kind, Message, MethodRef, OutOfMemory};
+use amqp_method::{Content, HeaderRef, Kind, Method, MethodRef, OutOfMemory};
 use std::alloc::Global;
+use std::mem;
 
 /// What is kept of a channel.
+///
+/// The fields of a lent content stand in the variant, so that a channel takes 40 octets.
 #[derive(Drop)]
 pub enum Channel {
     Free,
     Opening,
     Closing,
+    /// Open. A content under way is gathered.
     Open(Life),
+    /// Open, with a content under way that is lent: its method was taken, and its header is due.
+    LentHeader(Kind, Standing),
+    /// The same, where its header was taken too, and so many octets of its body.
+    LentBody {
+        kind: Kind,
+        size: u64,
+        came: u64,
+        standing: Standing,
+    },
 }
 
 impl Channel {
     ghost use Rattle.amqp_model.specs.End.Asks.{is_free};
     ghost use Rattle.amqp_model.specs.End.Closes.{close_as, flow_as, without_arguments};
+    ghost use Rattle.amqp_model.specs.End.Events.{Message, method_of};
     ghost use Rattle.amqp_model.specs.History.Histories.{PutHere};
     ghost use Rattle.amqp_model.specs.End.Machine.{channel_after};
     ghost use Rattle.amqp_model.specs.Wire.Notes.{Client};
-    ghost use Rattle.amqp_method.specs.MessageView.{message_view};
+    ghost use Rattle.amqp_method.specs.MethodView.{method_view};
     ghost use Rattle.amqp_model.specs.End.Asks.{message_payloads};
-    ghost use Rattle.amqp_channel.specs.Messages.{message_of};
     ghost use Rattle.amqp_channel.specs.Puts.{after_payloads};
 
     pub(crate) fn is_free(&self) -> bool
@@ -60,13 +83,31 @@ impl Channel {
             Channel::Opening => false,
             Channel::Closing => false,
             Channel::Open(_) => false,
+            Channel::LentHeader(_, _) => false,
+            Channel::LentBody { .. } => false,
+        }
+    }
+
+    /// What stands beside the content of a channel that is Open.
+    pub fn standing(&self) -> Option<&Standing>
+        ensures { MatchOption result (is_open_at (channel_view self.now) ≡ false)
+            (λ standing. channel_view self.now ≡ Open (life_on (content_on (channel_view self.now)) standing.now)) }
+    {
+        match self {
+            Channel::Free => None,
+            Channel::Opening => None,
+            Channel::Closing => None,
+            Channel::Open(life) => Some(&life.standing),
+            Channel::LentHeader(_, standing) => Some(standing),
+            Channel::LentBody { standing, .. } => Some(standing),
         }
     }
 
     /// An open that a client puts.
     pub(crate) fn put_open(&mut self)
         requires { IsFree self.old }
-        ensures { (frame : Frame) → channel_view self.new ≡ channel_after Client (PutHere (Calls (without_arguments Kind.ChannelOpen)) frame) (channel_view self.old) }
+        ensures gathers { is_lent self.new ≡ false }
+        ensures after { (frame : Frame) → channel_view self.new ≡ channel_after Client (PutHere (Calls (without_arguments Kind.ChannelOpen)) frame) (channel_view self.old) }
     {
         *self = Channel::Opening;
     }
@@ -75,6 +116,7 @@ impl Channel {
     pub(crate) fn put_close(&mut self, site: Site)
         requires { IsOpen self.old }
         ensures taken { is_free (channel_view self.new) ≡ false }
+        ensures gathers { is_lent self.old ≡ false → is_lent self.new ≡ false }
         ensures after { (code : ℕ) (text : List ℕ) (frame : Frame) → channel_view self.new ≡ channel_after (role_of site.side) (PutHere (Calls (close_as Kind.ChannelClose code text)) frame) (channel_view self.old) }
     {
         *self = Channel::Closing;
@@ -84,32 +126,52 @@ impl Channel {
     pub(crate) fn put_flow(&mut self, site: Site, active: bool)
         requires { IsOpen self.old }
         ensures taken { is_free (channel_view self.new) ≡ false }
+        ensures gathers { is_lent self.old ≡ false → is_lent self.new ≡ false }
         ensures after { (frame : Frame) → channel_view self.new ≡ channel_after (role_of site.side) (PutHere (Calls (flow_as Kind.ChannelFlow active)) frame) (channel_view self.old) }
     {
-        if let Channel::Open(life) = self {
-            life.standing.await_flow_ok(true);
+        match self {
+            Channel::Open(life) => life.standing.await_flow_ok(true),
+            Channel::LentHeader(_, standing) => standing.await_flow_ok(true),
+            Channel::LentBody { standing, .. } => standing.await_flow_ok(true),
+            Channel::Free | Channel::Opening | Channel::Closing => {}
         }
     }
 
-    /// A message that an end puts, in frames of any size. Out of memory, the channel stays as it was.
-    pub(crate) fn put_message(
-        &mut self,
-        alloc: Global,
-        site: Site,
-        message: &Message,
-    ) -> Result<(), OutOfMemory>
+    /// The method of a message that an end puts. Out of memory, the channel stays as it was.
+    fn put_method(&mut self, alloc: Global, site: Site, method: &Method) -> Result<(), OutOfMemory>
         requires is_open { IsOpen self.old }
-        requires other { IsOther (kind_of (Calls (message_view message.now).call)) }
-        ensures taken { is_free (channel_view self.new) ≡ false }
-        ensures ok { OnOk result ((frame_max : ℕ) → channel_view self.new ≡ after_payloads (role_of site.side) site.number (message_payloads frame_max (message_of (message_view message.now))) (channel_view self.old)) }
+        requires other { IsOther (kind_of (Calls (method_view method.now))) }
+        ensures open { is_open_at (channel_view self.new) ≡ true }
+        ensures gathers { is_lent self.old ≡ false → is_lent self.new ≡ false }
+        ensures ok { OnOk result ((frame : Frame) → channel_view self.new
+            ≡ channel_after (role_of site.side) (PutHere (Calls (method_view method.now)) frame) (channel_view self.old)) }
         ensures err { OnErr result (channel_view self.new ≡ channel_view self.old) }
     {
         match self {
-            Channel::Open(life) => life.put_method(alloc, site, message.method()),
+            Channel::Open(life) => life.standing.put(alloc, site.side, method),
+            Channel::LentHeader(_, standing) => standing.put(alloc, site.side, method),
+            Channel::LentBody { standing, .. } => standing.put(alloc, site.side, method),
             Channel::Free => unreachable!(),
             Channel::Opening => unreachable!(),
             Channel::Closing => unreachable!(),
         }
+    }
+
+    /// A message with this method that an end puts, in frames of any size. Out of memory, the channel stays as it was.
+    pub(crate) fn put_message(
+        &mut self,
+        alloc: Global,
+        site: Site,
+        method: &Method,
+    ) -> Result<(), OutOfMemory>
+        requires is_open { IsOpen self.old }
+        requires other { IsOther (kind_of (Calls (method_view method.now))) }
+        ensures taken { is_free (channel_view self.new) ≡ false }
+        ensures gathers { is_lent self.old ≡ false → is_lent self.new ≡ false }
+        ensures ok { OnOk result ((frame_max : ℕ) (message : Message) → method_of message ≡ method_view method.now → channel_view self.new ≡ after_payloads (role_of site.side) site.number (message_payloads frame_max message) (channel_view self.old)) }
+        ensures err { OnErr result (channel_view self.new ≡ channel_view self.old) }
+    {
+        self.put_method(alloc, site, method)
     }
 }
 
@@ -153,6 +215,17 @@ fn judge_opening(site: Site, method: MethodRef<'_>) -> Verdict
     }
 }
 
+/// A method inside a content that is lent: a close ends the life at any place, and no other method stands there.
+fn judge_inside(site: Site, method: MethodRef<'_>) -> Verdict
+    ensures { (life : model.Life) → is_gathering life.content ≡ true
+        → RulesByState site (Open life) (lent_call method.entry) result }
+{
+    if method.kind() == Kind::ChannelClose {
+        return Verdict::Proceeds(Told::ClosedByPeer, Some(Reply::CloseOk));
+    }
+    Verdict::Faults(CloseCode::UnexpectedFrame)
+}
+
 impl Channel {
     /// A method, by the state of the channel.
     #[tactic(auto, using(crate::proofs::VerdictLemmas::state_rules))]
@@ -164,6 +237,8 @@ impl Channel {
             Channel::Free => judge_free(site, method),
             Channel::Opening => judge_opening(site, method),
             Channel::Open(life) => life.judge_method(site, method),
+            Channel::LentHeader(_, _) => judge_inside(site, method),
+            Channel::LentBody { .. } => judge_inside(site, method),
             Channel::Closing => judge_closing(site, method),
         }
     }
@@ -192,7 +267,27 @@ impl Channel {
     {
         match self {
             Channel::Closing => Verdict::Proceeds(Told::Discarded, None),
-            Channel::Free | Channel::Opening | Channel::Open(_) => Verdict::Faults(unread.code()),
+            Channel::Free
+            | Channel::Opening
+            | Channel::Open(_)
+            | Channel::LentHeader(_, _)
+            | Channel::LentBody { .. } => Verdict::Faults(unread.code()),
+        }
+    }
+
+    /// A content header on a channel that is Open.
+    fn judge_open_header(&self, site: Site, header: HeaderRef<'_>) -> Verdict
+        requires above { 0 < site.number }
+        requires within { site.number ≤ site.channel_max }
+        requires open { IsOpen self.now }
+        ensures { Rules site (channel_view self.now)
+            (HeaderOf (lent_header header.entry).body_size (lent_header header.entry).properties) result }
+    {
+        match self {
+            Channel::Open(life) => life.judge_header(site, header),
+            Channel::LentHeader(_, _) => judge_awaited(site, header),
+            Channel::LentBody { .. } => Verdict::Faults(CloseCode::UnexpectedFrame),
+            Channel::Free | Channel::Opening | Channel::Closing => unreachable!(),
         }
     }
 
@@ -207,12 +302,32 @@ impl Channel {
             Channel::Closing => Verdict::Proceeds(Told::Discarded, None),
             Channel::Free => Verdict::Faults(CloseCode::ChannelError),
             Channel::Opening => Verdict::Faults(CloseCode::ChannelError),
-            Channel::Open(life) => {
+            Channel::Open(_) | Channel::LentHeader(_, _) | Channel::LentBody { .. } => {
                 if site.channel_max < site.number {
                     return Verdict::Faults(CloseCode::ChannelError);
                 }
-                life.judge_header(site, header)
+                self.judge_open_header(site, header)
             }
+        }
+    }
+
+    /// A header that can't be read, on a channel that is Open.
+    fn judge_open_malformed(&self, site: Site) -> Verdict
+        requires above { 0 < site.number }
+        requires within { site.number ≤ site.channel_max }
+        requires open { IsOpen self.now }
+        ensures { Rules site (channel_view self.now) MalformedHeader result }
+    {
+        match self {
+            Channel::Open(life) => match &life.content {
+                Gathering::HeaderDue(_) => Verdict::Faults(CloseCode::SyntaxError),
+                Gathering::Nothing | Gathering::BodyDue(_) | Gathering::Deferred(_) => {
+                    Verdict::Faults(CloseCode::UnexpectedFrame)
+                }
+            },
+            Channel::LentHeader(_, _) => Verdict::Faults(CloseCode::SyntaxError),
+            Channel::LentBody { .. } => Verdict::Faults(CloseCode::UnexpectedFrame),
+            Channel::Free | Channel::Opening | Channel::Closing => unreachable!(),
         }
     }
 
@@ -226,17 +341,27 @@ impl Channel {
             Channel::Closing => Verdict::Proceeds(Told::Discarded, None),
             Channel::Free => Verdict::Faults(CloseCode::ChannelError),
             Channel::Opening => Verdict::Faults(CloseCode::ChannelError),
-            Channel::Open(life) => {
+            Channel::Open(_) | Channel::LentHeader(_, _) | Channel::LentBody { .. } => {
                 if site.channel_max < site.number {
                     return Verdict::Faults(CloseCode::ChannelError);
                 }
-                match &life.content {
-                    Gathering::HeaderDue(_) => Verdict::Faults(CloseCode::SyntaxError),
-                    Gathering::Nothing | Gathering::BodyDue(_) | Gathering::Deferred(_) => {
-                        Verdict::Faults(CloseCode::UnexpectedFrame)
-                    }
-                }
+                self.judge_open_malformed(site)
             }
+        }
+    }
+
+    /// A part of a body on a channel that is Open.
+    fn judge_open_body(&self, site: Site, octets: &[u8]) -> Verdict
+        requires above { 0 < site.number }
+        requires within { site.number ≤ site.channel_max }
+        requires open { IsOpen self.now }
+        ensures { Rules site (channel_view self.now) (BodyOf octets.now) result }
+    {
+        match self {
+            Channel::Open(life) => life.judge_body(site, octets),
+            Channel::LentHeader(_, _) => Verdict::Faults(CloseCode::UnexpectedFrame),
+            Channel::LentBody { size, came, .. } => judge_part(site, *size, *came, octets),
+            Channel::Free | Channel::Opening | Channel::Closing => unreachable!(),
         }
     }
 
@@ -250,11 +375,11 @@ impl Channel {
             Channel::Closing => Verdict::Proceeds(Told::Discarded, None),
             Channel::Free => Verdict::Faults(CloseCode::ChannelError),
             Channel::Opening => Verdict::Faults(CloseCode::ChannelError),
-            Channel::Open(life) => {
+            Channel::Open(_) | Channel::LentHeader(_, _) | Channel::LentBody { .. } => {
                 if site.channel_max < site.number {
                     return Verdict::Faults(CloseCode::ChannelError);
                 }
-                life.judge_body(site, octets)
+                self.judge_open_body(site, octets)
             }
         }
     }
@@ -279,6 +404,22 @@ impl Channel {
 }
 
 impl Channel {
+    /// An open or its answer begins a life.
+    fn begin_life(&mut self)
+        ensures life { channel_view self.new ≡ Open new_life }
+        ensures gathers { is_lent self.new ≡ false }
+    {
+        *self = Channel::Open(Life::new());
+    }
+
+    /// A close or its answer ends it.
+    fn end_life(&mut self)
+        ensures free { channel_view self.new ≡ Free }
+        ensures gathers { is_lent self.new ≡ false }
+    {
+        *self = Channel::Free;
+    }
+
     /// What a frame leaves that neither opens nor ends a life: a channel that is not Open stays as it is.
     #[tactic(auto, using(crate::proofs::VerdictLemmas::none_whole_of))]
     fn apply_open(
@@ -288,7 +429,9 @@ impl Channel {
         reading: Reading<'_>,
         told: Told,
     ) -> Result<Option<Box<Content>>, OutOfMemory>
-        requires { FitsTold (channel_view self.old) (reading_view reading) told }
+        requires fits { FitsTold (channel_view self.old) (reading_view reading) told }
+        requires gathers { is_lent self.old ≡ false }
+        ensures gathers { is_lent self.new ≡ false }
         ensures content { IfOk result (λ content. content_there content
             ≡ whole_of told (whole_now (channel_view self.old) (reading_view reading.entry))) }
         ensures ok { OnOk result (channel_view self.new
@@ -299,6 +442,8 @@ impl Channel {
         match self {
             Channel::Open(life) => life.apply(alloc, side, reading, told),
             Channel::Free | Channel::Opening | Channel::Closing => Ok(None),
+            Channel::LentHeader(_, _) => unreachable!(),
+            Channel::LentBody { .. } => unreachable!(),
         }
     }
 
@@ -310,7 +455,9 @@ impl Channel {
         reading: Reading<'_>,
         told: Told,
     ) -> Result<Option<Box<Content>>, OutOfMemory>
-        requires { FitsTold (channel_view self.old) (reading_view reading) told }
+        requires fits { FitsTold (channel_view self.old) (reading_view reading) told }
+        requires gathers { is_lent self.old ≡ false }
+        ensures gathers { is_lent self.new ≡ false }
         ensures content { IfOk result (λ content. content_there content
             ≡ whole_of told (whole_now (channel_view self.old) (reading_view reading.entry))) }
         ensures ok { OnOk result (channel_view self.new
@@ -320,11 +467,11 @@ impl Channel {
     {
         match told {
             Told::Opened => {
-                *self = Channel::Open(Life::new());
+                self.begin_life();
                 Ok(None)
             }
             Told::ClosedByPeer | Told::ClosedByUs => {
-                *self = Channel::Free;
+                self.end_life();
                 Ok(None)
             }
             Told::Method
@@ -348,7 +495,9 @@ impl Channel {
         reading: Reading<'_>,
         verdict: Verdict,
     ) -> Result<Option<Box<Content>>, OutOfMemory>
-        requires { Fits (channel_view self.old) (reading_view reading) verdict }
+        requires fits { Fits (channel_view self.old) (reading_view reading) verdict }
+        requires gathers { is_lent self.old ≡ false }
+        ensures gathers { is_lent self.new ≡ false }
         ensures content { IfOk result (λ content. content_there content
             ≡ handed_out (channel_view self.old) (reading_view reading.entry) verdict) }
         ensures left { OnOk result (channel_view self.new
@@ -364,6 +513,193 @@ impl Channel {
                 Ok(None)
             }
             Verdict::Faults(_) => Ok(None),
+        }
+    }
+}
+
+impl Channel {
+    /// How far the content under way has come.
+    pub fn progress(&self) -> Progress
+        ensures { progress_view result ≡ streamed (content_on (channel_view self.now)) }
+    {
+        match self {
+            Channel::Free | Channel::Opening | Channel::Closing => Progress::NoContent,
+            Channel::Open(life) => life.content.progress(),
+            Channel::LentHeader(kind, _) => Progress::AwaitsHeader(*kind),
+            Channel::LentBody {
+                kind,
+                size,
+                came,
+                ..
+            } => Progress::AwaitsBody {
+                kind: *kind,
+                size: *size,
+                came: *came,
+            },
+        }
+    }
+
+    /// Whether a content is under way.
+    pub fn is_under_way(&self) -> bool
+        ensures { result ≡ is_gathering (content_on (channel_view self.now)) }
+    {
+        match self {
+            Channel::Free | Channel::Opening | Channel::Closing => false,
+            Channel::Open(life) => life.content.is_under_way(),
+            Channel::LentHeader(_, _) | Channel::LentBody { .. } => true,
+        }
+    }
+
+    /// A channel that is Open, of whose content so much is kept.
+    fn lent(progress: Progress, standing: Standing) -> Channel
+        ensures { channel_view result ≡ Open (life_on (gathered_as (progress_view progress)) standing) }
+    {
+        match progress {
+            Progress::NoContent => Channel::Open(Life {
+                content: Gathering::Nothing,
+                standing,
+            }),
+            Progress::AwaitsHeader(kind) => Channel::LentHeader(kind, standing),
+            Progress::AwaitsBody { kind, size, came } => Channel::LentBody {
+                kind,
+                size,
+                came,
+                standing,
+            },
+        }
+    }
+
+    /// Keeps of a content under way only how far it has come.
+    fn keep_progress(&mut self, progress: Progress)
+        ensures { channel_view self.new ≡ known_on (progress_view progress) (channel_view self.old) }
+    {
+        match mem::replace(self, Channel::Free) {
+            Channel::Open(life) => *self = Channel::lent(progress, life.standing),
+            Channel::LentHeader(_, standing) => *self = Channel::lent(progress, standing),
+            Channel::LentBody { standing, .. } => *self = Channel::lent(progress, standing),
+            Channel::Free => {}
+            Channel::Opening => *self = Channel::Opening,
+            Channel::Closing => *self = Channel::Closing,
+        }
+    }
+
+    /// What a frame changes beside the content under way. Out of memory, the channel stays as it was.
+    fn apply_standing(
+        &mut self,
+        alloc: Global,
+        side: Side,
+        reading: Reading<'_>,
+        told: Told,
+    ) -> Result<(), OutOfMemory>
+        ensures ok { OnOk result (channel_view self.new
+            ≡ stands_on (role_of side) (reading_view reading.entry) told (channel_view self.old)) }
+        ensures err { OnErr result (channel_view self.new ≡ channel_view self.old) }
+    {
+        match self {
+            Channel::Open(life) => {
+                let replies = life.replies();
+                life.standing.take(alloc, side, reading, told, replies)
+            }
+            Channel::LentHeader(kind, standing) => {
+                standing.take(alloc, side, reading, told, kind.is_reply())
+            }
+            Channel::LentBody { kind, standing, .. } => {
+                standing.take(alloc, side, reading, told, kind.is_reply())
+            }
+            Channel::Free | Channel::Opening | Channel::Closing => Ok(()),
+        }
+    }
+
+    /// What a frame leaves that neither opens nor ends a life, where contents are lent.
+    #[tactic(auto, using(crate::proofs::LentLemmas::lent_alike, crate::proofs::LentLemmas::standing_alike, crate::proofs::LentLemmas::progress_fits, crate::proofs::LentLemmas::alike_itself))]
+    fn apply_open_lent(
+        &mut self,
+        alloc: Global,
+        side: Side,
+        reading: Reading<'_>,
+        told: Told,
+    ) -> Result<(), OutOfMemory>
+        requires { FitsTold (channel_view self.old) (reading_view reading) told }
+        ensures left { OnOk result (AlikeChannels
+            (goes_on (role_of side) (reading_view reading.entry) told (channel_view self.old)) (channel_view self.new)) }
+        ensures err { OnErr result (channel_view self.new ≡ channel_view self.old) }
+        ensures drops { IsDiscarded told → IsOk result }
+    {
+        match told {
+            Told::Begun | Told::Headed | Told::Continued | Told::Completed => {
+                let progress = self.progress().after(reading, told);
+                self.apply_standing(alloc, side, reading, told)?;
+                self.keep_progress(progress);
+                Ok(())
+            }
+            Told::Method | Told::Flow(_) | Told::FlowOk(_) => {
+                self.apply_standing(alloc, side, reading, told)
+            }
+            Told::Opened | Told::ClosedByPeer | Told::ClosedByUs | Told::Discarded | Told::Quiet =>
+                Ok(()),
+        }
+    }
+
+    /// What a frame leaves of which this is told, where contents are lent.
+    #[tactic(auto, using(crate::proofs::LentLemmas::alike_itself))]
+    fn apply_told_lent(
+        &mut self,
+        alloc: Global,
+        side: Side,
+        reading: Reading<'_>,
+        told: Told,
+    ) -> Result<(), OutOfMemory>
+        requires { FitsTold (channel_view self.old) (reading_view reading) told }
+        ensures left { OnOk result (AlikeChannels
+            (told_on (role_of side) (reading_view reading.entry) told (channel_view self.old)) (channel_view self.new)) }
+        ensures err { OnErr result (channel_view self.new ≡ channel_view self.old) }
+        ensures drops { IsDiscarded told → IsOk result }
+    {
+        match told {
+            Told::Opened => {
+                self.begin_life();
+                Ok(())
+            }
+            Told::ClosedByPeer | Told::ClosedByUs => {
+                self.end_life();
+                Ok(())
+            }
+            Told::Method
+            | Told::Begun
+            | Told::Headed
+            | Told::Continued
+            | Told::Completed
+            | Told::Flow(_)
+            | Told::FlowOk(_)
+            | Told::Discarded
+            | Told::Quiet => self.apply_open_lent(alloc, side, reading, told),
+        }
+    }
+
+    /// Leaves the channel as a frame with this verdict does, but for its content: of one under way is kept how far it
+    /// has come, since its octets are lent as they come. Out of memory, the channel stays as it was.
+    #[tactic(auto, using(crate::proofs::LentLemmas::alike_itself))]
+    pub(crate) fn apply_lent(
+        &mut self,
+        alloc: Global,
+        side: Side,
+        reading: Reading<'_>,
+        verdict: Verdict,
+    ) -> Result<(), OutOfMemory>
+        requires { Fits (channel_view self.old) (reading_view reading) verdict }
+        ensures left { OnOk result (AlikeChannels
+            (left_by (role_of side) (reading_view reading.entry) verdict (channel_view self.old)) (channel_view self.new)) }
+        ensures err { OnErr result (channel_view self.new ≡ channel_view self.old) }
+        // What is dropped takes no memory.
+        ensures drops { Drops verdict → IsOk result }
+    {
+        match verdict {
+            Verdict::Proceeds(told, _) => self.apply_told_lent(alloc, side, reading, told),
+            Verdict::RefusesContent => {
+                *self = Channel::Closing;
+                Ok(())
+            }
+            Verdict::Faults(_) => Ok(()),
         }
     }
 }

@@ -5,9 +5,10 @@
 ghost use Rattle.std.specs.Prelude.{◌≡◌, ◌≢◌, ◌+◌, ◌<◌, ◌≤◌, true, false, not, ℕ, suc, IsOk, IfOk, IfNone, IfSome, OnErr, OnOk, MatchOption, None};
 ghost use Rattle.amqp_model.specs.End.Asks.{is_free, first_free};
 ghost use Rattle.amqp_model.specs.End.Channels.{Free};
-ghost use Rattle.amqp_channel.specs.ChannelView.{channel_view};
+ghost use Rattle.amqp_model.specs.Lent.Alike.{AlikeChannels};
+ghost use Rattle.amqp_channel.specs.ChannelView.{channel_view, is_lent};
 ghost use Rattle.amqp_channel.specs.ContentView.{content_there};
-ghost use Rattle.amqp_channel.specs.Used.{is_closing_at, used_view, HoldsAt, KeepsEntriesAt, KeepsOthersAt, NoneElseFree, NoneFreeBelow, NoneKeptFree, WritesAt};
+ghost use Rattle.amqp_channel.specs.Used.{is_closing_at, used_view, HoldsAt, IsIdleAt, KeepsEntriesAt, KeepsOthersAt, KeptAt, NoneElseFree, NoneFreeBelow, NoneKeptFree, NoneLentIn, PutAt, WritesAt};
 ghost use Rattle.indexmap.specs.IndexMap.{index_map_len};
 ghost use Rattle.amqp_channel.specs.Roles.{role_of};
 ghost use Rattle.amqp_channel.specs.ReadingView.{reading_view};
@@ -61,6 +62,7 @@ fn take_out(used: &mut IndexMap<u16, Channel>, low: u16, number: u16) -> u16
     ensures least { 1 ≤ result }
     ensures taken { NoneFreeBelow used.new result }
     ensures none { NoneKeptFree used.new }
+    ensures gathers { NoneLentIn used.old → NoneLentIn used.new }
 {
     let _ = used.swap_remove(&number);
     if number < low { number } else { low }
@@ -77,6 +79,7 @@ fn tidy(used: &mut IndexMap<u16, Channel>, low: u16, number: u16, over: bool) ->
     ensures least { 1 ≤ result }
     ensures taken { NoneFreeBelow used.new result }
     ensures none { NoneKeptFree used.new }
+    ensures gathers { NoneLentIn used.old → NoneLentIn used.new }
 {
     if !over {
         return low;
@@ -85,11 +88,12 @@ fn tidy(used: &mut IndexMap<u16, Channel>, low: u16, number: u16, over: bool) ->
 }
 
 impl Channels {
-    ghost use Rattle.amqp_channel.specs.ChannelsView.{channels_view, OnlyAt};
+    ghost use Rattle.amqp_channel.specs.ChannelsView.{channels_view, NoneLent, NoneUnderWay, OnlyAt};
 
     /// A connection begins with no channel in use.
     pub fn new(alloc: Global) -> Channels
-        ensures { (number : ℕ) → channels_view result number ≡ Free }
+        ensures free { (number : ℕ) → channels_view result number ≡ Free }
+        ensures gathers { NoneLent result }
     {
         Channels {
             used: IndexMap::new(alloc),
@@ -109,6 +113,7 @@ impl Channels {
     /// Sets a channel that isn't Free.
     pub(crate) fn set(&mut self, number: u16, channel: Channel) -> Result<(), OutOfMemory>
         requires { 0 < number }
+        ensures gathers { is_lent channel ≡ false → NoneLent self.old → NoneLent self.new }
         ensures at { OnOk result (channels_view self.new number ≡ channel_view channel) }
         ensures others { OnOk result (OnlyAt number (channels_view self.old) (channels_view self.new)) }
         ensures err { OnErr result ((other : ℕ) → channels_view self.new other ≡ channels_view self.old other) }
@@ -134,6 +139,8 @@ impl Channels {
         ensures within { IfSome result (λ place. place < index_map_len self.now.used) }
         ensures holds { IfSome result (λ place. HoldsAt self.now.used place number) }
         ensures written { IfSome result (λ place. WritesAt self.now.used place number) }
+        ensures kept { IfSome result (λ place. KeptAt self.now.used place number) }
+        ensures put { IfSome result (λ place. PutAt self.now.used place number) }
         ensures others { IfSome result (λ place. KeepsOthersAt self.now.used place number) }
         ensures entries { IfSome result (λ place. KeepsEntriesAt self.now.used place number) }
         ensures taken { IfSome result (λ place. is_free (channels_view self.now number) ≡ false) }
@@ -163,8 +170,8 @@ impl Channels {
         }
     }
 
-    /// Leaves the channel of a frame as its verdict does. What is answered is the content that the frame makes whole. Out of
-    /// memory, the channel stays as it was.
+    /// Leaves the channel of a frame as its verdict does, where contents are gathered. What is answered is the content that
+    /// the frame makes whole. Out of memory, the channel stays as it was.
     pub fn apply(
         &mut self,
         alloc: Global,
@@ -175,6 +182,8 @@ impl Channels {
     ) -> Result<Option<Box<Content>>, OutOfMemory>
         requires above { 0 < number }
         requires fits { Fits (channels_view self.old number) (reading_view reading) verdict }
+        requires gathers { NoneLent self.old }
+        ensures gathers { NoneLent self.new }
         ensures content { IfOk result (λ content. content_there content
             ≡ handed_out (channels_view self.old number) (reading_view reading.entry) verdict) }
         ensures left { OnOk result (channels_view self.new number
@@ -210,6 +219,8 @@ impl Channels {
         requires above { 0 < number }
         requires free { channels_view self.old number ≡ Free }
         requires fits { Fits (channels_view self.old number) (reading_view reading) verdict }
+        requires gathers { NoneLent self.old }
+        ensures gathers { NoneLent self.new }
         ensures content { IfOk result (λ content. content_there content
             ≡ handed_out (channels_view self.old number) (reading_view reading.entry) verdict) }
         ensures left { OnOk result (channels_view self.new number
@@ -223,6 +234,96 @@ impl Channels {
         let content = channel.apply(alloc, side, reading, verdict)?;
         self.set(number, channel)?;
         Ok(content)
+    }
+
+    /// Leaves the channel of a frame as its verdict does, where contents are lent: of one under way is kept how far it has
+    /// come, and the channel is otherwise as `apply` leaves it. Memory is taken for a channel that is opened, and for the
+    /// requests that a server keeps. Out of memory, the channel stays as it was.
+    pub fn apply_lent(
+        &mut self,
+        alloc: Global,
+        side: Side,
+        number: u16,
+        reading: Reading<'_>,
+        verdict: Verdict,
+    ) -> Result<(), OutOfMemory>
+        requires above { 0 < number }
+        requires fits { Fits (channels_view self.old number) (reading_view reading) verdict }
+        ensures left { OnOk result (AlikeChannels
+            (left_by (role_of side) (reading_view reading.entry) verdict (channels_view self.old number))
+            (channels_view self.new number)) }
+        ensures others { OnlyAt number (channels_view self.old) (channels_view self.new) }
+        ensures err { OnErr result (channels_view self.new number ≡ channels_view self.old number) }
+        // What is dropped takes no memory.
+        ensures drops { is_closing_at (channels_view self.old number) ≡ true → Drops verdict → IsOk result }
+    {
+        match self.place_of(number) {
+            Some(place) => {
+                self.last = place;
+                let channel = &mut self.used[place];
+                channel.apply_lent(alloc, side, reading, verdict)?;
+                let over = channel.is_free();
+                self.low = tidy(&mut self.used, self.low, number, over);
+                Ok(())
+            }
+            None => self.apply_lent_unused(alloc, side, number, reading, verdict),
+        }
+    }
+
+    /// The same on a number that is not in use. Few frames come there, so it stands apart.
+    #[inline(never)]
+    fn apply_lent_unused(
+        &mut self,
+        alloc: Global,
+        side: Side,
+        number: u16,
+        reading: Reading<'_>,
+        verdict: Verdict,
+    ) -> Result<(), OutOfMemory>
+        requires above { 0 < number }
+        requires free { channels_view self.old number ≡ Free }
+        requires fits { Fits (channels_view self.old number) (reading_view reading) verdict }
+        ensures left { OnOk result (AlikeChannels
+            (left_by (role_of side) (reading_view reading.entry) verdict (channels_view self.old number))
+            (channels_view self.new number)) }
+        ensures others { OnlyAt number (channels_view self.old) (channels_view self.new) }
+        ensures err { OnErr result (channels_view self.new number ≡ channels_view self.old number) }
+        // What is dropped takes no memory.
+        ensures drops { is_closing_at (channels_view self.old number) ≡ true → Drops verdict → IsOk result }
+    {
+        let mut channel = Channel::Free;
+        channel.apply_lent(alloc, side, reading, verdict)?;
+        self.set(number, channel)?;
+        Ok(())
+    }
+
+    /// Whether a content is under way on the channel at a place among those in use. Channel 0 is none.
+    #[tactic(auto, using(crate::proofs::UnderWayLemmas::idle_at, crate::proofs::UnderWayLemmas::idle_past, crate::proofs::UnderWayLemmas::idle_zero, crate::proofs::UnderWayLemmas::busy_at))]
+    fn is_under_way_at(&self, place: usize) -> bool
+        ensures idle { result ≡ false → IsIdleAt self.now.used place }
+        ensures busy { result ≡ true → NoneUnderWay self.now → ⊥ }
+    {
+        let Some((number, channel)) = self.used.as_slice().get_index(place) else {
+            return false;
+        };
+        if *number == 0 {
+            return false;
+        }
+        channel.is_under_way()
+    }
+
+    /// Whether a content is under way on a channel.
+    pub fn is_any_under_way(&self) -> bool
+        ensures none { result ≡ false → NoneUnderWay self.now }
+        ensures gathers { result ≡ false → NoneLent self.now }
+        ensures some { result ≡ true → NoneUnderWay self.now → ⊥ }
+    {
+        for place in 0..self.used.len() {
+            if self.is_under_way_at(place) {
+                return true;
+            }
+        }
+        false
     }
 
     /// Whether a channel is in use.
@@ -264,6 +365,7 @@ impl Channels {
         ensures above { IfSome result (λ number. 0 < number) }
         ensures free { IfSome result (λ number. is_free (channels_view self.old number) ≡ true) }
         ensures same { (number : ℕ) → channels_view self.new number ≡ channels_view self.old number }
+        ensures gathers { NoneLent self.old → NoneLent self.new }
     {
         let found = self.find_free(most);
         match found {

@@ -1,10 +1,10 @@
 //! A content under way whose header is kept as its octets.
 //!
-//! A table takes up to 40 times its octets in memory, and a peer may begin a content on each channel and leave it there. So a
-//! long header with a table is read to be judged, and what was read of it is let go: its octets are kept, and read again when
-//! the body is whole.
+//! A table takes up to 40 times its octets in memory, and a peer may begin a content on each channel and leave it there. So of a
+//! long header with a table the octets are kept, and read when the body is whole.
 ghost use Rattle.std.specs.Prelude.{◌≡◌, ◌++◌, ◌+◌, length, IfOk, IfErr, OnOk, OnErr};
 ghost use Rattle.amqp_method.specs.CarrierView.{carrier_view};
+ghost use Rattle.amqp_method.specs.HeaderRefView.{lent_header};
 ghost use Rattle.amqp_method.specs.HeaderView.{properties_view};
 ghost use Rattle.amqp_model.specs.Wire.Methods.{header_at};
 ghost use Rattle.amqp_model.specs.Wire.Readings.{HeaderOf, header_reading};
@@ -12,7 +12,7 @@ ghost use Rattle.amqp_channel.specs.ContentView.{content_view};
 ghost use Rattle.amqp_channel.specs.DeferredView.{properties_of, IsHeaderOf};
 
 use crate::read::read_content_header;
-use amqp_method::{Content, Header, OutOfMemory};
+use amqp_method::{Content, HeaderRef, OutOfMemory};
 use std::alloc::Global;
 
 /// How many octets a header with a table may have that is kept as what was read of it: that takes at most 5 KiB.
@@ -28,30 +28,29 @@ pub struct Deferred {
     pub ghost reads: { IsHeaderOf size header.items },
 }
 
-/// Whether a header of so many octets is kept as these.
-pub(crate) fn is_deferred(header: &Header, octets: usize) -> bool {
-    KEPT_READ < octets && header.properties.headers.is_some()
+/// Whether a header is kept as its octets.
+pub(crate) fn is_deferred(header: HeaderRef<'_>) -> bool {
+    KEPT_READ < header.payload().len() && header.headers().is_some()
 }
 
 impl Deferred {
-    /// Keeps the octets of a header, and lets go what was read of them. Out of memory, the content is given back.
+    /// Keeps the octets of a header. Out of memory, the content is given back.
+    #[tactic(auto, unfolding(amqp_model::specs::Wire::Methods::header_at))]
     pub(crate) fn new(
         alloc: Global,
-        payload: &[u8],
-        mut content: Box<Content>,
+        header: HeaderRef<'_>,
+        content: Box<Content>,
     ) -> Result<Box<Deferred>, Box<Content>>
-        requires { header_reading (header_at payload.now) ≡ HeaderOf content.value.header.body_size (properties_view content.value.header.properties) }
-        ensures header { IfOk result (λ d. d.value.header.items ≡ payload.now) }
-        ensures size { IfOk result (λ d. d.value.size ≡ content.value.header.body_size) }
+        ensures properties { IfOk result (λ d. properties_of d.value.header.items ≡ (lent_header header.entry).properties) }
+        ensures size { IfOk result (λ d. d.value.size ≡ (lent_header header.entry).body_size) }
         ensures method { IfOk result (λ d. carrier_view d.value.content.value.method ≡ carrier_view content.value.method) }
         ensures body { IfOk result (λ d. d.value.content.value.body.items ≡ content.value.body.items) }
         ensures back { IfErr result (λ c. carrier_view c.value.method ≡ carrier_view content.value.method) }
     {
-        let size = content.header.body_size;
-        let Ok(header) = Vec::from_slice(alloc, payload) else {
+        let size = header.body_size();
+        let Ok(header) = Vec::from_slice(alloc, header.payload()) else {
             return Err(content);
         };
-        content.header.properties.clear();
         match Box::new(
             alloc,
             Deferred {

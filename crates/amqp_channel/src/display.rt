@@ -116,6 +116,9 @@ impl fmt::Display for Event {
 
     fn fmt<W: fmt::Write>(&self, f: &mut fmt::Formatter<W>) -> fmt::Result {
         match self {
+            Event::AnswerAsked => f.write_str("answer-asked"),
+            Event::LoginAsked => f.write_str("login-asked"),
+            Event::OpenAsked => f.write_str("open-asked"),
             Event::Negotiated(agreed) => write_negotiated(f, agreed.channel_max, agreed.frame_max),
             Event::Opened(channel) => write_channel(f, "opened", *channel),
             Event::Told(channel, message) => write_told(f, *channel, message),

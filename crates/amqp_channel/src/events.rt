@@ -15,10 +15,14 @@ use amqp_value::ShortStr;
 use std::alloc::Global;
 
 /// What tune-ok settles.
+///
+/// The heartbeat stands before the frame size, where it fills a gap: each verdict carries what was agreed.
 #[derive(Clone, Copy, PartialEq, Eq, Debug)]
 pub struct Agreed {
     /// The greatest channel number.
     pub channel_max: u16,
+    /// The heartbeat, in seconds: each end puts a frame at least so often. 0 is none.
+    pub heartbeat: u16,
     /// The greatest length of a frame, all its octets counted.
     pub frame_max: u32,
 }
@@ -35,6 +39,12 @@ pub struct Reason {
 /// What an end tells of what it takes.
 #[derive(PartialEq, Eq, Debug, Drop)]
 pub enum Event {
+    /// A gated client took start: its application is to answer it.
+    AnswerAsked,
+    /// A gated server took start-ok: its application is to admit the login or to refuse it.
+    LoginAsked,
+    /// A gated server took open: its application is to admit the client to the virtual host or to refuse it.
+    OpenAsked,
     /// The handshake is over.
     Negotiated(Agreed),
     /// A channel's life begins.
@@ -88,6 +98,9 @@ impl Event {
         ensures { IfOk result (λ event. event_view event ≡ event_view self.now) }
     {
         let copied = match self {
+            Event::AnswerAsked => Event::AnswerAsked,
+            Event::LoginAsked => Event::LoginAsked,
+            Event::OpenAsked => Event::OpenAsked,
             Event::Negotiated(agreed) => Event::Negotiated(*agreed),
             Event::Opened(channel) => Event::Opened(*channel),
             Event::Told(channel, message) => Event::Told(*channel, message.copy()?),

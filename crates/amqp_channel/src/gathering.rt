@@ -1,19 +1,19 @@
 //! The content under way on a channel.
-ghost use Rattle.std.specs.Prelude.{◌≡◌, ◌+◌, ◌++◌, Some, IfOk, OnOk, OnErr};
+ghost use Rattle.std.specs.Prelude.{◌≡◌, ◌<◌, ◌+◌, ◌++◌, [], Some, IfOk, OnOk, OnErr};
 ghost use Rattle.amqp_method.specs.CarrierView.{carrier_view};
 ghost use Rattle.amqp_model.specs.End.FrameVerdict.{is_gathering};
 ghost use Rattle.amqp_model.specs.Wire.Gathering.{Nothing, HeaderDue};
-ghost use Rattle.amqp_model.specs.Wire.Methods.{header_at};
-ghost use Rattle.amqp_model.specs.Wire.Readings.{BodyOf, header_reading};
+ghost use Rattle.amqp_model.specs.Wire.Readings.{BodyOf};
 ghost use Rattle.amqp_channel.specs.ContentView.{content_view};
 ghost use Rattle.amqp_channel.specs.Filling.{filling_of};
 ghost use Rattle.amqp_channel.specs.GatheringKept.{IsBodyDue, IsKeptIn};
 ghost use Rattle.amqp_channel.specs.GatheringView.{gathering_view};
-ghost use Rattle.amqp_channel.specs.VerdictView.{continued_with, headed_with, whole_at, whole_with, IsHeadedBy, IsHeader, IsHeaderDue, IsWhole};
+ghost use Rattle.amqp_channel.specs.ReadingView.{header_said};
+ghost use Rattle.amqp_channel.specs.declared.gathering.Filling.TheVariants.{Short};
+ghost use Rattle.amqp_channel.specs.VerdictView.{continued_with, headed_with, whole_at, whole_with, IsHeaderDue, IsWhole};
 
 use crate::deferred::{Deferred, is_deferred};
-use crate::read::read_content_header;
-use amqp_method::{Content, OutOfMemory};
+use amqp_method::{Content, HeaderRef, OutOfMemory};
 use std::alloc::Global;
 use std::mem;
 
@@ -37,14 +37,14 @@ pub(crate) enum Filling {
 }
 
 /// How so many octets and so many more fill a body of a size.
-pub(crate) fn fill(size: u64, kept: usize, more: usize) -> Filling
-    ensures { result ≡ filling_of size (kept + more) }
+pub(crate) fn fill(size: u64, came: u64, more: usize) -> Filling
+    ensures filling { result ≡ filling_of size (came + more) }
+    ensures short { result ≡ Short → came + more < size }
 {
-    let kept = kept as u64;
     let more = more as u64;
-    if size < kept || size - kept < more {
+    if size < came || size - came < more {
         Filling::Past
-    } else if size - kept == more {
+    } else if size - came == more {
         Filling::Full
     } else {
         Filling::Short
@@ -126,14 +126,13 @@ impl Gathering {
 
 impl Gathering {
     /// Takes the header that is due, after which the body is due. Out of memory, the header is due still.
-    pub(crate) fn head(&mut self, alloc: Global, payload: &[u8]) -> Result<(), OutOfMemory>
-        requires due { IsHeaderDue (gathering_view self.old) }
-        requires header { IsHeader (header_reading (header_at payload.now)) }
-        ensures ok { OnOk result (gathering_view self.new ≡ headed_with (header_reading (header_at payload.now)) (gathering_view self.old)) }
+    pub(crate) fn head(&mut self, alloc: Global, header: HeaderRef<'_>) -> Result<(), OutOfMemory>
+        requires { IsHeaderDue (gathering_view self.old) }
+        ensures ok { OnOk result (gathering_view self.new ≡ headed_with (header_said header.entry) (gathering_view self.old)) }
         ensures err { OnErr result (gathering_view self.new ≡ gathering_view self.old) }
     {
         match mem::replace(self, Gathering::Nothing) {
-            Gathering::HeaderDue(content) => self.read_header(alloc, payload, content),
+            Gathering::HeaderDue(content) => self.keep_headed(alloc, header, content),
             Gathering::Nothing | Gathering::BodyDue(_) | Gathering::Deferred(_) => unreachable!(),
         }
     }
@@ -142,22 +141,18 @@ impl Gathering {
     pub(crate) fn finish_header(
         &mut self,
         alloc: Global,
-        payload: &[u8],
+        header: HeaderRef<'_>,
     ) -> Result<Box<Content>, OutOfMemory>
-        requires { IsWhole (whole_at (gathering_view self.old) (header_reading (header_at payload.now))) }
-        ensures whole { IfOk result (λ content. whole_at (gathering_view self.old) (header_reading (header_at payload.now)) ≡ Some (content_view content.value)) }
+        requires { IsWhole (whole_at (gathering_view self.old) (header_said header)) }
+        ensures whole { IfOk result (λ content. whole_at (gathering_view self.old) (header_said header.entry) ≡ Some (content_view content.value)) }
         ensures left { OnOk result (gathering_view self.new ≡ Nothing) }
         ensures err { OnErr result (gathering_view self.new ≡ gathering_view self.old) }
     {
         match mem::replace(self, Gathering::Nothing) {
             Gathering::HeaderDue(mut content) => {
-                match read_content_header(alloc, payload, &mut content.header) {
-                    Ok(true) => {}
-                    Ok(false) => unreachable!(),
-                    Err(fault) => {
-                        *self = Gathering::HeaderDue(content);
-                        return Err(fault);
-                    }
+                if let Err(fault) = header.read_into(alloc, &mut content.header) {
+                    *self = Gathering::HeaderDue(content);
+                    return Err(fault);
                 }
                 content.body.clear();
                 Ok(content)
@@ -166,45 +161,41 @@ impl Gathering {
         }
     }
 
-    /// Reads the header of a content where it is kept.
-    fn read_header(
-        &mut self,
-        alloc: Global,
-        payload: &[u8],
-        mut content: Box<Content>,
-    ) -> Result<(), OutOfMemory>
-        requires header { IsHeader (header_reading (header_at payload.now)) }
-        ensures ok { OnOk result (gathering_view self.new ≡ headed_with (header_reading (header_at payload.now)) (HeaderDue (carrier_view content.value.method))) }
-        ensures err { OnErr result (gathering_view self.new ≡ HeaderDue (carrier_view content.value.method)) }
-    {
-        match read_content_header(alloc, payload, &mut content.header) {
-            Ok(true) => {}
-            Ok(false) => unreachable!(),
-            Err(fault) => {
-                *self = Gathering::HeaderDue(content);
-                return Err(fault);
-            }
-        }
-        content.body.clear();
-        self.keep_headed(alloc, payload, content)
-    }
-
-    /// A content whose header was read: its body is due. A long header with a table is kept as its octets.
+    /// Keeps a header, after which the body is due: read where the content is, or, if it is long and has a table, as its
+    /// octets.
     fn keep_headed(
         &mut self,
         alloc: Global,
-        payload: &[u8],
-        content: Box<Content>,
+        header: HeaderRef<'_>,
+        mut content: Box<Content>,
     ) -> Result<(), OutOfMemory>
-        requires read { IsHeadedBy content.value (header_reading (header_at payload.now)) }
-        ensures ok { OnOk result (gathering_view self.new ≡ headed_with (header_reading (header_at payload.now)) (HeaderDue (carrier_view content.value.method))) }
+        ensures ok { OnOk result (gathering_view self.new ≡ headed_with (header_said header.entry) (HeaderDue (carrier_view content.value.method))) }
         ensures err { OnErr result (gathering_view self.new ≡ HeaderDue (carrier_view content.value.method)) }
     {
-        if !is_deferred(&content.header, payload.len()) {
-            *self = Gathering::BodyDue(content);
-            return Ok(());
+        content.body.clear();
+        if is_deferred(header) {
+            return self.defer(alloc, header, content);
         }
-        match Deferred::new(alloc, payload, content) {
+        if let Err(fault) = header.read_into(alloc, &mut content.header) {
+            *self = Gathering::HeaderDue(content);
+            return Err(fault);
+        }
+        *self = Gathering::BodyDue(content);
+        Ok(())
+    }
+
+    /// Keeps a header as its octets.
+    fn defer(
+        &mut self,
+        alloc: Global,
+        header: HeaderRef<'_>,
+        content: Box<Content>,
+    ) -> Result<(), OutOfMemory>
+        requires { content.value.body.items ≡ [] }
+        ensures ok { OnOk result (gathering_view self.new ≡ headed_with (header_said header.entry) (HeaderDue (carrier_view content.value.method))) }
+        ensures err { OnErr result (gathering_view self.new ≡ HeaderDue (carrier_view content.value.method)) }
+    {
+        match Deferred::new(alloc, header, content) {
             Ok(deferred) => {
                 *self = Gathering::Deferred(deferred);
                 Ok(())

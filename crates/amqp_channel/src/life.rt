@@ -1,23 +1,22 @@
 //! The life of a channel that is Open: what is kept of it, what the rules say of the frames that belong to it, and what these
 //! leave.
-ghost use Rattle.std.specs.Prelude.{◌≡◌, ◌≢◌, ◌<◌, ◌≤◌, true, ℕ, None, Some, IfOk, IsOk, OnOk, OnErr};
+ghost use Rattle.std.specs.Prelude.{◌≡◌, ◌≢◌, ◌<◌, ◌≤◌, true, ℕ, List, length, None, Some, IfOk, IsOk, OnOk, OnErr};
 ghost use Rattle.amqp_method.specs.HeaderRefView.{lent_header};
 ghost use Rattle.amqp_method.specs.MethodRefView.{lent_call};
-ghost use Rattle.amqp_method.specs.MethodView.{method_view};
+ghost use Rattle.amqp_model.specs.End.Channels as model;
 ghost use Rattle.amqp_model.specs.End.Channels.{Open, new_life};
-ghost use Rattle.amqp_model.specs.Wire.Frame.{Frame};
 ghost use Rattle.amqp_model.specs.End.FrameVerdict.{on_message};
-ghost use Rattle.amqp_model.specs.History.Histories.{PutHere};
-ghost use Rattle.amqp_model.specs.End.Machine.{channel_after};
-ghost use Rattle.amqp_model.specs.Wire.Methods.{carries_content as content_follows, header_at};
+ghost use Rattle.amqp_model.specs.Wire.Gathering.{BodyDue, HeaderDue};
+ghost use Rattle.amqp_model.specs.Wire.Methods as methods;
+ghost use Rattle.amqp_model.specs.Wire.Methods.{carries_content as content_follows};
 ghost use Rattle.amqp_model.specs.Wire.Notes.{Client, Server};
 ghost use Rattle.amqp_model.specs.Wire.Readings as readings;
-ghost use Rattle.amqp_model.specs.Wire.Readings.{Calls, BodyOf, HeaderOf, header_reading, kind_of};
+ghost use Rattle.amqp_model.specs.Wire.Readings.{Calls, BodyOf, HeaderOf, kind_of};
 ghost use Rattle.amqp_channel.specs.ContentView.{content_there, content_view};
 ghost use Rattle.amqp_channel.specs.LifeView.{life_view, IsIdle, IsOther};
-ghost use Rattle.amqp_channel.specs.ReadingView.{reading_view};
+ghost use Rattle.amqp_channel.specs.ReadingView.{header_said, reading_view};
 ghost use Rattle.amqp_channel.specs.Roles.{role_of};
-ghost use Rattle.amqp_channel.specs.VerdictView.{asked_with, replies_in, told_in, verdict_view, whole_at, whole_of, whole_with, FitsTold, IsDiscarded, IsFlow, IsHeader, IsHeaderDue, IsWhole, MessageRules, Rules, RulesByState, TellsMessage};
+ghost use Rattle.amqp_channel.specs.VerdictView.{asked_with, replies_in, told_in, verdict_view, whole_at, whole_of, whole_with, FitsTold, IsDiscarded, IsFlow, IsHeaderDue, IsWhole, MessageRules, Rules, RulesByState, TellsMessage};
 
 use crate::codes::CloseCode;
 use crate::gathering::{Filling, Gathering, fill};
@@ -27,7 +26,7 @@ use crate::site::Site;
 use crate::standing::Standing;
 use crate::verdict::{Reply, Told, Verdict};
 use crate::words::lent_bit_at;
-use amqp_method::{Carrier, Content, HeaderRef, Kind, Method, MethodRef, OutOfMemory};
+use amqp_method::{Carrier, Content, HeaderRef, Kind, MethodRef, OutOfMemory};
 use std::alloc::Global;
 
 /// How many requests a server keeps on a channel.
@@ -52,33 +51,6 @@ impl Life {
             standing: Standing::new(),
         }
     }
-
-    /// The method of a message that an end puts: a client's request waits for its reply, a server's reply answers the oldest
-    /// request that it keeps.
-    pub(crate) fn put_method(
-        &mut self,
-        alloc: Global,
-        site: Site,
-        method: &Method,
-    ) -> Result<(), OutOfMemory>
-        requires { IsOther (kind_of (Calls (method_view method.now))) }
-        ensures ok { OnOk result ((frame : Frame) → Open (life_view self.new) ≡ channel_after (role_of site.side) (PutHere (Calls (method_view method.now)) frame) (Open (life_view self.old))) }
-        ensures err { OnErr result (life_view self.new ≡ life_view self.old) }
-    {
-        match site.side {
-            Side::Client => {
-                if method.is_request() {
-                    self.standing.keep_request(alloc, method.kind())?;
-                }
-            }
-            Side::Server => {
-                if method.kind().is_reply() {
-                    self.standing.answer_request();
-                }
-            }
-        }
-        Ok(())
-    }
 }
 
 /// A message that may come: its method stands alone, or begins a content.
@@ -92,13 +64,35 @@ fn tell_message(method: MethodRef<'_>) -> Verdict
     Verdict::Proceeds(Told::Method, None)
 }
 
-/// The payload of a header, which reads as the header.
-#[tactic(auto, unfolding(amqp_model::specs::Wire::Methods::header_at))]
-fn payload_of<'a>(header: HeaderRef<'a>) -> &'a [u8]
-    ensures { header_reading (header_at result.now)
-        ≡ HeaderOf (lent_header header.entry).body_size (lent_header header.entry).properties }
+/// A header that is due.
+pub(crate) fn judge_awaited(site: Site, header: HeaderRef<'_>) -> Verdict
+    requires above { 0 < site.number }
+    requires within { site.number ≤ site.channel_max }
+    ensures { (life : model.Life) (method : methods.Method) → life.content ≡ HeaderDue method → Rules site (Open life)
+        (HeaderOf (lent_header header.entry).body_size (lent_header header.entry).properties) result }
 {
-    header.payload()
+    if site.max_body < header.body_size() {
+        Verdict::RefusesContent
+    } else if header.body_size() == 0 {
+        Verdict::Proceeds(Told::Completed, None)
+    } else {
+        Verdict::Proceeds(Told::Headed, None)
+    }
+}
+
+/// A part of a body of this size, of which so many octets have come.
+pub(crate) fn judge_part(site: Site, size: u64, came: u64, octets: &[u8]) -> Verdict
+    requires above { 0 < site.number }
+    requires within { site.number ≤ site.channel_max }
+    ensures { (life : model.Life) (method : methods.Method) (properties : methods.Properties) (body : List ℕ)
+        → life.content ≡ BodyDue method size properties body → length body ≡ came
+        → Rules site (Open life) (BodyOf octets.now) result }
+{
+    match fill(size, came, octets.len()) {
+        Filling::Past => Verdict::Faults(CloseCode::FrameError),
+        Filling::Short => Verdict::Proceeds(Told::Continued, None),
+        Filling::Full => Verdict::Proceeds(Told::Completed, None),
+    }
 }
 
 impl Life {
@@ -189,15 +183,7 @@ impl Life {
             Gathering::Nothing | Gathering::BodyDue(_) | Gathering::Deferred(_) => {
                 Verdict::Faults(CloseCode::UnexpectedFrame)
             }
-            Gathering::HeaderDue(_) => {
-                if site.max_body < header.body_size() {
-                    Verdict::RefusesContent
-                } else if header.body_size() == 0 {
-                    Verdict::Proceeds(Told::Completed, None)
-                } else {
-                    Verdict::Proceeds(Told::Headed, None)
-                }
-            }
+            Gathering::HeaderDue(_) => judge_awaited(site, header),
         }
     }
 
@@ -207,21 +193,22 @@ impl Life {
         requires within { site.number ≤ site.channel_max }
         ensures { Rules site (Open (life_view self.now)) (BodyOf octets.now) result }
     {
-        let filling = match &self.content {
+        match &self.content {
             Gathering::Nothing | Gathering::HeaderDue(_) => {
-                return Verdict::Faults(CloseCode::UnexpectedFrame);
+                Verdict::Faults(CloseCode::UnexpectedFrame)
             }
-            Gathering::BodyDue(content) => {
-                fill(content.header.body_size, content.body.len(), octets.len())
-            }
-            Gathering::Deferred(deferred) => {
-                fill(deferred.size(), deferred.content.body.len(), octets.len())
-            }
-        };
-        match filling {
-            Filling::Past => Verdict::Faults(CloseCode::FrameError),
-            Filling::Short => Verdict::Proceeds(Told::Continued, None),
-            Filling::Full => Verdict::Proceeds(Told::Completed, None),
+            Gathering::BodyDue(content) => judge_part(
+                site,
+                content.header.body_size,
+                content.body.len() as u64,
+                octets,
+            ),
+            Gathering::Deferred(deferred) => judge_part(
+                site,
+                deferred.size(),
+                deferred.content.body.len() as u64,
+                octets,
+            ),
         }
     }
 }
@@ -285,13 +272,17 @@ impl Life {
     }
 
     /// A header, after which the body is due.
-    fn keep_header(&mut self, alloc: Global, side: Side, payload: &[u8]) -> Result<(), OutOfMemory>
-        requires due { IsHeaderDue (life_view self.old).content }
-        requires header { IsHeader (header_reading (header_at payload.now)) }
-        ensures ok { OnOk result (life_view self.new ≡ told_in (role_of side) (header_reading (header_at payload.now)) Told.Headed (life_view self.old)) }
+    fn keep_header(
+        &mut self,
+        alloc: Global,
+        side: Side,
+        header: HeaderRef<'_>,
+    ) -> Result<(), OutOfMemory>
+        requires { IsHeaderDue (life_view self.old).content }
+        ensures ok { OnOk result (life_view self.new ≡ told_in (role_of side) (header_said header.entry) Told.Headed (life_view self.old)) }
         ensures err { OnErr result (life_view self.new ≡ life_view self.old) }
     {
-        self.content.head(alloc, payload)
+        self.content.head(alloc, header)
     }
 
     /// The header of a content without a body, which is whole. A client's reply takes its request away.
@@ -299,15 +290,15 @@ impl Life {
         &mut self,
         alloc: Global,
         side: Side,
-        payload: &[u8],
+        header: HeaderRef<'_>,
     ) -> Result<Box<Content>, OutOfMemory>
-        requires { IsWhole (whole_at (life_view self.old).content (header_reading (header_at payload.now))) }
-        ensures whole { IfOk result (λ content. whole_at (life_view self.old).content (header_reading (header_at payload.now)) ≡ Some (content_view content.value)) }
-        ensures ok { OnOk result (life_view self.new ≡ told_in (role_of side) (header_reading (header_at payload.now)) Told.Completed (life_view self.old)) }
+        requires { IsWhole (whole_at (life_view self.old).content (header_said header)) }
+        ensures whole { IfOk result (λ content. whole_at (life_view self.old).content (header_said header.entry) ≡ Some (content_view content.value)) }
+        ensures ok { OnOk result (life_view self.new ≡ told_in (role_of side) (header_said header.entry) Told.Completed (life_view self.old)) }
         ensures err { OnErr result (life_view self.new ≡ life_view self.old) }
     {
         let replies = self.replies();
-        let content = self.content.finish_header(alloc, payload)?;
+        let content = self.content.finish_header(alloc, header)?;
         if side.is_client() && replies {
             self.standing.answer_request();
         }
@@ -330,7 +321,7 @@ impl Life {
     }
 
     /// Whether the content under way is a reply.
-    fn replies(&self) -> bool
+    pub(crate) fn replies(&self) -> bool
         ensures { result ≡ replies_in (life_view self.now).content }
     {
         match &self.content {
@@ -372,7 +363,7 @@ impl Life {
     {
         match reading {
             Reading::Body(octets) => self.finish(side, octets),
-            Reading::Header(header) => self.finish_header(alloc, side, payload_of(header)),
+            Reading::Header(header) => self.finish_header(alloc, side, header),
             Reading::Method(_) => unreachable!(),
             Reading::UnknownMethod => unreachable!(),
             Reading::MalformedMethod => unreachable!(),
@@ -414,7 +405,7 @@ impl Life {
                 let Reading::Header(header) = reading else {
                     unreachable!()
                 };
-                self.keep_header(alloc, side, payload_of(header))?;
+                self.keep_header(alloc, side, header)?;
             }
             Told::Continued => {
                 let Reading::Body(octets) = reading else {

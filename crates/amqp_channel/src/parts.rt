@@ -28,6 +28,9 @@ pub struct PlainMethod {
 /// tenth longer.
 #[derive(Drop)]
 pub enum EventParts {
+    AnswerAsked,
+    LoginAsked,
+    OpenAsked,
     Negotiated(Aligned<Agreed>),
     Opened(Aligned<u16>),
     Method(Aligned<u16>, PlainMethod),
@@ -97,6 +100,9 @@ impl EventParts {
         ensures { event_view result ≡ parts_view self }
     {
         match self {
+            EventParts::AnswerAsked => Event::AnswerAsked,
+            EventParts::LoginAsked => Event::LoginAsked,
+            EventParts::OpenAsked => Event::OpenAsked,
             EventParts::Negotiated(agreed) => Event::Negotiated(agreed.get()),
             EventParts::Opened(channel) => Event::Opened(channel.get()),
             EventParts::Method(channel, method) => {

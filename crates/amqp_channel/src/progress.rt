@@ -1,10 +1,14 @@
 //! How far a content has come that is under way on a channel.
 ghost use Rattle.std.specs.Prelude.{◌≡◌};
-ghost use Rattle.amqp_model.specs.Lent.Streaming.{is_streaming, streamed};
+ghost use Rattle.amqp_model.specs.Lent.Streaming.{came, is_streaming, streamed};
 ghost use Rattle.amqp_channel.specs.GatheringView.{gathering_view};
+ghost use Rattle.amqp_channel.specs.LentView.{progress_with, FitsProgress};
 ghost use Rattle.amqp_channel.specs.ProgressView.{progress_view};
+ghost use Rattle.amqp_channel.specs.ReadingView.{reading_view};
 
 use crate::gathering::Gathering;
+use crate::reading::Reading;
+use crate::verdict::Told;
 use amqp_method::Kind;
 
 /// How far a content has come: all that the rules look at.
@@ -26,6 +30,42 @@ impl Progress {
             Progress::NoContent => false,
             Progress::AwaitsHeader(_) => true,
             Progress::AwaitsBody { .. } => true,
+        }
+    }
+
+    /// How many octets of the body have come.
+    pub fn came(self) -> u64
+        ensures { result ≡ came (progress_view self) }
+    {
+        match self {
+            Progress::NoContent => 0,
+            Progress::AwaitsHeader(_) => 0,
+            Progress::AwaitsBody { came, .. } => came,
+        }
+    }
+
+    /// How far the content has come after a frame of which this is told.
+    pub(crate) fn after(self, reading: Reading<'_>, told: Told) -> Progress
+        requires { FitsProgress (reading_view reading) told (progress_view self) }
+        ensures { progress_view result ≡ progress_with (reading_view reading.entry) told (progress_view self) }
+    {
+        match (told, reading, self) {
+            (Told::Begun, Reading::Method(method), _) => Progress::AwaitsHeader(method.kind()),
+            (Told::Headed, Reading::Header(header), Progress::AwaitsHeader(kind)) => {
+                Progress::AwaitsBody {
+                    kind,
+                    size: header.body_size(),
+                    came: 0,
+                }
+            }
+            (Told::Continued, Reading::Body(octets), Progress::AwaitsBody { kind, size, came }) =>
+                Progress::AwaitsBody {
+                    kind,
+                    size,
+                    came: came + octets.len() as u64,
+                },
+            (Told::Completed, _, _) => Progress::NoContent,
+            _ => self,
         }
     }
 }

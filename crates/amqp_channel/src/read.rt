@@ -1,4 +1,4 @@
-//! The payload of a header frame, read where a content is kept.
+//! The octets of a header, read where a content is kept.
 ghost use Rattle.std.specs.Prelude.{◌≡◌, IfOk};
 ghost use Rattle.amqp_model.specs.Wire.Methods.{header_at};
 ghost use Rattle.amqp_model.specs.Wire.Readings.{header_reading};

@@ -4,11 +4,28 @@
 //! A connection has up to tens of thousands of channels, most of them idle. So the marks stand in each variant, beside its tag,
 //! and the requests in a box, which is there from the first request on.
 ghost use Rattle.std.specs.Prelude.{◌≡◌, ◌++◌, ◌∷◌, false, [], drop, length, IfOk, OnOk, OnErr};
+ghost use Rattle.amqp_method.specs.MethodRefView.{lent_call};
+ghost use Rattle.amqp_method.specs.MethodView.{method_view};
 ghost use Rattle.amqp_model.specs.End.Answers.{first_of};
+ghost use Rattle.amqp_model.specs.End.Channels.{Open};
 ghost use Rattle.amqp_model.specs.End.FrameVerdict.{answers_first};
+ghost use Rattle.amqp_model.specs.End.Machine.{channel_after};
+ghost use Rattle.amqp_model.specs.History.Histories.{PutHere};
+ghost use Rattle.amqp_model.specs.Wire.Frame.{Frame};
+ghost use Rattle.amqp_model.specs.Wire.Gathering.{Gathering};
+ghost use Rattle.amqp_model.specs.Wire.Notes.{Server};
+ghost use Rattle.amqp_model.specs.Wire.Readings.{Calls, kind_of};
+ghost use Rattle.amqp_channel.specs.LentView.{StandsAs};
+ghost use Rattle.amqp_channel.specs.LifeView.{life_on, IsOther};
+ghost use Rattle.amqp_channel.specs.ReadingView.{reading_view};
+ghost use Rattle.amqp_channel.specs.Roles.{role_of};
 ghost use Rattle.amqp_channel.specs.StandingView.{awaits_in, paused_in, requests_in};
+ghost use Rattle.amqp_channel.specs.VerdictView.{asked_with, replies_in, told_in};
 
-use amqp_method::{Kind, OutOfMemory};
+use crate::reading::Reading;
+use crate::side::Side;
+use crate::verdict::Told;
+use amqp_method::{Kind, Method, MethodRef, OutOfMemory};
 use std::alloc::Global;
 use std::collections::VecDeque;
 
@@ -165,5 +182,112 @@ impl Standing {
         if let Standing::Asked { requests, .. } = self {
             let _ = requests.pop_front();
         }
+    }
+}
+
+impl Standing {
+    /// The method of a message that an end puts: a client's request waits for its reply, a server's reply answers the oldest
+    /// request that it keeps. Out of memory, all is as it was.
+    pub(crate) fn put(
+        &mut self,
+        alloc: Global,
+        side: Side,
+        method: &Method,
+    ) -> Result<(), OutOfMemory>
+        requires { IsOther (kind_of (Calls (method_view method.now))) }
+        ensures ok { OnOk result ((content : Gathering) (frame : Frame) → Open (life_on content self.new)
+            ≡ channel_after (role_of side) (PutHere (Calls (method_view method.now)) frame) (Open (life_on content self.old))) }
+        ensures err { OnErr result ((content : Gathering) → Open (life_on content self.new) ≡ Open (life_on content self.old)) }
+    {
+        match side {
+            Side::Client => {
+                if method.is_request() {
+                    self.keep_request(alloc, method.kind())?;
+                }
+            }
+            Side::Server => {
+                if method.kind().is_reply() {
+                    self.answer_request();
+                }
+            }
+        }
+        Ok(())
+    }
+
+    /// A server keeps a request that it takes.
+    fn take_request(&mut self, alloc: Global, method: MethodRef<'_>) -> Result<(), OutOfMemory>
+        ensures ok { OnOk result ((content : Gathering)
+            → StandsAs (asked_with Server (Calls (lent_call method.entry)) (life_on content self.old)) self.new) }
+        ensures err { OnErr result ((content : Gathering) → Open (life_on content self.new) ≡ Open (life_on content self.old)) }
+    {
+        if method.is_request() {
+            self.keep_request(alloc, method.kind())?;
+        }
+        Ok(())
+    }
+
+    /// A method without content: a client's reply takes its request away, and a server keeps a request.
+    fn take_method(
+        &mut self,
+        alloc: Global,
+        side: Side,
+        method: MethodRef<'_>,
+    ) -> Result<(), OutOfMemory>
+        ensures ok { OnOk result ((content : Gathering)
+            → StandsAs (told_in (role_of side) (Calls (lent_call method.entry)) Told.Method (life_on content self.old)) self.new) }
+        ensures err { OnErr result ((content : Gathering) → Open (life_on content self.new) ≡ Open (life_on content self.old)) }
+    {
+        match side {
+            Side::Client => {
+                if method.kind().is_reply() {
+                    self.answer_request();
+                }
+                Ok(())
+            }
+            Side::Server => self.take_request(alloc, method),
+        }
+    }
+
+    /// What a frame changes that neither opens nor ends a life. The content under way is a reply, or isn't. Out of memory,
+    /// all is as it was.
+    pub(crate) fn take(
+        &mut self,
+        alloc: Global,
+        side: Side,
+        reading: Reading<'_>,
+        told: Told,
+        replies: bool,
+    ) -> Result<(), OutOfMemory>
+        ensures ok { OnOk result ((content : Gathering) → replies_in content ≡ replies
+            → StandsAs (told_in (role_of side) (reading_view reading.entry) told (life_on content self.old)) self.new) }
+        ensures err { OnErr result ((content : Gathering) → Open (life_on content self.new) ≡ Open (life_on content self.old)) }
+    {
+        match told {
+            Told::Method => {
+                if let Reading::Method(method) = reading {
+                    self.take_method(alloc, side, method)?;
+                }
+            }
+            Told::Begun => {
+                if let (Side::Server, Reading::Method(method)) = (side, reading) {
+                    self.take_request(alloc, method)?;
+                }
+            }
+            Told::Completed => {
+                if side.is_client() && replies {
+                    self.answer_request();
+                }
+            }
+            Told::Flow(active) => self.pause(!active),
+            Told::FlowOk(_) => self.await_flow_ok(false),
+            Told::Headed
+            | Told::Continued
+            | Told::Opened
+            | Told::ClosedByPeer
+            | Told::ClosedByUs
+            | Told::Discarded
+            | Told::Quiet => {}
+        }
+        Ok(())
     }
 }

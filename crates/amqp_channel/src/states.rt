@@ -46,11 +46,13 @@ impl Channel {
             Channel::Free => ChannelState::Free,
             Channel::Opening => ChannelState::Opening,
             Channel::Closing => ChannelState::Closing,
-            Channel::Open(_) => ChannelState::Open,
+            Channel::Open(_) | Channel::LentHeader(_, _) | Channel::LentBody { .. } => {
+                ChannelState::Open
+            }
         }
     }
 
-    /// How many octets are kept of the body of the content under way.
+    /// How many octets have come of the body of the content under way.
     pub fn octets(&self) -> usize
         ensures { result ≡ length (kept_by (channel_view self.now)) }
     {
@@ -59,6 +61,8 @@ impl Channel {
             Channel::Opening => 0,
             Channel::Closing => 0,
             Channel::Open(life) => life.content.octets(),
+            Channel::LentHeader(_, _) => 0,
+            Channel::LentBody { came, .. } => *came as usize,
         }
     }
 
@@ -71,6 +75,8 @@ impl Channel {
             Channel::Opening => None,
             Channel::Closing => None,
             Channel::Open(life) => life.standing.oldest_request(),
+            Channel::LentHeader(_, standing) => standing.oldest_request(),
+            Channel::LentBody { standing, .. } => standing.oldest_request(),
         }
     }
 }

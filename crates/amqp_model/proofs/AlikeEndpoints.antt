@@ -182,7 +182,7 @@ feeds-alike role config one other piece a = feeding-alike role config piece one 
 
 -- Asks and writes.
 
-answer-alike : (role : Role) (config : Config role) (one other : Endpoint) (verdict : AskVerdict) → AlikeEndpoints one other → AlikeEndpoints (after_answer role config one verdict) (after_answer role config other verdict)
+pub answer-alike : (role : Role) (config : Config role) (one other : Endpoint) (verdict : AskVerdict) → AlikeEndpoints one other → AlikeEndpoints (after_answer role config one verdict) (after_answer role config other verdict)
 answer-alike role config one other (Refused refusal) a = a
 answer-alike role config one other (Puts frames) a =
     record { end = putting-leaves-alike role config one.end other.end frames a.end; unfinished = a.unfinished; output = ap (after_puts frames) a.output }

@@ -89,13 +89,13 @@ same-first None rules others last end e = e
 same-first (Some verdict) rules others last end e = refl
 
 module _ (role : Role) (config : Config role) (phase : Phase) (agreed : Option Agreed) (number : ℕ) (paused awaits : Bool) (requests : List MethodKind) where
-  abbrev life_of : Gathering → Life
+  abbrev pub life_of : Gathering → Life
   life_of content = record { content = content; paused = paused; awaits = awaits; requests = requests }
 
-  abbrev facts_of : Channel → Facts role
+  abbrev pub facts_of : Channel → Facts role
   facts_of channel = record { config = config; phase = phase; agreed = agreed; number = number; channel = channel }
 
-  abbrev open_with : Gathering → Facts role
+  abbrev pub open_with : Gathering → Facts role
   open_with content = facts_of (channels.Open (life_of content))
 
   idle-same : (g h : Gathering) (method : Method) (kind : Kind) → on_idle (open_with g) (life_of g) method kind ≡ on_idle (open_with h) (life_of h) method kind
@@ -159,7 +159,7 @@ handshake-same role config phase Phase.Closing agreed number one other reading =
 handshake-same role config phase Closed agreed number one other reading = refl
 handshake-same role config phase Failed agreed number one other reading = refl
 
-abbrev facts_with : (role : Role) → Config role → Phase → Option Agreed → ℕ → Channel → Facts role
+abbrev pub facts_with : (role : Role) → Config role → Phase → Option Agreed → ℕ → Channel → Facts role
 facts_with role config phase agreed number channel = record { config = config; phase = phase; agreed = agreed; number = number; channel = channel }
 
 -- an Open channel with such a content under way, or with another of which as much is known

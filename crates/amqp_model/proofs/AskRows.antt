@@ -13,7 +13,7 @@ use Rattle.amqp_model.specs.End.Asks.{Refusal, Ask, AskVerdict, Refused, Puts, a
 
 -- an end that is Running with ten channels at most, and these records of them
 abbrev pub ten_channels : (frame_max : ℕ) → (ℕ → Channel) → End
-ten_channels frame_max channels = record { phase = Running; agreed = Some (record { channel_max = 10; frame_max = frame_max }); channels = channels }
+ten_channels frame_max channels = record { phase = Running; agreed = Some (record { channel_max = 10; frame_max = frame_max; heartbeat = 0 }); channels = channels }
 
 -- such an end with channel 1 Open in this life, and no other channel
 abbrev pub open_on_1 : (frame_max : ℕ) → Life → End

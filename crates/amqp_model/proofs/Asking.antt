@@ -184,7 +184,7 @@ close-acts role config history n theirs c code text writes a = one-method role t
         simp (found.2, found.3)
 
 -- connection.close is noted on every channel
-leave-acts : (role : Role) (theirs : List Note) (history : History) (n code : ℕ) (text : List ℕ) → ReadsBack (close_as kinds.ConnectionClose code text) → ActsOn role theirs (notes (entries_on (suc n) history)) (notes (entries_on (suc n) (Put (method_frame 0 (close_as kinds.ConnectionClose code text)) ∷ history)))
+pub leave-acts : (role : Role) (theirs : List Note) (history : History) (n code : ℕ) (text : List ℕ) → ReadsBack (close_as kinds.ConnectionClose code text) → ActsOn role theirs (notes (entries_on (suc n) history)) (notes (entries_on (suc n) (Put (method_frame 0 (close_as kinds.ConnectionClose code text)) ∷ history)))
 leave-acts role theirs history n code text writes =
     let f = method_frame 0 (close_as kinds.ConnectionClose code text) in
     let elsewhere : (0 == suc n) ≡ false = ne_eqb 0 (suc n) (λ e. let h : 0 ≡ suc n = e in omega arith) in

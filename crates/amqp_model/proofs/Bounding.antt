@@ -20,7 +20,7 @@ use Rattle.amqp_model.specs.End.EndVerdict.{facts_at, goes_on}
 use Rattle.amqp_model.specs.End.Asks.{Ask, channel_max}
 use Rattle.amqp_model.specs.End.Answers.{kept_by, kept_in}
 use Rattle.amqp_model.specs.End.ReadingBack.{WritesReadBack}
-use Rattle.amqp_model.specs.End.LawfulHistories.{end_of, Goes, greets, takes, faults, meets_too_large, fails, asks, Lawful, begun as at_start, goes}
+use Rattle.amqp_model.specs.End.LawfulHistories.{end_of, Goes, greets, takes, faults, meets_too_large, fails, asks, controls, Lawful, begun as at_start, goes}
 use Rattle.amqp_model.specs.End.Machine.{with_asked, life_after, free_after_putting, after_put, after_taken, unless_leaving, set_channel, new_end, end_after, end_after_owed, failed_by, StandsFor}
 use Rattle.amqp_model.specs.Laws.EndLaws.{is_over, AgreesWithLives, agrees, refuses}
 use Rattle.amqp_model.specs.End.Bounds.{KeepsPart, most_requests, LifeIsWithin, ChannelIsWithin, EndIsWithin, NewIsWithin, FrameStaysWithin, AskStaysWithin, StandsWithin, GatheredIsWithin, OthersAreFree}
@@ -35,7 +35,8 @@ use Rattle.amqp_model.proofs.FrameSteps.{not-failed, frame-follows}
 use Rattle.amqp_model.proofs.AskSteps.{ask-kept, asks-follow}
 use Rattle.amqp_model.proofs.Going.{running, method-goes, not-inside}
 use Rattle.amqp_model.proofs.TurnLemmas.{no-message-asks}
-use Rattle.amqp_model.proofs.Walking.{is_none, may_ask_here, quiet-asks, MayPut, stands-kept}
+use Rattle.amqp_model.proofs.Walking.{is_none, may_ask_here, quiet-asks, MayPut, Stands, stands-kept}
+use Rattle.amqp_model.proofs.Controlling.{control-kept, control-channels, puts-at-zero}
 
 pub new-within : NewIsWithin
 new-within role config n = tt
@@ -328,6 +329,10 @@ goes-within : (role : Role) (config : Config role) (before : History) (taken : O
 goes-within role config before taken failed after e back stands w greets = subst (EndIsWithin role config) (sym (end-stands role config _ after (stands-kept.puts.put role config (end_of config []) [] _ stands (inl refl)))) w
 goes-within role config before taken failed after e back stands w (takes frame can g) = subst (EndIsWithin role config) (sym (end-stands role config _ after (frame-follows role config (end_of config before) before frame back stands g))) (frame-stays-within role config (end_of config before) frame w g)
 goes-within role config before taken failed after e back stands w (asks ask frames made read v) = subst (EndIsWithin role config) (sym (end-stands role config _ after (asks-follow role config (end_of config before) before ask frames stands read.method made v))) (ask-stays-within role config (end_of config before) ask frames w read.method made v)
+goes-within role config before taken failed after e back stands w (controls control frames read v) =
+    let at = puts-at-zero role config (end_of config before) control frames back read v in
+    subst (EndIsWithin role config) (sym (end-stands role config _ after (control-kept Stands stands-kept.puts role config (end_of config before) before frames stands at)))
+    (λ n. subst (λ all. ChannelIsWithin role config.max_body (all n)) (sym (control-channels role config frames (end_of config before) at)) (w n))
 goes-within role config before taken failed after e back stands w (faults frame can g) = absurd (true≢false e)
 goes-within role config before taken failed after e back stands w (meets_too_large p) = absurd (true≢false e)
 goes-within role config before taken failed after e back stands w (fails p) = absurd (true≢false e)

@@ -11,12 +11,13 @@ use Rattle.amqp_model.specs.History.Negotiation.{Config}
 use Rattle.amqp_model.specs.End.FrameVerdict.{verdict_on}
 use Rattle.amqp_model.specs.End.EndVerdict.{facts_at, goes_on}
 use Rattle.amqp_model.specs.End.ReadingBack.{WritesReadBack}
-use Rattle.amqp_model.specs.End.LawfulHistories.{end_of, Goes, greets, takes, faults, meets_too_large, fails, asks, Lawful, begun, goes}
+use Rattle.amqp_model.specs.End.LawfulHistories.{end_of, Goes, greets, takes, faults, meets_too_large, fails, asks, controls, Lawful, begun, goes}
 use Rattle.amqp_model.specs.End.Machine.{may_put_here, new_end, Counts, StandsFor}
 use Rattle.amqp_model.proofs.Walking.{may_ask_here, EntrySound, MayPut, Walks, at_start, entered, Walked, walked-kept}
 use Rattle.amqp_model.proofs.EndSteps.{not-zero, new-end-stands, stays-here, left-here}
 use Rattle.amqp_model.proofs.FrameSteps.{frame-kept}
 use Rattle.amqp_model.proofs.AskSteps.{ask-kept}
+use Rattle.amqp_model.proofs.Controlling.{control-kept, puts-at-zero}
 use Rattle.amqp_model.proofs.Standing.{end-stands}
 use Rattle.amqp_model.proofs.Following.{all-before}
 use Rattle.amqp_model.proofs.Agreeing.{facts_in, is_closing, handshake-stops}
@@ -71,6 +72,7 @@ goes-walk : (role : Role) (config : Config role) (before : History) (taken : Opt
 goes-walk role config before taken failed after e back greets w = (_, walked-kept.puts.put role config (end_of config []) [] _ w (inl refl))
 goes-walk role config before taken failed after e back (takes frame can g) w = (_, frame-kept Walked walked-kept role config (end_of config before) before frame back w g)
 goes-walk role config before taken failed after e back (asks ask frames made read v) w = (_, ask-kept Walked walked-kept.puts role config (end_of config before) before ask frames w read.method made v)
+goes-walk role config before taken failed after e back (controls control frames read v) w = (_, control-kept Walked walked-kept.puts role config (end_of config before) before frames w (puts-at-zero role config (end_of config before) control frames back read v))
 goes-walk role config before taken failed after e back (faults frame can g) w = absurd (true≢false e)
 goes-walk role config before taken failed after e back (meets_too_large p) w = absurd (true≢false e)
 goes-walk role config before taken failed after e back (fails p) w = absurd (true≢false e)

@@ -22,7 +22,7 @@ use Rattle.amqp_model.specs.End.FrameVerdict.{verdict_on, methods_put}
 use Rattle.amqp_model.specs.End.Asks.{Ask, Refusal, lowest_free, opens_on, payload_frame, message_payloads, frame_max, frames_asked, method_asked, refusal, Puts, ask_verdict}
 use Rattle.amqp_model.specs.End.EndVerdict.{facts_at, end_verdict, end_puts, goes_on, takes_frames, too_large_puts}
 use Rattle.amqp_model.specs.End.ReadingBack.{WritesReadBack}
-use Rattle.amqp_model.specs.End.LawfulHistories.{then_put, then_taken, Goes, greets, takes, faults, meets_too_large, fails, asks, Lawful, begun, goes}
+use Rattle.amqp_model.specs.End.LawfulHistories.{then_put, then_taken, Goes, greets, takes, faults, meets_too_large, fails, asks, controls, Lawful, begun, goes}
 use Rattle.amqp_model.specs.Stream.Octets.{frames_put, frames_taken}
 use Rattle.amqp_model.specs.Output.Prefixes.{IsPrefixOf}
 use Rattle.amqp_model.specs.Laws.EndLaws.{is_over, notes_on}
@@ -32,7 +32,9 @@ use Rattle.amqp_model.specs.Pair.Pairs.{ComesNext, AllComeNext, Pair, both_begin
 use Rattle.amqp_model.specs.Laws.SentLaws.{EndedByConnectionClose, AllItemsActedOnOfEnded}
 use Rattle.amqp_model.proofs.Acting.{left-noted, reads-back}
 use Rattle.amqp_model.proofs.Asking.{Accepted, accepted, accepted-none, not-when, first-false, frame-channel}
+use Rattle.amqp_model.specs.End.Controls.{heartbeat_frame}
 use Rattle.amqp_model.proofs.AskSteps.{is-running}
+use Rattle.amqp_model.proofs.Controlling.{OneAtZero, one, at_beat, at_method, at_close, puts-at-zero, control-goes}
 use Rattle.amqp_model.proofs.Departures.{is_departure}
 use Rattle.amqp_model.proofs.Elsewhere.{AllAway, entries-away, verdict-away}
 use Rattle.amqp_model.proofs.Agreeing.{facts_in}
@@ -42,12 +44,11 @@ use Rattle.amqp_model.proofs.Pairing.{pair-lawful}
 use Rattle.amqp_model.proofs.Sent.{pair-runs_at}
 use Rattle.amqp_model.proofs.PutLast.{leaving-is, put-then, kind-closes}
 
--- What an end puts on channel 0 is written of a method.
+-- What an end puts on channel 0 is written of a method, or it is a heartbeat.
 
-record IsWritten (f : Frame) : Type 0 where
-  method : Method
-  is : f ≡ method_frame 0 method
-  back : ReadsBack method
+data IsWritten (f : Frame) : Type 0 where
+  of_method : (method : Method) → f ≡ method_frame 0 method → ReadsBack method → IsWritten f
+  of_beat : f ≡ heartbeat_frame → IsWritten f
 
 abbrev AllWritten : List Frame → Type 0
 AllWritten [] = Unit {0}
@@ -58,7 +59,7 @@ written-append [] ys a b = b
 written-append (x ∷ xs) ys a b = (a.0, written-append xs ys a.1 b)
 
 frame-written : (channel : ℕ) (method : Method) → ReadsBack method → channel ≡ 0 → IsWritten (method_frame channel method)
-frame-written channel method back e = record { method = method; is = ap (λ c. method_frame c method) e; back = back }
+frame-written channel method back e = of_method method (ap (λ c. method_frame c method) e) back
 
 owed-written : (owed : List Owed) → AllReadBack owed → AllWritten (map frame_of owed)
 owed-written [] back = tt
@@ -81,6 +82,11 @@ asked-written role end (Ask.Close code text) back a = (frame-written 0 _ back, t
 asked-written role end (Ask.Blocked reason) back a = (frame-written 0 _ back, tt)
 asked-written role end Ask.Unblocked back a = (frame-written 0 _ back, tt)
 
+control-written : (frames : List Frame) → OneAtZero frames → AllWritten frames
+control-written frames (one frame at_beat) = (λ e. of_beat refl, tt)
+control-written frames (one frame (at_method method back a b c d)) = (frame-written 0 method back, tt)
+control-written frames (one frame (at_close code text back fits)) = (frame-written 0 _ back, tt)
+
 more-written : (frames : List Frame) (history : History) → AllWritten (frames_put history) → AllWritten frames → AllWritten (frames_put (then_put frames history))
 more-written frames history a b = subst AllWritten (sym (put-then frames history)) (written-append (frames_put history) frames a b)
 
@@ -93,6 +99,7 @@ goes-written role config before taken failed after back w (fails p) = w
 goes-written role config before taken failed after back w (asks ask frames made read e) =
     let parts = accepted-none (refusal role (end_from role config false before) ask) (frames_asked (end_from role config false before) ask) frames e in
     more-written frames before w (subst AllWritten parts.1 (asked-written role (end_from role config false before) ask read.method (accepted role (end_from role config false before) ask parts.0)))
+goes-written role config before taken failed after back w (controls control frames read e) = more-written frames before w (control-written frames (puts-at-zero role config (end_from role config false before) control frames back read e))
 
 lawful-written : (role : Role) (config : Config role) (failed : Bool) (history : History) → WritesReadBack role config → Lawful role config failed history → AllWritten (frames_put history)
 lawful-written role config failed history back begun = tt
@@ -113,9 +120,10 @@ written-on (g ∷ frames) w prefix f later e = cases (g.channel == 0) refl (λ p
     cases false z more = more prefix (sym (cond-false (g.channel == 0) _ _ z) ∙ e)
 
 close-leaves-last : (f : Frame) → IsWritten f → closes_connection f ≡ true → is_leaving f ≡ true
-close-leaves-last f w closes =
-    let said : is_call kinds.ConnectionClose (Calls w.method) ≡ true = sym (ap (is_call kinds.ConnectionClose) (ap reading w.is ∙ reads-back 0 w.method w.back)) ∙ (and_parts (f.channel == 0) _ closes).1 in
-    ap is_leaving w.is ∙ (leaving-is 0 w.method ∙ ap is_departure (kind-closes w.method.kind said))
+close-leaves-last f (of_method method is back) closes =
+    let said : is_call kinds.ConnectionClose (Calls method) ≡ true = sym (ap (is_call kinds.ConnectionClose) (ap reading is ∙ reads-back 0 method back)) ∙ (and_parts (f.channel == 0) _ closes).1 in
+    ap is_leaving is ∙ (leaving-is 0 method ∙ ap is_departure (kind-closes method.kind said))
+close-leaves-last f (of_beat is) closes = absurd (false≢true (sym (ap closes_connection is) ∙ closes))
 
 -- Whether one of these frames is connection.close.
 
@@ -195,6 +203,7 @@ goes-extend role config before taken failed after (faults frame p g) = took-exte
 goes-extend role config before taken failed after (meets_too_large p) = put-extends (too_large_puts config (end_from role config false before)) before
 goes-extend role config before taken failed after (fails p) = put-extends [] before
 goes-extend role config before taken failed after (asks ask frames made read e) = put-extends frames before
+goes-extend role config before taken failed after (controls control frames read e) = put-extends frames before
 
 -- what an end took on channel 0 is a prefix of what the other put there
 record PrefixesOnZero (client server : History) : Type 0 where
@@ -383,6 +392,10 @@ ended-by-step role client_config server_config config mine theirs taken failed a
     let found = found-in frames mine ended.later ended.before ended.frame ended.history_is in
     let closed = closed-by role n life mine (record { later = found.0; frame = ended.frame; before = ended.before; history_is = found.1; closes = ended.closes; live = ended.live; life_is = ended.life_is }) in
     absurd (over-asks-none role config mine ask frames (ap is_over (closed-phase role config mine closed)) e)
+ended-by-step role client_config server_config config mine theirs taken failed after n life f back at next (controls control frames read e) ended =
+    let found = found-in frames mine ended.later ended.before ended.frame ended.history_is in
+    let closed = closed-by role n life mine (record { later = found.0; frame = ended.frame; before = ended.before; history_is = found.1; closes = ended.closes; live = ended.live; life_is = ended.life_is }) in
+    absurd (true≢false (sym (ap is_over (closed-phase role config mine closed)) ∙ control-goes role config (end_from role config false mine) control frames e))
 ended-by-step role client_config server_config config mine theirs taken failed after n life f back at next (takes frame p g) ended =
     let found = found-in (end_puts config (end_from role config false mine) frame) (Took frame ∷ mine) ended.later ended.before ended.frame ended.history_is in
     by-time (since-when found.0 mine ended.before ended.frame frame found.1)
@@ -421,6 +434,7 @@ left-sends-none role config before taken failed after n life f back left (meets_
 left-sends-none role config before taken failed after n life f back left (fails p) = absurd (true≢false f)
 left-sends-none role config before taken failed after n life f back left greets = absurd (false≢true left)
 left-sends-none role config before taken failed after n life f back left (asks ask frames made read e) = absurd (over-asks-none role config before ask frames (left-phase role config before left) e)
+left-sends-none role config before taken failed after n life f back left (controls control frames read e) = absurd (true≢false (sym (left-phase role config before left) ∙ control-goes role config (end_from role config false before) control frames e))
 left-sends-none role config before taken failed after n life f back left (takes frame p g) = by-phase (end_from role config false before).phase refl
   where
     by-phase : (phase : Phase) → (end_from role config false before).phase ≡ phase → sent role life (notes_on (suc n) (then_taken config (end_from role config false before) frame before)) ≡ sent role life (notes_on (suc n) before)

@@ -6,7 +6,7 @@ use Rattle.std.proofs.lemmas.List.Elements.{All-nil, All-cons, All-head, All-tai
 use Rattle.amqp_frame.specs.Frame.{Frame, Fits}
 use Rattle.amqp_frame.specs.Splitting.{stream, AllFit}
 use Rattle.amqp_model.specs.Output.Arrangement.{is_leaving, Queue, LeavingFrames, is_in, queued, last_after, last_after_all, HasChannel, Gains, placed}
-use Rattle.amqp_model.specs.Output.Outputs.{Output, output_octets, after_put, after_puts, Writes}
+use Rattle.amqp_model.specs.Output.Outputs.{Output, output_octets, after_put, after_puts, begun_on_after, Writes}
 use Rattle.amqp_model.specs.Output.Departures.{before_close, KeepsOrder, IsOutputOf, PutInOrder}
 use Rattle.amqp_model.specs.Output.Prefixes.{IsPrefixOf}
 use Rattle.amqp_model.proofs.Turns.{last-channel, turn-leaves, turn-most}
@@ -106,12 +106,17 @@ last-append : (last : ℕ) (begun more : List Frame) → last_after_all last (be
 last-append last [] more = refl
 last-append last (f ∷ begun) more = last-append (last_after last f) begun more
 
+begun-append : (begun_on : ℕ) (begun more : List Frame) → begun_on_after begun_on (begun ++ more) ≡ begun_on_after (begun_on_after begun_on begun) more
+begun-append begun_on [] more = refl
+begun-append begun_on (f ∷ begun) more = begun-append f.channel begun more
+
 -- an end begins, with the protocol header or with nothing
-pub output-begins : (opening : List ℕ) → IsOutputOf opening [] [] (record { ahead = opening; last = 0; row = [] })
+pub output-begins : (opening : List ℕ) → IsOutputOf opening [] [] (record { ahead = opening; begun_on = 0; last = 0; row = [] })
 output-begins opening = record {
   begun = [];
   all_begun = λ before later f e. absurd (nothing-before before later f e);
   octets_are = sym (append-nil opening);
+  begun_on_is = refl;
   last_is = refl;
   arranged = tt;
   fit = tt;
@@ -131,6 +136,7 @@ output-put opening put written o f out fits =
       begun = out.begun;
       all_begun = out.all_begun;
       octets_are = out.octets_are;
+      begun_on_is = out.begun_on_is;
       last_is = out.last_is;
       arranged = placed-arranged o.last f o.row last fits.channel channels out.arranged;
       fit =
@@ -215,6 +221,7 @@ output-write opening put written n old new out w =
           ∙ (append_assoc opening (stream out.begun) (stream old.row)
           ∙ (ap (λ l. opening ++ l) (sym (stream-append out.begun old.row) ∙ (ap stream whole ∙ stream-append (out.begun ++ w.begun) new.row))
           ∙ sym (append_assoc opening (stream (out.begun ++ w.begun)) (stream new.row)))))))));
+      begun_on_is = w.begun_on_is ∙ (ap (λ c. begun_on_after c w.begun) out.begun_on_is ∙ sym (begun-append 0 out.begun w.begun));
       last_is = w.last_is ∙ (ap (λ l. last_after_all l w.begun) out.last_is ∙ sym (last-append 0 out.begun w.begun));
       arranged = writes-arranged n old new w out.arranged;
       fit = subst AllFit whole out.fit;

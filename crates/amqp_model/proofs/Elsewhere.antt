@@ -13,8 +13,8 @@ use Rattle.amqp_model.specs.End.Channels.{Life, Channel, Free, Opening, Closing,
 use Rattle.amqp_model.specs.End.Channels as channels
 use Rattle.amqp_model.specs.History.Negotiation.{Config, Hello, OfClient, start_ok, connection_open, tunes_too_small, agreed_in, in_range}
 use Rattle.amqp_model.specs.End.Closes.{Owed, AllReadBack, connection_close_ok, frame_of}
-use Rattle.amqp_model.specs.End.Events.{FrameVerdict, Faults, Fault}
-use Rattle.amqp_model.specs.End.FrameVerdict.{Facts, first_of, awaits_in, as_lives, lives_verdict, closed_by, on_awaited, is_awaited, on_connection, by_state, on_open, on_idle, on_matched, part_on, on_part, after_part, on_message, is_no_channel, is_gathering, on_rest, when_over, when_leaving, when_heartbeat, when_closing, when_unread, when_handshake, when_content, when_connection, when_misdirected, when_no_channel, answers_first, MOST_REQUESTS, verdict_on, methods_put}
+use Rattle.amqp_model.specs.End.Events.{Event, AnswerAsked, LoginAsked, OpenAsked, FrameVerdict, Faults, Fault}
+use Rattle.amqp_model.specs.End.FrameVerdict.{Facts, first_of, awaits_in, as_lives, lives_verdict, closed_by, asked_or, on_awaited, is_awaited, on_connection, by_state, on_open, on_idle, on_matched, part_on, on_part, after_part, on_message, is_no_channel, is_gathering, on_rest, when_over, when_leaving, when_heartbeat, when_closing, when_unread, when_handshake, when_content, when_connection, when_misdirected, when_no_channel, answers_first, MOST_REQUESTS, verdict_on, methods_put}
 use Rattle.amqp_model.specs.End.EndVerdict.{goes_on}
 use Rattle.amqp_model.specs.End.LawfulHistories.{then_put}
 use Rattle.amqp_model.proofs.Acting.{reads-back}
@@ -149,13 +149,17 @@ module _ {role : Role} (facts : Facts role) (P : Owed → Type 0) (at_zero : (me
   unread MalformedMethod = λ g. absurd (false≢true g)
   unread r = tt
 
+  asks : (gated : Bool) (event : Event) (at_once : FrameVerdict) → Away at_once → Away (asked_or gated event at_once)
+  asks true event at_once h = λ g. tt
+  asks false event at_once h = h
+
   awaited : (r : Role) (config : Config r) (agreed : Option Agreed) (step : channels.HandshakeStep) (method : Method) → Away (on_awaited r config agreed step method)
-  awaited Client config agreed AwaitsStart method = λ g. (at_zero (start_ok config) (start_ok-quiet config, start_ok-no-answer config, start_ok-plain config), tt)
+  awaited Client config agreed AwaitsStart method = asks config.gated AnswerAsked _ (λ g. (at_zero (start_ok config) (start_ok-quiet config, start_ok-no-answer config, start_ok-plain config), tt))
   awaited Client config agreed AwaitsTune method = either (tunes_too_small method) _ _ (λ g. absurd (false≢true g)) (λ g. (at_zero _ (refl, refl, refl), (at_zero (connection_open config) (connection_open-quiet config, connection_open-no-answer config, connection_open-plain config), tt)))
   awaited Client config agreed AwaitsOpenOk method = λ g. tt
-  awaited Server config agreed AwaitsStartOk method = λ g. (at_zero _ (refl, refl, refl), tt)
+  awaited Server config agreed AwaitsStartOk method = asks config.gated LoginAsked _ (λ g. (at_zero _ (refl, refl, refl), tt))
   awaited Server config agreed AwaitsTuneOk method = either (in_range config (agreed_in method)) _ _ (λ g. tt) (λ g. absurd (false≢true g))
-  awaited Server config agreed AwaitsOpen method = λ g. (at_zero _ (refl, refl, refl), tt)
+  awaited Server config agreed AwaitsOpen method = asks config.gated OpenAsked _ (λ g. (at_zero _ (refl, refl, refl), tt))
   awaited Client config agreed step method = λ g. absurd (false≢true g)
   awaited Server config agreed step method = λ g. absurd (false≢true g)
 

@@ -2,12 +2,11 @@
 use Rattle.std.proofs.Common.{◌≡◌, ℕ, zero, suc, arith, List, [], ◌∷◌, Option, refl, ap, ◌∙◌}
 use Rattle.amqp_model.specs.Wire.Frame.{Frame}
 use Rattle.amqp_model.specs.Wire.Notes.{Role}
-use Rattle.amqp_model.specs.Wire.Methods.{Method}
-use Rattle.amqp_model.specs.Wire.Readings.{Calls, reading}
+use Rattle.amqp_model.specs.Wire.Readings.{Reading, Calls, reading}
 use Rattle.amqp_model.specs.History.Histories.{ChannelEntry, PutHere, TookHere}
 use Rattle.amqp_model.specs.End.Channels.{Free, Phase, Agreed, End}
 use Rattle.amqp_model.specs.History.Negotiation.{Config}
-use Rattle.amqp_model.specs.End.Closes.{Owed, method_frame, frame_of}
+use Rattle.amqp_model.specs.End.Closes.{Owed, frame_of}
 use Rattle.amqp_model.specs.End.Events.{FrameVerdict}
 use Rattle.amqp_model.specs.End.FrameVerdict.{Facts, verdict_on, methods_put}
 use Rattle.amqp_model.specs.End.Machine.{phase_after, agreed_after, end_after, end_after_owed, end_after_put}
@@ -47,19 +46,19 @@ pub put-footing : (role : Role) (config : Config role) (frames : List Frame) (en
 put-footing role config [] end = refl
 put-footing role config (frame ∷ later) end = put-footing role config later _ ∙ ap (footing_put role config later) (after-footing role config frame.channel (PutHere (reading frame) frame) end)
 
--- A method taken on channel 0.
+-- What is taken on channel 0.
 
 abbrev pub facts_of : {role : Role} → Config role → Footing → Facts role
 facts_of config footing = record { config = config; phase = footing.phase; agreed = footing.agreed; number = 0; channel = Free }
 
-abbrev pub verdict_of : {role : Role} → Config role → Footing → Method → FrameVerdict
-verdict_of config footing method = verdict_on (facts_of config footing) (Calls method)
+abbrev pub verdict_of : {role : Role} → Config role → Footing → Reading → FrameVerdict
+verdict_of config footing r = verdict_on (facts_of config footing) r
 
-abbrev pub owed_of : {role : Role} → Config role → Footing → Method → List Owed
-owed_of config footing method = methods_put (facts_of config footing) (verdict_of config footing method)
+abbrev pub owed_of : {role : Role} → Config role → Footing → Reading → List Owed
+owed_of config footing r = methods_put (facts_of config footing) (verdict_of config footing r)
 
-abbrev pub footing_heard : (role : Role) → Config role → Footing → Method → Footing
-footing_heard role config footing method = footing_owed role config (owed_of config footing method) (footing_after role config 0 (TookHere (Calls method) (method_frame 0 method)) footing)
+abbrev pub footing_heard : (role : Role) → Config role → Footing → Reading → Frame → Footing
+footing_heard role config footing r frame = footing_owed role config (owed_of config footing r) (footing_after role config 0 (TookHere r frame) footing)
 
 -- methods owed on channel 0 leave the channels, and such of another channel the footing
 pub zero-channels : (role : Role) (config : Config role) (owed : List Owed) (end : End) (n : ℕ) → Each (λ owed. owed.channel ≡ 0) owed → (end_after_owed role config owed end).channels n ≡ end.channels n

@@ -2,7 +2,7 @@
 -- is matched with the requests kept, lets a Running end go on.
 use Rattle.std.proofs.Common.{◌≡◌, ◌≤◌, Bool, true, false, cond, not, ◌&&◌, ◌||◌, ℕ, ◌==◌, List, [], ◌∷◌, length, Option, Some, None, refl, sym, ap, ◌∙◌}
 use Rattle.std.specs.Prelude.{nat_lt, nat_le}
-use Rattle.std.proofs.lemmas.Bool.{false≢true, true≢false, le-ltb, lt-leb}
+use Rattle.std.proofs.lemmas.Bool.{false≢true, true≢false, eq-eqb, le-ltb, lt-leb}
 use Rattle.amqp_method.specs.declared.kinds.Kind.TheVariants as kinds
 use Rattle.amqp_model.specs.Wire.Notes.{Role, Client, Server, is_client, other_end, Kind, Open, OpenOk, Close, CloseOk, Flow, FlowOk, Other, is_message}
 use Rattle.amqp_model.specs.History.States.{State}
@@ -20,7 +20,7 @@ use Rattle.amqp_model.specs.End.Events.{Plain, Event, FrameVerdict, Proceeds, Re
 use Rattle.amqp_model.specs.End.FrameVerdict.{Facts, MOST_REQUESTS, first_of, awaits_in, as_lives, lives_verdict, after_part, on_part, on_message, answers_first, on_matched, is_gathering, on_open, when_connection, when_misdirected, on_connection, verdict_on}
 use Rattle.amqp_model.specs.End.EndVerdict.{goes_on}
 use Rattle.amqp_model.specs.Pair.WholeMessages.{FitsNext}
-use Rattle.amqp_model.specs.Pair.WellPut.{SaysWell, calls, heads, fills}
+use Rattle.amqp_model.specs.Pair.WellPut.{SaysWell, calls, heads, fills, beats}
 use Rattle.amqp_model.specs.Pair.NoFault.{IsMatched}
 use Rattle.amqp_model.proofs.Agreeing.{facts_in}
 
@@ -152,3 +152,4 @@ module _ (role : Role) (config : Config role) (limits : Agreed) (number : ℕ) (
   above-goes Free (fills octets not_zero) go fits matched = absurd ((part-lost role false go.event go.owed).0 go.is)
   above-goes Opening (fills octets not_zero) go fits matched = absurd ((part-lost role false go.event go.owed).1 go.is)
   above-goes (channels.Open life) (fills octets not_zero) go fits matched = unless ((number == 0) || nat_lt limits.channel_max number) _ _ no-number (body-goes life.content (channels.Open life) octets (fits life refl refl))
+  above-goes at (beats zero) go fits matched = absurd (true≢false (sym (eq-eqb number 0 zero) ∙ above))

@@ -104,7 +104,7 @@ entry-opened : (role : Role) (config : Config role) (number : ℕ) (frame : Fram
 entry-opened role config zero frame end a = phase-put-opened role (reading frame) frame end.phase a
 entry-opened role config (suc n) frame end a = a
 
-puts-opened : (role : Role) (config : Config role) (frames : List Frame) (end : End) → awaits_opening role end.phase ≡ false → awaits_opening role (end_after_put role config frames end).phase ≡ false
+pub puts-opened : (role : Role) (config : Config role) (frames : List Frame) (end : End) → awaits_opening role end.phase ≡ false → awaits_opening role (end_after_put role config frames end).phase ≡ false
 puts-opened role config [] end a = a
 puts-opened role config (frame ∷ later) end a = puts-opened role config later (end_after role config frame.channel (PutHere (reading frame) frame) end) (entry-opened role config frame.channel frame end a)
 

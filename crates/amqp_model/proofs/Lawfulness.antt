@@ -13,12 +13,14 @@ use Rattle.amqp_model.specs.End.Asks.{Puts, ask_verdict}
 use Rattle.amqp_model.specs.Wire.Readings.{reading}
 use Rattle.amqp_model.specs.End.EndVerdict.{end_verdict, goes_on, too_large_puts}
 use Rattle.amqp_model.specs.End.ReadingBack.{WritesReadBack}
-use Rattle.amqp_model.specs.End.LawfulHistories.{then_put, then_taken, Goes, greets, takes, faults, meets_too_large, fails, asks, begun, goes}
+use Rattle.amqp_model.specs.End.LawfulHistories.{then_put, then_taken, Goes, greets, takes, faults, meets_too_large, fails, asks, controls, begun, goes}
 use Rattle.amqp_model.specs.End.Machine.{end_after_taken, end_after_too_large, end_after_put, as_failed, new_end, StandsFor}
 use Rattle.amqp_model.specs.Laws.EndLaws.{LawfulStands, StepFollows, StepsOfEnd, EndSteps}
 use Rattle.amqp_model.proofs.EndSteps.{end-follows, new-end-stands}
 use Rattle.amqp_model.proofs.FrameSteps.{frame-follows}
 use Rattle.amqp_model.proofs.AskSteps.{asks-follow}
+use Rattle.amqp_model.proofs.Walking.{Stands as Stood, stands-kept}
+use Rattle.amqp_model.proofs.Controlling.{control-kept, puts-at-zero}
 use Rattle.amqp_model.proofs.Failing.{frame-fails, too-large-fails, any-fails}
 use Rattle.amqp_model.proofs.Standing.{end-stands}
 
@@ -55,6 +57,8 @@ goes-stand {role} {config} {before} back end e stands (meets_too_large p) =
 goes-stand {role} {config} {before} back end e stands (fails p) = (as_failed end, any-fails role config end before stands)
 goes-stand {role} {config} {before} back end e stands (asks ask frames made read v) =
     (end_after_put role config frames end, asks-follow role config end before ask frames stands read.method made (subst (λ x. ask_verdict role x ask ≡ Puts frames) e v))
+goes-stand {role} {config} {before} back end e stands (controls control frames read v) =
+    (end_after_put role config frames end, control-kept Stood stands-kept.puts role config end before frames stands (puts-at-zero role config (end_from role config false before) control frames back read v))
 
 pub lawful-stands : LawfulStands
 lawful-stands role config failed history back begun = stands-itself role config false (new_end role) [] (new-end-stands role config)
@@ -75,4 +79,5 @@ end-steps role config end history stands =
       too_large = λ p. meets_too_large p;
       fails = λ p. fails p;
       asks = λ ask frames made read v. asks ask frames made read v;
+      controls = λ control frames read v. controls control frames read v;
     })

@@ -13,8 +13,8 @@ use Rattle.amqp_model.specs.End.Channels as channels
 use Rattle.amqp_model.specs.End.Channels.{Life, Channel, Free, Opening, Closing, Phase, Handshake, Running, Closed, Failed, HandshakeStep, AwaitsProtocolHeader, AwaitsStart, AwaitsStartOk, AwaitsTune, AwaitsTuneOk, AwaitsOpen, AwaitsOpenOk, Agreed}
 use Rattle.amqp_model.specs.History.Negotiation.{Config, tunes_too_small, agreed_in, in_range}
 use Rattle.amqp_model.specs.End.Closes.{ChannelError, Owed}
-use Rattle.amqp_model.specs.End.Events.{Event, Told, Plain, Whole, FrameVerdict, Proceeds}
-use Rattle.amqp_model.specs.End.FrameVerdict.{Facts, fault, MOST_REQUESTS, first_of, when_over, when_leaving, when_heartbeat, as_lives, when_closing, when_unread, negotiated, is_awaited, on_awaited, when_handshake, is_no_channel, after_part, on_part, part_on, when_content, when_connection, when_misdirected, when_no_channel, on_message, answers_first, on_matched, on_idle, is_gathering, on_open, by_state, on_method, on_rest, verdict_on}
+use Rattle.amqp_model.specs.End.Events.{Event, AnswerAsked, LoginAsked, OpenAsked, Told, Plain, Whole, FrameVerdict, Proceeds}
+use Rattle.amqp_model.specs.End.FrameVerdict.{Facts, fault, MOST_REQUESTS, first_of, when_over, when_leaving, when_heartbeat, as_lives, when_closing, when_unread, negotiated, is_awaited, asked_or, on_awaited, when_handshake, is_no_channel, after_part, on_part, part_on, when_content, when_connection, when_misdirected, when_no_channel, on_message, answers_first, on_matched, on_idle, is_gathering, on_open, by_state, on_method, on_rest, verdict_on}
 use Rattle.amqp_model.specs.Lent.Alike.{maybe_telling, lent, LentEvent, Begins, Heads, Part, WithoutContent}
 use Rattle.amqp_model.specs.Lent.Alike as alike
 use Rattle.amqp_model.specs.Laws.StreamingLaws.{EachFrameLends, LastIsWhole, LendsOne, LendsLast}
@@ -101,14 +101,18 @@ negotiated-so : (c : Channel) (r : Reading) (agreed : Option Agreed) (owed : Lis
 negotiated-so c r (Some agreed) owed p = tt
 negotiated-so c r None owed p = p
 
+asked-so : (c : Channel) (m : Method) (gated : Bool) (event : Event) (at_once : FrameVerdict) → TellsSo c (Calls m) (Proceeds (Some event) []) → TellsSo c (Calls m) at_once → TellsSo c (Calls m) (asked_or gated event at_once)
+asked-so c m true event at_once asks does = asks
+asked-so c m false event at_once asks does = does
+
 awaited-so : (c : Channel) (m : Method) (role : Role) (config : Config role) (agreed : Option Agreed) (at : HandshakeStep) → TellsSo c (Calls m) (on_awaited role config agreed at m)
-awaited-so c m Client config agreed AwaitsStart = tt
+awaited-so c m Client config agreed AwaitsStart = asked-so c m config.gated AnswerAsked _ tt tt
 awaited-so c m Client config agreed AwaitsTune = either c (Calls m) (tunes_too_small m) _ _ tt tt
 awaited-so c m Client config agreed AwaitsOpenOk = negotiated-so c (Calls m) agreed [] refl
 awaited-so c m Client config agreed at = tt
-awaited-so c m Server config agreed AwaitsStartOk = tt
+awaited-so c m Server config agreed AwaitsStartOk = asked-so c m config.gated LoginAsked _ tt tt
 awaited-so c m Server config agreed AwaitsTuneOk = either c (Calls m) (in_range config (agreed_in m)) _ _ tt tt
-awaited-so c m Server config agreed AwaitsOpen = negotiated-so c (Calls m) agreed _ refl
+awaited-so c m Server config agreed AwaitsOpen = asked-so c m config.gated OpenAsked _ tt (negotiated-so c (Calls m) agreed _ refl)
 awaited-so c m Server config agreed at = tt
 
 module _ (role : Role) (config : Config role) (phase : Phase) (agreed : Option Agreed) (number : ℕ) (channel : Channel) where

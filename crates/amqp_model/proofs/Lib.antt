@@ -47,6 +47,7 @@ mod Lowest
 mod FrameSteps
 mod Failing
 mod AskSteps
+mod Controlling
 mod Lawfulness
 mod Carrying
 mod Pairing
@@ -98,7 +99,16 @@ mod Matching
 mod OctetsInFlight
 mod EndsAgree
 mod PairExample
+mod GatedExample
 mod EndsTogether
+mod ControlLaws
+mod Ungated
+mod HeardBefore
+mod GateScripts
+mod Blaming
+mod BlamingOctets
+mod BlameRows
+mod BlamedAlike
 mod Streamed
 mod AlikeVerdicts
 mod AlikeEntries

@@ -1,5 +1,5 @@
 -- Neither of two whole ends finds fault with a frame of the other.
-use Rattle.std.proofs.Common.{◌≡◌, ◌≢◌, ◌≤◌, ◌⊎◌, inl, inr, true, not, ℕ, zero, suc, arith, Option, Some, None, refl, sym, ap, ◌∙◌, subst}
+use Rattle.std.proofs.Common.{◌≡◌, ◌≢◌, ◌≤◌, ◌⊎◌, inl, inr, true, not, ℕ, zero, suc, arith, List, [], ◌∷◌, ◌++◌, Option, Some, None, refl, sym, ap, ◌∙◌, subst}
 use Rattle.amqp_frame.specs.Frame.{Fits, frame_length}
 use Rattle.amqp_model.specs.Wire.Frame.{Frame}
 use Rattle.amqp_model.specs.Wire.Notes.{Role, Client, Server, other_end}
@@ -14,7 +14,9 @@ use Rattle.amqp_model.specs.End.Fitting.{ConfigWrites}
 use Rattle.amqp_model.specs.Laws.FittingLaws.{MethodReadsBack}
 use Rattle.amqp_model.specs.Pair.Pairs.{ComesNext, PairAt, config_of}
 use Rattle.amqp_model.specs.Laws.EndLaws.{notes_on}
-use Rattle.amqp_model.specs.Pair.Agreement.{PairWrites, end_in, smaller_limits}
+use Rattle.amqp_model.specs.Pair.Agreement.{PairWrites, end_in, smaller_limits, LoginWasRefused}
+use Rattle.amqp_model.specs.Output.Arrangement.{on}
+use Rattle.amqp_model.specs.Stream.Octets.{frames_put, frames_taken}
 use Rattle.amqp_model.specs.Pair.WellPut.{SaysWell, IsWellPut}
 use Rattle.amqp_model.specs.Pair.NoFault.{NextIsMatched, TakesWithoutFault, TakesWhatComesNext}
 use Rattle.amqp_model.proofs.Laws.{no_fault}
@@ -26,7 +28,7 @@ use Rattle.amqp_model.proofs.EndSteps.{not-zero}
 use Rattle.amqp_model.proofs.KeptContents.{fits-what-is-kept}
 use Rattle.amqp_model.proofs.ReadBackOwed.{all-reads-back}
 use Rattle.amqp_model.proofs.Sent.{pair-runs_at}
-use Rattle.amqp_model.proofs.Agreements.{agrees-on-smaller, agrees-past-handshake, goes-on-at-zero, runs-where-next-is-above}
+use Rattle.amqp_model.proofs.Agreements.{agrees-on-smaller, agrees-past-handshake, agrees-running, goes-on-at-zero, runs-where-next-is-above}
 use Rattle.amqp_model.proofs.FrameGoesOn.{LivesGo, closing-goes, above-goes}
 use Rattle.amqp_model.proofs.WellPutPairs.{next-is-well-put}
 
@@ -46,9 +48,17 @@ module _ (reads : MethodReadsBack) (role : Role) (client_config : Config Client)
   well : IsWellPut (other_end role) (smaller_limits client_config server_config) frame
   well = next-is-well-put reads role client_config server_config mine theirs frame p next
 
-  -- past the handshake the limit is the one agreed
-  limit-past : ((step : HandshakeStep) → (end_in role client_config server_config mine).phase ≢ Handshake step) → frame_length frame ≤ frame_limit (end_in role client_config server_config mine).agreed
-  limit-past past = subst (λ a. frame_length frame ≤ frame_limit a) (sym (agrees-past-handshake reads role client_config server_config mine theirs p past)) (next-is-well-put reads role client_config server_config mine theirs frame p next).within
+  -- past the handshake the limit for a frame above channel 0 is the one agreed
+  limit-past : (m : ℕ) → frame.channel ≡ suc m → ((step : HandshakeStep) → (end_in role client_config server_config mine).phase ≢ Handshake step) → frame_length frame ≤ frame_limit (end_in role client_config server_config mine).agreed
+  limit-past m here past = cases (agrees-past-handshake reads role client_config server_config mine theirs p past)
+    where
+      none-there : (xs : List Frame) → [] ≡ xs ++ frame ∷ next.later → ⊥
+      none-there [] e = cc
+      none-there (x ∷ xs) e = cc
+
+      cases : ((end_in role client_config server_config mine).agreed ≡ Some (smaller_limits client_config server_config)) ⊎ LoginWasRefused role client_config server_config mine theirs → frame_length frame ≤ frame_limit (end_in role client_config server_config mine).agreed
+      cases (inl agreed) = subst (λ a. frame_length frame ≤ frame_limit a) (sym agreed) (next-is-well-put reads role client_config server_config mine theirs frame p next).within
+      cases (inr r) = absurd (none-there (on (suc m) (frames_taken mine)) (sym (r.theirs_put m) ∙ subst (λ c. on c (frames_put theirs) ≡ on c (frames_taken mine) ++ frame ∷ next.later) here next.next))
 
   -- a frame of channel 0 is short enough at any time
   limit-short : frame_length frame ≤ FRAME_MIN → (agreed : Option Agreed) → (end_in role client_config server_config mine).agreed ≡ agreed → frame_length frame ≤ frame_limit agreed
@@ -80,7 +90,7 @@ module _ (reads : MethodReadsBack) (role : Role) (client_config : Config Client)
       takes phase (inr e) = ap takes_frames e
 
       can : (((end_in role client_config server_config mine).phase ≡ Running) ⊎ ((end_in role client_config server_config mine).phase ≡ Phase.Closing)) → CanTake (end_in role client_config server_config mine) frame
-      can phase = record { in_phase = takes (end_in role client_config server_config mine).phase phase; fits = well-fits (other_end role) client_config server_config frame p.client_writes p.server_writes (next-is-well-put reads role client_config server_config mine theirs frame p next); within = limit-past (not-shaking (end_in role client_config server_config mine).phase phase) }
+      can phase = record { in_phase = takes (end_in role client_config server_config mine).phase phase; fits = well-fits (other_end role) client_config server_config frame p.client_writes p.server_writes (next-is-well-put reads role client_config server_config mine theirs frame p next); within = limit-past m here (not-shaking (end_in role client_config server_config mine).phase phase) }
 
       -- the lives of the channel go on
       lives : (end_in role client_config server_config mine).phase ≡ Running → LivesGo role ((end_in role client_config server_config mine).channels (suc m)) (kind_of (reading frame))
@@ -93,7 +103,7 @@ module _ (reads : MethodReadsBack) (role : Role) (client_config : Config Client)
       goes-at : (end_in role client_config server_config mine).phase ≡ Running → goes_on (verdict_on (facts_at (config_of role client_config server_config) (end_in role client_config server_config mine) (suc m)) (reading frame)) ≡ true
       goes-at runs =
           let w = next-is-well-put reads role client_config server_config mine theirs frame p next in
-          let agreed = agrees-past-handshake reads role client_config server_config mine theirs p (not-shaking (end_in role client_config server_config mine).phase (inl runs)) in
+          let agreed = agrees-running reads role client_config server_config mine theirs p runs in
           let below : suc m ≤ (smaller_limits client_config server_config).channel_max = subst (λ c. c ≤ (smaller_limits client_config server_config).channel_max) here w.numbered in
           subst (λ a. goes_on (verdict_on (facts_in (config_of role client_config server_config) (end_in role client_config server_config mine).phase a (suc m) ((end_in role client_config server_config mine).channels (suc m))) (reading frame)) ≡ true) (sym agreed)
           (subst (λ q. goes_on (verdict_on (facts_in (config_of role client_config server_config) q (Some (smaller_limits client_config server_config)) (suc m) ((end_in role client_config server_config mine).channels (suc m))) (reading frame)) ≡ true) (sym runs)

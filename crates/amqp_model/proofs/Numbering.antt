@@ -17,7 +17,7 @@ use Rattle.amqp_model.specs.End.FrameVerdict.{Facts, first_of, channel_limit, on
 use Rattle.amqp_model.specs.End.EndVerdict.{facts_at, end_verdict, goes_on}
 use Rattle.amqp_model.specs.End.Asks.{Ask, Refusal, channel_max, bad_number, frame_max, lowest_free, opens_on, method_asked, payload_frame, message_payloads, refusal, frames_asked, Puts, ask_verdict}
 use Rattle.amqp_model.specs.End.ReadingBack.{WritesReadBack}
-use Rattle.amqp_model.specs.End.LawfulHistories.{end_of, Goes, greets, takes, faults, meets_too_large, fails, asks, Lawful, begun, goes}
+use Rattle.amqp_model.specs.End.LawfulHistories.{end_of, Goes, greets, takes, faults, meets_too_large, fails, asks, controls, Lawful, begun, goes}
 use Rattle.amqp_model.specs.End.Numbers.{NoneAbove, StandsNumbered}
 use Rattle.amqp_model.specs.End.Machine.{agreed_after, set_channel, new_end, end_after, end_after_owed, end_after_taken, end_after_put, failed_by, StandsFor}
 use Rattle.amqp_model.specs.Laws.EndLaws.{is_over, AgreesWithLives, agrees, refuses, FindsLowest}
@@ -28,11 +28,12 @@ use Rattle.amqp_model.proofs.Standing.{end-stands}
 use Rattle.amqp_model.proofs.FrameSteps.{not-failed, frame-follows}
 use Rattle.amqp_model.proofs.AskSteps.{asks-follow}
 use Rattle.amqp_model.proofs.Asking.{Accepted, accepted as accepted-ask, accepted-none, not-when, frame-channel}
-use Rattle.amqp_model.proofs.OctetAsks.{all-keep, ask-keeps}
+use Rattle.amqp_model.proofs.OctetAsks.{all-keep, ask-keeps, control-keeps}
 use Rattle.amqp_model.proofs.Lowest.{finds-lowest}
 use Rattle.amqp_model.proofs.Taking.{puts-none}
 use Rattle.amqp_model.proofs.ChannelWalks.{lawful-walks}
-use Rattle.amqp_model.proofs.Walking.{stands-kept}
+use Rattle.amqp_model.proofs.Walking.{Stands, stands-kept}
+use Rattle.amqp_model.proofs.Controlling.{control-kept, control-channels, puts-at-zero}
 use Rattle.amqp_model.proofs.Going.{running, running-free}
 
 -- Frames of one channel leave the others, and those of a channel above 0 leave what was agreed.
@@ -296,6 +297,12 @@ goes-numbered : (role : Role) (config : Config role) (before : History) (taken :
 goes-numbered role config before taken failed after e back stands w greets = subst NoneAbove (sym (end-stands role config _ after (stands-kept.puts.put role config (end_of config []) [] _ stands (inl refl)))) w
 goes-numbered role config before taken failed after e back stands w (takes frame can g) = subst NoneAbove (sym (end-stands role config _ after (frame-follows role config (end_of config before) before frame back stands g))) (frame-numbered role config (end_of config before) before frame stands w g)
 goes-numbered role config before taken failed after e back stands w (asks ask frames made read v) = subst NoneAbove (sym (end-stands role config _ after (asks-follow role config (end_of config before) before ask frames stands read.method made v))) (ask-numbered role config (end_of config before) ask frames w read.method v)
+goes-numbered role config before taken failed after e back stands w (controls control frames read v) =
+    let at = puts-at-zero role config (end_of config before) control frames back read v in
+    let stood = control-kept Stands stands-kept.puts role config (end_of config before) before frames stands at in
+    let same = all-keep role config frames (end_of config before) (control-keeps role config frames at) in
+    subst NoneAbove (sym (end-stands role config _ after stood))
+    (λ n above. subst (λ all. all n ≡ Free) (sym (control-channels role config frames (end_of config before) at)) (w n (subst (λ agreed. channel_max agreed < n) same above)))
 goes-numbered role config before taken failed after e back stands w (faults frame can g) = absurd (true≢false e)
 goes-numbered role config before taken failed after e back stands w (meets_too_large p) = absurd (true≢false e)
 goes-numbered role config before taken failed after e back stands w (fails p) = absurd (true≢false e)

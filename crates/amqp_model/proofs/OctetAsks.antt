@@ -25,6 +25,7 @@ use Rattle.amqp_model.specs.Laws.OctetLaws.{IsOctet, EndpointStandsFor, NewStand
 use Rattle.amqp_model.proofs.Acting.{reads-back}
 use Rattle.amqp_model.proofs.Asking.{Accepted, accepted, accepted-none, not-when, first-false, frame-channel}
 use Rattle.amqp_model.proofs.AskSteps.{asks-follow}
+use Rattle.amqp_model.proofs.Controlling.{OneAtZero, one, at_beat, at_method, at_close}
 use Rattle.amqp_model.proofs.EndSteps.{new-end-stands}
 use Rattle.amqp_model.proofs.Writing.{writes}
 use Rattle.amqp_model.proofs.Departing.{output-begins, output-puts, output-write}
@@ -77,6 +78,13 @@ ask-keeps role config end (Ask.CloseChannel c code text) back a = (method-keeps 
 ask-keeps role config end (Ask.Close code text) back a = (method-keeps role config 0 (close_as kinds.ConnectionClose code text) back refl, tt)
 ask-keeps role config end (Ask.Blocked reason) back a = (method-keeps role config 0 (method_asked (Ask.Blocked reason)) back refl, tt)
 ask-keeps role config end Ask.Unblocked back a = (method-keeps role config 0 (method_asked Ask.Unblocked) back refl, tt)
+
+-- nor does what else an application does with the connection
+pub control-keeps : (role : Role) (config : Config role) (frames : List Frame) → OneAtZero frames → AllKeep role config frames
+control-keeps Client config frames (one frame at_beat) = (λ end. refl, tt)
+control-keeps Server config frames (one frame at_beat) = (λ end. refl, tt)
+control-keeps role config frames (one frame (at_method method back a b quiet c)) = (method-keeps role config 0 method back quiet, tt)
+control-keeps role config frames (one frame (at_close code text back fits)) = (method-keeps role config 0 (close_as kinds.ConnectionClose code text) back refl, tt)
 
 -- An end that accepts an ask is Running, and so awaits no protocol header.
 pub running-opened : (role : Role) (phase : Phase) → not (is_running phase) ≡ false → awaits_opening role phase ≡ false

@@ -11,11 +11,11 @@ use Rattle.amqp_model.specs.Wire.Frame.{Frame}
 use Rattle.amqp_model.specs.Wire.Notes.{Role, Client, Server}
 use Rattle.amqp_model.specs.Wire.Readings.{Reading, reading, is_call}
 use Rattle.amqp_model.specs.History.Histories.{Entry, Put, Took, History, ChannelEntry, PutHere, TookHere, LeftHere, entries_on}
-use Rattle.amqp_model.specs.End.Channels.{HandshakeStep, AwaitsProtocolHeader, AwaitsStart, AwaitsStartOk, AwaitsTune, AwaitsTuneOk, AwaitsOpen, AwaitsOpenOk, Phase, Handshake, Running, Closing, Closed, Failed}
+use Rattle.amqp_model.specs.End.Channels.{HandshakeStep, AwaitsProtocolHeader, AwaitsStart, AwaitsStartOk, AwaitsTune, AwaitsTuneOk, AwaitsOpen, AwaitsOpenOk, HoldsStart, HoldsLogin, HoldsOpen, Phase, Handshake, Running, Closing, Closed, Failed}
 use Rattle.amqp_model.specs.End.StateFromHistory.{has_put, has_taken, is_closed, is_negotiated, phase_from}
 use Rattle.amqp_model.specs.End.EndVerdict.{takes_frames}
 use Rattle.amqp_model.specs.End.LawfulHistories.{then_put}
-use Rattle.amqp_model.specs.End.Machine.{after_start_ok, after_start_put, phase_after}
+use Rattle.amqp_model.specs.End.Machine.{after_start_ok, after_start_put, after_tune_put, after_tune_ok, phase_after}
 use Rattle.amqp_model.specs.Stream.Octets.{frames_taken, frames_put, has_opened}
 use Rattle.amqp_model.specs.Stream.Endpoint.{Differs, compared, refusal_in, awaits_opening}
 use Rattle.amqp_model.specs.Laws.OctetLaws.{IsOctet}
@@ -48,29 +48,67 @@ all-fit-push (other ∷ frames) frame all fits = (all.0, all-fit-push frames fra
 
 -- An end that does not await the protocol header never does so again.
 
-took-opened : (close starts tunes : Bool) (step : HandshakeStep) → awaits_opening Server (Handshake step) ≡ false → awaits_opening Server (cond close Closed (cond false Running (Handshake (cond tunes AwaitsOpen (cond starts (after_start_ok step) step))))) ≡ false
-took-opened true starts tunes step e = refl
-took-opened false starts true step e = refl
-took-opened false false false step e = e
-took-opened false true false AwaitsProtocolHeader e = refl
-took-opened false true false AwaitsStart e = refl
-took-opened false true false AwaitsStartOk e = refl
-took-opened false true false AwaitsTune e = refl
-took-opened false true false AwaitsTuneOk e = refl
-took-opened false true false AwaitsOpen e = refl
-took-opened false true false AwaitsOpenOk e = refl
+after_tune_ok-opened : (step : HandshakeStep) → awaits_opening Server (Handshake step) ≡ false → awaits_opening Server (Handshake (after_tune_ok step)) ≡ false
+after_tune_ok-opened AwaitsProtocolHeader e = refl
+after_tune_ok-opened AwaitsStart e = refl
+after_tune_ok-opened AwaitsStartOk e = refl
+after_tune_ok-opened AwaitsTune e = refl
+after_tune_ok-opened AwaitsTuneOk e = refl
+after_tune_ok-opened AwaitsOpen e = refl
+after_tune_ok-opened AwaitsOpenOk e = refl
+after_tune_ok-opened HoldsStart e = refl
+after_tune_ok-opened HoldsLogin e = refl
+after_tune_ok-opened HoldsOpen e = refl
 
-put-opened : (close ended starts : Bool) (step : HandshakeStep) → awaits_opening Server (Handshake step) ≡ false → awaits_opening Server (cond close Closing (cond ended Running (Handshake (cond starts (after_start_put step) step)))) ≡ false
-put-opened true ended starts step e = refl
-put-opened false true starts step e = refl
-put-opened false false false step e = e
-put-opened false false true AwaitsProtocolHeader e = refl
-put-opened false false true AwaitsStart e = refl
-put-opened false false true AwaitsStartOk e = refl
-put-opened false false true AwaitsTune e = refl
-put-opened false false true AwaitsTuneOk e = refl
-put-opened false false true AwaitsOpen e = refl
-put-opened false false true AwaitsOpenOk e = refl
+after_start_ok-opened : (step : HandshakeStep) → awaits_opening Server (Handshake step) ≡ false → awaits_opening Server (Handshake (after_start_ok step)) ≡ false
+after_start_ok-opened AwaitsProtocolHeader e = refl
+after_start_ok-opened AwaitsStart e = refl
+after_start_ok-opened AwaitsStartOk e = refl
+after_start_ok-opened AwaitsTune e = refl
+after_start_ok-opened AwaitsTuneOk e = refl
+after_start_ok-opened AwaitsOpen e = refl
+after_start_ok-opened AwaitsOpenOk e = refl
+after_start_ok-opened HoldsStart e = refl
+after_start_ok-opened HoldsLogin e = refl
+after_start_ok-opened HoldsOpen e = refl
+
+after_tune_put-opened : (step : HandshakeStep) → awaits_opening Server (Handshake step) ≡ false → awaits_opening Server (Handshake (after_tune_put step)) ≡ false
+after_tune_put-opened AwaitsProtocolHeader e = refl
+after_tune_put-opened AwaitsStart e = refl
+after_tune_put-opened AwaitsStartOk e = refl
+after_tune_put-opened AwaitsTune e = refl
+after_tune_put-opened AwaitsTuneOk e = refl
+after_tune_put-opened AwaitsOpen e = refl
+after_tune_put-opened AwaitsOpenOk e = refl
+after_tune_put-opened HoldsStart e = refl
+after_tune_put-opened HoldsLogin e = refl
+after_tune_put-opened HoldsOpen e = refl
+
+after_start_put-opened : (step : HandshakeStep) → awaits_opening Server (Handshake step) ≡ false → awaits_opening Server (Handshake (after_start_put step)) ≡ false
+after_start_put-opened AwaitsProtocolHeader e = refl
+after_start_put-opened AwaitsStart e = refl
+after_start_put-opened AwaitsStartOk e = refl
+after_start_put-opened AwaitsTune e = refl
+after_start_put-opened AwaitsTuneOk e = refl
+after_start_put-opened AwaitsOpen e = refl
+after_start_put-opened AwaitsOpenOk e = refl
+after_start_put-opened HoldsStart e = refl
+after_start_put-opened HoldsLogin e = refl
+after_start_put-opened HoldsOpen e = refl
+
+took-opened : (close opens tunes starts : Bool) (step : HandshakeStep) → awaits_opening Server (Handshake step) ≡ false → awaits_opening Server (cond close Closed (cond false Running (Handshake (cond opens HoldsOpen (cond tunes (after_tune_ok step) (cond starts (after_start_ok step) step)))))) ≡ false
+took-opened true opens tunes starts step e = refl
+took-opened false true tunes starts step e = refl
+took-opened false false true starts step e = after_tune_ok-opened step e
+took-opened false false false true step e = after_start_ok-opened step e
+took-opened false false false false step e = e
+
+put-opened : (close ended tunes starts : Bool) (step : HandshakeStep) → awaits_opening Server (Handshake step) ≡ false → awaits_opening Server (cond close Closing (cond ended Running (Handshake (cond tunes (after_tune_put step) (cond starts (after_start_put step) step))))) ≡ false
+put-opened true ended tunes starts step e = refl
+put-opened false true tunes starts step e = refl
+put-opened false false true starts step e = after_tune_put-opened step e
+put-opened false false false true step e = after_start_put-opened step e
+put-opened false false false false step e = e
 
 two-ways : (a : Bool) (one other : Phase) → awaits_opening Server one ≡ false → awaits_opening Server other ≡ false → awaits_opening Server (cond a one other) ≡ false
 two-ways true one other e f = e
@@ -78,7 +116,7 @@ two-ways false one other e f = f
 
 phase-took-opened : (role : Role) (r : Reading) (frame : Frame) (phase : Phase) → awaits_opening role phase ≡ false → awaits_opening role (phase_after role (TookHere r frame) phase) ≡ false
 phase-took-opened Client r frame phase e = refl
-phase-took-opened Server r frame (Handshake step) e = took-opened _ (is_call kinds.ConnectionStartOk r) (is_call kinds.ConnectionTuneOk r) step e
+phase-took-opened Server r frame (Handshake step) e = took-opened _ (is_call kinds.ConnectionOpen r) (is_call kinds.ConnectionTuneOk r) (is_call kinds.ConnectionStartOk r) step e
 phase-took-opened Server r frame Running e = two-ways _ Closed Running refl refl
 phase-took-opened Server r frame Closing e = two-ways _ Closed Closing refl refl
 phase-took-opened Server r frame Closed e = refl
@@ -86,7 +124,7 @@ phase-took-opened Server r frame Failed e = refl
 
 pub phase-put-opened : (role : Role) (r : Reading) (frame : Frame) (phase : Phase) → awaits_opening role phase ≡ false → awaits_opening role (phase_after role (PutHere r frame) phase) ≡ false
 phase-put-opened Client r frame phase e = refl
-phase-put-opened Server r frame (Handshake step) e = put-opened (is_call kinds.ConnectionClose r) (is_call kinds.ConnectionOpenOk r) (is_call kinds.ConnectionStart r) step e
+phase-put-opened Server r frame (Handshake step) e = put-opened (is_call kinds.ConnectionClose r) (is_call kinds.ConnectionOpenOk r) (is_call kinds.ConnectionTune r) (is_call kinds.ConnectionStart r) step e
 phase-put-opened Server r frame Running e = two-ways (is_call kinds.ConnectionClose r) Closing Running refl refl
 phase-put-opened Server r frame Closing e = refl
 phase-put-opened Server r frame Closed e = refl
@@ -117,13 +155,14 @@ taken-opened role frames frame history e = puts-opened role frames (Took frame �
 
 -- An end that takes octets, and does not await the protocol header, takes frames.
 
-client-takes : (closed put over tuned started : Bool) → refusal_in (cond closed Closed (cond put Closing (cond over Running (Handshake (cond tuned AwaitsOpenOk (cond started AwaitsTune AwaitsStart)))))) ≡ None → takes_frames (cond closed Closed (cond put Closing (cond over Running (Handshake (cond tuned AwaitsOpenOk (cond started AwaitsTune AwaitsStart)))))) ≡ true
-client-takes true put over tuned started e = absurd cc
-client-takes false true over tuned started e = refl
-client-takes false false true tuned started e = refl
-client-takes false false false true started e = refl
-client-takes false false false false true e = refl
-client-takes false false false false false e = refl
+client-takes : (closed put over tuned answered started : Bool) → let step : HandshakeStep = cond tuned AwaitsOpenOk (cond answered AwaitsTune (cond started HoldsStart AwaitsStart)) in refusal_in (cond closed Closed (cond put Closing (cond over Running (Handshake step)))) ≡ None → takes_frames (cond closed Closed (cond put Closing (cond over Running (Handshake step)))) ≡ true
+client-takes true put over tuned answered started e = absurd cc
+client-takes false true over tuned answered started e = refl
+client-takes false false true tuned answered started e = refl
+client-takes false false false true answered started e = refl
+client-takes false false false false true started e = refl
+client-takes false false false false false true e = refl
+client-takes false false false false false false e = refl
 
 server-takes : (phase : Phase) → refusal_in phase ≡ None → awaits_opening Server phase ≡ false → takes_frames phase ≡ true
 server-takes (Handshake AwaitsProtocolHeader) r e = absurd (true≢false e)
@@ -133,6 +172,9 @@ server-takes (Handshake AwaitsTune) r e = refl
 server-takes (Handshake AwaitsTuneOk) r e = refl
 server-takes (Handshake AwaitsOpen) r e = refl
 server-takes (Handshake AwaitsOpenOk) r e = refl
+server-takes (Handshake HoldsStart) r e = refl
+server-takes (Handshake HoldsLogin) r e = refl
+server-takes (Handshake HoldsOpen) r e = refl
 server-takes Running r e = refl
 server-takes Closing r e = refl
 server-takes Closed r e = absurd cc
@@ -140,7 +182,7 @@ server-takes Failed r e = absurd cc
 
 pub takes-frames : (role : Role) (entries : List ChannelEntry) (phase : Phase) → phase_from role false entries ≡ phase → refusal_in phase ≡ None → awaits_opening role phase ≡ false → takes_frames phase ≡ true
 takes-frames Client entries phase p r e =
-    subst (λ phase. takes_frames phase ≡ true) p (client-takes (is_closed entries) (has_put kinds.ConnectionClose entries) (is_negotiated Client entries) (has_taken kinds.ConnectionTune entries) (has_taken kinds.ConnectionStart entries) (ap refusal_in p ∙ r))
+    subst (λ phase. takes_frames phase ≡ true) p (client-takes (is_closed entries) (has_put kinds.ConnectionClose entries) (is_negotiated Client entries) (has_taken kinds.ConnectionTune entries) (has_put kinds.ConnectionStartOk entries) (has_taken kinds.ConnectionStart entries) (ap refusal_in p ∙ r))
 takes-frames Server entries phase p r e = server-takes phase r e
 
 -- an end whose phase is that of its history has not failed

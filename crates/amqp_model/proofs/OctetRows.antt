@@ -1,5 +1,5 @@
 -- What one end makes of octets that are fed to it, computed.
-use Rattle.std.proofs.Common.{◌≡◌, ℕ, List, [], ◌∷◌, codes, Some, None, refl}
+use Rattle.std.proofs.Common.{◌≡◌, false, ℕ, List, [], ◌∷◌, codes, Some, None, refl}
 use Rattle.amqp_value.specs.Values.{no_pairs}
 use Rattle.amqp_model.specs.Wire.Notes.{Client, Server}
 use Rattle.amqp_model.specs.Wire.Methods.{plain_method}
@@ -11,7 +11,7 @@ use Rattle.amqp_model.specs.Output.Outputs.{output_octets}
 use Rattle.amqp_model.specs.Stream.Endpoint.{Endpoint, Feeding, Outcome, Unfinished, Finished, Found, output_of, new_endpoint, after_feed}
 
 abbrev server_config : Config Server
-server_config = record { frame_max = 131072; channel_max = 2047; max_body = 16777216; hello = OfServer no_pairs (codes "PLAIN") (codes "en_US") }
+server_config = record { frame_max = 131072; channel_max = 2047; max_body = 16777216; heartbeat = 0; gated = false; hello = OfServer no_pairs (codes "PLAIN") (codes "en_US") }
 
 abbrev fed_to : Endpoint → List ℕ → Feeding
 fed_to endpoint piece = after_feed Server server_config endpoint piece
@@ -32,7 +32,7 @@ greeted = fed_to (new_endpoint Server) (65 ∷ 77 ∷ 81 ∷ 80 ∷ 0 ∷ 0 ∷ 
 header : seen greeted ≡ row_of (Finished (Some Quiet)) 8 (Handshake AwaitsStartOk) []
 header = refl
 
-header-output : greeted.endpoint.output ≡ record { ahead = []; last = 0; row = method_frame 0 (start server_config) ∷ [] }
+header-output : greeted.endpoint.output ≡ record { ahead = []; begun_on = 0; last = 0; row = method_frame 0 (start server_config) ∷ [] }
 header-output = refl
 
 -- octets after it are not looked at yet
@@ -43,11 +43,30 @@ header-first = refl
 abbrev first_half : Feeding
 first_half = fed_to (new_endpoint Server) (65 ∷ 77 ∷ 81 ∷ [])
 
+-- what it leaves
+abbrev half_read : Endpoint
+half_read = record { end = (new_endpoint Server).end; unfinished = 65 ∷ 77 ∷ 81 ∷ []; output = output_of [] }
+
 header-begun : seen first_half ≡ row_of Unfinished 3 (new_endpoint Server).end.phase (65 ∷ 77 ∷ 81 ∷ [])
 header-begun = refl
 
-header-cut : (fed_to first_half.endpoint (80 ∷ 0 ∷ 0 ∷ 9 ∷ 1 ∷ [])).endpoint ≡ greeted.endpoint
-header-cut = refl
+header-half : first_half.endpoint ≡ half_read
+header-half = refl
+
+header-cut : (fed_to half_read (80 ∷ 0 ∷ 0 ∷ 9 ∷ 1 ∷ [])).endpoint ≡ greeted.endpoint
+header-cut = λ i. record { end = end i; unfinished = unfinished i; output = output i }
+  where
+    rest : Feeding
+    rest = fed_to half_read (80 ∷ 0 ∷ 0 ∷ 9 ∷ 1 ∷ [])
+
+    end : rest.endpoint.end ≡ greeted.endpoint.end
+    end = refl
+
+    unfinished : rest.endpoint.unfinished ≡ greeted.endpoint.unfinished
+    unfinished = refl
+
+    output : rest.endpoint.output ≡ greeted.endpoint.output
+    output = refl
 
 -- another protocol's header
 abbrev mistaken : Feeding
@@ -76,7 +95,7 @@ passed = fed_to greeted.endpoint (1 ∷ 0 ∷ 0 ∷ 0 ∷ 0 ∷ 15 ∷ 249 ∷ 0
 above-limit : seen passed ≡ row_of (Found (Peer FrameError)) 7 Failed []
 above-limit = refl
 
-above-limit-output : passed.endpoint.output ≡ record { ahead = []; last = 0; row = method_frame 0 (start server_config) ∷ frame_of (connection_close FrameError) ∷ [] }
+above-limit-output : passed.endpoint.output ≡ record { ahead = []; begun_on = 0; last = 0; row = method_frame 0 (start server_config) ∷ frame_of (connection_close FrameError) ∷ [] }
 unfolding plain_method
 above-limit-output = refl
 
@@ -90,7 +109,7 @@ no-type = refl
 
 -- A heartbeat at an end that is Running.
 abbrev running : Endpoint
-running = record { end = record { phase = Running; agreed = Some (record { channel_max = 2047; frame_max = 131072 }); channels = λ number. Free }; unfinished = []; output = output_of [] }
+running = record { end = record { phase = Running; agreed = Some (record { channel_max = 2047; frame_max = 131072; heartbeat = 0 }); channels = λ number. Free }; unfinished = []; output = output_of [] }
 
 heartbeat : fed_to running (8 ∷ 0 ∷ 0 ∷ 0 ∷ 0 ∷ 0 ∷ 0 ∷ 206 ∷ []) ≡ record { endpoint = running; taken = 8; outcome = Finished (Some Quiet) }
 heartbeat = refl

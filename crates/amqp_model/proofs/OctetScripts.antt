@@ -21,7 +21,7 @@ use Rattle.amqp_model.specs.Stream.Endpoint.{Endpoint, Feeding, Outcome, Unfinis
 abbrev digit : ℕ → ℕ
 digit code = cond (nat_lt code 58) (code - 48) (code - 87)
 
-abbrev hex : List ℕ → List ℕ
+abbrev pub hex : List ℕ → List ℕ
 hex [] = []
 hex (high ∷ []) = []
 hex (high ∷ low ∷ later) = (16 * digit high + digit low) ∷ hex later
@@ -39,21 +39,21 @@ played role config [] endpoint = []
 played role config (piece ∷ later) endpoint = next_line role config (after_feed role config endpoint piece) later (played role config later)
 
 abbrev server_config : (max_body : ℕ) → Config Server
-server_config max_body = record { frame_max = 131072; channel_max = 2047; max_body = max_body; hello = OfServer no_pairs (codes "PLAIN") (codes "en_US") }
+server_config max_body = record { frame_max = 131072; channel_max = 2047; max_body = max_body; heartbeat = 0; gated = false; hello = OfServer no_pairs (codes "PLAIN") (codes "en_US") }
 
 abbrev server_lines : (max_body : ℕ) → List (List ℕ) → List Line
 server_lines max_body pieces = played Server (server_config max_body) pieces (new_endpoint Server)
 
-abbrev protocol_header : List ℕ
+abbrev pub protocol_header : List ℕ
 protocol_header = hex (codes "414d515000000901")
 
-abbrev start_octets : List ℕ
+abbrev pub start_octets : List ℕ
 start_octets = hex (codes "0100000000001c000a000a00090000000000000005504c41494e00000005656e5f5553ce")
 
-abbrev start_ok_octets : List ℕ
+abbrev pub start_ok_octets : List ℕ
 start_ok_octets = hex (codes "01000000000024000a000b0000000005504c41494e0000000c006775657374006775657374" ++ codes "05656e5f5553ce")
 
-abbrev tune_octets : List ℕ
+abbrev pub tune_octets : List ℕ
 tune_octets = hex (codes "0100000000000c000a001e07ff000200000000ce")
 
 -- The server's handshake, and a channel opened.
@@ -71,7 +71,7 @@ handshake_lines =
     line (Finished (Some Quiet)) start_octets
     ∷ line (Finished (Some Quiet)) tune_octets
     ∷ line (Finished (Some Quiet)) []
-    ∷ line (Finished (Some (Negotiated (record { channel_max = 2047; frame_max = 131072 })))) (hex (codes "01000000000005000a002900ce"))
+    ∷ line (Finished (Some (Negotiated (record { channel_max = 2047; frame_max = 131072; heartbeat = 0 })))) (hex (codes "01000000000005000a002900ce"))
     ∷ line (Finished (Some (Opened 1))) (hex (codes "010001000000080014000b00000000ce"))
     ∷ []
 
@@ -144,7 +144,7 @@ unknown_method = refl
 
 -- A client that takes frames of 8192 octets and ten channels: its protocol header is written at first.
 abbrev client_config : Config Client
-client_config = record { frame_max = 8192; channel_max = 10; max_body = 16777216; hello = OfClient no_pairs (codes "PLAIN") (hex (codes "006775657374006775657374")) (codes "en_US") (codes "/") }
+client_config = record { frame_max = 8192; channel_max = 10; max_body = 16777216; heartbeat = 0; gated = false; hello = OfClient no_pairs (codes "PLAIN") (hex (codes "006775657374006775657374")) (codes "en_US") (codes "/") }
 
 abbrev client_lines : List (List ℕ) → List Line
 client_lines pieces = line Unfinished (output_octets (new_endpoint Client).output) ∷ played Client client_config pieces (after_wrote 8 (new_endpoint Client))
@@ -153,7 +153,7 @@ client_handshake : client_lines (start_octets ∷ tune_octets ∷ hex (codes "01
     line Unfinished protocol_header
     ∷ line (Finished (Some Quiet)) start_ok_octets
     ∷ line (Finished (Some Quiet)) (hex (codes "0100000000000c000a001f000a000020000000ce" ++ codes "01000000000008000a0028012f0000ce"))
-    ∷ line (Finished (Some (Negotiated (record { channel_max = 10; frame_max = 8192 })))) []
+    ∷ line (Finished (Some (Negotiated (record { channel_max = 10; frame_max = 8192; heartbeat = 0 })))) []
     ∷ line (Finished (Some (Blocked (codes "low")))) []
     ∷ []
 unfolding method_at header_at plain_method plain_header frames.octets reading.method_at reading.args_at reading.field_at with_id header_reading.header_at header_reading.properties_at header_reading.optional_at table_at elements many named after_tag tagged value_at

@@ -13,7 +13,7 @@ use Rattle.amqp_model.specs.Wire.Notes.{Role, Client, Server}
 use Rattle.amqp_model.specs.Wire.Methods.{same_kind, plain_method}
 use Rattle.amqp_model.specs.Wire.Readings.{reading}
 use Rattle.amqp_model.specs.History.Histories.{Put, Took, History, PutHere, entries_on}
-use Rattle.amqp_model.specs.End.Channels.{Phase, Handshake, Running, Closing, Closed, Failed, AwaitsProtocolHeader, AwaitsStartOk, End}
+use Rattle.amqp_model.specs.End.Channels.{Phase, Handshake, Running, Closing, Closed, Failed, AwaitsProtocolHeader, AwaitsStartOk, AwaitsTuneOk, End}
 use Rattle.amqp_model.specs.History.Negotiation.{Config, Hello, OfServer, PROTOCOL_HEADER, frame_limit, start}
 use Rattle.amqp_model.specs.End.Closes.{FrameError, Owed, AllReadBack, connection_close, frame_of, method_frame}
 use Rattle.amqp_model.specs.End.Events.{Fault, Peer, AlreadyClosed, FrameVerdict, Proceeds, RefusesContent, Faults, Quiet}
@@ -117,8 +117,11 @@ nothing-written written o out =
 
 -- The protocol header at a server.
 
-start-kind : (frame_max channel_max max_body : ℕ) (hello : Hello Server) → (start (record { frame_max = frame_max; channel_max = channel_max; max_body = max_body; hello = hello })).kind ≡ kinds.ConnectionStart
-start-kind frame_max channel_max max_body (OfServer properties mechanisms locales) = refl
+start-kind : (config : Config Server) → (start config).kind ≡ kinds.ConnectionStart
+start-kind config = go config.hello
+  where
+    go : (hello : Hello Server) → (start (record config { hello = hello })).kind ≡ kinds.ConnectionStart
+    go (OfServer properties mechanisms locales) = refl
 
 -- a server that has read all of it, and puts start
 module _ (config : Config Server) (old : Endpoint) (fed written : List ℕ) (octet : ℕ) (s : EndpointStandsFor Server config old [] fed written) (small : IsOctet octet) (fits : PutsFit Server config old.end) (whole : PROTOCOL_HEADER ≡ fed ++ octet ∷ []) where
@@ -129,7 +132,7 @@ module _ (config : Config Server) (old : Endpoint) (fed written : List ℕ) (oct
   greeted-opened : awaits_opening Server (end_after_owed Server config (greeting Server config) old.end).phase ≡ false
   greeted-opened =
       subst (λ phase. awaits_opening Server (end_after_owed Server config (greeting Server config) (record { phase = phase; agreed = old.end.agreed; channels = old.end.channels })).phase ≡ false) s.stands.phase
-      (subst (λ kind. awaits_opening Server (cond (same_kind kind kinds.ConnectionClose) Closing (cond (same_kind kind kinds.ConnectionOpenOk) Running (Handshake (cond (same_kind kind kinds.ConnectionStart) AwaitsStartOk AwaitsProtocolHeader)))) ≡ false) (sym (start-kind config.frame_max config.channel_max config.max_body config.hello)) refl)
+      (subst (λ kind. awaits_opening Server (cond (same_kind kind kinds.ConnectionClose) Closing (cond (same_kind kind kinds.ConnectionOpenOk) Running (Handshake (cond (same_kind kind kinds.ConnectionTune) AwaitsTuneOk (cond (same_kind kind kinds.ConnectionStart) AwaitsStartOk AwaitsProtocolHeader))))) ≡ false) (sym (start-kind config)) refl)
 
   greeted : EndpointStandsFor Server config (comes_to old (end_after_owed Server config (greeting Server config) old.end) (map frame_of (greeting Server config)) (Finished (Some Quiet))).endpoint (Put (method_frame 0 (start config)) ∷ []) (fed ++ octet ∷ []) written
   greeted = record {

@@ -11,7 +11,7 @@ use Rattle.amqp_model.specs.Wire.Frame.{Frame}
 use Rattle.amqp_model.specs.Wire.Notes.{Role, Client, Server}
 use Rattle.amqp_model.specs.Output.Arrangement.{on}
 use Rattle.amqp_model.specs.History.Histories.{History}
-use Rattle.amqp_model.specs.End.Channels.{Phase, Handshake, Running, Closed, Failed, AwaitsProtocolHeader, AwaitsStart, AwaitsStartOk, AwaitsTune, AwaitsTuneOk, AwaitsOpen, AwaitsOpenOk, End}
+use Rattle.amqp_model.specs.End.Channels.{Phase, Handshake, Running, Closed, Failed, AwaitsProtocolHeader, AwaitsStart, AwaitsStartOk, AwaitsTune, AwaitsTuneOk, AwaitsOpen, AwaitsOpenOk, HoldsStart, HoldsLogin, HoldsOpen, End}
 use Rattle.amqp_model.specs.History.Negotiation.{Config, frame_limit}
 use Rattle.amqp_model.specs.End.StateFromHistory.{end_from}
 use Rattle.amqp_model.specs.End.Closes.{frame_of}
@@ -136,6 +136,9 @@ takes-opened Server (Handshake AwaitsTune) false t e = absurd (false≢true e)
 takes-opened Server (Handshake AwaitsTuneOk) false t e = absurd (false≢true e)
 takes-opened Server (Handshake AwaitsOpen) false t e = absurd (false≢true e)
 takes-opened Server (Handshake AwaitsOpenOk) false t e = absurd (false≢true e)
+takes-opened Server (Handshake HoldsStart) false t e = absurd (false≢true e)
+takes-opened Server (Handshake HoldsLogin) false t e = absurd (false≢true e)
+takes-opened Server (Handshake HoldsOpen) false t e = absurd (false≢true e)
 takes-opened Server Running false t e = absurd (false≢true e)
 takes-opened Server Phase.Closing false t e = absurd (false≢true e)
 takes-opened Server Closed false t e = absurd (false≢true t)

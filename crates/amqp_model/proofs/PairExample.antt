@@ -40,30 +40,30 @@ none-high k (frame ∷ later) e = by (nat_lt frame.channel 2) refl e (none-high 
     by true low e more = let below = ltb-true frame.channel 2 low in cond-false (frame.channel == suc (suc k)) _ _ (ne_eqb frame.channel (suc (suc k)) (λ h. let same : frame.channel ≡ suc (suc k) = h in absurd (omega arith))) ∙ more e
     by false low e more = absurd (false≢true e)
 
-same-above : (n : ℕ) (puts taken : List Frame) → all_low puts ≡ true → all_low taken ≡ true → on 1 puts ≡ on 1 taken → on (suc n) puts ≡ on (suc n) taken
+pub same-above : (n : ℕ) (puts taken : List Frame) → all_low puts ≡ true → all_low taken ≡ true → on 1 puts ≡ on 1 taken → on (suc n) puts ≡ on (suc n) taken
 same-above nought puts taken a b same = same
 same-above (suc k) puts taken a b same = none-high k puts a ∙ sym (none-high k taken b)
 
 -- the two histories as they grow
-abbrev s1 : History
+abbrev pub s1 : History
 s1 = Put (zero (start example_server)) ∷ []
 
-abbrev c1 : History
+abbrev pub c1 : History
 c1 = Put (zero (start_ok example_client)) ∷ Took (zero (start example_server)) ∷ []
 
-abbrev s2 : History
+abbrev pub s2 : History
 s2 = Put (zero (tune example_server)) ∷ Took (zero (start_ok example_client)) ∷ s1
 
-abbrev c2 : History
+abbrev pub c2 : History
 c2 = Put (zero (connection_open example_client)) ∷ Put (zero (tune_ok settled_example)) ∷ Took (zero (tune example_server)) ∷ c1
 
-abbrev s3 : History
+abbrev pub s3 : History
 s3 = Took (zero (tune_ok settled_example)) ∷ s2
 
-abbrev s4 : History
+abbrev pub s4 : History
 s4 = Put (zero connection_open_ok) ∷ Took (zero (connection_open example_client)) ∷ s3
 
-abbrev c3 : History
+abbrev pub c3 : History
 c3 = Took (zero connection_open_ok) ∷ c2
 
 abbrev c4 : History
@@ -326,7 +326,7 @@ abbrev all_small : List ℕ → Bool
 all_small [] = true
 all_small (octet ∷ octets) = cond (nat_lt octet 256) (all_small octets) false
 
-are-octets : (octets : List ℕ) → all_small octets ≡ true → AreOctets octets
+pub are-octets : (octets : List ℕ) → all_small octets ≡ true → AreOctets octets
 are-octets [] e = tt
 are-octets (octet ∷ octets) e = here (nat_lt octet 256) refl e (are-octets octets)
   where
@@ -342,6 +342,7 @@ client-fits = record {
   frame_least = omega arith;
   frame_most = omega arith;
   body_most = omega arith;
+  heartbeat_most = omega arith;
   hello = ((omega arith, (omega arith, tt)), (omega arith, are-octets (codes "PLAIN") refl), (omega arith, tt), (omega arith, are-octets (codes "en_US") refl), (omega arith, are-octets (codes "/") refl));
   greeting_short = omega arith;
 }
@@ -354,6 +355,7 @@ server-fits = record {
   frame_least = omega arith;
   frame_most = omega arith;
   body_most = omega arith;
+  heartbeat_most = omega arith;
   hello = ((omega arith, (omega arith, tt)), (omega arith, are-octets (codes "PLAIN") refl), (omega arith, are-octets (codes "en_US") refl));
   greeting_short = omega arith;
 }

@@ -10,13 +10,15 @@ use Rattle.amqp_model.specs.History.Histories.{History}
 use Rattle.amqp_model.specs.History.Negotiation.{Config, OfServer, Hello}
 use Rattle.amqp_model.specs.History.Negotiation as negotiation
 use Rattle.amqp_model.specs.End.ReadingBack.{WritesReadBack}
-use Rattle.amqp_model.specs.End.LawfulHistories.{Goes, greets, takes, asks, begun, goes}
+use Rattle.amqp_model.specs.End.LawfulHistories.{Goes, greets, takes, asks, controls, begun, goes}
 use Rattle.amqp_model.specs.Laws.EndLaws.{notes_on, ActsOn, rests, acts, VerdictAgrees}
 use Rattle.amqp_model.specs.Pair.Pairs.{AllComeNext, both_begin, client_goes, server_goes, NewEndsPair, StepStaysPair, BothLawful, RunsOnEach}
 use Rattle.amqp_model.proofs.Carrying.{next-noted}
 use Rattle.amqp_model.proofs.Agreeing.{frame-agrees}
 use Rattle.amqp_model.proofs.Taking.{takes-acts}
+use Rattle.amqp_model.specs.End.StateFromHistory.{end_from}
 use Rattle.amqp_model.proofs.Asking.{asks-act, zero-acts}
+use Rattle.amqp_model.proofs.Controlling.{control-acts, puts-at-zero}
 
 act-at : (role : Role) {mine theirs after : List Note} → RunAt role mine theirs → Acts role theirs mine after → RunAt role after theirs
 act-at Client run act = client_acts run act
@@ -36,6 +38,7 @@ goes-run : {role : Role} {config : Config role} {before after : History} {taken 
 goes-run {config} theirs n back next greets run = acts-at Server run (zero-acts Server (notes_on (suc n) theirs) [] n (negotiation.start config) back.greeting (start-quiet config))
 goes-run {role} {config} {before} theirs n back next (takes frame p g) run = acts-at role run (takes-acts role config before frame n (notes_on (suc n) theirs) back g (next-noted theirs before frame n next))
 goes-run {role} {config} {before} theirs n back next (asks ask frames made read e) run = acts-at role run (asks-act role config before ask frames n (notes_on (suc n) theirs) read.method made e)
+goes-run {role} {config} {before} theirs n back next (controls control frames read e) run = acts-at role run (control-acts role (notes_on (suc n) theirs) before n frames (puts-at-zero role config (end_from role config false before) control frames back read e))
 
 pub pair-runs : RunsOnEach
 pair-runs client_config server_config client server mine theirs both_begin n = start

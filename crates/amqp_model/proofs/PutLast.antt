@@ -17,13 +17,13 @@ use Rattle.amqp_model.specs.End.Channels.{Channel, Free, Phase, Handshake, Runni
 use Rattle.amqp_model.specs.History.Negotiation.{Config, Hello, OfServer}
 use Rattle.amqp_model.specs.History.Negotiation as negotiation
 use Rattle.amqp_model.specs.End.StateFromHistory.{end_from}
-use Rattle.amqp_model.specs.End.Closes.{FrameError, Owed, method_frame, frame_of, connection_close, connection_close_ok}
+use Rattle.amqp_model.specs.End.Closes.{close_as, FrameError, Owed, method_frame, frame_of, connection_close, connection_close_ok}
 use Rattle.amqp_model.specs.End.Events.{Event, FrameVerdict, Proceeds, RefusesContent, Faults, Fault, Peer}
 use Rattle.amqp_model.specs.End.FrameVerdict.{Facts, verdict_on, methods_put}
 use Rattle.amqp_model.specs.End.Asks.{Ask, Refusal, lowest_free, opens_on, payload_frame, message_payloads, frame_max, frames_asked, method_asked, refusal, Puts}
 use Rattle.amqp_model.specs.End.EndVerdict.{facts_at, end_verdict, goes_on, takes_frames, CanTake}
 use Rattle.amqp_model.specs.End.ReadingBack.{WritesReadBack}
-use Rattle.amqp_model.specs.End.LawfulHistories.{then_put, then_taken, Goes, greets, takes, faults, meets_too_large, fails, asks, Lawful, begun, goes}
+use Rattle.amqp_model.specs.End.LawfulHistories.{then_put, then_taken, Goes, greets, takes, faults, meets_too_large, fails, asks, controls, Lawful, begun, goes}
 use Rattle.amqp_model.specs.End.Machine.{phase_taken, phase_put, end_after, end_after_owed, end_after_put, StandsFor}
 use Rattle.amqp_model.specs.Laws.EndLaws.{is_over}
 use Rattle.amqp_model.specs.Stream.Octets.{frames_put}
@@ -34,6 +34,8 @@ use Rattle.amqp_model.proofs.Elsewhere.{Each, IsMild, each-owed}
 use Rattle.amqp_model.proofs.Asking.{Accepted, accepted, accepted-none, not-when, first-false, frame-channel}
 use Rattle.amqp_model.proofs.FrameSteps.{not-failed, frame-follows}
 use Rattle.amqp_model.proofs.AskSteps.{is-running, asks-follow}
+use Rattle.amqp_model.proofs.Walking.{Stands, stands-kept}
+use Rattle.amqp_model.proofs.Controlling.{OneAtZero, one, at_beat, at_method, at_close, control-kept, control-goes, puts-at-zero}
 use Rattle.amqp_model.proofs.Lawfulness.{lawful-stands}
 use Rattle.amqp_model.proofs.Departing.{output-in-order}
 use Rattle.amqp_model.proofs.LeavingLast.{put-as}
@@ -306,6 +308,20 @@ asked-departs role config back before stands ask read a after departs = by-ask a
         leave-more role config false before _ _ departs.parted (leaving-is 0 (method_asked (Ask.Close code text)), tt) (put-then (frames_asked (end_from role config false before) (Ask.Close code text)) before)
         (λ goes. ap is_over after.phase ∙ subst (λ phase. is_over (phase_put role (reading (method_frame 0 (method_asked (Ask.Close code text)))) phase) ≡ true) (sym (running (Ask.Close code text) a)) (subst (λ r. is_over (phase_put role r Running) ≡ true) (sym (reads-back 0 (method_asked (Ask.Close code text)) read)) refl))
 
+-- What else an application does with the connection is accepted.
+
+close-over : (role : Role) (phase : Phase) (code : ℕ) (text : List ℕ) → is_over phase ≡ false → is_over (phase_put role (Calls (close_as kinds.ConnectionClose code text)) phase) ≡ true
+close-over role (Handshake step) code text o = refl
+close-over role Running code text o = refl
+close-over role phase code text o = absurd (true≢false o)
+
+controls-depart : (role : Role) (config : Config role) (before : History) (frames : List Frame) → is_over (end_from role config false before).phase ≡ false → OneAtZero frames → StandsFor role config false (end_after_put role config frames (end_from role config false before)) (then_put frames before) → Departs role config false before → Departs role config false (then_put frames before)
+controls-depart role config before frames o (one frame at_beat) after departs = stay-more role config false before _ _ (departs.calm refl o) (refl, tt) (put-then frames before)
+controls-depart role config before frames o (one frame (at_method method back close answer a b)) after departs = stay-more role config false before _ _ (departs.calm refl o) (mild-stays 0 method (ap (λ b. b || same_kind method.kind kinds.ConnectionCloseOk) close ∙ answer), tt) (put-then frames before)
+controls-depart role config before frames o (one frame (at_close code text back fits)) after departs =
+    leave-more role config false before _ _ departs.parted (leaving-is 0 (close_as kinds.ConnectionClose code text), tt) (put-then frames before)
+    (λ goes. ap is_over after.phase ∙ subst (λ r. is_over (phase_put role r (end_from role config false before).phase) ≡ true) (sym (reads-back 0 (close_as kinds.ConnectionClose code text) back)) (close-over role (end_from role config false before).phase code text o))
+
 start-mild : (config : Config Server) → is_departure (negotiation.start config).kind ≡ false
 start-mild config = go config.hello
   where
@@ -325,6 +341,9 @@ goes-departs role config before taken failed after back stands departs (asks ask
     let parts = accepted-none (refusal role (end_from role config false before) ask) (frames_asked (end_from role config false before) ask) frames e in
     let follows = asks-follow role config (end_from role config false before) before ask (frames_asked (end_from role config false before) ask) stands read.method made (e ∙ ap Puts (sym parts.1)) in
     subst (λ frames. Departs role config false (then_put frames before)) parts.1 (asked-departs role config back before stands ask read.method (accepted role (end_from role config false before) ask parts.0) follows departs)
+goes-departs role config before taken failed after back stands departs (controls control frames read e) =
+    let at = puts-at-zero role config (end_from role config false before) control frames back read e in
+    controls-depart role config before frames (control-goes role config (end_from role config false before) control frames e) at (control-kept Stands stands-kept.puts role config (end_from role config false before) before frames stands at) departs
 
 lawful-departs : (role : Role) (config : Config role) (failed : Bool) (history : History) → WritesReadBack role config → Lawful role config failed history → Departs role config failed history
 lawful-departs role config failed history back begun = record { parted = parted-none [] tt; calm = λ goes o. tt }

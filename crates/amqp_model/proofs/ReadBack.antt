@@ -26,9 +26,9 @@ header-reads encoded read header fits = ap header_read (read header (plain.plain
 
 -- The methods of the handshake.
 
--- an end that is set up with this hello
+-- an end that is set up with this hello: it wants no heartbeat, and is not gated, of which its methods say nothing
 abbrev pub configured : {role : Role} → (frame_max channel_max max_body : ℕ) → Hello role → Config role
-configured frame_max channel_max max_body hello = record { frame_max = frame_max; channel_max = channel_max; max_body = max_body; hello = hello }
+configured frame_max channel_max max_body hello = record { frame_max = frame_max; channel_max = channel_max; max_body = max_body; heartbeat = 0; gated = false; hello = hello }
 
 start-says : (a b c : ℕ) (hello : Hello Server) → HelloFits hello → MethodFits (start (configured a b c hello))
 start-says a b c (OfServer properties mechanisms locales) fits = record { of_kind = refl; arguments = (omega arith, (omega arith, (fits.0, (fits.1, (fits.2, tt))))) }
@@ -63,6 +63,7 @@ config-writes reads role config fits =
       channel_most = fits.channel_most;
       frame_least = fits.frame_least;
       frame_most = fits.frame_most;
+      heartbeat_most = fits.heartbeat_most;
       host = host-fits role config.hello fits.hello;
       greeting_back = greeting-reads reads role config fits.hello;
       greeting_short = fits.greeting_short;
@@ -120,7 +121,7 @@ faultless false false false true e = absurd cc
 faultless false false false false e = (refl, refl, refl, refl)
 
 pub faultless-fits : FaultlessConfigFits
-faultless-fits role config e channels body hello =
+faultless-fits role config e channels body heartbeat hello =
     let none = faultless (nat_lt config.frame_max FRAME_MIN) (nat_lt FRAME_MOST config.frame_max) (config.channel_max == 0) (nat_lt FRAME_MIN (frame_length (method_frame 0 (greeting role config)))) e in
     let some : config.channel_max ≢ 0 = eqb-false config.channel_max 0 none.2 in
     record {
@@ -129,6 +130,7 @@ faultless-fits role config e channels body hello =
       frame_least = ltb-false config.frame_max FRAME_MIN none.0;
       frame_most = ltb-false FRAME_MOST config.frame_max none.1;
       body_most = body;
+      heartbeat_most = heartbeat;
       hello = hello;
       greeting_short = ltb-false FRAME_MIN (frame_length (method_frame 0 (greeting role config))) none.3;
     }

@@ -15,10 +15,10 @@ use Rattle.amqp_model.specs.End.Channels as channels
 use Rattle.amqp_model.specs.End.Channels.{Life, Channel, Phase, Handshake, Agreed, AwaitsProtocolHeader, AwaitsStart, AwaitsStartOk, AwaitsTune, AwaitsTuneOk, AwaitsOpen, AwaitsOpenOk}
 use Rattle.amqp_model.specs.History.Negotiation.{Hello, OfClient, Config, FRAME_MIN, start_ok, tune, settled, smaller, tunes_too_small, tune_ok, agreed_in, in_range, connection_open, connection_open_ok}
 use Rattle.amqp_model.specs.End.Closes.{CloseCode, ContentTooLarge, FrameError, SyntaxError, CommandInvalid, ChannelError, UnexpectedFrame, ResourceError, NotImplemented, number_of, text_of, close_as, Owed, AllReadBack, connection_close, connection_close_ok, channel_close, reply_to, method_frame, frame_of}
-use Rattle.amqp_model.specs.End.Events.{Peer, FrameVerdict, Proceeds, RefusesContent, Faults}
-use Rattle.amqp_model.specs.End.FrameVerdict.{Facts, on_zero, on_channel, first_of, when_over, when_leaving, when_heartbeat, as_lives, lives_verdict, when_closing, when_unread, closed_by, is_awaited, on_awaited, in_step, when_handshake, is_no_channel, after_part, on_part, part_on, on_content, when_content, on_connection, when_connection, when_misdirected, when_no_channel, on_message, answers_first, MOST_REQUESTS, on_matched, on_idle, is_gathering, on_open, by_state, on_method, on_rest, verdict_on, methods_put}
+use Rattle.amqp_model.specs.End.Events.{Event, AnswerAsked, LoginAsked, OpenAsked, Peer, FrameVerdict, Proceeds, RefusesContent, Faults}
+use Rattle.amqp_model.specs.End.FrameVerdict.{Facts, on_zero, on_channel, first_of, when_over, when_leaving, when_heartbeat, as_lives, lives_verdict, when_closing, when_unread, closed_by, is_awaited, asked_or, on_awaited, in_step, when_handshake, is_no_channel, after_part, on_part, part_on, on_content, when_content, on_connection, when_connection, when_misdirected, when_no_channel, on_message, answers_first, MOST_REQUESTS, on_matched, on_idle, is_gathering, on_open, by_state, on_method, on_rest, verdict_on, methods_put}
 use Rattle.amqp_model.specs.End.EndVerdict.{facts_at}
-use Rattle.amqp_model.specs.End.ReadingBack.{GreetingReadsBack}
+use Rattle.amqp_model.specs.End.ReadingBack.{GreetingReadsBack, AdmissionReadsBack}
 use Rattle.amqp_model.specs.End.Fitting.{FRAME_MOST, HostFits, ConfigWrites, SettledFits}
 use Rattle.amqp_model.specs.Laws.FittingLaws.{MethodReadsBack, OwedReadBack, CloseReadsBack, AllReadsBack}
 use Rattle.amqp_model.proofs.ReadBack.{configured, open-fits, connection_close-fits, channel_close-fits}
@@ -134,16 +134,16 @@ open-short a b c (OfClient properties mechanism response locale virtual_host) fi
 open-sound : (number : ℕ) (config : Config Client) → ConfigWrites config → Sound number (on_zero (connection_open config))
 open-sound number config fits = record { back = λ reads. reads _ (open-fits config fits.host); channel = λ h. omega arith; short = open-short config.frame_max config.channel_max config.max_body config.hello fits.host; settles = λ e. absurd (connection_open-settles config e) }
 
-open_ok-sound : (number : ℕ) → Sound number (on_zero connection_open_ok)
+pub open_ok-sound : (number : ℕ) → Sound number (on_zero connection_open_ok)
 unfolding plain_method
 open_ok-sound number = record { back = λ reads. reads _ (record { of_kind = refl; arguments = tt }); channel = λ h. omega arith; short = omega arith; settles = λ e. absurd (false≢true e) }
 
-tune-sound : (number : ℕ) (config : Config Server) → ConfigWrites config → Sound number (on_zero (tune config))
+pub tune-sound : (number : ℕ) (config : Config Server) → ConfigWrites config → Sound number (on_zero (tune config))
 unfolding plain_method
 tune-sound number config fits =
     let channels = fits.channel_most in
     let most = fits.frame_most in
-    record { back = λ reads. reads _ (record { of_kind = refl; arguments = (channels, (omega arith, (omega arith, tt))) }); channel = λ h. omega arith; short = omega arith; settles = λ e. absurd (false≢true e) }
+    record { back = λ reads. reads _ (record { of_kind = refl; arguments = (channels, (omega arith, (fits.heartbeat_most, tt))) }); channel = λ h. omega arith; short = omega arith; settles = λ e. absurd (false≢true e) }
 
 smaller-below : (own others limit : ℕ) → own < limit → smaller own others < limit
 smaller-below own others limit below = at (others == 0)
@@ -187,7 +187,7 @@ unfolding plain_method
 tune_ok-sound number config method large fits =
     let most = fits.frame_most in
     record {
-      back = λ reads. reads _ (record { of_kind = refl; arguments = (smaller-below config.channel_max (number_at 0 method) (2 ^ 16) fits.channel_most, (smaller-below config.frame_max (number_at 1 method) (2 ^ 32) (omega arith), (omega arith, tt))) });
+      back = λ reads. reads _ (record { of_kind = refl; arguments = (smaller-below config.channel_max (number_at 0 method) (2 ^ 16) fits.channel_most, (smaller-below config.frame_max (number_at 1 method) (2 ^ 32) (omega arith), (let heartbeat = fits.heartbeat_most in omega arith, tt))) });
       channel = λ h. omega arith;
       short = omega arith;
       settles = λ e. settled-fits config method large fits;
@@ -257,14 +257,19 @@ test-sound : (number : ℕ) (b : Bool) (one other : FrameVerdict) → (b ≡ tru
 test-sound number true one other h k = h refl
 test-sound number false one other h k = k refl
 
+-- a gated end asks, and puts nothing
+asked-sound : (number : ℕ) (gated : Bool) (event : Event) (at_once : FrameVerdict) → VerdictSound number at_once → VerdictSound number (asked_or gated event at_once)
+asked-sound number true event at_once sound = tt
+asked-sound number false event at_once sound = sound
+
 awaited-sound : (number : ℕ) (role : Role) (config : Config role) (agreed : Option Agreed) (step : channels.HandshakeStep) (method : Method) → ConfigWrites config → VerdictSound number (on_awaited role config agreed step method)
-awaited-sound number Client config agreed AwaitsStart method fits = (start_ok-sound number config fits, tt)
+awaited-sound number Client config agreed AwaitsStart method fits = asked-sound number config.gated AnswerAsked _ (start_ok-sound number config fits, tt)
 awaited-sound number Client config agreed AwaitsTune method fits =
     test-sound number (tunes_too_small method) _ _ (λ small. tt) (λ large. (tune_ok-sound number config method large fits, (open-sound number config fits, tt)))
 awaited-sound number Client config agreed AwaitsOpenOk method fits = tt
-awaited-sound number Server config agreed AwaitsStartOk method fits = (tune-sound number config fits, tt)
+awaited-sound number Server config agreed AwaitsStartOk method fits = asked-sound number config.gated LoginAsked _ (tune-sound number config fits, tt)
 awaited-sound number Server config agreed AwaitsTuneOk method fits = either-sound number (in_range config (agreed_in method)) _ _ tt tt
-awaited-sound number Server config agreed AwaitsOpen method fits = (open_ok-sound number, tt)
+awaited-sound number Server config agreed AwaitsOpen method fits = asked-sound number config.gated OpenAsked _ (open_ok-sound number, tt)
 awaited-sound number role config agreed step method fits = tt
 
 step-sound : (number : ℕ) (role : Role) (config : Config role) (agreed : Option Agreed) (step : channels.HandshakeStep) (method : Method) → ConfigWrites config → VerdictSound number (in_step role config agreed step method)
@@ -396,10 +401,15 @@ greeting-back : (role : Role) (config : Config role) → ConfigWrites config →
 greeting-back Client config writes = tt
 greeting-back Server config writes = writes.greeting_back
 
+admission-back : MethodReadsBack → (role : Role) (config : Config role) → ConfigWrites config → AdmissionReadsBack role config
+admission-back reads Client config writes = tt
+admission-back reads Server config writes = ((tune-sound 0 config writes).back reads, (open_ok-sound 0).back reads)
+
 pub all-reads-back : MethodReadsBack → (role : Role) (config : Config role) → AllReadsBack role config
 all-reads-back reads role config writes =
     record {
       owed = λ end number reading. owed-read reads role (facts_at config end number) reading writes;
       too_large = λ end. close-reads reads role (facts_at config end 0);
       greeting = greeting-back role config writes;
+      admission = admission-back reads role config writes;
     }

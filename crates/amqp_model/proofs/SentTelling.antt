@@ -19,7 +19,7 @@ use Rattle.amqp_model.specs.Pair.Sent.{payload_in, items_in, items_sent, items_a
 use Rattle.amqp_model.specs.History.Negotiation.{Config}
 use Rattle.amqp_model.specs.End.StateFromHistory.{end_from}
 use Rattle.amqp_model.specs.End.EndVerdict.{end_puts}
-use Rattle.amqp_model.specs.End.LawfulHistories.{then_put, Goes, greets, takes, faults, meets_too_large, fails, asks, Lawful, begun, goes}
+use Rattle.amqp_model.specs.End.LawfulHistories.{then_put, Goes, greets, takes, faults, meets_too_large, fails, asks, controls, Lawful, begun, goes}
 use Rattle.amqp_model.specs.Laws.SentLaws.{TellsWhatIsActedOn, FaultTellsNothing, SaysWhatIsSent, NothingOfChannel0}
 use Rattle.amqp_model.proofs.Lists.{messages-append, messages_elsewhere}
 use Rattle.amqp_model.proofs.ItemLemmas.{items-more}
@@ -200,6 +200,7 @@ goes-tell role config before taken failed after e (takes frame p g) same =
     ∙ (ap (λ b. told role config before ++ cond b (told_at role frame.channel frame before) []) g
     ∙ (ap (λ l. l ++ told_at role frame.channel frame before) same ∙ sym (all-told-put role (end_puts config (end_from role config false before) frame) (Took frame ∷ before))))
 goes-tell role config before taken failed after e (asks ask frames made read v) same = told-put role config frames before ∙ (same ∙ sym (all-told-put role frames before))
+goes-tell role config before taken failed after e (controls control frames read v) same = told-put role config frames before ∙ (same ∙ sym (all-told-put role frames before))
 goes-tell role config before taken failed after e (faults frame p g) same = absurd (true≢false e)
 goes-tell role config before taken failed after e (meets_too_large p) same = absurd (true≢false e)
 goes-tell role config before taken failed after e (fails p) same = absurd (true≢false e)

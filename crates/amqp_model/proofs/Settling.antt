@@ -15,7 +15,7 @@ use Rattle.amqp_model.specs.End.Events.{FrameVerdict, Proceeds, RefusesContent, 
 use Rattle.amqp_model.specs.End.FrameVerdict.{methods_put}
 use Rattle.amqp_model.specs.End.Asks.{Ask, refusal, frames_asked}
 use Rattle.amqp_model.specs.End.EndVerdict.{facts_at, end_verdict}
-use Rattle.amqp_model.specs.End.LawfulHistories.{Goes, greets, takes, faults, meets_too_large, fails, asks, begun, goes}
+use Rattle.amqp_model.specs.End.LawfulHistories.{Goes, greets, takes, faults, meets_too_large, fails, asks, controls, begun, goes}
 use Rattle.amqp_model.specs.End.Machine.{agreed_after, end_after, end_after_owed, failed_by, StandsFor}
 use Rattle.amqp_model.specs.End.Fitting.{ConfigWrites, IfAgreedFits}
 use Rattle.amqp_model.specs.Laws.FittingLaws.{MethodReadsBack, AgreedIsWithin, AgreedStaysWithin, AskKeepsAgreed}
@@ -23,9 +23,11 @@ use Rattle.amqp_model.proofs.Asking.{accepted as accepted-ask, accepted-none}
 use Rattle.amqp_model.proofs.FrameSteps.{frame-follows}
 use Rattle.amqp_model.proofs.Failing.{frame-fails, too-large-fails}
 use Rattle.amqp_model.proofs.AskSteps.{asks-follow}
+use Rattle.amqp_model.proofs.Walking.{Stands, stands-kept}
+use Rattle.amqp_model.proofs.Controlling.{control-kept, puts-at-zero}
 use Rattle.amqp_model.proofs.Lawfulness.{lawful-stands}
 use Rattle.amqp_model.proofs.ReadBackOwed.{AllSound, owed-sound, fault-sound, all-reads-back}
-use Rattle.amqp_model.proofs.OctetAsks.{AllKeep, all-keep, ask-keeps}
+use Rattle.amqp_model.proofs.OctetAsks.{AllKeep, all-keep, ask-keeps, control-keeps}
 
 -- what a server accepts is within its own limits
 accepted-fits : (config : Config Server) (agreed : Agreed) → ConfigWrites config → IfAgreedFits (accepted config agreed)
@@ -99,6 +101,12 @@ goes-within reads role config before taken failed after writes stands fits (asks
     let parts = accepted-none (refusal role end ask) (frames_asked end ask) frames e in
     let follows = asks-follow role config end before ask frames stands read.method made e in
     let keeps = all-keep role config frames end (subst (AllKeep role config) parts.1 (ask-keeps role config end ask read.method (accepted-ask role end ask parts.0))) in
+    subst IfAgreedFits (sym follows.agreed) (subst IfAgreedFits (sym keeps) fits)
+goes-within reads role config before taken failed after writes stands fits (controls control frames read e) =
+    let end = end_from role config false before in
+    let at = puts-at-zero role config end control frames (all-reads-back reads role config writes) read e in
+    let follows = control-kept Stands stands-kept.puts role config end before frames stands at in
+    let keeps = all-keep role config frames end (control-keeps role config frames at) in
     subst IfAgreedFits (sym follows.agreed) (subst IfAgreedFits (sym keeps) fits)
 
 pub agreed-within : MethodReadsBack → AgreedIsWithin

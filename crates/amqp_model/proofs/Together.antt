@@ -1,26 +1,29 @@
 -- Where two ends are with their connection, and what is in flight between them on channel 0.
 --
--- There are eighteen cases: eight of the handshake, one of which goes on for as long as both run, and ten of closes. The server
--- may say that it is blocked, and is no more, from its open-ok on.
+-- There are twenty-three cases: eleven of the handshake, one of which goes on for as long as both run, and twelve of closes.
+-- From its open-ok on the server may say that it is blocked, and is no more; an end that runs may put heartbeats. A server
+-- that is gated may refuse a login, or an open.
 use Rattle.std.proofs.Common.{◌≡◌, Bool, true, false, not, ◌&&◌, ℕ, ◌==◌, min, ◌≤◌, arith, List, [], ◌∷◌, ◌++◌, Option, Some, None, refl, ap, ◌∙◌}
 use Rattle.std.proofs.lemmas.Bool.{le-ltb, ne_eqb, and_from, lt-ltb, le-leb}
 use Rattle.amqp_method.specs.Arguments.{Argument, short, long, short_string}
 use Rattle.amqp_method.specs.declared.kinds.Kind.TheVariants as kinds
 use Rattle.amqp_model.specs.Wire.Frame.{Frame}
 use Rattle.amqp_model.specs.Wire.Notes.{Client, Server}
-use Rattle.amqp_model.specs.Wire.Methods.{Method, ReadsBack}
-use Rattle.amqp_model.specs.End.Channels.{Phase, Handshake, Running, Closed, Agreed, AwaitsProtocolHeader, AwaitsStart, AwaitsStartOk, AwaitsTune, AwaitsTuneOk, AwaitsOpen, AwaitsOpenOk}
+use Rattle.amqp_model.specs.Wire.Methods.{Method}
+use Rattle.amqp_model.specs.Wire.Readings.{Reading, Calls, Beat, reading}
+use Rattle.amqp_model.specs.End.Channels.{Phase, Handshake, Running, Closed, Agreed, AwaitsProtocolHeader, AwaitsStart, AwaitsStartOk, AwaitsTune, AwaitsTuneOk, AwaitsOpen, AwaitsOpenOk, HoldsStart, HoldsLogin, HoldsOpen}
 use Rattle.amqp_model.specs.History.Negotiation.{Config, FRAME_MIN, smaller, tune, settled, tunes_too_small, in_range}
 use Rattle.amqp_model.specs.History.Negotiation as negotiation
 use Rattle.amqp_model.specs.End.Closes.{Owed, close_as, without_arguments, method_frame}
 use Rattle.amqp_model.specs.End.FrameVerdict.{on_zero}
+use Rattle.amqp_model.specs.End.Controls.{heartbeat_frame}
 use Rattle.amqp_model.specs.End.Fitting.{ConfigWrites}
 use Rattle.amqp_model.proofs.Footings.{Footing}
 
 -- what is said on channel 0
 pub data Word : Type 0 where
   Start StartOk OpenAsked : (args : List Argument) → Word
-  Tune : (channel_max frame_max : ℕ) → Word
+  Tune : (channel_max frame_max heartbeat : ℕ) → Word
   TuneOk : Agreed → Word
   OpenOk CloseOk Unblocked : Word
   Close : (code : ℕ) (text : List ℕ) → Word
@@ -30,7 +33,7 @@ abbrev pub said : Word → Method
 said (Start args) = record { kind = kinds.ConnectionStart; args = args }
 said (StartOk args) = record { kind = kinds.ConnectionStartOk; args = args }
 said (OpenAsked args) = record { kind = kinds.ConnectionOpen; args = args }
-said (Tune channel_max frame_max) = record { kind = kinds.ConnectionTune; args = short channel_max ∷ long frame_max ∷ short 0 ∷ [] }
+said (Tune channel_max frame_max heartbeat) = record { kind = kinds.ConnectionTune; args = short channel_max ∷ long frame_max ∷ short heartbeat ∷ [] }
 said (TuneOk agreed) = negotiation.tune_ok agreed
 said OpenOk = negotiation.connection_open_ok
 said CloseOk = without_arguments kinds.ConnectionCloseOk
@@ -44,30 +47,53 @@ owes word = on_zero (said word)
 abbrev pub spoken : Word → Frame
 spoken word = method_frame 0 (said word)
 
-abbrev pub AllRead : List Word → Type 0
+-- what passes on channel 0: words, and heartbeats
+pub data Signal : Type 0 where
+  Says : Word → Signal
+  Beats : Signal
+
+abbrev pub passing : Signal → Frame
+passing (Says word) = spoken word
+passing Beats = heartbeat_frame
+
+abbrev pub tells : Signal → Reading
+tells (Says word) = Calls (said word)
+tells Beats = Beat true
+
+abbrev pub IsRead : Signal → Type 0
+IsRead signal = reading (passing signal) ≡ tells signal
+
+abbrev pub AllRead : List Signal → Type 0
 AllRead [] = Unit {0}
-AllRead (word ∷ later) = ReadsBack (said word) × AllRead later
+AllRead (signal ∷ later) = IsRead signal × AllRead later
 
--- words of being blocked, or no more, and then these
-pub data Blocks (rest : List Word) : List Word → Type 0 where
-  none : Blocks rest rest
-  blocked : {later : List Word} (reason : List ℕ) → Blocks rest later → Blocks rest (Blocked reason ∷ later)
-  unblocked : {later : List Word} → Blocks rest later → Blocks rest (Unblocked ∷ later)
+-- what a Running server may put, and a Running client, that leaves either as it is
+pub data IsBlock : Signal → Type 0 where
+  blocks : (reason : List ℕ) → IsBlock (Says (Blocked reason))
+  unblocks : IsBlock (Says Unblocked)
+  beats : IsBlock Beats
 
-pub blocks-then : (rest more words : List Word) → Blocks rest words → Blocks (rest ++ more) (words ++ more)
-blocks-then rest more words none = none
-blocks-then rest more words (blocked {later = later} reason b) = blocked reason (blocks-then rest more later b)
-blocks-then rest more words (unblocked {later = later} b) = unblocked (blocks-then rest more later b)
+pub data IsBeat : Signal → Type 0 where
+  a_beat : IsBeat Beats
 
-pub one-blocked : (reason : List ℕ) (blocks : List Word) → Blocks [] blocks → Blocks [] (blocks ++ Blocked reason ∷ [])
-one-blocked reason blocks none = blocked reason none
-one-blocked reason blocks (blocked {later = later} other b) = blocked other (one-blocked reason later b)
-one-blocked reason blocks (unblocked {later = later} b) = unblocked (one-blocked reason later b)
+-- signals of a sort, and then these
+pub data Passes (Is : Signal → Type 0) (rest : List Signal) : List Signal → Type 0 where
+  none : Passes Is rest rest
+  first : {signal : Signal} {later : List Signal} → Is signal → Passes Is rest later → Passes Is rest (signal ∷ later)
 
-pub one-unblocked : (blocks : List Word) → Blocks [] blocks → Blocks [] (blocks ++ Unblocked ∷ [])
-one-unblocked blocks none = unblocked none
-one-unblocked blocks (blocked {later = later} other b) = blocked other (one-unblocked later b)
-one-unblocked blocks (unblocked {later = later} b) = unblocked (one-unblocked later b)
+pub passes-then : (Is : Signal → Type 0) (rest more signals : List Signal) → Passes Is rest signals → Passes Is (rest ++ more) (signals ++ more)
+passes-then Is rest more signals none = none
+passes-then Is rest more signals (first {later = later} is p) = first is (passes-then Is rest more later p)
+
+pub one-more : (Is : Signal → Type 0) (signal : Signal) (signals : List Signal) → Is signal → Passes Is [] signals → Passes Is [] (signals ++ signal ∷ [])
+one-more Is signal signals is none = first is none
+one-more Is signal signals is (first {later = later} other p) = first other (one-more Is signal later is p)
+
+abbrev pub Blocks : (rest signals : List Signal) → Type 0
+Blocks rest signals = Passes IsBlock rest signals
+
+abbrev pub Beaten : (rest signals : List Signal) → Type 0
+Beaten rest signals = Passes IsBeat rest signals
 
 abbrev pub at : Phase → Option Agreed → Footing
 at phase agreed = record { phase = phase; agreed = agreed }
@@ -76,26 +102,36 @@ at phase agreed = record { phase = phase; agreed = agreed }
 abbrev pub both_settle : Config Client → Config Server → Agreed
 both_settle client_config server_config = settled client_config (tune server_config)
 
+-- what is agreed where the connection is closed: what the two settle, or nothing where the server refused the login
+pub data Settles (client_config : Config Client) (server_config : Config Server) : Option Agreed → Type 0 where
+  settles : Settles client_config server_config (Some (both_settle client_config server_config))
+  refused : server_config.gated ≡ true → Settles client_config server_config None
+
 -- the client's footing and the server's, what is in flight to the server and what to the client, the oldest first
-pub data Together (client_config : Config Client) (server_config : Config Server) : (client server : Footing) → (to_server to_client : List Word) → Type 0 where
+pub data Together (client_config : Config Client) (server_config : Config Server) : (client server : Footing) → (to_server to_client : List Signal) → Type 0 where
   new : Together client_config server_config (at (Handshake AwaitsStart) None) (at (Handshake AwaitsProtocolHeader) None) [] []
-  greeted : (args : List Argument) → Together client_config server_config (at (Handshake AwaitsStart) None) (at (Handshake AwaitsStartOk) None) [] (Start args ∷ [])
-  answered : (args : List Argument) → Together client_config server_config (at (Handshake AwaitsTune) None) (at (Handshake AwaitsStartOk) None) (StartOk args ∷ []) []
-  tuned : Together client_config server_config (at (Handshake AwaitsTune) None) (at (Handshake AwaitsTuneOk) None) [] (Tune server_config.channel_max server_config.frame_max ∷ [])
-  settled_once : (args : List Argument) → Together client_config server_config (at (Handshake AwaitsOpenOk) (Some (both_settle client_config server_config))) (at (Handshake AwaitsTuneOk) None) (TuneOk (both_settle client_config server_config) ∷ OpenAsked args ∷ []) []
-  settled_twice : (args : List Argument) → Together client_config server_config (at (Handshake AwaitsOpenOk) (Some (both_settle client_config server_config))) (at (Handshake AwaitsOpen) (Some (both_settle client_config server_config))) (OpenAsked args ∷ []) []
-  opened : {later : List Word} → Blocks [] later → Together client_config server_config (at (Handshake AwaitsOpenOk) (Some (both_settle client_config server_config))) (at Running (Some (both_settle client_config server_config))) [] (OpenOk ∷ later)
-  both_run : {later : List Word} → Blocks [] later → Together client_config server_config (at Running (Some (both_settle client_config server_config))) (at Running (Some (both_settle client_config server_config))) [] later
-  closed_early : {later : List Word} (code : ℕ) (text : List ℕ) → Blocks (Close code text ∷ []) later → Together client_config server_config (at (Handshake AwaitsOpenOk) (Some (both_settle client_config server_config))) (at Phase.Closing (Some (both_settle client_config server_config))) [] (OpenOk ∷ later)
-  server_closes : {later : List Word} (code : ℕ) (text : List ℕ) → Blocks (Close code text ∷ []) later → Together client_config server_config (at Running (Some (both_settle client_config server_config))) (at Phase.Closing (Some (both_settle client_config server_config))) [] later
-  client_closes : {later : List Word} (code : ℕ) (text : List ℕ) → Blocks [] later → Together client_config server_config (at Phase.Closing (Some (both_settle client_config server_config))) (at Running (Some (both_settle client_config server_config))) (Close code text ∷ []) later
-  crossing : {later : List Word} (code : ℕ) (text : List ℕ) (other_code : ℕ) (other_text : List ℕ) → Blocks (Close other_code other_text ∷ []) later → Together client_config server_config (at Phase.Closing (Some (both_settle client_config server_config))) (at Phase.Closing (Some (both_settle client_config server_config))) (Close code text ∷ []) later
-  client_heard : (code : ℕ) (text : List ℕ) → Together client_config server_config (at Phase.Closing (Some (both_settle client_config server_config))) (at Phase.Closing (Some (both_settle client_config server_config))) (Close code text ∷ CloseOk ∷ []) []
-  server_heard : {later : List Word} (code : ℕ) (text : List ℕ) → Blocks (Close code text ∷ CloseOk ∷ []) later → Together client_config server_config (at Phase.Closing (Some (both_settle client_config server_config))) (at Phase.Closing (Some (both_settle client_config server_config))) [] later
-  both_heard : Together client_config server_config (at Phase.Closing (Some (both_settle client_config server_config))) (at Phase.Closing (Some (both_settle client_config server_config))) (CloseOk ∷ []) (CloseOk ∷ [])
-  client_closed : Together client_config server_config (at Closed (Some (both_settle client_config server_config))) (at Phase.Closing (Some (both_settle client_config server_config))) (CloseOk ∷ []) []
-  server_closed : {later : List Word} → Blocks (CloseOk ∷ []) later → Together client_config server_config (at Phase.Closing (Some (both_settle client_config server_config))) (at Closed (Some (both_settle client_config server_config))) [] later
-  both_closed : Together client_config server_config (at Closed (Some (both_settle client_config server_config))) (at Closed (Some (both_settle client_config server_config))) [] []
+  greeted : (args : List Argument) → Together client_config server_config (at (Handshake AwaitsStart) None) (at (Handshake AwaitsStartOk) None) [] (Says (Start args) ∷ [])
+  start_held : Together client_config server_config (at (Handshake HoldsStart) None) (at (Handshake AwaitsStartOk) None) [] []
+  answered : (args : List Argument) → Together client_config server_config (at (Handshake AwaitsTune) None) (at (Handshake AwaitsStartOk) None) (Says (StartOk args) ∷ []) []
+  login_held : server_config.gated ≡ true → Together client_config server_config (at (Handshake AwaitsTune) None) (at (Handshake HoldsLogin) None) [] []
+  tuned : Together client_config server_config (at (Handshake AwaitsTune) None) (at (Handshake AwaitsTuneOk) None) [] (Says (Tune server_config.channel_max server_config.frame_max server_config.heartbeat) ∷ [])
+  settled_once : (args : List Argument) → Together client_config server_config (at (Handshake AwaitsOpenOk) (Some (both_settle client_config server_config))) (at (Handshake AwaitsTuneOk) None) (Says (TuneOk (both_settle client_config server_config)) ∷ Says (OpenAsked args) ∷ []) []
+  settled_twice : (args : List Argument) → Together client_config server_config (at (Handshake AwaitsOpenOk) (Some (both_settle client_config server_config))) (at (Handshake AwaitsOpen) (Some (both_settle client_config server_config))) (Says (OpenAsked args) ∷ []) []
+  open_held : Together client_config server_config (at (Handshake AwaitsOpenOk) (Some (both_settle client_config server_config))) (at (Handshake HoldsOpen) (Some (both_settle client_config server_config))) [] []
+  opened : {later : List Signal} → Blocks [] later → Together client_config server_config (at (Handshake AwaitsOpenOk) (Some (both_settle client_config server_config))) (at Running (Some (both_settle client_config server_config))) [] (Says OpenOk ∷ later)
+  both_run : {due later : List Signal} → Beaten [] due → Blocks [] later → Together client_config server_config (at Running (Some (both_settle client_config server_config))) (at Running (Some (both_settle client_config server_config))) due later
+  login_refused : server_config.gated ≡ true → (code : ℕ) (text : List ℕ) → Together client_config server_config (at (Handshake AwaitsTune) None) (at Phase.Closing None) [] (Says (Close code text) ∷ [])
+  open_refused : (code : ℕ) (text : List ℕ) → Together client_config server_config (at (Handshake AwaitsOpenOk) (Some (both_settle client_config server_config))) (at Phase.Closing (Some (both_settle client_config server_config))) [] (Says (Close code text) ∷ [])
+  closed_early : {later : List Signal} (code : ℕ) (text : List ℕ) → Blocks (Says (Close code text) ∷ []) later → Together client_config server_config (at (Handshake AwaitsOpenOk) (Some (both_settle client_config server_config))) (at Phase.Closing (Some (both_settle client_config server_config))) [] (Says OpenOk ∷ later)
+  server_closes : {due later : List Signal} (code : ℕ) (text : List ℕ) → Beaten [] due → Blocks (Says (Close code text) ∷ []) later → Together client_config server_config (at Running (Some (both_settle client_config server_config))) (at Phase.Closing (Some (both_settle client_config server_config))) due later
+  client_closes : {due later : List Signal} (code : ℕ) (text : List ℕ) → Beaten (Says (Close code text) ∷ []) due → Blocks [] later → Together client_config server_config (at Phase.Closing (Some (both_settle client_config server_config))) (at Running (Some (both_settle client_config server_config))) due later
+  crossing : {due later : List Signal} (code : ℕ) (text : List ℕ) (other_code : ℕ) (other_text : List ℕ) → Beaten (Says (Close code text) ∷ []) due → Blocks (Says (Close other_code other_text) ∷ []) later → Together client_config server_config (at Phase.Closing (Some (both_settle client_config server_config))) (at Phase.Closing (Some (both_settle client_config server_config))) due later
+  client_heard : {due : List Signal} (code : ℕ) (text : List ℕ) → Beaten (Says (Close code text) ∷ Says CloseOk ∷ []) due → Together client_config server_config (at Phase.Closing (Some (both_settle client_config server_config))) (at Phase.Closing (Some (both_settle client_config server_config))) due []
+  server_heard : {later : List Signal} (code : ℕ) (text : List ℕ) → Blocks (Says (Close code text) ∷ Says CloseOk ∷ []) later → Together client_config server_config (at Phase.Closing (Some (both_settle client_config server_config))) (at Phase.Closing (Some (both_settle client_config server_config))) [] later
+  both_heard : Together client_config server_config (at Phase.Closing (Some (both_settle client_config server_config))) (at Phase.Closing (Some (both_settle client_config server_config))) (Says CloseOk ∷ []) (Says CloseOk ∷ [])
+  client_closed : {due : List Signal} {agreed : Option Agreed} → Settles client_config server_config agreed → Beaten (Says CloseOk ∷ []) due → Together client_config server_config (at Closed agreed) (at Phase.Closing agreed) due []
+  server_closed : {later : List Signal} → Blocks (Says CloseOk ∷ []) later → Together client_config server_config (at Phase.Closing (Some (both_settle client_config server_config))) (at Closed (Some (both_settle client_config server_config))) [] later
+  both_closed : {agreed : Option Agreed} → Settles client_config server_config agreed → Together client_config server_config (at Closed agreed) (at Closed agreed) [] []
 
 -- The limits.
 

@@ -15,17 +15,17 @@ use Rattle.amqp_model.specs.Wire.Readings.{Reading, Calls, Beat, is_call, readin
 use Rattle.amqp_model.specs.History.Histories.{Took, History, entries_on, notes}
 use Rattle.amqp_model.specs.End.Channels.{Life, Channel, Free, Opening, Closing, HandshakeStep, AwaitsProtocolHeader, AwaitsStart, AwaitsStartOk, AwaitsTune, AwaitsTuneOk, AwaitsOpen, AwaitsOpenOk, Phase, Handshake, Running, Closed, Failed, Agreed, End, state_of}
 use Rattle.amqp_model.specs.End.Channels as channels
-use Rattle.amqp_model.specs.History.Negotiation.{Config, tunes_too_small, in_range, agreed_in}
+use Rattle.amqp_model.specs.History.Negotiation.{Config, tunes_too_small, in_range, agreed_in, connection_open_ok}
 use Rattle.amqp_model.specs.End.Closes.{CommandInvalid, ChannelError, connection_close_ok}
-use Rattle.amqp_model.specs.End.Events.{Quiet, ConnectionClosed, Discarded, Peer, FrameVerdict, Proceeds, Faults}
-use Rattle.amqp_model.specs.End.FrameVerdict.{Facts, first_of, by_state, on_connection, on_awaited, in_step, is_awaited, verdict_on, event_told}
+use Rattle.amqp_model.specs.End.Events.{Event, AnswerAsked, LoginAsked, OpenAsked, Quiet, ConnectionClosed, Discarded, Peer, FrameVerdict, Proceeds, Faults}
+use Rattle.amqp_model.specs.End.FrameVerdict.{Facts, first_of, by_state, on_connection, on_zero, negotiated, asked_or, on_awaited, in_step, is_awaited, verdict_on, event_told}
 use Rattle.amqp_model.specs.End.EndVerdict.{facts_at, end_puts, goes_on}
 use Rattle.amqp_model.specs.End.ReadingBack.{WritesReadBack}
 use Rattle.amqp_model.specs.End.LawfulHistories.{end_of, Lawful}
 use Rattle.amqp_model.specs.End.Machine.{ChannelStandsFor}
 use Rattle.amqp_model.specs.Laws.EndLaws.{notes_on}
 use Rattle.amqp_model.specs.Pair.Sent.{payload_in, life_on, Telling, ended_by, told_at, told}
-use Rattle.amqp_model.specs.Stream.Traces.{item_in_event, telling_at, TellsEvent, PutsTellNothing}
+use Rattle.amqp_model.specs.Stream.Traces.{item_told, item_in_event, telling_at, TellsEvent, PutsTellNothing}
 use Rattle.amqp_model.proofs.Standing.{state-reads}
 use Rattle.amqp_model.proofs.Following.{all-before}
 use Rattle.amqp_model.proofs.Acting.{seen-took}
@@ -60,19 +60,23 @@ module _ {role : Role} (config : Config role) (phase : Phase) (agreed : Option A
       (either (is_client role && same_kind method.kind kinds.ConnectionBlocked) _ _ (λ g. refl)
       (either (is_client role && same_kind method.kind kinds.ConnectionUnblocked) _ _ (λ g. refl) (λ g. absurd (false≢true g)))))
 
+  asked-tells : (gated : Bool) (event : Event) (at_once : FrameVerdict) → item_told event ≡ None → TellsNone at_once → TellsNone (asked_or gated event at_once)
+  asked-tells true event at_once none h = λ g. none
+  asked-tells false event at_once none h = h
+
   awaited-tells : (r : Role) (config : Config r) (step : HandshakeStep) (method : Method) → TellsNone (on_awaited r config agreed step method)
-  awaited-tells Client config AwaitsStart method = λ g. refl
+  awaited-tells Client config AwaitsStart method = asked-tells config.gated AnswerAsked _ refl (λ g. refl)
   awaited-tells Client config AwaitsTune method = either (tunes_too_small method) _ _ (λ g. absurd (false≢true g)) (λ g. refl)
   awaited-tells Client config AwaitsOpenOk method = by-agreed agreed
     where
       by-agreed : (agreed : Option Agreed) → TellsNone (on_awaited Client config agreed AwaitsOpenOk method)
       by-agreed None g = refl
       by-agreed (Some agreed) g = refl
-  awaited-tells Server config AwaitsStartOk method = λ g. refl
+  awaited-tells Server config AwaitsStartOk method = asked-tells config.gated LoginAsked _ refl (λ g. refl)
   awaited-tells Server config AwaitsTuneOk method = either (in_range config (agreed_in method)) _ _ (λ g. refl) (λ g. absurd (false≢true g))
-  awaited-tells Server config AwaitsOpen method = by-agreed agreed
+  awaited-tells Server config AwaitsOpen method = asked-tells config.gated OpenAsked _ refl (by-agreed agreed)
     where
-      by-agreed : (agreed : Option Agreed) → TellsNone (on_awaited Server config agreed AwaitsOpen method)
+      by-agreed : (agreed : Option Agreed) → TellsNone (Proceeds (negotiated agreed) (on_zero connection_open_ok ∷ []))
       by-agreed None g = refl
       by-agreed (Some agreed) g = refl
   awaited-tells Client config step method = λ g. absurd (false≢true g)

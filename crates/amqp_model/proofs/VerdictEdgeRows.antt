@@ -73,12 +73,12 @@ frame_of_none = refl
 
 -- a server of the greatest frames takes one
 abbrev greatest_config : Config Server
-greatest_config = record { frame_max = 1048576; channel_max = 65535; max_body = 8; hello = OfServer no_pairs [] [] }
+greatest_config = record { frame_max = 1048576; channel_max = 65535; max_body = 8; heartbeat = 0; gated = false; hello = OfServer no_pairs [] [] }
 
 greatest_taken : verdicts Server greatest_config (end_after Server greatest_config 0 (PutHere (Calls (start greatest_config)) (some_frame 0)) (new_end Server)) (calls 0 kinds.ConnectionStartOk [] ∷ calls 0 kinds.ConnectionTuneOk (short 65535 ∷ long 1048576 ∷ short 0 ∷ []) ∷ calls 0 kinds.ConnectionOpen [] ∷ []) ≡
     quietly (owes 0 (record { kind = kinds.ConnectionTune; args = short 65535 ∷ long 1048576 ∷ short 0 ∷ [] }) ∷ [])
     ∷ quietly []
-    ∷ Proceeds (Some (Negotiated (record { channel_max = 65535; frame_max = 1048576 }))) (owes 0 (without_arguments kinds.ConnectionOpenOk) ∷ [])
+    ∷ Proceeds (Some (Negotiated (record { channel_max = 65535; frame_max = 1048576; heartbeat = 0 }))) (owes 0 (without_arguments kinds.ConnectionOpenOk) ∷ [])
     ∷ []
 greatest_taken = refl
 

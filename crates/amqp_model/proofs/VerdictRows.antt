@@ -47,10 +47,10 @@ abbrev pub closed_with : CloseCode → FrameVerdict
 closed_with code = Faults (Peer code)
 
 abbrev pub server_config : (max_body : ℕ) → Config Server
-server_config max_body = record { frame_max = 131072; channel_max = 2047; max_body = max_body; hello = OfServer no_pairs (codes "PLAIN") (codes "en_US") }
+server_config max_body = record { frame_max = 131072; channel_max = 2047; max_body = max_body; heartbeat = 0; gated = false; hello = OfServer no_pairs (codes "PLAIN") (codes "en_US") }
 
 abbrev pub client_config : Config Client
-client_config = record { frame_max = 8192; channel_max = 10; max_body = 16777216; hello = OfClient no_pairs (codes "PLAIN") (0 ∷ 1 ∷ 0 ∷ 1 ∷ []) (codes "en_US") (codes "/") }
+client_config = record { frame_max = 8192; channel_max = 10; max_body = 16777216; heartbeat = 0; gated = false; hello = OfClient no_pairs (codes "PLAIN") (0 ∷ 1 ∷ 0 ∷ 1 ∷ []) (codes "en_US") (codes "/") }
 
 abbrev pub calls : ℕ → MethodKind → List Argument → Came
 calls channel kind args = On channel (Calls (record { kind = kind; args = args }))
@@ -69,7 +69,7 @@ handshake =
     ∷ []
 
 abbrev pub default_limits : Agreed
-default_limits = record { channel_max = 2047; frame_max = 131072 }
+default_limits = record { channel_max = 2047; frame_max = 131072; heartbeat = 0 }
 
 server_handshake : verdicts Server (server_config 16777216) (greeted 16777216) handshake ≡
     quietly (owes 0 (record { kind = kinds.ConnectionTune; args = short 2047 ∷ long 131072 ∷ short 0 ∷ [] }) ∷ [])
@@ -124,7 +124,7 @@ client_handshake_frames =
 client_handshake : verdicts Client client_config (new_end Client) client_handshake_frames ≡
     quietly (owes 0 (start_ok client_config) ∷ [])
     ∷ quietly (owes 0 (record { kind = kinds.ConnectionTuneOk; args = short 10 ∷ long 8192 ∷ short 0 ∷ [] }) ∷ owes 0 (record { kind = kinds.ConnectionOpen; args = short_string (codes "/") ∷ [] }) ∷ [])
-    ∷ Proceeds (Some (Negotiated (record { channel_max = 10; frame_max = 8192 }))) []
+    ∷ Proceeds (Some (Negotiated (record { channel_max = 10; frame_max = 8192; heartbeat = 0 }))) []
     ∷ []
 client_handshake = refl
 

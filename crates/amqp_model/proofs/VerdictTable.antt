@@ -10,7 +10,7 @@ use Rattle.amqp_model.specs.Wire.Notes.{Role, Client, Server}
 use Rattle.amqp_model.specs.Wire.Methods.{MethodKind, Method, Properties, class_of}
 use Rattle.amqp_model.specs.Wire.Gathering.{Gathering, Nothing, HeaderDue, BodyDue}
 use Rattle.amqp_model.specs.Wire.Readings.{Reading, Calls, UnknownMethod, MalformedMethod, HeaderOf, MalformedHeader, BodyOf, Beat}
-use Rattle.amqp_model.specs.End.Channels.{Channel, Free, Opening, Open, Phase, Handshake, Running, AwaitsStart, AwaitsStartOk, AwaitsTune, AwaitsTuneOk, AwaitsOpen, AwaitsOpenOk}
+use Rattle.amqp_model.specs.End.Channels.{Channel, Free, Opening, Open, Phase, Handshake, Running, AwaitsStart, AwaitsStartOk, AwaitsTune, AwaitsTuneOk, AwaitsOpen, AwaitsOpenOk, HoldsStart, HoldsLogin, HoldsOpen}
 use Rattle.amqp_model.specs.History.Negotiation.{Config, OfClient, OfServer}
 use Rattle.amqp_model.specs.End.Closes.{number_of}
 use Rattle.amqp_model.specs.End.Events.{Event, Peer, FrameVerdict, Proceeds, RefusesContent, Faults}
@@ -18,7 +18,7 @@ use Rattle.amqp_model.specs.End.FrameVerdict.{verdict_on}
 
 -- an event, apart from what it carries
 data EventName : Type 0 where
-  negotiated opened told flow flow_ok channel_closed channel_closed_by_us connection_closed connection_closed_by_us discarded blocked unblocked quiet : EventName
+  answer_asked login_asked open_asked negotiated opened told flow flow_ok channel_closed channel_closed_by_us connection_closed connection_closed_by_us discarded blocked unblocked quiet : EventName
 
 -- an event or none, with the methods owed; a content refused; the connection closed with a code; another fault
 data Outcome : Type 0 where
@@ -27,6 +27,9 @@ data Outcome : Type 0 where
   refuses fatal : Outcome
 
 abbrev name_of : Event → EventName
+name_of Event.AnswerAsked = answer_asked
+name_of Event.LoginAsked = login_asked
+name_of Event.OpenAsked = open_asked
 name_of (Event.Negotiated agreed) = negotiated
 name_of (Event.Opened channel) = opened
 name_of (Event.Told channel message) = told
@@ -97,10 +100,10 @@ other_frames =
 
 -- ends that take no body above 8 octets
 abbrev client_config : Config Client
-client_config = record { frame_max = 8192; channel_max = 10; max_body = 8; hello = OfClient no_pairs [] [] [] [] }
+client_config = record { frame_max = 8192; channel_max = 10; max_body = 8; heartbeat = 0; gated = false; hello = OfClient no_pairs [] [] [] [] }
 
 abbrev server_config : Config Server
-server_config = record { frame_max = 8192; channel_max = 10; max_body = 8; hello = OfServer no_pairs [] [] }
+server_config = record { frame_max = 8192; channel_max = 10; max_body = 8; heartbeat = 0; gated = false; hello = OfServer no_pairs [] [] }
 
 abbrev an_open : Gathering → Channel
 an_open kept = Open (record { content = kept; paused = false; awaits = false; requests = [] })
@@ -111,7 +114,7 @@ above_zero number channel = cond (number == 0) Free channel
 
 abbrev takes : {role : Role} → Config role → Phase → Channel → OnChannel → Outcome
 takes config phase channel (On number reading) =
-    outcome (verdict_on (record { config = config; phase = phase; agreed = Some (record { channel_max = 10; frame_max = 8192 }); number = number; channel = above_zero number channel }) reading)
+    outcome (verdict_on (record { config = config; phase = phase; agreed = Some (record { channel_max = 10; frame_max = 8192; heartbeat = 0 }); number = number; channel = above_zero number channel }) reading)
 
 abbrev takes_all : {role : Role} → Config role → Phase → Channel → List Outcome
 takes_all config phase channel = map (takes config phase channel) (map method_on every_kind ++ other_frames)
@@ -154,6 +157,19 @@ client_await_open_ok : takes_all client_config (Handshake AwaitsOpenOk) (Free) �
     ∷ closes 503 ∷ closes 503 ∷ closes 503 ∷ closes 503 ∷ closes 503 ∷ tells quiet ∷ closes 501 ∷ closes 501 ∷ closes 540 ∷ closes 502
     ∷ []
 client_await_open_ok = refl
+
+-- a client whose application is to answer start
+client_hold_start : takes_all client_config (Handshake HoldsStart) (Free) ≡
+    closes 503 ∷ closes 503 ∷ closes 540 ∷ closes 503 ∷ closes 503 ∷ closes 503 ∷ closes 503 ∷ closes 503 ∷ gives connection_closed kinds.ConnectionCloseOk ∷ closes 503 ∷ closes 503 ∷ closes 503
+    ∷ closes 503 ∷ closes 503 ∷ closes 503 ∷ closes 503 ∷ closes 503 ∷ closes 503
+    ∷ closes 503 ∷ closes 503 ∷ closes 503 ∷ closes 503 ∷ closes 503 ∷ closes 503 ∷ closes 503 ∷ closes 503
+    ∷ closes 503 ∷ closes 503 ∷ closes 503 ∷ closes 503 ∷ closes 503 ∷ closes 503 ∷ closes 503 ∷ closes 503 ∷ closes 503 ∷ closes 503
+    ∷ closes 503 ∷ closes 503 ∷ closes 503 ∷ closes 503 ∷ closes 503 ∷ closes 503 ∷ closes 503 ∷ closes 503 ∷ closes 503 ∷ closes 503 ∷ closes 503 ∷ closes 503 ∷ closes 503 ∷ closes 503 ∷ closes 503 ∷ closes 503 ∷ closes 503 ∷ closes 503
+    ∷ closes 503 ∷ closes 503 ∷ closes 503 ∷ closes 503 ∷ closes 503 ∷ closes 503
+    ∷ closes 503 ∷ closes 503
+    ∷ closes 503 ∷ closes 503 ∷ closes 503 ∷ closes 503 ∷ closes 503 ∷ tells quiet ∷ closes 501 ∷ closes 501 ∷ closes 540 ∷ closes 502
+    ∷ []
+client_hold_start = refl
 
 -- a client that has the channel Free
 client_free : takes_all client_config (Running) (Free) ≡
@@ -284,6 +300,31 @@ server_await_open : takes_all server_config (Handshake AwaitsOpen) (Free) ≡
     ∷ closes 503 ∷ closes 503 ∷ closes 503 ∷ closes 503 ∷ closes 503 ∷ tells quiet ∷ closes 501 ∷ closes 501 ∷ closes 540 ∷ closes 502
     ∷ []
 server_await_open = refl
+
+-- a server whose application is to admit a login, and an open
+server_hold_login : takes_all server_config (Handshake HoldsLogin) (Free) ≡
+    closes 503 ∷ closes 503 ∷ closes 503 ∷ closes 503 ∷ closes 503 ∷ closes 503 ∷ closes 503 ∷ closes 503 ∷ gives connection_closed kinds.ConnectionCloseOk ∷ closes 503 ∷ closes 503 ∷ closes 503
+    ∷ closes 503 ∷ closes 503 ∷ closes 503 ∷ closes 503 ∷ closes 503 ∷ closes 503
+    ∷ closes 503 ∷ closes 503 ∷ closes 503 ∷ closes 503 ∷ closes 503 ∷ closes 503 ∷ closes 503 ∷ closes 503
+    ∷ closes 503 ∷ closes 503 ∷ closes 503 ∷ closes 503 ∷ closes 503 ∷ closes 503 ∷ closes 503 ∷ closes 503 ∷ closes 503 ∷ closes 503
+    ∷ closes 503 ∷ closes 503 ∷ closes 503 ∷ closes 503 ∷ closes 503 ∷ closes 503 ∷ closes 503 ∷ closes 503 ∷ closes 503 ∷ closes 503 ∷ closes 503 ∷ closes 503 ∷ closes 503 ∷ closes 503 ∷ closes 503 ∷ closes 503 ∷ closes 503 ∷ closes 503
+    ∷ closes 503 ∷ closes 503 ∷ closes 503 ∷ closes 503 ∷ closes 503 ∷ closes 503
+    ∷ closes 503 ∷ closes 503
+    ∷ closes 503 ∷ closes 503 ∷ closes 503 ∷ closes 503 ∷ closes 503 ∷ tells quiet ∷ closes 501 ∷ closes 501 ∷ closes 540 ∷ closes 502
+    ∷ []
+server_hold_login = refl
+
+server_hold_open : takes_all server_config (Handshake HoldsOpen) (Free) ≡
+    closes 503 ∷ closes 503 ∷ closes 503 ∷ closes 503 ∷ closes 503 ∷ closes 503 ∷ closes 503 ∷ closes 503 ∷ gives connection_closed kinds.ConnectionCloseOk ∷ closes 503 ∷ closes 503 ∷ closes 503
+    ∷ closes 503 ∷ closes 503 ∷ closes 503 ∷ closes 503 ∷ closes 503 ∷ closes 503
+    ∷ closes 503 ∷ closes 503 ∷ closes 503 ∷ closes 503 ∷ closes 503 ∷ closes 503 ∷ closes 503 ∷ closes 503
+    ∷ closes 503 ∷ closes 503 ∷ closes 503 ∷ closes 503 ∷ closes 503 ∷ closes 503 ∷ closes 503 ∷ closes 503 ∷ closes 503 ∷ closes 503
+    ∷ closes 503 ∷ closes 503 ∷ closes 503 ∷ closes 503 ∷ closes 503 ∷ closes 503 ∷ closes 503 ∷ closes 503 ∷ closes 503 ∷ closes 503 ∷ closes 503 ∷ closes 503 ∷ closes 503 ∷ closes 503 ∷ closes 503 ∷ closes 503 ∷ closes 503 ∷ closes 503
+    ∷ closes 503 ∷ closes 503 ∷ closes 503 ∷ closes 503 ∷ closes 503 ∷ closes 503
+    ∷ closes 503 ∷ closes 503
+    ∷ closes 503 ∷ closes 503 ∷ closes 503 ∷ closes 503 ∷ closes 503 ∷ tells quiet ∷ closes 501 ∷ closes 501 ∷ closes 540 ∷ closes 502
+    ∷ []
+server_hold_open = refl
 
 -- a server that has the channel Free
 server_free : takes_all server_config (Running) (Free) ≡

@@ -17,30 +17,33 @@ use Rattle.amqp_model.specs.Wire.Contents.{Payload, pieces, room_in}
 use Rattle.amqp_model.specs.Wire.Readings.{Reading, header_reading, reading}
 use Rattle.amqp_model.specs.History.Histories.{History}
 use Rattle.amqp_model.specs.End.Channels.{Phase, Handshake, Running, Closed, Failed, Agreed, End}
-use Rattle.amqp_model.specs.History.Negotiation.{Config, FRAME_MIN}
+use Rattle.amqp_model.specs.History.Negotiation.{Config, FRAME_MIN, start_ok_choosing}
 use Rattle.amqp_model.specs.End.StateFromHistory.{end_from}
 use Rattle.amqp_model.specs.End.Closes.{ContentTooLarge, Owed, AllReadBack, method_frame, frame_of, reply_to, channel_close}
 use Rattle.amqp_model.specs.End.Events.{Message, Plain, Whole, method_of, FrameVerdict}
 use Rattle.amqp_model.specs.End.FrameVerdict.{on_channel, verdict_on, methods_put}
 use Rattle.amqp_model.specs.End.Asks.{Ask, Refusal, channel_max, frame_max, lowest_free, opens_on, payload_frame, message_payloads, method_asked, frames_asked, refusal, Puts, ask_verdict}
 use Rattle.amqp_model.specs.End.EndVerdict.{facts_at, end_verdict, end_puts, goes_on}
-use Rattle.amqp_model.specs.End.ReadingBack.{AskReadsBack, HeaderAskedReadsBack, WritesReadBack}
+use Rattle.amqp_model.specs.End.Controls.{Control, heartbeat_frame, control_verdict}
+use Rattle.amqp_model.specs.End.ReadingBack.{AskReadsBack, HeaderAskedReadsBack, ControlReadsBack, WritesReadBack}
 use Rattle.amqp_model.specs.End.Machine.{StandsFor}
 use Rattle.amqp_model.specs.Laws.EndLaws.{is_over, AgreesWithLives, agrees, refuses, FindsLowest}
 use Rattle.amqp_model.specs.End.Fitting.{ConfigWrites}
 use Rattle.amqp_model.specs.Laws.FittingLaws.{AllWithin}
-use Rattle.amqp_model.specs.Pair.WellPut.{SaysWell, calls, heads, fills, IsWellPut}
+use Rattle.amqp_model.specs.Pair.WellPut.{SaysWell, calls, heads, fills, beats, IsWellPut}
 use Rattle.amqp_model.proofs.Acting.{reads-back}
 use Rattle.amqp_model.proofs.Agreeing.{facts_in, is_closing, handshake-stops, frame-agrees}
 use Rattle.amqp_model.proofs.Taking.{puts-none}
 use Rattle.amqp_model.proofs.Asking.{Accepted, accepted, accepted-none, not-when, frame-channel}
 use Rattle.amqp_model.proofs.EndSteps.{not-zero}
 use Rattle.amqp_model.proofs.Lowest.{finds-lowest}
-use Rattle.amqp_model.proofs.ReadBackOwed.{AllSound, owed-sound, connection_close-short}
+use Rattle.amqp_model.proofs.ReadBackOwed.{AllSound, owed-sound, tune-sound, open_ok-sound, connection_close-short}
 use Rattle.amqp_model.proofs.ReadBackSizes.{asked-are-within, blocked-short, unblocked-short}
 use Rattle.amqp_model.proofs.Footings.{Footing, footing_of}
-use Rattle.amqp_model.proofs.Together.{Word, Start, StartOk, OpenAsked, Tune, TuneOk, OpenOk as SaysOpenOk, CloseOk as SaysCloseOk, Unblocked, Close as SaysClose, Blocked, said, owes, spoken}
-use Rattle.amqp_model.proofs.Hearing.{AllSent, Hears}
+use Rattle.amqp_model.proofs.Together.{Word, Start, StartOk, OpenAsked, Tune, TuneOk, OpenOk as SaysOpenOk, CloseOk as SaysCloseOk, Unblocked, Close as SaysClose, Blocked, said, owes, spoken, Signal, passing, IsRead}
+use Rattle.amqp_model.proofs.Hearing.{AllSent, Hears, choosing-is}
+use Rattle.amqp_model.proofs.ZeroSteps.{passing-zero}
+use Rattle.amqp_model.proofs.Controlling.{Controlled, beats as puts_beat, admits_login, admits_open, refuses_login, refuses_open, answers, control-puts}
 
 abbrev pub AllWell : Role → Agreed → List Frame → Type 0
 AllWell role limits frames = AllByRecursion (λ frame. IsWellPut role limits frame) frames
@@ -68,7 +71,7 @@ word-class : (word : Word) → (class_of (said word).kind == 10) ≡ true
 word-class (Start args) = refl
 word-class (StartOk args) = refl
 word-class (OpenAsked args) = refl
-word-class (Tune channel_max frame_max) = refl
+word-class (Tune channel_max frame_max heartbeat) = refl
 word-class (TuneOk agreed) = refl
 word-class SaysOpenOk = refl
 word-class SaysCloseOk = refl
@@ -88,12 +91,13 @@ words-well : (role : Role) (limits : Agreed) → FRAME_MIN ≤ limits.frame_max 
 words-well role limits least [] read sent sound = tt
 words-well role limits least (word ∷ later) read sent sound = (word-well role limits word read.0 sent.0 sound.0.short least, words-well role limits least later read.1 sent.1 sound.1)
 
--- what an end puts where it hears a word
-pub heard-well : (role : Role) (config : Config role) (limits : Agreed) → ConfigWrites config → WritesReadBack role config → FRAME_MIN ≤ limits.frame_max → (before : History) (word : Word) (next : Footing) (words : List Word) → Hears role config (footing_of (end_from role config false before)) word next words → ReadsBack (said word) → AllWell role limits (end_puts config (end_from role config false before) (spoken word))
-heard-well role config limits writes back least before word next words hears read =
+-- what an end puts where it hears a signal
+pub heard-well : (role : Role) (config : Config role) (limits : Agreed) → ConfigWrites config → WritesReadBack role config → FRAME_MIN ≤ limits.frame_max → (before : History) (signal : Signal) (next : Footing) (words : List Word) → Hears role config (footing_of (end_from role config false before)) signal next words → IsRead signal → AllWell role limits (end_puts config (end_from role config false before) (passing signal))
+heard-well role config limits writes back least before signal next words hears read =
     let end = end_from role config false before in
-    let owed : methods_put (facts_at config end 0) (end_verdict config end (spoken word)) ≡ map owes words = ap (λ r. methods_put (facts_at config end 0) (verdict_on (facts_at config end 0) r)) (reads-back 0 (said word) read) ∙ hears.puts in
-    subst (λ l. AllWell role limits (map frame_of l)) (sym owed) (words-well role limits least words (subst AllReadBack owed (back.owed end 0 (reading (spoken word)))) hears.sent (subst (AllSound 0) owed (owed-sound role (facts_at config end 0) (reading (spoken word)) writes)))
+    let zero : methods_put (facts_at config end 0) (verdict_on (facts_at config end 0) (reading (passing signal))) ≡ map owes words = ap (λ r. methods_put (facts_at config end 0) (verdict_on (facts_at config end 0) r)) read ∙ hears.puts in
+    let owed : methods_put (facts_at config end (passing signal).channel) (end_verdict config end (passing signal)) ≡ map owes words = ap (λ c. methods_put (facts_at config end c) (verdict_on (facts_at config end c) (reading (passing signal)))) (passing-zero signal) ∙ zero in
+    subst (λ l. AllWell role limits (map frame_of l)) (sym owed) (words-well role limits least words (subst AllReadBack zero (back.owed end 0 (reading (passing signal)))) hears.sent (subst (AllSound 0) zero (owed-sound role (facts_at config end 0) (reading (passing signal)) writes)))
 
 -- ---- methods of a channel above 0
 
@@ -291,3 +295,24 @@ module _ (role : Role) (limits : Agreed) (end : End) (agreed : end.agreed ≡ So
       let parts = accepted-none (refusal role end ask) (frames_asked end ask) frames e in
       let within = asked-are-within role end ask frames back (subst (λ a. FRAME_MIN ≤ frame_max a) (sym agreed) least) e in
       subst (AllWell role limits) parts.1 (by-ask ask back (accepted role end ask parts.0) (within-of (frames_asked end ask) (subst (AllWithin (frame_max end.agreed)) (sym parts.1) within)))
+
+-- ---- what else an application does with the connection
+
+beat-well : (role : Role) (limits : Agreed) → FRAME_MIN ≤ limits.frame_max → IsWellPut role limits heartbeat_frame
+beat-well role limits least = record { says = beats refl; at_zero = λ e. omega arith; numbered = omega arith; within = omega arith }
+
+controlled-well : {role : Role} {config : Config role} {phase : Phase} {control : Control} {frame : Frame} (limits : Agreed) → FRAME_MIN ≤ limits.frame_max → ConfigWrites config → WritesReadBack role config → ControlReadsBack role config control → Controlled role config phase control frame → IsWellPut role limits frame
+controlled-well {role = role} limits least writes back reads puts_beat = beat-well role limits least
+controlled-well {config = config} limits least writes back reads admits_login = word-well Server limits (Tune config.channel_max config.frame_max config.heartbeat) back.admission.0 refl (tune-sound 0 config writes).short least
+controlled-well limits least writes back reads admits_open = word-well Server limits SaysOpenOk back.admission.1 refl (open_ok-sound 0).short least
+controlled-well limits least writes back reads (refuses_login code text) = word-well Server limits (SaysClose code text) reads.0 refl (connection_close-short 0 code text reads.1.0) least
+controlled-well limits least writes back reads (refuses_open code text) = word-well Server limits (SaysClose code text) reads.0 refl (connection_close-short 0 code text reads.1.0) least
+controlled-well {config = config} limits least writes back reads (answers mechanism response locale short) =
+    let is = choosing-is config mechanism response locale in
+    subst (λ m. IsWellPut Client limits (method_frame 0 m)) (sym is)
+    (word-well Client limits (StartOk (start_ok_choosing config mechanism response locale).args) (subst ReadsBack is reads) refl (subst (λ m. frame_length (method_frame 0 m) ≤ FRAME_MIN) is short) least)
+
+pub control-well : (role : Role) (config : Config role) (limits : Agreed) (end : End) (control : Control) (frames : List Frame) → FRAME_MIN ≤ limits.frame_max → ConfigWrites config → WritesReadBack role config → ControlReadsBack role config control → control_verdict role config end control ≡ Puts frames → AllWell role limits frames
+control-well role config limits end control frames least writes back reads e =
+    let p = control-puts role config end.phase control frames e in
+    subst (AllWell role limits) (sym p.is) (controlled-well limits least writes back reads p.controlled, tt)

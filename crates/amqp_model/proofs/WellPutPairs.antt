@@ -7,13 +7,13 @@ use Rattle.amqp_model.specs.Wire.Notes.{Role, Client, Server}
 use Rattle.amqp_model.specs.Output.Arrangement.{on}
 use Rattle.amqp_model.specs.Wire.Methods.{ReadsBack}
 use Rattle.amqp_model.specs.History.Histories.{Took, History}
-use Rattle.amqp_model.specs.End.Channels.{HandshakeStep, Handshake, Running, Agreed}
+use Rattle.amqp_model.specs.End.Channels.{Agreed}
 use Rattle.amqp_model.specs.History.Negotiation.{Config, FRAME_MIN}
 use Rattle.amqp_model.specs.History.Negotiation as negotiation
 use Rattle.amqp_model.specs.End.StateFromHistory.{end_from}
 use Rattle.amqp_model.specs.End.Closes.{method_frame}
 use Rattle.amqp_model.specs.End.EndVerdict.{end_verdict, end_puts, goes_on}
-use Rattle.amqp_model.specs.End.LawfulHistories.{then_put, then_taken, Goes, greets, takes, asks}
+use Rattle.amqp_model.specs.End.LawfulHistories.{then_put, then_taken, Goes, greets, takes, asks, controls}
 use Rattle.amqp_model.specs.End.Machine.{StandsFor}
 use Rattle.amqp_model.specs.End.Fitting.{ConfigWrites}
 use Rattle.amqp_model.specs.Laws.FittingLaws.{MethodReadsBack}
@@ -26,12 +26,12 @@ use Rattle.amqp_model.proofs.Pairing.{pair-lawful}
 use Rattle.amqp_model.proofs.PutLast.{put-then}
 use Rattle.amqp_model.proofs.ReadBackOwed.{all-reads-back}
 use Rattle.amqp_model.proofs.Footings.{footing_of}
-use Rattle.amqp_model.proofs.Together.{Word, Start, spoken, AllRead}
+use Rattle.amqp_model.proofs.Together.{Start, Signal, passing, AllRead}
 use Rattle.amqp_model.proofs.Hearing.{start-is}
 use Rattle.amqp_model.proofs.ZeroSteps.{asked}
 use Rattle.amqp_model.proofs.BothEnds.{TogetherAs, hears-as, mine_of, theirs_of, Joined}
-use Rattle.amqp_model.proofs.Agreements.{joined, agrees-past-handshake}
-use Rattle.amqp_model.proofs.WellPut.{AllWell, all-well-join, all-well-on, well-at, word-well, heard-well, taken-well, asked-well}
+use Rattle.amqp_model.proofs.Agreements.{joined, agrees-running}
+use Rattle.amqp_model.proofs.WellPut.{AllWell, all-well-join, all-well-on, well-at, word-well, heard-well, taken-well, asked-well, control-well}
 
 least-frame : (client_config : Config Client) (server_config : Config Server) → ConfigWrites client_config → ConfigWrites server_config → FRAME_MIN ≤ (smaller_limits client_config server_config).frame_max
 least-frame client_config server_config client server = let a = client.frame_least in let b = server.frame_least in omega arith
@@ -52,13 +52,13 @@ module _ (reads : MethodReadsBack) (role : Role) (client_config : Config Client)
   more-well : (frames : List Frame) (history : History) → frames_put history ≡ frames_put mine → AllWell role (smaller_limits client_config server_config) frames → AllWell role (smaller_limits client_config server_config) (frames_put (then_put frames history))
   more-well frames history same well = subst (AllWell role (smaller_limits client_config server_config)) (sym (put-then frames history ∙ ap (λ l. l ++ frames) same)) (all-well-join role (smaller_limits client_config server_config) (frames_put mine) frames mine_well well)
 
-  zero-well : (frame : Frame) (later : List Frame) (sent due : List Word) → TogetherAs role client_config server_config (footing_of (mine_of role client_config server_config mine)) (footing_of (theirs_of role client_config server_config theirs)) due sent → AllRead due → map spoken due ≡ frame ∷ later → AllWell role (smaller_limits client_config server_config) (end_puts (config_of role client_config server_config) (end_from role (config_of role client_config server_config) false mine) frame)
+  zero-well : (frame : Frame) (later : List Frame) (sent due : List Signal) → TogetherAs role client_config server_config (footing_of (mine_of role client_config server_config mine)) (footing_of (theirs_of role client_config server_config theirs)) due sent → AllRead due → map passing due ≡ frame ∷ later → AllWell role (smaller_limits client_config server_config) (end_puts (config_of role client_config server_config) (end_from role (config_of role client_config server_config) false mine) frame)
   zero-well frame later sent [] together read e = absurd cc
-  zero-well frame later sent (word ∷ due) together read e =
-      let h = hears-as role client_config server_config p.client_writes p.server_writes due sent word together in
-      let same : spoken word ≡ frame = (let h : spoken word ∷ map spoken due ≡ frame ∷ later = e in cc) in
+  zero-well frame later sent (signal ∷ due) together read e =
+      let h = hears-as role client_config server_config p.client_writes p.server_writes due sent signal together in
+      let same : passing signal ≡ frame = (let h : passing signal ∷ map passing due ≡ frame ∷ later = e in cc) in
       let writes = writes-of role client_config server_config p.client_writes p.server_writes in
-      subst (λ f. AllWell role (smaller_limits client_config server_config) (end_puts (config_of role client_config server_config) (end_from role (config_of role client_config server_config) false mine) f)) same (heard-well role (config_of role client_config server_config) (smaller_limits client_config server_config) writes (all-reads-back reads role (config_of role client_config server_config) writes) (least-frame client_config server_config p.client_writes p.server_writes) mine word h.next h.words h.hears read.0)
+      subst (λ f. AllWell role (smaller_limits client_config server_config) (end_puts (config_of role client_config server_config) (end_from role (config_of role client_config server_config) false mine) f)) same (heard-well role (config_of role client_config server_config) (smaller_limits client_config server_config) writes (all-reads-back reads role (config_of role client_config server_config) writes) (least-frame client_config server_config p.client_writes p.server_writes) mine signal h.next h.words h.hears read.0)
 
   takes-well : (frame : Frame) → ComesNext theirs mine frame → frame.channel ≤ (smaller_limits client_config server_config).channel_max → goes_on (end_verdict (config_of role client_config server_config) (end_from role (config_of role client_config server_config) false mine) frame) ≡ true → AllWell role (smaller_limits client_config server_config) (frames_put (then_taken (config_of role client_config server_config) (end_from role (config_of role client_config server_config) false mine) frame mine))
   takes-well frame next below goes = more-well (end_puts (config_of role client_config server_config) (end_from role (config_of role client_config server_config) false mine) frame) (Took frame ∷ mine) refl (by-channel frame.channel refl)
@@ -69,21 +69,20 @@ module _ (reads : MethodReadsBack) (role : Role) (client_config : Config Client)
       by-channel : (c : ℕ) → frame.channel ≡ c → AllWell role (smaller_limits client_config server_config) (end_puts (config_of role client_config server_config) (end_from role (config_of role client_config server_config) false mine) frame)
       by-channel zero here =
           let there = subst (λ c. on c (frames_put theirs) ≡ on c (frames_taken mine) ++ frame ∷ next.later) here next.next in
-          zero-well frame next.later j.sent j.due j.together j.due_read (append_cancel_left (on 0 (frames_taken mine)) (map spoken j.due) (frame ∷ next.later) (sym j.due_is ∙ there))
+          zero-well frame next.later j.sent j.due j.together j.due_read (append_cancel_left (on 0 (frames_taken mine)) (map passing j.due) (frame ∷ next.later) (sym j.due_is ∙ there))
       by-channel (suc m) here =
           let writes = writes-of role client_config server_config p.client_writes p.server_writes in
           taken-well role (config_of role client_config server_config) (smaller_limits client_config server_config) writes (all-reads-back reads role (config_of role client_config server_config) writes) (least-frame client_config server_config p.client_writes p.server_writes) mine (lawful-of reads role client_config server_config mine theirs p) frame m here below goes
-
-not-handshake : (step : HandshakeStep) → Running ≡ Handshake step → ⊥
-not-handshake step e = cc
 
 -- a step of the client, and of the server
 client-step : (reads : MethodReadsBack) (client_config : Config Client) (server_config : Config Server) (client server : History) (taken : Option Frame) (after : History) → PairWrites Client client_config server_config client server → AllWell Client (smaller_limits client_config server_config) (frames_put client) → AllWell Server (smaller_limits client_config server_config) (frames_put server) → AllComeNext server client taken → Goes Client client_config client taken false after → AllWell Client (smaller_limits client_config server_config) (frames_put after)
 client-step reads client_config server_config client server taken after p mine theirs next (takes frame can g) = takes-well reads Client client_config server_config client server p mine frame next (next-well Server (smaller_limits client_config server_config) server client frame next theirs).numbered g
 client-step reads client_config server_config client server taken after p mine theirs next (asks ask frames made read e) =
     let runs = (asked Client client_config client (lawful-of reads Client client_config server_config client server p) ask frames made read.method e).0 in
-    let agreed = agrees-past-handshake reads Client client_config server_config client server p (λ step q. not-handshake step (sym runs ∙ q)) in
+    let agreed = agrees-running reads Client client_config server_config client server p runs in
     more-well reads Client client_config server_config client server p mine frames client refl (asked-well Client (smaller_limits client_config server_config) (end_from Client client_config false client) agreed (least-frame client_config server_config p.client_writes p.server_writes) ask frames read e)
+client-step reads client_config server_config client server taken after p mine theirs next (controls control frames read e) =
+    more-well reads Client client_config server_config client server p mine frames client refl (control-well Client client_config (smaller_limits client_config server_config) (end_from Client client_config false client) control frames (least-frame client_config server_config p.client_writes p.server_writes) p.client_writes (all-reads-back reads Client client_config p.client_writes) read e)
 
 server-step : (reads : MethodReadsBack) (client_config : Config Client) (server_config : Config Server) (server client : History) (taken : Option Frame) (after : History) → PairWrites Server client_config server_config server client → AllWell Server (smaller_limits client_config server_config) (frames_put server) → AllWell Client (smaller_limits client_config server_config) (frames_put client) → AllComeNext client server taken → Goes Server server_config server taken false after → AllWell Server (smaller_limits client_config server_config) (frames_put after)
 server-step reads client_config server_config server client taken after p mine theirs next greets =
@@ -93,8 +92,10 @@ server-step reads client_config server_config server client taken after p mine t
 server-step reads client_config server_config server client taken after p mine theirs next (takes frame can g) = takes-well reads Server client_config server_config server client p mine frame next (next-well Client (smaller_limits client_config server_config) client server frame next theirs).numbered g
 server-step reads client_config server_config server client taken after p mine theirs next (asks ask frames made read e) =
     let runs = (asked Server server_config server (lawful-of reads Server client_config server_config server client p) ask frames made read.method e).0 in
-    let agreed = agrees-past-handshake reads Server client_config server_config server client p (λ step q. not-handshake step (sym runs ∙ q)) in
+    let agreed = agrees-running reads Server client_config server_config server client p runs in
     more-well reads Server client_config server_config server client p mine frames server refl (asked-well Server (smaller_limits client_config server_config) (end_from Server server_config false server) agreed (least-frame client_config server_config p.client_writes p.server_writes) ask frames read e)
+server-step reads client_config server_config server client taken after p mine theirs next (controls control frames read e) =
+    more-well reads Server client_config server_config server client p mine frames server refl (control-well Server server_config (smaller_limits client_config server_config) (end_from Server server_config false server) control frames (least-frame client_config server_config p.client_writes p.server_writes) p.server_writes (all-reads-back reads Server server_config p.server_writes) read e)
 
 record BothWell (client_config : Config Client) (server_config : Config Server) (client server : History) : Type 0 where
   client_well : AllWell Client (smaller_limits client_config server_config) (frames_put client)

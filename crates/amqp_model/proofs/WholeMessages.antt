@@ -3,6 +3,7 @@ use Rattle.std.proofs.Common.{◌≡◌, ◌<◌, ◌≤◌, Bool, true, false, 
 use Rattle.std.specs.List.{concat}
 use Rattle.std.proofs.lemmas.Bool.{true≢false, eqb-true, eq-eqb, ne_eqb, not-true, ltb-false, lt-ltb, cond-true, cond-false}
 use Rattle.std.proofs.lemmas.List.{map-append, reverse-append}
+use Rattle.amqp_method.specs.declared.kinds.Kind.TheVariants as kinds
 use Rattle.amqp_model.specs.Wire.Frame.{Frame}
 use Rattle.amqp_model.specs.Wire.Notes.{Role, Server, Kind, Other, Note, is_message}
 use Rattle.amqp_model.specs.History.Lives.{lives}
@@ -12,7 +13,7 @@ use Rattle.amqp_model.specs.Wire.Contents.{Payload, Content, EndsFull, IsContent
 use Rattle.amqp_model.specs.Wire.Gathering.{Gathering, Nothing, HeaderDue, BodyDue, Step, Keeps, Completes, Breaks, gathered, step, remains, gathering}
 use Rattle.amqp_model.specs.Wire.Readings.{Reading, HeaderOf, reading, header_reading, kind_of, payload_of}
 use Rattle.amqp_model.specs.History.Histories.{Put, Took, History, TookHere, closes_connection, entries_on, notes}
-use Rattle.amqp_model.specs.End.Closes.{FrameError, Owed, AllReadBack, method_frame, frame_of}
+use Rattle.amqp_model.specs.End.Closes.{close_as, FrameError, Owed, AllReadBack, method_frame, frame_of}
 use Rattle.amqp_model.specs.End.Channels.{Phase, Handshake, Running, Closed, Failed, End}
 use Rattle.amqp_model.specs.History.Negotiation.{Config, Hello, OfServer}
 use Rattle.amqp_model.specs.History.Negotiation as negotiation
@@ -22,7 +23,7 @@ use Rattle.amqp_model.specs.End.FrameVerdict.{Facts, verdict_on, methods_put}
 use Rattle.amqp_model.specs.End.Asks.{Ask, Refusal, is_made, frame_max, lowest_free, opens_on, method_asked, payload_frame, refusal, frames_asked}
 use Rattle.amqp_model.specs.End.EndVerdict.{facts_at, end_verdict, goes_on}
 use Rattle.amqp_model.specs.End.ReadingBack.{header_of, AskReadsBack, WritesReadBack}
-use Rattle.amqp_model.specs.End.LawfulHistories.{then_put, Goes, greets, takes, faults, meets_too_large, fails, asks, Lawful, begun, goes}
+use Rattle.amqp_model.specs.End.LawfulHistories.{then_put, Goes, greets, takes, faults, meets_too_large, fails, asks, controls, Lawful, begun, goes}
 use Rattle.amqp_model.specs.Laws.EndLaws.{notes_on}
 use Rattle.amqp_model.specs.Pair.Sent.{payload_in}
 use Rattle.amqp_model.specs.Wire.Gathering as contents
@@ -31,6 +32,7 @@ use Rattle.amqp_model.proofs.Lists.{messages-append}
 use Rattle.amqp_model.proofs.Acting.{seen-put, reads-back}
 use Rattle.amqp_model.proofs.Asking.{Accepted, accepted, accepted-none, not-when, first-false, frame-channel, sent-kind, message-class}
 use Rattle.amqp_model.proofs.CutLemmas.{cut-content}
+use Rattle.amqp_model.proofs.Controlling.{OneAtZero, one, at_beat, at_method, at_close, beat-away, puts-at-zero}
 use Rattle.amqp_model.proofs.Elsewhere.{Each, each-owed}
 
 -- whole messages after whole messages
@@ -297,6 +299,11 @@ asked-whole role end n history (Ask.Close code text) read made a whole = method-
 asked-whole role end n history (Ask.Blocked reason) read made a whole = method-whole role n 0 (method_asked (Ask.Blocked reason)) history read.method refl whole
 asked-whole role end n history Ask.Unblocked read made a whole = method-whole role n 0 (method_asked Ask.Unblocked) history read.method refl whole
 
+control-whole : (role : Role) (n : ℕ) (history : History) (frames : List Frame) → OneAtZero frames → SentWhole role n history → SentWhole role n (then_put frames history)
+control-whole role n history frames (one frame at_beat) whole = λ life. subst (λ l. AreWholeMessages (map payload_in (sent role life (notes l)))) (sym (beat-away n history)) (whole life)
+control-whole role n history frames (one frame (at_method method back a b c plain)) whole = method-whole role n 0 method history back plain whole
+control-whole role n history frames (one frame (at_close code text back fits)) whole = method-whole role n 0 (close_as kinds.ConnectionClose code text) history back refl whole
+
 start-plain : (config : Config Server) → carries_content (negotiation.start config) ≡ false
 start-plain config = go config.hello
   where
@@ -318,6 +325,7 @@ goes-whole role config n before taken failed after back whole (fails p) = whole
 goes-whole role config n before taken failed after back whole (asks ask frames made read e) =
     let parts = accepted-none (refusal role (end_from role config false before) ask) (frames_asked (end_from role config false before) ask) frames e in
     subst (λ frames. SentWhole role n (then_put frames before)) parts.1 (asked-whole role (end_from role config false before) n before ask read made (accepted role (end_from role config false before) ask parts.0) whole)
+goes-whole role config n before taken failed after back whole (controls control frames read e) = control-whole role n before frames (puts-at-zero role config (end_from role config false before) control frames back read e) whole
 
 lawful-whole : (role : Role) (config : Config role) (failed : Bool) (history : History) (n : ℕ) → WritesReadBack role config → Lawful role config failed history → SentWhole role n history
 lawful-whole role config failed history n back begun = none-sent role n

@@ -5,7 +5,7 @@ use Rattle.std.proofs.lemmas.List.{append_cancel_left, append_cancel_right, drop
 use Rattle.amqp_frame.specs.Frame.{Frame, octets, frame_length}
 use Rattle.amqp_frame.specs.Splitting.{stream}
 use Rattle.amqp_model.specs.Output.Arrangement.{last_after, last_after_all, IsArranged}
-use Rattle.amqp_model.specs.Output.Outputs.{Output, output_octets, Writes, row_after_writing, after_writing}
+use Rattle.amqp_model.specs.Output.Outputs.{Output, output_octets, begun_on_after, Writes, row_after_writing, after_writing}
 use Rattle.amqp_model.proofs.Rows.{begun-arranged}
 
 pub length-octets : (f : Frame) → length (octets f) ≡ frame_length f
@@ -17,33 +17,35 @@ stream-append [] ys = refl
 stream-append (f ∷ xs) ys = ap (λ l. octets f ++ l) (stream-append xs ys) ∙ sym (append_assoc (octets f) (stream xs) (stream ys))
 
 -- an output of which no frame is begun
-abbrev pub waiting : ℕ → List Frame → Output
-waiting last row = record { ahead = []; last = last; row = row }
+abbrev pub waiting : (begun_on last : ℕ) → List Frame → Output
+waiting begun_on last row = record { ahead = []; begun_on = begun_on; last = last; row = row }
 
 pub nothing-before : {A : Type 0} (before later : List A) (x : A) → [] ≡ before ++ x ∷ later → ⊥
 nothing-before [] later x e = cc
 nothing-before (y ∷ before) later x e = cc
 
-row-writes : (n last : ℕ) (row : List Frame) → n ≤ length (stream row) → Writes n (waiting last row) (row_after_writing n last row)
-row-writes n last [] l = record {
+row-writes : (n on last : ℕ) (row : List Frame) → n ≤ length (stream row) → Writes n (waiting on last row) (row_after_writing n on last row)
+row-writes n on last [] l = record {
   begun = [];
   row_is = refl;
   all_begun = λ before later f e. absurd (nothing-before before later f e);
   no_more_begun = l;
+  begun_on_is = refl;
   last_is = refl;
   octets_are = sym (drop_all n [] (omega arith));
 }
-row-writes n last (f ∷ later) l = cases (n == 0) refl (nat_lt n (frame_length f)) refl (row-writes (n - frame_length f) (last_after last f) later)
+row-writes n on last (f ∷ later) l = cases (n == 0) refl (nat_lt n (frame_length f)) refl (row-writes (n - frame_length f) f.channel (last_after last f) later)
   where
     size : length (octets f ++ stream later) ≡ frame_length f + length (stream later)
     size = length-append (octets f) (stream later) ∙ ap (λ m. m + length (stream later)) (length-octets f)
 
-    none : n ≡ 0 → Writes n (waiting last (f ∷ later)) (waiting last (f ∷ later))
+    none : n ≡ 0 → Writes n (waiting on last (f ∷ later)) (waiting on last (f ∷ later))
     none z = record {
       begun = [];
       row_is = refl;
       all_begun = λ before rest g e. absurd (nothing-before before rest g e);
       no_more_begun = omega arith;
+      begun_on_is = refl;
       last_is = refl;
       octets_are = sym (ap (λ m. drop m (octets f ++ stream later)) z);
     }
@@ -52,12 +54,13 @@ row-writes n last (f ∷ later) l = cases (n == 0) refl (nat_lt n (frame_length 
     first [] rest g p e = p
     first (h ∷ before) rest g p e = absurd (nothing-before before rest g (let k : [] ≡ before ++ g ∷ rest = cc in k))
 
-    part : 0 < n → n < frame_length f → Writes n (waiting last (f ∷ later)) (record { ahead = drop n (octets f); last = last_after last f; row = later })
+    part : 0 < n → n < frame_length f → Writes n (waiting on last (f ∷ later)) (record { ahead = drop n (octets f); begun_on = f.channel; last = last_after last f; row = later })
     part p h = record {
       begun = f ∷ [];
       row_is = refl;
       all_begun = λ before rest g e. first before rest g p e;
       no_more_begun = let s = length-octets f in rw append-nil (omega arith);
+      begun_on_is = refl;
       last_is = refl;
       octets_are = let s = length-octets f in sym (drop-append-le n (octets f) (stream later) (omega arith));
     }
@@ -73,7 +76,7 @@ row-writes n last (f ∷ later) l = cases (n == 0) refl (nat_lt n (frame_length 
         let u : length (octets x) ≡ length (octets f) = ap (λ y. length (octets y)) (sym same) in
         omega arith
 
-    more : 0 < n → frame_length f ≤ n → (n - frame_length f ≤ length (stream later) → Writes (n - frame_length f) (waiting (last_after last f) later) (row_after_writing (n - frame_length f) (last_after last f) later)) → Writes n (waiting last (f ∷ later)) (row_after_writing (n - frame_length f) (last_after last f) later)
+    more : 0 < n → frame_length f ≤ n → (n - frame_length f ≤ length (stream later) → Writes (n - frame_length f) (waiting f.channel (last_after last f) later) (row_after_writing (n - frame_length f) f.channel (last_after last f) later)) → Writes n (waiting on last (f ∷ later)) (row_after_writing (n - frame_length f) f.channel (last_after last f) later)
     more p h rest =
         let w = rest (let s = size in omega arith) in
         let m = n - frame_length f in
@@ -86,6 +89,7 @@ row-writes n last (f ∷ later) l = cases (n == 0) refl (nat_lt n (frame_length 
               let few = w.no_more_begun in
               let t = length-append (octets f) (stream w.begun) in
               omega arith;
+          begun_on_is = w.begun_on_is;
           last_is = w.last_is;
           octets_are =
               w.octets_are
@@ -94,7 +98,7 @@ row-writes n last (f ∷ later) l = cases (n == 0) refl (nat_lt n (frame_length 
               ∙ ap (λ k. drop k (octets f ++ stream later)) (omega arith)));
         }
 
-    cases : (none_written : Bool) → (n == 0) ≡ none_written → (inside : Bool) → nat_lt n (frame_length f) ≡ inside → (n - frame_length f ≤ length (stream later) → Writes (n - frame_length f) (waiting (last_after last f) later) (row_after_writing (n - frame_length f) (last_after last f) later)) → Writes n (waiting last (f ∷ later)) (cond none_written (waiting last (f ∷ later)) (cond inside (record { ahead = drop n (octets f); last = last_after last f; row = later }) (row_after_writing (n - frame_length f) (last_after last f) later)))
+    cases : (none_written : Bool) → (n == 0) ≡ none_written → (inside : Bool) → nat_lt n (frame_length f) ≡ inside → (n - frame_length f ≤ length (stream later) → Writes (n - frame_length f) (waiting f.channel (last_after last f) later) (row_after_writing (n - frame_length f) f.channel (last_after last f) later)) → Writes n (waiting on last (f ∷ later)) (cond none_written (waiting on last (f ∷ later)) (cond inside (record { ahead = drop n (octets f); begun_on = f.channel; last = last_after last f; row = later }) (row_after_writing (n - frame_length f) f.channel (last_after last f) later)))
     cases true z inside i rest = none (eqb-true n 0 z)
     cases false z true i rest = let a = eqb-false n 0 z in part (omega arith) (ltb-true n (frame_length f) i)
     cases false z false i rest = let a = eqb-false n 0 z in more (omega arith) (ltb-false n (frame_length f) i) rest
@@ -106,25 +110,27 @@ writes n o l = cases (nat_lt n (length o.ahead)) refl
     size : length (output_octets o) ≡ length o.ahead + length (stream o.row)
     size = length-append o.ahead (stream o.row)
 
-    ahead : n < length o.ahead → Writes n o (record { ahead = drop n o.ahead; last = o.last; row = o.row })
+    ahead : n < length o.ahead → Writes n o (record { ahead = drop n o.ahead; begun_on = o.begun_on; last = o.last; row = o.row })
     ahead h = record {
       begun = [];
       row_is = refl;
       all_begun = λ before rest g e. absurd (nothing-before before rest g e);
       no_more_begun = rw append-nil (omega arith);
+      begun_on_is = refl;
       last_is = refl;
       octets_are = sym (drop-append-le n o.ahead (stream o.row) (omega arith));
     }
 
-    row : length o.ahead ≤ n → Writes n o (row_after_writing (n - length o.ahead) o.last o.row)
+    row : length o.ahead ≤ n → Writes n o (row_after_writing (n - length o.ahead) o.begun_on o.last o.row)
     row h =
-        let w = row-writes (n - length o.ahead) o.last o.row (let s = size in omega arith) in
+        let w = row-writes (n - length o.ahead) o.begun_on o.last o.row (let s = size in omega arith) in
         let m = n - length o.ahead in
         record {
           begun = w.begun;
           row_is = w.row_is;
           all_begun = λ before rest g e. (let s = length-append o.ahead (stream before) in let few = w.all_begun before rest g e in omega arith);
           no_more_begun = (let s = length-append o.ahead (stream w.begun) in let few = w.no_more_begun in omega arith);
+          begun_on_is = w.begun_on_is;
           last_is = w.last_is;
           octets_are =
               w.octets_are
@@ -133,7 +139,7 @@ writes n o l = cases (nat_lt n (length o.ahead)) refl
               ∙ ap (λ k. drop k (output_octets o)) (omega arith)));
         }
 
-    cases : (inside : Bool) → nat_lt n (length o.ahead) ≡ inside → Writes n o (cond inside (record { ahead = drop n o.ahead; last = o.last; row = o.row }) (row_after_writing (n - length o.ahead) o.last o.row))
+    cases : (inside : Bool) → nat_lt n (length o.ahead) ≡ inside → Writes n o (cond inside (record { ahead = drop n o.ahead; begun_on = o.begun_on; last = o.last; row = o.row }) (row_after_writing (n - length o.ahead) o.begun_on o.last o.row))
     cases true i = ahead (ltb-true n (length o.ahead) i)
     cases false i = row (ltb-false n (length o.ahead) i)
 
@@ -162,10 +168,10 @@ same-begun n ahead (f ∷ begun) (g ∷ others) row rest e all few all' few' =
     (subst (λ l. n ≤ length l) (sym (append_assoc ahead (octets f) (stream others))) (subst (λ y. n ≤ length (ahead ++ (octets y ++ stream others))) (sym first) few')) in
     cc
 
-made : List ℕ → ℕ → List Frame → Output
-made ahead last row = record { ahead = ahead; last = last; row = row }
+made : List ℕ → ℕ → ℕ → List Frame → Output
+made ahead begun_on last row = record { ahead = ahead; begun_on = begun_on; last = last; row = row }
 
-made-parts : (o : Output) → o ≡ made o.ahead o.last o.row
+made-parts : (o : Output) → o ≡ made o.ahead o.begun_on o.last o.row
 unfolding made
 made-parts o = refl
 
@@ -174,9 +180,10 @@ pub one-written : (n : ℕ) (old new other : Output) → Writes n old new → Wr
 one-written n old new other w v =
     let begun : w.begun ≡ v.begun = same-begun n old.ahead w.begun v.begun new.row other.row (sym w.row_is ∙ v.row_is) w.all_begun w.no_more_begun v.all_begun v.no_more_begun in
     let rows : new.row ≡ other.row = append_cancel_left w.begun new.row other.row (sym w.row_is ∙ (v.row_is ∙ ap (λ l. l ++ other.row) (sym begun))) in
+    let ons : new.begun_on ≡ other.begun_on = w.begun_on_is ∙ (ap (begun_on_after old.begun_on) begun ∙ sym v.begun_on_is) in
     let lasts : new.last ≡ other.last = w.last_is ∙ (ap (last_after_all old.last) begun ∙ sym v.last_is) in
     let aheads : new.ahead ≡ other.ahead = append_cancel_right new.ahead other.ahead (stream other.row) (ap (λ l. new.ahead ++ stream l) (sym rows) ∙ (w.octets_are ∙ sym v.octets_are)) in
-    let parts : made new.ahead new.last new.row ≡ made other.ahead other.last other.row = cc in
+    let parts : made new.ahead new.begun_on new.last new.row ≡ made other.ahead other.begun_on other.last other.row = cc in
     made-parts new ∙ (parts ∙ sym (made-parts other))
 
 -- a write of nothing changes nothing
@@ -189,6 +196,7 @@ writes-none old new w = one-written 0 old new old w none
       row_is = refl;
       all_begun = λ before rest g e. absurd (nothing-before before rest g e);
       no_more_begun = omega arith;
+      begun_on_is = refl;
       last_is = refl;
       octets_are = refl;
     }

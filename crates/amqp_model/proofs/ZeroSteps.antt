@@ -1,6 +1,6 @@
 -- What a step of one end is to channel 0: how it moves the end's footing, and what it puts there.
 use Rattle.std.proofs.Common.{◌≡◌, ◌⊎◌, inl, inr, true, false, ℕ, zero, suc, ◌==◌, ◌≤◌, arith, List, [], ◌∷◌, ◌++◌, map, Option, Some, None, refl, sym, ap, ap₂, ◌∙◌, subst, append-nil}
-use Rattle.std.proofs.lemmas.Bool.{false≢true, true≢false, ne_eqb, cond-false}
+use Rattle.std.proofs.lemmas.Bool.{false≢true, true≢false, ne_eqb, cond-true, cond-false}
 use Rattle.std.proofs.lemmas.List.Elements.{filter-append}
 use Rattle.amqp_model.specs.Wire.Frame.{Frame}
 use Rattle.amqp_model.specs.Wire.Notes.{Role, Client, Server}
@@ -10,15 +10,17 @@ use Rattle.amqp_model.specs.Wire.Contents.{Payload}
 use Rattle.amqp_model.specs.Wire.Readings.{Reading, Calls, reading}
 use Rattle.amqp_model.specs.History.Histories.{Put, Took, History, TookHere, PutHere}
 use Rattle.amqp_model.specs.End.Channels as channels
-use Rattle.amqp_model.specs.End.Channels.{Life, Phase, Handshake, Running, Closed, Failed, End}
-use Rattle.amqp_model.specs.History.Negotiation.{Config}
+use Rattle.amqp_model.specs.End.Channels.{Life, HandshakeStep, AwaitsTune, AwaitsTuneOk, HoldsStart, HoldsLogin, HoldsOpen, Phase, Handshake, Running, Closed, Failed, End}
+use Rattle.amqp_method.specs.Arguments.{Argument}
+use Rattle.amqp_model.specs.History.Negotiation.{Config, start_ok_choosing}
 use Rattle.amqp_model.specs.End.StateFromHistory.{end_from}
-use Rattle.amqp_model.specs.End.Closes.{ContentTooLarge, Owed, AllReadBack, frame_of, reply_to, channel_close}
+use Rattle.amqp_model.specs.End.Closes.{ContentTooLarge, Owed, AllReadBack, method_frame, frame_of, reply_to, channel_close}
 use Rattle.amqp_model.specs.End.Events.{FrameVerdict}
 use Rattle.amqp_model.specs.End.FrameVerdict.{on_channel, verdict_on, methods_put}
 use Rattle.amqp_model.specs.End.Asks.{Ask, is_made, Refusal, channel_max, lowest_free, opens_on, payload_frame, message_payloads, method_asked, frame_max, frames_asked, refusal, Puts, ask_verdict}
 use Rattle.amqp_model.specs.End.EndVerdict.{facts_at, end_verdict, goes_on}
-use Rattle.amqp_model.specs.End.ReadingBack.{WritesReadBack}
+use Rattle.amqp_model.specs.End.Controls.{Control, control_verdict}
+use Rattle.amqp_model.specs.End.ReadingBack.{WritesReadBack, ControlReadsBack}
 use Rattle.amqp_model.specs.End.LawfulHistories.{then_put, then_taken}
 use Rattle.amqp_model.specs.End.Machine.{end_after, end_after_owed, end_after_put, end_after_taken, StandsFor}
 use Rattle.amqp_model.specs.Laws.EndLaws.{is_over, AgreesWithLives, agrees, refuses, FindsLowest}
@@ -35,8 +37,10 @@ use Rattle.amqp_model.proofs.FrameSteps.{not-failed, frame-follows}
 use Rattle.amqp_model.proofs.EndSteps.{not-zero}
 use Rattle.amqp_model.proofs.PutLast.{put-then}
 use Rattle.amqp_model.proofs.Footings.{Footing, footing_of, footing_after, footing_owed, footing_put, owed-footing, put-footing, zero-channels, verdict_of}
-use Rattle.amqp_model.proofs.Together.{Word, Close, Blocked, Unblocked, said, owes, spoken, AllRead, at}
-use Rattle.amqp_model.proofs.Hearing.{Hears}
+use Rattle.amqp_model.proofs.Together.{Word, StartOk, Tune, OpenOk, Close, Blocked, Unblocked, said, owes, spoken, Signal, Says, Beats, passing, tells, IsRead, AllRead, IsBlock, blocks, unblocks, at}
+use Rattle.amqp_model.proofs.Hearing.{Hears, choosing-is}
+use Rattle.amqp_model.proofs.Walking.{Stands, stands-kept}
+use Rattle.amqp_model.proofs.Controlling.{Controlled, beats, admits_login, admits_open, refuses_login, refuses_open, answers, control-puts, puts-at-zero, control-kept}
 
 -- The frames of a channel.
 
@@ -46,13 +50,17 @@ on-join channel xs ys = filter-append (λ f. f.channel == channel) xs ys
 pub zero-apart : (n : ℕ) → (0 == suc n) ≡ false
 zero-apart n = ne_eqb 0 (suc n) (λ e. let h : 0 ≡ suc n = e in omega arith)
 
-pub words-on-zero : (words : List Word) → on 0 (map spoken words) ≡ map spoken words
-words-on-zero [] = refl
-words-on-zero (word ∷ later) = ap (λ l. spoken word ∷ l) (words-on-zero later)
+pub passing-zero : (signal : Signal) → (passing signal).channel ≡ 0
+passing-zero (Says word) = refl
+passing-zero Beats = refl
 
-pub words-above : (n : ℕ) (words : List Word) → on (suc n) (map spoken words) ≡ []
-words-above n [] = refl
-words-above n (word ∷ later) = cond-false (0 == suc n) _ _ (zero-apart n) ∙ words-above n later
+pub signals-on-zero : (signals : List Signal) → on 0 (map passing signals) ≡ map passing signals
+signals-on-zero [] = refl
+signals-on-zero (signal ∷ later) = cond-true ((passing signal).channel == 0) _ _ (ap (λ c. c == 0) (passing-zero signal)) ∙ ap (λ l. passing signal ∷ l) (signals-on-zero later)
+
+pub signals-above : (n : ℕ) (signals : List Signal) → on (suc n) (map passing signals) ≡ []
+signals-above n [] = refl
+signals-above n (signal ∷ later) = cond-false ((passing signal).channel == suc n) _ _ (ap (λ c. c == suc n) (passing-zero signal) ∙ zero-apart n) ∙ signals-above n later
 
 -- frames of channels above 0
 abbrev pub AllAbove : List Frame → Type 0
@@ -67,7 +75,7 @@ pub taken-still : (frames : List Frame) (history : History) → frames_taken (th
 taken-still [] history = refl
 taken-still (frame ∷ later) history = taken-still later (Put frame ∷ history)
 
-words-frames : (words : List Word) → map frame_of (map owes words) ≡ map spoken words
+words-frames : (words : List Word) → map frame_of (map owes words) ≡ map passing (map Says words)
 words-frames [] = refl
 words-frames (word ∷ later) = ap (λ l. spoken word ∷ l) (words-frames later)
 
@@ -75,17 +83,17 @@ all-zero : (words : List Word) → Each (λ owed. owed.channel ≡ 0) (map owes 
 all-zero [] = tt
 all-zero (word ∷ later) = (refl, all-zero later)
 
-all-read : (words : List Word) → AllReadBack (map owes words) → AllRead words
+all-read : (words : List Word) → AllReadBack (map owes words) → AllRead (map Says words)
 all-read [] back = tt
-all-read (word ∷ later) back = (back.0, all-read later back.1)
+all-read (word ∷ later) back = (reads-back 0 (said word) back.0, all-read later back.1)
 
--- A word is heard.
-pub record Heard (role : Role) (config : Config role) (before after : History) (word : Word) (next : Footing) (words : List Word) : Type 0 where
+-- A signal is heard.
+pub record Heard (role : Role) (config : Config role) (before after : History) (signal : Signal) (next : Footing) (words : List Word) : Type 0 where
   pub footing : footing_of (end_from role config false after) ≡ next
-  pub put : frames_put after ≡ frames_put before ++ map spoken words
-  pub taken : frames_taken after ≡ frames_taken before ++ spoken word ∷ []
+  pub put : frames_put after ≡ frames_put before ++ map passing (map Says words)
+  pub taken : frames_taken after ≡ frames_taken before ++ passing signal ∷ []
   pub channels : (n : ℕ) → (end_from role config false after).channels n ≡ (end_from role config false before).channels n
-  pub read : AllRead words
+  pub read : AllRead (map Says words)
 
 -- A frame of a channel above 0 is taken.
 pub record TakenAbove (role : Role) (config : Config role) (before after : History) : Type 0 where
@@ -96,35 +104,33 @@ pub record TakenAbove (role : Role) (config : Config role) (before after : Histo
   pub phase : ((end_from role config false before).phase ≡ Running) ⊎ (((end_from role config false before).phase ≡ Phase.Closing) × (frames_put after ≡ frames_put before))
 
 module _ (role : Role) (config : Config role) (back : WritesReadBack role config) (before : History) (stands : StandsFor role config false (end_from role config false before) before) where
-  pub heard : (word : Word) (next : Footing) (words : List Word) → Hears role config (footing_of (end_from role config false before)) word next words → ReadsBack (said word) → Heard role config before (then_taken config (end_from role config false before) (spoken word) before) word next words
-  heard word next words hears read = record {
-    footing = ap footing_of end_is ∙ (owed-footing role config (map owes words) _ ∙ (ap (λ l. footing_owed role config l (footing_after role config 0 (TookHere (Calls (said word)) (spoken word)) (footing_of end))) (sym hears.puts) ∙ hears.heard));
-    put = put-then (map frame_of (methods_put (facts_at config end 0) (end_verdict config end (spoken word)))) (Took (spoken word) ∷ before) ∙ ap (λ l. frames_put before ++ l) (ap (map frame_of) owed ∙ words-frames words);
-    taken = taken-still (map frame_of (methods_put (facts_at config end 0) (end_verdict config end (spoken word)))) (Took (spoken word) ∷ before);
+  pub heard : (signal : Signal) (next : Footing) (words : List Word) → Hears role config (footing_of (end_from role config false before)) signal next words → IsRead signal → Heard role config before (then_taken config (end_from role config false before) (passing signal) before) signal next words
+  heard signal next words hears says = record {
+    footing = ap footing_of end_is ∙ (owed-footing role config (map owes words) _ ∙ (ap (λ l. footing_owed role config l (footing_of (end_after role config 0 (TookHere (tells signal) (passing signal)) end))) (sym hears.puts) ∙ hears.heard));
+    put = put-then (map frame_of (methods_put (facts_at config end (passing signal).channel) (end_verdict config end (passing signal)))) (Took (passing signal) ∷ before) ∙ ap (λ l. frames_put before ++ l) (ap (map frame_of) owed ∙ words-frames words);
+    taken = taken-still (map frame_of (methods_put (facts_at config end (passing signal).channel) (end_verdict config end (passing signal)))) (Took (passing signal) ∷ before);
     channels = λ n. ap (λ (e : End). e.channels n) end_is ∙ zero-channels role config (map owes words) _ n (all-zero words);
-    read = all-read words (subst AllReadBack owed (back.owed end 0 (reading (spoken word))));
+    read = all-read words (subst AllReadBack owed (back.owed end (passing signal).channel (reading (passing signal))));
   }
     where
       end : End
       end = end_from role config false before
 
-      says : reading (spoken word) ≡ Calls (said word)
-      says = reads-back 0 (said word) read
+      verdict_is : end_verdict config end (passing signal) ≡ verdict_of config (footing_of end) (tells signal)
+      verdict_is = ap₂ (λ c r. verdict_on (facts_at config end c) r) (passing-zero signal) says
 
-      verdict_is : end_verdict config end (spoken word) ≡ verdict_of config (footing_of end) (said word)
-      verdict_is = ap (λ r. verdict_on (facts_at config end 0) r) says
-
-      goes : goes_on (end_verdict config end (spoken word)) ≡ true
+      goes : goes_on (end_verdict config end (passing signal)) ≡ true
       goes = ap goes_on verdict_is ∙ hears.goes
 
-      owed : methods_put (facts_at config end 0) (end_verdict config end (spoken word)) ≡ map owes words
-      owed = ap (methods_put (facts_at config end 0)) verdict_is ∙ hears.puts
+      owed : methods_put (facts_at config end (passing signal).channel) (end_verdict config end (passing signal)) ≡ map owes words
+      owed = ap₂ (λ c v. methods_put (facts_at config end c) v) (passing-zero signal) verdict_is ∙ hears.puts
 
-      end_is : end_from role config false (then_taken config end (spoken word) before) ≡ end_after_owed role config (map owes words) (end_after role config 0 (TookHere (Calls (said word)) (spoken word)) end)
+      end_is : end_from role config false (then_taken config end (passing signal) before) ≡ end_after_owed role config (map owes words) (end_after role config 0 (TookHere (tells signal) (passing signal)) end)
       end_is =
-          end-stands role config (end_after_taken role config end (reading (spoken word)) (spoken word)) _ (frame-follows role config end before (spoken word) back stands goes)
-          ∙ (not-failed (end_verdict config end (spoken word)) _ goes
-          ∙ ap₂ (λ l r. end_after_owed role config l (end_after role config 0 (TookHere r (spoken word)) end)) owed says)
+          end-stands role config (end_after_taken role config end (reading (passing signal)) (passing signal)) _ (frame-follows role config end before (passing signal) back stands goes)
+          ∙ (not-failed (end_verdict config end (passing signal)) _ goes
+          ∙ (ap (λ l. end_after_owed role config l (end_after role config (passing signal).channel (TookHere (reading (passing signal)) (passing signal)) end)) owed
+          ∙ ap₂ (λ c r. end_after_owed role config (map owes words) (end_after role config c (TookHere r (passing signal)) end)) (passing-zero signal) says))
 
 -- ---- a frame of a channel above 0
 
@@ -197,23 +203,18 @@ module _ (role : Role) (config : Config role) (back : WritesReadBack role config
 
 -- ---- an ask that is accepted
 
--- the server is blocked, or no more
-pub data IsBlock : Word → Type 0 where
-  blocks : (reason : List ℕ) → IsBlock (Blocked reason)
-  unblocks : IsBlock Unblocked
-
--- one word is put
-pub record Speaks (role : Role) (config : Config role) (before after : History) (word : Word) (next : Footing) : Type 0 where
+-- one signal is put
+pub record Speaks (role : Role) (config : Config role) (before after : History) (signal : Signal) (next : Footing) : Type 0 where
   pub footing : footing_of (end_from role config false after) ≡ next
-  pub put : frames_put after ≡ frames_put before ++ spoken word ∷ []
+  pub put : frames_put after ≡ frames_put before ++ passing signal ∷ []
   pub channels : (n : ℕ) → (end_from role config false after).channels n ≡ (end_from role config false before).channels n
-  pub read : ReadsBack (said word)
+  pub read : IsRead signal
 
 pub data Asked (role : Role) (config : Config role) (before after : History) : Type 0 where
   -- frames of channels above 0: by a client, or on a channel that is Open
   above : footing_of (end_from role config false after) ≡ footing_of (end_from role config false before) → on 0 (frames_put after) ≡ on 0 (frames_put before) → ((role ≡ Client) ⊎ ((c : ℕ) × ((life : Life) × ((end_from role config false before).channels c ≡ channels.Open life)))) → Asked role config before after
-  closes : (code : ℕ) (text : List ℕ) → Speaks role config before after (Close code text) (at Phase.Closing (end_from role config false before).agreed) → Asked role config before after
-  says : (word : Word) → IsBlock word → role ≡ Server → Speaks role config before after word (footing_of (end_from role config false before)) → Asked role config before after
+  closes : (code : ℕ) (text : List ℕ) → Speaks role config before after (Says (Close code text)) (at Phase.Closing (end_from role config false before).agreed) → Asked role config before after
+  says : (signal : Signal) → IsBlock signal → role ≡ Server → Speaks role config before after signal (footing_of (end_from role config false before)) → Asked role config before after
 
 put-stays : (role : Role) (config : Config role) (frames : List Frame) (footing : Footing) → AllAbove frames → footing_put role config frames footing ≡ footing
 put-stays role config [] footing all = refl
@@ -232,16 +233,21 @@ module _ (role : Role) (config : Config role) (before : History) (stands : Stand
       (ap (on 0) (put-then frames before) ∙ (on-join 0 (frames_put before) frames ∙ (ap (λ l. on 0 (frames_put before) ++ l) (above-not-zero frames all) ∙ append-nil (on 0 (frames_put before)))))
       from
 
-  -- a word
-  ask-says : (word : Word) (next : Footing) → ReadsBack (said word) → StandsFor role config false (end_after_put role config (spoken word ∷ []) (end_from role config false before)) (then_put (spoken word ∷ []) before) → footing_after role config 0 (PutHere (Calls (said word)) (spoken word)) (footing_of (end_from role config false before)) ≡ next → Speaks role config before (then_put (spoken word ∷ []) before) word next
-  ask-says word next read follows moves =
-      let is = end-stands role config (end_after_put role config (spoken word ∷ []) (end_from role config false before)) (then_put (spoken word ∷ []) before) follows in
+  -- a signal
+  pub signals : (signal : Signal) (next : Footing) → IsRead signal → StandsFor role config false (end_after_put role config (passing signal ∷ []) (end_from role config false before)) (then_put (passing signal ∷ []) before) → footing_after role config 0 (PutHere (tells signal) (passing signal)) (footing_of (end_from role config false before)) ≡ next → Speaks role config before (then_put (passing signal ∷ []) before) signal next
+  signals signal next read follows moves =
+      let is = end-stands role config (end_after_put role config (passing signal ∷ []) (end_from role config false before)) (then_put (passing signal ∷ []) before) follows in
+      let put : (end_after_put role config (passing signal ∷ []) (end_from role config false before)) ≡ end_after role config 0 (PutHere (tells signal) (passing signal)) (end_from role config false before) = ap₂ (λ c r. end_after role config c (PutHere r (passing signal)) (end_from role config false before)) (passing-zero signal) read in
       record {
-        footing = ap footing_of is ∙ (ap (λ r. footing_after role config 0 (PutHere r (spoken word)) (footing_of (end_from role config false before))) (reads-back 0 (said word) read) ∙ moves);
+        footing = ap footing_of is ∙ (ap footing_of put ∙ moves);
         put = refl;
-        channels = λ n. ap (λ (e : End). e.channels n) is;
+        channels = λ n. ap (λ (e : End). e.channels n) (is ∙ put);
         read = read;
       }
+
+  -- a word
+  ask-says : (word : Word) (next : Footing) → ReadsBack (said word) → StandsFor role config false (end_after_put role config (spoken word ∷ []) (end_from role config false before)) (then_put (spoken word ∷ []) before) → footing_after role config 0 (PutHere (Calls (said word)) (spoken word)) (footing_of (end_from role config false before)) ≡ next → Speaks role config before (then_put (spoken word ∷ []) before) (Says word) next
+  ask-says word next read follows moves = signals (Says word) next (reads-back 0 (said word) read) follows moves
 
   payloads-above : (c : ℕ) (payloads : List Payload) → (c == 0) ≡ false → AllAbove (map (payload_frame c) payloads)
   payloads-above c [] e = tt
@@ -265,7 +271,7 @@ module _ (role : Role) (config : Config role) (before : History) (stands : Stand
       moves : (role : Role) (config : Config role) (f : Footing) → f.phase ≡ Running → footing_after role config 0 (PutHere (Calls (said (Close code text))) (spoken (Close code text))) f ≡ at Phase.Closing f.agreed
       moves Client config f p = simp p
       moves Server config f p = simp p
-  by-ask (Ask.Blocked reason) read a follows = says (Blocked reason) (blocks reason) (is_server role a) (ask-says (Blocked reason) _ read follows (moves role config (footing_of (end_from role config false before)) (is-running (end_from role config false before).phase (not-when _ Refusal.NotRunning a.runs))))
+  by-ask (Ask.Blocked reason) read a follows = says (Says (Blocked reason)) (blocks reason) (is_server role a) (ask-says (Blocked reason) _ read follows (moves role config (footing_of (end_from role config false before)) (is-running (end_from role config false before).phase (not-when _ Refusal.NotRunning a.runs))))
     where
       is_server : (role : Role) {end : End} → Accepted role end (Ask.Blocked reason) → role ≡ Server
       is_server Server a = refl
@@ -274,7 +280,7 @@ module _ (role : Role) (config : Config role) (before : History) (stands : Stand
       moves : (role : Role) (config : Config role) (f : Footing) → f.phase ≡ Running → footing_after role config 0 (PutHere (Calls (said (Blocked reason))) (spoken (Blocked reason))) f ≡ f
       moves Client config f p = ap (λ q. footing_after Client config 0 (PutHere (Calls (said (Blocked reason))) (spoken (Blocked reason))) (at q f.agreed)) p ∙ ap (λ q. at q f.agreed) (sym p)
       moves Server config f p = ap (λ q. footing_after Server config 0 (PutHere (Calls (said (Blocked reason))) (spoken (Blocked reason))) (at q f.agreed)) p ∙ ap (λ q. at q f.agreed) (sym p)
-  by-ask Ask.Unblocked read a follows = says Unblocked unblocks (is_server role a) (ask-says Unblocked _ read follows (moves role config (footing_of (end_from role config false before)) (is-running (end_from role config false before).phase (not-when _ Refusal.NotRunning a.runs))))
+  by-ask Ask.Unblocked read a follows = says (Says Unblocked) unblocks (is_server role a) (ask-says Unblocked _ read follows (moves role config (footing_of (end_from role config false before)) (is-running (end_from role config false before).phase (not-when _ Refusal.NotRunning a.runs))))
     where
       is_server : (role : Role) {end : End} → Accepted role end Ask.Unblocked → role ≡ Server
       is_server Server a = refl
@@ -290,3 +296,48 @@ module _ (role : Role) (config : Config role) (before : History) (stands : Stand
       let a = accepted role (end_from role config false before) ask parts.0 in
       let follows = asks-follow role config (end_from role config false before) before ask (frames_asked (end_from role config false before) ask) stands read made (e ∙ ap Puts (sym parts.1)) in
       (is-running (end_from role config false before).phase (not-when _ Refusal.NotRunning a.runs), subst (λ frames. Asked role config before (then_put frames before)) parts.1 (by-ask ask read a follows))
+
+-- ---- what else an application does with the connection is accepted
+
+-- a heartbeat, an answer to start, a login or an open that is admitted, or one that is refused
+pub data Decided : (role : Role) → Config role → (before after : History) → Type 0 where
+  beaten : {role : Role} {config : Config role} {before after : History} → (end_from role config false before).phase ≡ Running → Speaks role config before after Beats (footing_of (end_from role config false before)) → Decided role config before after
+  starts : {config : Config Client} {before after : History} (args : List Argument) → (end_from Client config false before).phase ≡ Handshake HoldsStart → Speaks Client config before after (Says (StartOk args)) (at (Handshake AwaitsTune) (end_from Client config false before).agreed) → Decided Client config before after
+  logs_in : {config : Config Server} {before after : History} → (end_from Server config false before).phase ≡ Handshake HoldsLogin → Speaks Server config before after (Says (Tune config.channel_max config.frame_max config.heartbeat)) (at (Handshake AwaitsTuneOk) (end_from Server config false before).agreed) → Decided Server config before after
+  opens : {config : Config Server} {before after : History} → (end_from Server config false before).phase ≡ Handshake HoldsOpen → Speaks Server config before after (Says OpenOk) (at Running (end_from Server config false before).agreed) → Decided Server config before after
+  turns_away : {config : Config Server} {before after : History} (code : ℕ) (text : List ℕ) → ((end_from Server config false before).phase ≡ Handshake HoldsLogin) ⊎ ((end_from Server config false before).phase ≡ Handshake HoldsOpen) → Speaks Server config before after (Says (Close code text)) (at Phase.Closing (end_from Server config false before).agreed) → Decided Server config before after
+
+beat-moves : (role : Role) (config : Config role) (f : Footing) → f.phase ≡ Running → footing_after role config 0 (PutHere (tells Beats) (passing Beats)) f ≡ f
+beat-moves Client config f p = ap (λ q. footing_after Client config 0 (PutHere (tells Beats) (passing Beats)) (at q f.agreed)) p ∙ ap (λ q. at q f.agreed) (sym p)
+beat-moves Server config f p = ap (λ q. footing_after Server config 0 (PutHere (tells Beats) (passing Beats)) (at q f.agreed)) p ∙ ap (λ q. at q f.agreed) (sym p)
+
+starts-moves : (config : Config Client) (args : List Argument) (f : Footing) → f.phase ≡ Handshake HoldsStart → footing_after Client config 0 (PutHere (Calls (said (StartOk args))) (spoken (StartOk args))) f ≡ at (Handshake AwaitsTune) f.agreed
+starts-moves config args f p = simp p
+
+logs-moves : (config : Config Server) (a b c : ℕ) (f : Footing) → f.phase ≡ Handshake HoldsLogin → footing_after Server config 0 (PutHere (Calls (said (Tune a b c))) (spoken (Tune a b c))) f ≡ at (Handshake AwaitsTuneOk) f.agreed
+logs-moves config a b c f p = simp p
+
+opens-moves : (config : Config Server) (f : Footing) → f.phase ≡ Handshake HoldsOpen → footing_after Server config 0 (PutHere (Calls (said OpenOk)) (spoken OpenOk)) f ≡ at Running f.agreed
+opens-moves config f p = simp p
+
+away-moves : (config : Config Server) (code : ℕ) (text : List ℕ) (f : Footing) (step : HandshakeStep) → f.phase ≡ Handshake step → footing_after Server config 0 (PutHere (Calls (said (Close code text))) (spoken (Close code text))) f ≡ at Phase.Closing f.agreed
+away-moves config code text f step p = simp p
+
+-- its frame is put, by the phase
+decide : {role : Role} {config : Config role} (before : History) (phase : Phase) {control : Control} {frame : Frame} → StandsFor role config false (end_from role config false before) before → WritesReadBack role config → ControlReadsBack role config control → (end_from role config false before).phase ≡ phase → Controlled role config phase control frame → StandsFor role config false (end_after_put role config (frame ∷ []) (end_from role config false before)) (then_put (frame ∷ []) before) → Decided role config before (then_put (frame ∷ []) before)
+decide {role} {config} before phase stands back reads p beats follows = beaten p (signals role config before stands Beats _ refl follows (beat-moves role config (footing_of (end_from role config false before)) p))
+decide {config = config} before phase stands back reads p admits_login follows = logs_in p (ask-says Server config before stands (Tune config.channel_max config.frame_max config.heartbeat) _ back.admission.0 follows (logs-moves config config.channel_max config.frame_max config.heartbeat (footing_of (end_from Server config false before)) p))
+decide {config = config} before phase stands back reads p admits_open follows = opens p (ask-says Server config before stands OpenOk _ back.admission.1 follows (opens-moves config (footing_of (end_from Server config false before)) p))
+decide {config = config} before phase stands back reads p (refuses_login code text) follows = turns_away code text (inl p) (ask-says Server config before stands (Close code text) _ reads.0 follows (away-moves config code text (footing_of (end_from Server config false before)) HoldsLogin p))
+decide {config = config} before phase stands back reads p (refuses_open code text) follows = turns_away code text (inr p) (ask-says Server config before stands (Close code text) _ reads.0 follows (away-moves config code text (footing_of (end_from Server config false before)) HoldsOpen p))
+decide {config = config} before phase stands back reads p (answers mechanism response locale short) follows =
+    subst (λ frame. StandsFor Client config false (end_after_put Client config (frame ∷ []) (end_from Client config false before)) (then_put (frame ∷ []) before) → Decided Client config before (then_put (frame ∷ []) before)) (ap (method_frame 0) (sym (choosing-is config mechanism response locale)))
+    (λ follows. starts (start_ok_choosing config mechanism response locale).args p (ask-says Client config before stands (StartOk (start_ok_choosing config mechanism response locale).args) _ (subst ReadsBack (choosing-is config mechanism response locale) reads) follows (starts-moves config (start_ok_choosing config mechanism response locale).args (footing_of (end_from Client config false before)) p)))
+    follows
+
+pub decided : (role : Role) (config : Config role) (before : History) (control : Control) (frames : List Frame) → StandsFor role config false (end_from role config false before) before → WritesReadBack role config → ControlReadsBack role config control → control_verdict role config (end_from role config false before) control ≡ Puts frames → Decided role config before (then_put frames before)
+decided role config before control frames stands back reads e =
+    let p = control-puts role config (end_from role config false before).phase control frames e in
+    let follows = control-kept Stands stands-kept.puts role config (end_from role config false before) before frames stands (puts-at-zero role config (end_from role config false before) control frames back reads e) in
+    subst (λ frames. Decided role config before (then_put frames before)) (sym p.is)
+    (decide before (end_from role config false before).phase stands back reads refl p.controlled (subst (λ frames. StandsFor role config false (end_after_put role config frames (end_from role config false before)) (then_put frames before)) p.is follows))

@@ -6,10 +6,13 @@ pub mod Events
 pub mod FrameVerdict
 pub mod EndVerdict
 pub mod Asks
+pub mod Controls
 pub mod ReadingBack
 pub mod LawfulHistories
 pub mod Machine
 pub mod Answers
+pub mod Heard
+pub mod Blame
 pub mod Bounds
 pub mod Numbers
 pub mod Fitting

@@ -3,6 +3,9 @@ pub mod LifeLaws
 pub mod ContentLaws
 pub mod ArrangementLaws
 pub mod EndLaws
+pub mod ControlLaws
+pub mod HeardLaws
+pub mod BlameLaws
 pub mod VerdictInWords
 pub mod AnswersInWords
 pub mod FittingLaws
@@ -14,3 +17,4 @@ pub mod StreamingLaws
 pub mod Scripts
 pub mod ArrangementExamples
 pub mod PairExample
+pub mod GatedExample

@@ -6,7 +6,7 @@
 //! the other.
 
 ghost use Rattle.std.specs.Prelude.{ℕ, List};
-ghost use Rattle.amqp_model.specs.Pair.Agreement.{AgreesOnSmaller, AgreesPastHandshake, ClosedHasTakenAll, GoesOnAtZero, RunsWhereNextIsAbove};
+ghost use Rattle.amqp_model.specs.Pair.Agreement.{AgreesOnSmaller, AgreesPastHandshake, AgreesRunning, AgreesUngated, ClosedHasTakenAll, GoesOnAtZero, RunsWhereNextIsAbove};
 ghost use Rattle.amqp_model.specs.End.Channels.{Agreed, End};
 ghost use Rattle.amqp_model.specs.Stream.Endpoint.{Endpoint};
 ghost use Rattle.amqp_model.specs.Pair.EndsAgree.{LivesAgree, NoContentFromPaused};
@@ -18,16 +18,20 @@ ghost use Rattle.amqp_model.specs.History.Negotiation.{Config};
 ghost use Rattle.amqp_model.specs.Wire.Notes.{Client, Role, Server};
 ghost use Rattle.amqp_model.specs.Pair.NoFault.{NextIsMatched, TakesWhatComesNext};
 ghost use Rattle.amqp_model.specs.Pair.OctetsInFlight.{FeedStaysPair, FindsNoFaultWithOctets, GrownStaysPair, ItemsSentAreActedOnOrWaiting, NothingWaitsForClosed, OctetsInFlightAreFrames};
+ghost use Rattle.amqp_model.specs.Laws.GatedExample.{GatedExamplesArePairs};
 ghost use Rattle.amqp_model.specs.Laws.PairExample.{ExampleIsPair};
 ghost use Rattle.amqp_model.specs.Pair.WellPut.{NextIsWellPut, PutsWell};
 
 use crate::fitting::written_reads_back;
 
-/// Whatever an end has agreed to is the smaller of the two ends' limits, so both agree to the same; and an end that is past
-/// its handshake has agreed to it.
+/// Whatever an end has agreed to is the smaller of the two ends' limits, and of their heartbeats, so both agree to
+/// the same. An end that is past its handshake has agreed to it, unless a gated server refused the login: so each
+/// that is Running has.
 pub fn limits_are_the_smaller()
     ensures agreed { AgreesOnSmaller }
     ensures past_handshake { AgreesPastHandshake }
+    ensures running { AgreesRunning }
+    ensures ungated { AgreesUngated }
 {
     written_reads_back();
 }
@@ -44,8 +48,9 @@ pub fn connection_goes_on()
 }
 
 /// Each frame that either end puts says a method that its sender may send, of the class connection on channel 0 and of no
-/// other there; or, above channel 0, a content header or a part of a body. On channel 0 it has at most 4096 octets; any other
-/// is of a channel up to the agreed maximum, and of at most the agreed size. So is each frame that comes next.
+/// other there; above channel 0, a content header or a part of a body; or, on channel 0, a heartbeat. On channel 0 it
+/// has at most 4096 octets; any other is of a channel up to the agreed maximum, and of at most the agreed size. So is
+/// each frame that comes next.
 pub fn frames_are_well_put()
     ensures put { PutsWell }
     ensures next { NextIsWellPut }
@@ -115,6 +120,14 @@ pub fn ends_stand_together()
 /// a whole connection, with a content each way, a pause, a request and its reply, and closes that cross.
 pub fn pairs_run()
     ensures { ExampleIsPair }
+{
+    written_reads_back();
+}
+
+/// So there are two gated ends: a login and an open are admitted, each end beats, and the server closes while a
+/// heartbeat is on its way to it; or the login is refused, and both are closed without having agreed.
+pub fn gated_pairs_run()
+    ensures { GatedExamplesArePairs }
 {
     written_reads_back();
 }

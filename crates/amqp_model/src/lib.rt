@@ -9,9 +9,12 @@
 pub mod agreement;
 pub mod answers;
 pub mod arrangement;
+pub mod blame;
 pub mod bounds;
 pub mod contents;
+pub mod controls;
 pub mod fitting;
+pub mod heard;
 pub mod lives;
 pub mod octets;
 pub mod one_end;

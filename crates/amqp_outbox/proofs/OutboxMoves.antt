@@ -1,20 +1,22 @@
 -- What the calls of an outbox make of its fields.
-use Rattle.std.proofs.Common.{◌≡◌, ℕ, ◌+◌, ◌-◌, ◌<◌, ◌≤◌, List, [], ◌∷◌, ◌++◌, length, map, take, drop, All, refl, sym, ap, ap₂, ◌∙◌, subst, arith, append_assoc, append-nil, length-append, length-drop, take-append-drop, get_or}
+use Rattle.std.proofs.Common.{◌≡◌, ◌≢◌, ℕ, ◌+◌, ◌-◌, ◌<◌, ◌≤◌, ◌==◌, cond, List, [], ◌∷◌, ◌++◌, length, map, take, drop, All, refl, sym, ap, ap₂, ◌∙◌, subst, arith, append_assoc, append-nil, length-append, length-drop, take-append-drop, get_or, eq-eqb, ne_eqb}
+use Rattle.std.proofs.lemmas.Bool.{cond-true, cond-false}
 use Rattle.std.proofs.lemmas.List.{drop_at, take_at, length-map, length-take-le, map-append, get_or_at, drop-take, drop-map}
 use Rattle.std.proofs.lemmas.List.Elements.{All-nil, All-push, All-append, All-take, All-drop, All-cons, All-head, All-tail}
 use Rattle.amqp_frame.specs.Frame.{Frame, octets}
 use Rattle.amqp_frame.specs.Splitting.{stream}
-use Rattle.amqp_model.specs.Output.Arrangement.{HasChannel, IsChannel, IsArranged, placed}
+use Rattle.amqp_model.specs.Output.Arrangement.{HasChannel, IsChannel, IsArranged, on, placed}
 use Rattle.amqp_model.specs.Laws.ArrangementLaws.{PutArranges}
-use Rattle.amqp_model.specs.Output.Outputs.{output_octets, after_put, after_puts}
-use Rattle.amqp_outbox.specs.OutboxSlots.{slot_of, slots_in, slot_length, slots_length, moved_up, moved_down}
+use Rattle.amqp_model.specs.Output.Outputs.{output_octets, waiting_on, after_put, after_puts}
+use Rattle.amqp_outbox.specs.OutboxSlots.{slot_of, slots_in, slot_length, slots_length, slots_length_on, moved_up, moved_down}
 use Rattle.amqp_outbox.specs.OutboxView.{Outgoing, only, with_staged, all_put, IsPutOfFirst}
 use Rattle.amqp_outbox.specs.OutboxFields.{row_of, staged_of, outgoing_of, all_slots, IsSound}
 use Rattle.amqp_outbox.specs.declared.slots.Slot.{Slot}
 use Rattle.amqp_outbox.specs.declared.slots.Waiting.{Waiting}
 use Rattle.amqp_outbox.specs.declared.outbox.Outbox.TheInside.{Inside}
-use Rattle.amqp_outbox.proofs.OutboxLists.{moved_up-is, moved_down-is, last_of_three, last_of_four}
-use Rattle.amqp_outbox.proofs.OutboxRows.{stream-append, length-octets, slots_length-row}
+use Rattle.amqp_outbox.proofs.OutboxLists.{moved_up-is, moved_down-is, last_of_three, last_of_four, length-second}
+use Rattle.amqp_outbox.proofs.OutboxRows.{stream-append, length-octets, slots_length-row, slots_length_on-row}
+use Rattle.amqp_outbox.proofs.OutboxSlots.{slots_length_on-most}
 use Rattle.amqp_outbox.proofs.OutboxWaiting.{count-slots, slot-at, slots-before, slots-after}
 use Rattle.amqp_outbox.proofs.OutboxStates.{IsLaidOut, IsKept, laid_out, view, outgoing}
 
@@ -73,10 +75,10 @@ begun-dropped x y s octets slots written begun arranged slots_begun slots_arrang
     }
 
 -- fields that are laid out with the same lists stand for the same
-pub same_view : (x y : Inside) (gone : List ℕ) (past : List Slot) (value : Outgoing) → outgoing_of x ≡ value → y.last ≡ x.last → IsLaidOut y gone (drop x.written (take x.begun x.octets.items)) past (row_of x) (staged_of x) → outgoing_of y ≡ value
-same_view x y gone past value e f l =
+pub same_view : (x y : Inside) (gone : List ℕ) (past : List Slot) (value : Outgoing) → outgoing_of x ≡ value → y.begun_on ≡ x.begun_on → y.last ≡ x.last → IsLaidOut y gone (drop x.written (take x.begun x.octets.items)) past (row_of x) (staged_of x) → outgoing_of y ≡ value
+same_view x y gone past value e on f l =
     let ahead = drop x.written (take x.begun x.octets.items) in
-    view y gone ahead past (row_of x) (staged_of x) l ∙ (ap (λ last. outgoing ahead last (row_of x) (staged_of x)) f ∙ e)
+    view y gone ahead past (row_of x) (staged_of x) l ∙ (ap₂ (λ c last. outgoing ahead c last (row_of x) (staged_of x)) on f ∙ e)
 
 -- A frame is staged after the others.
 pub frame-staged : (x y : Inside) (f : Frame) → IsSound x → y.octets.items ≡ x.octets.items ++ octets f → all_slots y ≡ all_slots x ++ slot_of f ∷ [] → y.written ≡ x.written → y.begun ≡ x.begun → y.arranged ≡ x.arranged
@@ -107,11 +109,11 @@ frame-staged x y f s more more_slots written begun arranged slots_begun slots_ar
 pub kept-staged : (x : Inside) (f : Frame) → IsSound x → HasChannel f → IsKept x.last (row_of x) (staged_of x ++ f ∷ [])
 kept-staged x f s h = record { in_turn = s.in_turn; row_channels = s.row_channels; staged_channels = All-push HasChannel (staged_of x) f s.staged_channels h }
 
-pub staged_view : (x y : Inside) (f : Frame) (gone : List ℕ) (past : List Slot) (value : Outgoing) → outgoing_of x ≡ value → y.last ≡ x.last → IsLaidOut y gone (drop x.written (take x.begun x.octets.items)) past (row_of x) (staged_of x ++ f ∷ [])
+pub staged_view : (x y : Inside) (f : Frame) (gone : List ℕ) (past : List Slot) (value : Outgoing) → outgoing_of x ≡ value → y.begun_on ≡ x.begun_on → y.last ≡ x.last → IsLaidOut y gone (drop x.written (take x.begun x.octets.items)) past (row_of x) (staged_of x ++ f ∷ [])
     → outgoing_of y ≡ with_staged value (f ∷ [])
-staged_view x y f gone past value e g l =
+staged_view x y f gone past value e on g l =
     let ahead = drop x.written (take x.begun x.octets.items) in
-    view y gone ahead past (row_of x) (staged_of x ++ f ∷ []) l ∙ (ap (λ last. outgoing ahead last (row_of x) (staged_of x ++ f ∷ [])) g ∙ ap (λ v. with_staged v (f ∷ [])) e)
+    view y gone ahead past (row_of x) (staged_of x ++ f ∷ []) l ∙ (ap₂ (λ c last. outgoing ahead c last (row_of x) (staged_of x ++ f ∷ [])) on g ∙ ap (λ v. with_staged v (f ∷ [])) e)
 
 -- What is staged is dropped.
 pub staged-dropped : (x y : Inside) → IsSound x → y.octets.items ≡ take x.arranged x.octets.items → all_slots y ≡ take x.slots_arranged (all_slots x) → y.written ≡ x.written → y.begun ≡ x.begun → y.arranged ≡ x.arranged
@@ -148,10 +150,10 @@ staged-dropped x y s octets slots written begun arranged slots_begun slots_arran
 pub kept-row : (x : Inside) → IsSound x → IsKept x.last (row_of x) []
 kept-row x s = record { in_turn = s.in_turn; row_channels = s.row_channels; staged_channels = All-nil HasChannel }
 
-pub row_view : (x y : Inside) (gone : List ℕ) (past : List Slot) (value : Outgoing) → outgoing_of x ≡ value → y.last ≡ x.last → IsLaidOut y gone (drop x.written (take x.begun x.octets.items)) past (row_of x) [] → outgoing_of y ≡ only value.output
-row_view x y gone past value e f l =
+pub row_view : (x y : Inside) (gone : List ℕ) (past : List Slot) (value : Outgoing) → outgoing_of x ≡ value → y.begun_on ≡ x.begun_on → y.last ≡ x.last → IsLaidOut y gone (drop x.written (take x.begun x.octets.items)) past (row_of x) [] → outgoing_of y ≡ only value.output
+row_view x y gone past value e on f l =
     let ahead = drop x.written (take x.begun x.octets.items) in
-    view y gone ahead past (row_of x) [] l ∙ (ap (λ last. outgoing ahead last (row_of x) []) f ∙ ap (λ (v : Outgoing). only v.output) e)
+    view y gone ahead past (row_of x) [] l ∙ (ap₂ (λ c last. outgoing ahead c last (row_of x) []) on f ∙ ap (λ (v : Outgoing). only v.output) e)
 
 -- the frame appended stands from where the octets ended before
 pub frame-appended : (f : Frame) (old new : List ℕ) (at : ℕ) → at ≡ length old → new ≡ old ++ octets f → drop at new ≡ octets f
@@ -301,13 +303,13 @@ kept-put law x f later p s last staged at =
       staged_channels = All-tail HasChannel f later channels;
     }
 
-pub put_view : (x y : Inside) (f : Frame) (later : List Frame) (p : ℕ) (gone : List ℕ) (past : List Slot) (value : Outgoing) → outgoing_of x ≡ value → y.last ≡ x.last → placed x.last f (row_of x) ≡ take p (row_of x) ++ f ∷ drop p (row_of x)
+pub put_view : (x y : Inside) (f : Frame) (later : List Frame) (p : ℕ) (gone : List ℕ) (past : List Slot) (value : Outgoing) → outgoing_of x ≡ value → y.begun_on ≡ x.begun_on → y.last ≡ x.last → placed x.last f (row_of x) ≡ take p (row_of x) ++ f ∷ drop p (row_of x)
     → IsLaidOut y gone (drop x.written (take x.begun x.octets.items)) past (take p (row_of x) ++ f ∷ drop p (row_of x)) later
     → outgoing_of y ≡ record { output = after_put f value.output; staged = later }
-put_view x y f later p gone past value e g at l =
+put_view x y f later p gone past value e on g at l =
     let ahead = drop x.written (take x.begun x.octets.items) in
     view y gone ahead past (take p (row_of x) ++ f ∷ drop p (row_of x)) later l
-    ∙ (ap₂ (λ last row. outgoing ahead last row later) g (sym at)
+    ∙ (cc (on, g, at)
     ∙ ap (λ (v : Outgoing). record { output = after_put f v.output; staged = later }) e)
 
 -- the first slot that is staged is that of the first frame
@@ -349,6 +351,35 @@ row-within x p s =
     let row = row_of x in
     let b = ap length (ap stream (sym (take-append-drop p row)) ∙ stream-append (take p row) (drop p row)) ∙ length-append (stream (take p row)) (stream (drop p row)) in
     omega arith
+
+-- what waits of a channel, where a frame of it is begun, and where none is
+own-waiting : (x : Inside) (channel n : ℕ) → IsSound x → n ≡ length (stream (on channel (row_of x))) → x.begun_on ≡ channel → (x.begun - x.written) + n ≡ waiting_on channel (outgoing_of x).output
+own-waiting x channel n s e own =
+    let b = length-second x.octets.items x.written x.begun s.written (let l = laid_out x s in let a = s.begun in let c = s.arranged in omega arith) in
+    let there = cond-true (x.begun_on == channel) (length (drop x.written (take x.begun x.octets.items))) 0 (eq-eqb x.begun_on channel own) in
+    omega arith
+
+other-waiting : (x : Inside) (channel n : ℕ) → n ≡ length (stream (on channel (row_of x))) → x.begun_on ≢ channel → n ≡ waiting_on channel (outgoing_of x).output
+other-waiting x channel n e other =
+    let there = cond-false (x.begun_on == channel) (length (drop x.written (take x.begun x.octets.items))) 0 (ne_eqb x.begun_on channel other) in
+    omega arith
+
+row-waiting : (x : Inside) (channel n : ℕ) (slots : List Slot) → slots ≡ map slot_of (row_of x) → n ≡ slots_length_on channel slots → n ≡ length (stream (on channel (row_of x)))
+row-waiting x channel n slots e h = h ∙ (ap (slots_length_on channel) e ∙ slots_length_on-row channel (row_of x))
+
+pub waits-within : (x : Inside) (channel n : ℕ) (slots : List Slot) → IsSound x → slots ≡ map slot_of (row_of x) → n ≡ slots_length_on channel slots → (x.begun - x.written) + n ≤ x.arranged
+waits-within x channel n slots s row h =
+    let most = slots_length_on-most channel slots in
+    let a = ap slots_length row ∙ slots_length-row (row_of x) in
+    let b = row-size x s in
+    omega arith
+
+pub begun-waits : (x : Inside) (channel n : ℕ) (slots : List Slot) (value : Outgoing) → IsSound x → outgoing_of x ≡ value → slots ≡ map slot_of (row_of x) → n ≡ slots_length_on channel slots → x.begun_on ≡ channel
+    → (x.begun - x.written) + n ≡ waiting_on channel value.output
+begun-waits x channel n slots value s e row h own = own-waiting x channel n s (row-waiting x channel n slots row h) own ∙ ap (λ (v : Outgoing). waiting_on channel v.output) e
+
+pub row-waits : (x : Inside) (channel n : ℕ) (slots : List Slot) (value : Outgoing) → outgoing_of x ≡ value → slots ≡ map slot_of (row_of x) → n ≡ slots_length_on channel slots → x.begun_on ≢ channel → n ≡ waiting_on channel value.output
+row-waits x channel n slots value e row h other = other-waiting x channel n (row-waiting x channel n slots row h) other ∙ ap (λ (v : Outgoing). waiting_on channel v.output) e
 
 -- what is staged begins with a frame, where it isn't empty
 pub record BeginsWith (frames : List Frame) : Type 0 where

@@ -1,10 +1,11 @@
 -- Rows of frames, their octets and their slots.
-use Rattle.std.proofs.Common.{◌≡◌, ℕ, suc, Bool, true, false, cond, nat_lt, List, [], ◌∷◌, ◌++◌, length, map, take, drop, refl, sym, ap, ap₂, ◌∙◌, arith, append_assoc, append-nil, length-append}
+use Rattle.std.proofs.Common.{◌≡◌, ℕ, suc, ◌+◌, ◌==◌, Bool, true, false, cond, nat_lt, List, [], ◌∷◌, ◌++◌, length, map, take, drop, refl, sym, ap, ap₂, ◌∙◌, arith, append_assoc, append-nil, length-append}
 use Rattle.std.proofs.lemmas.List.{take_at, drop_at}
 use Rattle.amqp_frame.specs.Frame.{Frame, octets, frame_length, END}
 use Rattle.amqp_frame.specs.Splitting.{stream}
-use Rattle.amqp_model.specs.Output.Arrangement.{last_after, last_after_all, placed, turn}
-use Rattle.amqp_outbox.specs.OutboxSlots.{slot_of, slot_length, slots_length, frame_in, frames_in, slots_last, turns_before}
+use Rattle.amqp_model.specs.Output.Arrangement.{last_after, last_after_all, on, placed, turn}
+use Rattle.amqp_model.specs.Output.Outputs.{begun_on_after}
+use Rattle.amqp_outbox.specs.OutboxSlots.{slot_of, slot_length, slots_length, slots_length_on, slots_begun_on, frame_in, frames_in, slots_last, turns_before}
 
 pub length-octets : (f : Frame) → length (octets f) ≡ frame_length f
 unfolding octets
@@ -45,6 +46,22 @@ slots_length-row (f ∷ row) =
     let b = length-octets f in
     let c = length-append (octets f) (stream row) in
     omega arith
+
+pub slots_begun_on-row : (begun_on : ℕ) (row : List Frame) → slots_begun_on begun_on (map slot_of row) ≡ begun_on_after begun_on row
+slots_begun_on-row begun_on [] = refl
+slots_begun_on-row begun_on (f ∷ row) = slots_begun_on-row f.channel row
+
+pub slots_length_on-row : (channel : ℕ) (row : List Frame) → slots_length_on channel (map slot_of row) ≡ length (stream (on channel row))
+slots_length_on-row channel [] = refl
+slots_length_on-row channel (f ∷ row) = cases (f.channel == channel) (slots_length_on-row channel row)
+  where
+    cases : (own : Bool) → slots_length_on channel (map slot_of row) ≡ length (stream (on channel row))
+        → cond own (slot_length (slot_of f)) 0 + slots_length_on channel (map slot_of row) ≡ length (stream (cond own (f ∷ on channel row) (on channel row)))
+    cases true h =
+        let b = length-octets f in
+        let c = length-append (octets f) (stream (on channel row)) in
+        omega arith
+    cases false h = omega (arith, h)
 
 pub slots_last-row : (last : ℕ) (row : List Frame) → slots_last last (map slot_of row) ≡ last_after_all last row
 slots_last-row last [] = refl

@@ -2,7 +2,7 @@
 use Rattle.std.proofs.Common.{◌≡◌, ℕ, suc, ◌+◌, ◌-◌, ◌<◌, ◌≤◌, Bool, true, false, cond, ◌==◌, nat_lt, List, [], ◌∷◌, ◌++◌, length, get_or, take, drop, refl, sym, ap, ◌∙◌, arith, inr, lt-ltb, le-ltb, ne_eqb}
 use Rattle.std.proofs.lemmas.List.{take_more, drop_more, drop_all, take-append-drop}
 use Rattle.std.proofs.lemmas.Bool.{cond-true, cond-false}
-use Rattle.amqp_outbox.specs.OutboxSlots.{slot_length, slots_length, slot_turn, slot_last, slots_last, turns_before, begun_by, EndsWithChannel}
+use Rattle.amqp_outbox.specs.OutboxSlots.{slot_length, slots_length, slots_length_on, slots_begun_on, slot_turn, slot_last, slots_last, turns_before, begun_by, EndsWithChannel}
 use Rattle.amqp_outbox.specs.declared.slots.Slot.{Slot}
 
 pub slots_length-append : (xs ys : List Slot) → slots_length (xs ++ ys) ≡ slots_length xs + slots_length ys
@@ -13,7 +13,33 @@ pub slots_last-append : (last : ℕ) (xs ys : List Slot) → slots_last last (xs
 slots_last-append last [] ys = refl
 slots_last-append last (x ∷ xs) ys = slots_last-append (slot_last last x) xs ys
 
+pub slots_begun_on-append : (begun_on : ℕ) (xs : List Slot) (x : Slot) → slots_begun_on begun_on (xs ++ x ∷ []) ≡ x.channel
+slots_begun_on-append begun_on [] x = refl
+slots_begun_on-append begun_on (y ∷ xs) x = slots_begun_on-append y.channel xs x
+
+pub slots_length_on-append : (channel : ℕ) (xs ys : List Slot) → slots_length_on channel (xs ++ ys) ≡ slots_length_on channel xs + slots_length_on channel ys
+slots_length_on-append channel [] ys = omega arith
+slots_length_on-append channel (x ∷ xs) ys = let a = slots_length_on-append channel xs ys in omega arith
+
 -- one slot more
+pub slots_begun_on-more : (begun_on : ℕ) (xs : List Slot) (i : ℕ) (d : Slot) → i < length xs → slots_begun_on begun_on (take (i + 1) xs) ≡ (get_or xs i d).channel
+slots_begun_on-more begun_on xs i d h = ap (slots_begun_on begun_on) (take_more xs i d h) ∙ slots_begun_on-append begun_on (take i xs) (get_or xs i d)
+
+pub slots_length_on-more : (channel : ℕ) (xs : List Slot) (i : ℕ) (d : Slot) → i < length xs
+    → slots_length_on channel (take (i + 1) xs) ≡ slots_length_on channel (take i xs) + cond ((get_or xs i d).channel == channel) (slot_length (get_or xs i d)) 0
+slots_length_on-more channel xs i d h =
+    let a = ap (slots_length_on channel) (take_more xs i d h) ∙ slots_length_on-append channel (take i xs) (get_or xs i d ∷ []) in
+    omega arith
+
+-- those of a channel are no longer than all
+pub slots_length_on-most : (channel : ℕ) (xs : List Slot) → slots_length_on channel xs ≤ slots_length xs
+slots_length_on-most channel [] = omega arith
+slots_length_on-most channel (x ∷ xs) = cases (x.channel == channel) (slots_length_on-most channel xs)
+  where
+    cases : (own : Bool) → slots_length_on channel xs ≤ slots_length xs → cond own (slot_length x) 0 + slots_length_on channel xs ≤ slot_length x + slots_length xs
+    cases true h = omega arith
+    cases false h = omega arith
+
 pub slots_length-more : (xs : List Slot) (i : ℕ) (d : Slot) → i < length xs → slots_length (take (i + 1) xs) ≡ slots_length (take i xs) + slot_length (get_or xs i d)
 slots_length-more xs i d h =
     let a = ap slots_length (take_more xs i d h) ∙ slots_length-append (take i xs) (get_or xs i d ∷ []) in

@@ -31,8 +31,8 @@ pub record IsKept (last : ℕ) (row staged : List Frame) : Type 0 where
   pub row_channels : All HasChannel row
   pub staged_channels : All HasChannel staged
 
-abbrev pub outgoing : (ahead : List ℕ) (last : ℕ) (row staged : List Frame) → Outgoing
-outgoing ahead last row staged = record { output = record { ahead = ahead; last = last; row = row }; staged = staged }
+abbrev pub outgoing : (ahead : List ℕ) (begun_on last : ℕ) (row staged : List Frame) → Outgoing
+outgoing ahead begun_on last row staged = record { output = record { ahead = ahead; begun_on = begun_on; last = last; row = row }; staged = staged }
 
 -- each part of such fields
 pub record Parts (x : Inside) (ahead : List ℕ) (row staged : List Frame) : Type 0 where
@@ -116,7 +116,7 @@ sound x gone ahead past row staged laps_past laps laps_rest l k i =
     }
 
 -- and these lists are what they stand for
-pub view : (x : Inside) (gone ahead : List ℕ) (past : List Slot) (row staged : List Frame) → IsLaidOut x gone ahead past row staged → outgoing_of x ≡ outgoing ahead x.last row staged
+pub view : (x : Inside) (gone ahead : List ℕ) (past : List Slot) (row staged : List Frame) → IsLaidOut x gone ahead past row staged → outgoing_of x ≡ outgoing ahead x.begun_on x.last row staged
 view x gone ahead past row staged l =
     let p = parts x gone ahead past row staged l in
     cc (p.ahead_is, p.row_is, p.staged_is)

@@ -1,11 +1,12 @@
 -- Lists of frames that wait, by their slots and by their laps.
-use Rattle.std.proofs.Common.{◌≡◌, ℕ, zero, suc, ◌+◌, ◌-◌, ◌<◌, ◌≤◌, true, false, List, [], ◌∷◌, ◌++◌, length, map, take, drop, get_or, set, refl, sym, ap, ap₂, ◌∙◌, subst, arith}
+use Rattle.std.proofs.Common.{◌≡◌, ℕ, zero, suc, ◌+◌, ◌-◌, ◌<◌, ◌≤◌, ◌≢◌, ◌==◌, true, false, cond, List, [], ◌∷◌, ◌++◌, length, map, take, drop, get_or, set, refl, sym, ap, ap₂, ◌∙◌, subst, arith, eq-eqb, ne_eqb}
+use Rattle.std.proofs.lemmas.Bool.{cond-true, cond-false}
 use Rattle.std.proofs.lemmas.List.{length-map, take-map, drop-map, get_or-map, map-append, take_rest}
-use Rattle.amqp_outbox.specs.OutboxSlots.{slots_in, slot_length, slots_length, slot_last, slots_last, EndsWithChannel, moved_up}
+use Rattle.amqp_outbox.specs.OutboxSlots.{slots_in, slot_length, slots_length, slots_length_on, slots_begun_on, slot_last, slots_last, EndsWithChannel, moved_up}
 use Rattle.amqp_outbox.specs.OutboxLaps.{laps_in, lap_after, laps_last, is_after, count_until, AreInOrder, Counts}
 use Rattle.amqp_outbox.specs.declared.slots.Slot.{Slot}
 use Rattle.amqp_outbox.specs.declared.slots.Waiting.{Waiting}
-use Rattle.amqp_outbox.proofs.OutboxSlots.{length-more, length-within, BegunSoFar, begun-more, ends-with}
+use Rattle.amqp_outbox.proofs.OutboxSlots.{length-more, length-within, slots_begun_on-more, slots_length_on-more, slots_length_on-most, BegunSoFar, begun-more, ends-with}
 use Rattle.amqp_outbox.proofs.OutboxLaps.{lap-begun, Searched, search-begun, search-all, search-lower, search-higher}
 
 pub count-slots : (row : List Waiting) → length (slots_in row) ≡ length row
@@ -60,6 +61,34 @@ pub begun-next : (row : List Waiting) (octets last i frames passed now : ℕ) (d
     → BegunSoFar (slots_in row) octets last (i + 1) (frames + 1) (passed + slot_length (get_or row i d).slot) (slot_last now (get_or row i d).slot)
 begun-next row octets last i frames passed now d h k b =
     subst (λ (s : Slot). BegunSoFar (slots_in row) octets last (i + 1) (frames + 1) (passed + slot_length s) (slot_last now s)) (slot-at row i d h) (begun-more (slots_in row) octets last i frames passed now d.slot (within-slots row i h) k b)
+
+pub begun_on-next : (begun_on : ℕ) (row : List Waiting) (i : ℕ) (d : Waiting) → i < length row → (get_or row i d).slot.channel ≡ slots_begun_on begun_on (take (i + 1) (slots_in row))
+begun_on-next begun_on row i d h = ap (λ (s : Slot). s.channel) (sym (slot-at row i d h)) ∙ sym (slots_begun_on-more begun_on (slots_in row) i d.slot (within-slots row i h))
+
+-- the length of a channel's frames as far as it was counted, one frame on: its own, and one of another channel
+pub length_on-next : (channel : ℕ) (row : List Waiting) (i total n : ℕ) (d : Waiting) → i < length row → total ≡ slots_length_on channel (take i (slots_in row)) → (get_or row i d).slot.channel ≡ channel
+    → n ≡ slot_length (get_or row i d).slot → total + n ≡ slots_length_on channel (take (i + 1) (slots_in row))
+length_on-next channel row i total n d h e own f =
+    let at = slot-at row i d h in
+    let a = slots_length_on-more channel (slots_in row) i d.slot (within-slots row i h) in
+    let b = cond-true ((get_or (slots_in row) i d.slot).channel == channel) (slot_length (get_or (slots_in row) i d.slot)) 0 (eq-eqb _ _ (ap (λ (s : Slot). s.channel) at ∙ own)) in
+    let g = ap slot_length at in
+    omega arith
+
+pub length_on-past : (channel : ℕ) (row : List Waiting) (i total : ℕ) (d : Waiting) → i < length row → total ≡ slots_length_on channel (take i (slots_in row)) → (get_or row i d).slot.channel ≢ channel
+    → total ≡ slots_length_on channel (take (i + 1) (slots_in row))
+length_on-past channel row i total d h e other =
+    let at = slot-at row i d h in
+    let a = slots_length_on-more channel (slots_in row) i d.slot (within-slots row i h) in
+    let b = cond-false ((get_or (slots_in row) i d.slot).channel == channel) (slot_length (get_or (slots_in row) i d.slot)) 0 (ne_eqb _ _ (λ same. other (ap (λ (s : Slot). s.channel) (sym at) ∙ same))) in
+    omega arith
+
+pub length_on-most : (channel : ℕ) (row : List Waiting) (i total n : ℕ) (d : Waiting) → i < length row → total ≡ slots_length_on channel (take i (slots_in row)) → n ≡ slot_length (get_or row i d).slot
+    → total + n ≤ slots_length (slots_in row)
+length_on-most channel row i total n d h e f =
+    let a = slots_length_on-most channel (take i (slots_in row)) in
+    let b = length-most row i (slots_length (take i (slots_in row))) n d h refl f in
+    omega arith
 
 pub lap-next : (lap last i its now more : ℕ) (row : List Waiting) (d : Waiting) → i < length row → its ≡ laps_last lap last (take i (slots_in row)) → now ≡ slots_last last (take i (slots_in row)) → more ≡ lap_after its now (get_or row i d).slot
     → more ≡ laps_last lap last (take (i + 1) (slots_in row))

@@ -6,27 +6,27 @@ use Rattle.std.proofs.lemmas.List.Elements.{All-drop}
 use Rattle.amqp_frame.specs.Frame.{Frame, octets, frame_length}
 use Rattle.amqp_frame.specs.Splitting.{stream}
 use Rattle.amqp_model.specs.Output.Arrangement.{IsArranged, HasChannel, last_after, last_after_all}
-use Rattle.amqp_model.specs.Output.Outputs.{Output, output_octets, row_after_writing, after_writing}
-use Rattle.amqp_outbox.specs.OutboxSlots.{slot_of, slots_length, slots_last, begun_by}
+use Rattle.amqp_model.specs.Output.Outputs.{Output, output_octets, begun_on_after, row_after_writing, after_writing}
+use Rattle.amqp_outbox.specs.OutboxSlots.{slot_of, slots_length, slots_begun_on, slots_last, begun_by}
 use Rattle.amqp_outbox.specs.OutboxView.{Outgoing, with_output}
 use Rattle.amqp_outbox.specs.OutboxFields.{row_of, staged_of, outgoing_of, IsSound, all_slots}
 use Rattle.amqp_outbox.specs.declared.slots.Slot.{Slot}
 use Rattle.amqp_outbox.specs.declared.outbox.Outbox.TheInside.{Inside}
 use Rattle.amqp_outbox.proofs.OutboxLists.{drop_past, length-second}
-use Rattle.amqp_outbox.proofs.OutboxRows.{stream-append, length-octets, slots_length-row, slots_last-row}
+use Rattle.amqp_outbox.proofs.OutboxRows.{stream-append, length-octets, slots_length-row, slots_begun_on-row, slots_last-row}
 use Rattle.amqp_outbox.proofs.OutboxStates.{IsLaidOut, IsKept, laid_out, view, outgoing}
 
-abbrev pub written_row : (n k last : ℕ) → List Frame → Output
-written_row n k last row = record { ahead = drop n (stream (take k row)); last = last_after_all last (take k row); row = drop k row }
+abbrev pub written_row : (n k begun_on last : ℕ) → List Frame → Output
+written_row n k begun_on last row = record { ahead = drop n (stream (take k row)); begun_on = begun_on_after begun_on (take k row); last = last_after_all last (take k row); row = drop k row }
 
 begun-none : (slots : List Slot) → begun_by 0 slots ≡ 0
 begun-none [] = refl
 begun-none (slot ∷ slots) = refl
 
 -- what is left of a row, of which so many octets are written
-pub row-written : (n last : ℕ) (row : List Frame) → n ≤ length (stream row) → row_after_writing n last row ≡ written_row n (begun_by n (map slot_of row)) last row
-row-written n last [] h = ap (λ ahead. record { ahead = ahead; last = last; row = [] }) (sym (drop_all n [] (omega arith)))
-row-written n last (f ∷ later) h = cases (n == 0) refl (nat_lt n (frame_length f)) refl (begun_by (n - frame_length f) (map slot_of later)) refl (row-written (n - frame_length f) (last_after last f) later)
+pub row-written : (n on last : ℕ) (row : List Frame) → n ≤ length (stream row) → row_after_writing n on last row ≡ written_row n (begun_by n (map slot_of row)) on last row
+row-written n on last [] h = ap (λ ahead. record { ahead = ahead; begun_on = on; last = last; row = [] }) (sym (drop_all n [] (omega arith)))
+row-written n on last (f ∷ later) h = cases (n == 0) refl (nat_lt n (frame_length f)) refl (begun_by (n - frame_length f) (map slot_of later)) refl (row-written (n - frame_length f) f.channel (last_after last f) later)
   where
     size : length (octets f ++ stream later) ≡ frame_length f + length (stream later)
     size = length-append (octets f) (stream later) ∙ ap (λ m. m + length (stream later)) (length-octets f)
@@ -37,18 +37,18 @@ row-written n last (f ∷ later) h = cases (n == 0) refl (nat_lt n (frame_length
         sym (ap (λ m. drop m (octets f ++ stream (take k later))) (sym e) ∙ drop_past (octets f) (stream (take k later)) (frame_length f) (n - frame_length f) (length-octets f))
 
     cases : (none : Bool) → (n == 0) ≡ none → (inside : Bool) → nat_lt n (frame_length f) ≡ inside → (k : ℕ) → begun_by (n - frame_length f) (map slot_of later) ≡ k
-        → (n - frame_length f ≤ length (stream later) → row_after_writing (n - frame_length f) (last_after last f) later ≡ written_row (n - frame_length f) k (last_after last f) later)
-        → cond none (record { ahead = []; last = last; row = f ∷ later }) (cond inside (record { ahead = drop n (octets f); last = last_after last f; row = later }) (row_after_writing (n - frame_length f) (last_after last f) later))
-        ≡ written_row n (cond none 0 (suc k)) last (f ∷ later)
-    cases true z inside i k e rest = ap (λ ahead. record { ahead = ahead; last = last; row = f ∷ later }) (sym (drop_all n [] (let y = eqb-true n 0 z in omega arith)))
+        → (n - frame_length f ≤ length (stream later) → row_after_writing (n - frame_length f) f.channel (last_after last f) later ≡ written_row (n - frame_length f) k f.channel (last_after last f) later)
+        → cond none (record { ahead = []; begun_on = on; last = last; row = f ∷ later }) (cond inside (record { ahead = drop n (octets f); begun_on = f.channel; last = last_after last f; row = later }) (row_after_writing (n - frame_length f) f.channel (last_after last f) later))
+        ≡ written_row n (cond none 0 (suc k)) on last (f ∷ later)
+    cases true z inside i k e rest = ap (λ ahead. record { ahead = ahead; begun_on = on; last = last; row = f ∷ later }) (sym (drop_all n [] (let y = eqb-true n 0 z in omega arith)))
     cases false z true i k e rest =
         let l = ltb-true n (frame_length f) i in
         let none : k ≡ 0 = sym e ∙ (ap (λ m. begun_by m (map slot_of later)) (omega arith) ∙ begun-none (map slot_of later)) in
-        ap (λ os. record { ahead = drop n os; last = last_after last f; row = later }) (sym (append-nil (octets f)))
-        ∙ ap (λ j. written_row n (suc j) last (f ∷ later)) (sym none)
+        ap (λ os. record { ahead = drop n os; begun_on = f.channel; last = last_after last f; row = later }) (sym (append-nil (octets f)))
+        ∙ ap (λ j. written_row n (suc j) on last (f ∷ later)) (sym none)
     cases false z false i k e rest =
         let l = ltb-false n (frame_length f) i in
-        rest (let s = size in omega arith) ∙ ap (λ ahead. record { ahead = ahead; last = last_after_all (last_after last f) (take k later); row = drop k later }) (past k l)
+        rest (let s = size in omega arith) ∙ ap (λ ahead. record { ahead = ahead; begun_on = begun_on_after f.channel (take k later); last = last_after_all (last_after last f) (take k later); row = drop k later }) (past k l)
 
 -- a row is arranged from each of its frames on
 pub arranged-from : (k last : ℕ) (row : List Frame) → IsArranged last row → IsArranged (last_after_all last (take k row)) (drop k row)
@@ -142,21 +142,22 @@ row-begun x y m k s few h octets slots written begun arranged slots_begun slots_
     }
 
 -- what a write makes of an output, where it doesn't pass what stands ahead, and where it does
-pub written-ahead : (n : ℕ) (o : Output) → n < length o.ahead → after_writing n o ≡ record { ahead = drop n o.ahead; last = o.last; row = o.row }
+pub written-ahead : (n : ℕ) (o : Output) → n < length o.ahead → after_writing n o ≡ record { ahead = drop n o.ahead; begun_on = o.begun_on; last = o.last; row = o.row }
 written-ahead n o h = cond-true (nat_lt n (length o.ahead)) _ _ (lt-ltb n (length o.ahead) h)
 
-pub written-row : (n : ℕ) (o : Output) → length o.ahead ≤ n → n ≤ length (output_octets o) → after_writing n o ≡ written_row (n - length o.ahead) (begun_by (n - length o.ahead) (map slot_of o.row)) o.last o.row
+pub written-row : (n : ℕ) (o : Output) → length o.ahead ≤ n → n ≤ length (output_octets o) → after_writing n o ≡ written_row (n - length o.ahead) (begun_by (n - length o.ahead) (map slot_of o.row)) o.begun_on o.last o.row
 written-row n o h l =
     let a = length-append o.ahead (stream o.row) in
-    cond-false (nat_lt n (length o.ahead)) _ _ (le-ltb n (length o.ahead) h) ∙ row-written (n - length o.ahead) o.last o.row (omega arith)
+    cond-false (nat_lt n (length o.ahead)) _ _ (le-ltb n (length o.ahead) h) ∙ row-written (n - length o.ahead) o.begun_on o.last o.row (omega arith)
 
 -- what of the row is begun by a write that passes what stands ahead
-pub record IsWrite (x : Inside) (n k passed now : ℕ) : Type 0 where
+pub record IsWrite (x : Inside) (n k passed on now : ℕ) : Type 0 where
   pub ahead : length (drop x.written (take x.begun x.octets.items)) ≤ n
   pub few : k ≤ length (row_of x)
   pub reached : n - length (drop x.written (take x.begun x.octets.items)) ≤ length (stream (take k (row_of x)))
   pub count : k ≡ begun_by (n - length (drop x.written (take x.begun x.octets.items))) (map slot_of (row_of x))
   pub passed_is : passed ≡ length (stream (take k (row_of x)))
+  pub on_is : on ≡ begun_on_after x.begun_on (take k (row_of x))
   pub now_is : now ≡ last_after_all x.last (take k (row_of x))
 
 length-ahead : (x : Inside) → IsSound x → length (drop x.written (take x.begun x.octets.items)) ≡ x.begun - x.written
@@ -167,9 +168,9 @@ length-ahead x s =
     let d = length-second x.octets.items x.written x.begun s.written (omega arith) in
     omega arith
 
-pub is_write : (x : Inside) (slots : List Slot) (n k passed now : ℕ) → IsSound x → slots ≡ map slot_of (row_of x) → x.begun - x.written ≤ n → k ≡ begun_by (n - (x.begun - x.written)) slots → passed ≡ slots_length (take k slots)
-    → now ≡ slots_last x.last (take k slots) → k ≤ length slots → n - (x.begun - x.written) ≤ passed → IsWrite x n k passed now
-is_write x slots n k passed now s e ahead count passed_is now_is few reached =
+pub is_write : (x : Inside) (slots : List Slot) (n k passed on now : ℕ) → IsSound x → slots ≡ map slot_of (row_of x) → x.begun - x.written ≤ n → k ≡ begun_by (n - (x.begun - x.written)) slots → passed ≡ slots_length (take k slots)
+    → on ≡ slots_begun_on x.begun_on (take k slots) → now ≡ slots_last x.last (take k slots) → k ≤ length slots → n - (x.begun - x.written) ≤ passed → IsWrite x n k passed on now
+is_write x slots n k passed on now s e ahead count passed_is on_is now_is few reached =
     let a = length-ahead x s in
     let row = row_of x in
     let b : take k slots ≡ map slot_of (take k row) = ap (take k) e ∙ take-map slot_of k row in
@@ -181,33 +182,35 @@ is_write x slots n k passed now s e ahead count passed_is now_is few reached =
       reached = omega arith;
       count = count ∙ ap₂ (λ m ss. begun_by (n - m) ss) (sym a) e;
       passed_is = c;
+      on_is = on_is ∙ (ap (slots_begun_on x.begun_on) b ∙ slots_begun_on-row x.begun_on (take k row));
       now_is = now_is ∙ (ap (slots_last x.last) b ∙ slots_last-row x.last (take k row));
     }
 
-pub write-laid_out : (x y : Inside) (n k passed now : ℕ) → IsSound x → IsWrite x n k passed now → y.octets.items ≡ x.octets.items → all_slots y ≡ all_slots x → y.written ≡ x.written + n → y.begun ≡ x.begun + passed
+pub write-laid_out : (x y : Inside) (n k passed on now : ℕ) → IsSound x → IsWrite x n k passed on now → y.octets.items ≡ x.octets.items → all_slots y ≡ all_slots x → y.written ≡ x.written + n → y.begun ≡ x.begun + passed
     → y.arranged ≡ x.arranged → y.slots_begun ≡ x.slots_begun + k → y.slots_arranged ≡ x.slots_arranged
     → IsLaidOut y (take (x.begun + (n - length (drop x.written (take x.begun x.octets.items)))) x.octets.items) (drop (n - length (drop x.written (take x.begun x.octets.items))) (stream (take k (row_of x)))) (take (x.slots_begun + k) (all_slots x)) (drop k (row_of x)) (staged_of x)
-write-laid_out x y n k passed now s w octets slots written begun arranged slots_begun slots_arranged =
+write-laid_out x y n k passed on now s w octets slots written begun arranged slots_begun slots_arranged =
     let a = length-ahead x s in
     let b = w.ahead in
     let c = s.written in
     row-begun x y (n - length (drop x.written (take x.begun x.octets.items))) k s w.few w.reached octets slots (omega arith) (begun ∙ ap (λ m. x.begun + m) w.passed_is) arranged slots_begun slots_arranged
 
-pub write-kept : (x : Inside) (n k passed now : ℕ) → IsSound x → IsWrite x n k passed now → IsKept now (drop k (row_of x)) (staged_of x)
-write-kept x n k passed now s w = let P : ℕ → Type 0 = λ last. IsKept last (drop k (row_of x)) (staged_of x) in subst P (sym w.now_is) (kept-written x k s)
+pub write-kept : (x : Inside) (n k passed on now : ℕ) → IsSound x → IsWrite x n k passed on now → IsKept now (drop k (row_of x)) (staged_of x)
+write-kept x n k passed on now s w = let P : ℕ → Type 0 = λ last. IsKept last (drop k (row_of x)) (staged_of x) in subst P (sym w.now_is) (kept-written x k s)
 
-pub write_view : (x y : Inside) (n k passed now : ℕ) (gone : List ℕ) (past : List Slot) (value : Outgoing) → outgoing_of x ≡ value → n ≤ length (output_octets value.output) → IsWrite x n k passed now → y.last ≡ now
+pub write_view : (x y : Inside) (n k passed on now : ℕ) (gone : List ℕ) (past : List Slot) (value : Outgoing) → outgoing_of x ≡ value → n ≤ length (output_octets value.output) → IsWrite x n k passed on now → y.begun_on ≡ on → y.last ≡ now
     → IsLaidOut y gone (drop (n - length (drop x.written (take x.begun x.octets.items))) (stream (take k (row_of x)))) past (drop k (row_of x)) (staged_of x)
     → outgoing_of y ≡ with_output value (after_writing n value.output)
-write_view x y n k passed now gone past value e within w g l =
+write_view x y n k passed on now gone past value e within w c g l =
     let row = row_of x in
     let m = n - length (drop x.written (take x.begun x.octets.items)) in
     let o : Output = (outgoing_of x).output in
     let P : Outgoing → Type 0 = λ v. n ≤ length (output_octets v.output) in
     let enough : n ≤ length (output_octets o) = subst P (sym e) within in
     let last : y.last ≡ last_after_all x.last (take k row) = g ∙ w.now_is in
-    let a : outgoing (drop m (stream (take k row))) y.last (drop k row) (staged_of x) ≡ outgoing (drop m (stream (take k row))) (last_after_all x.last (take k row)) (drop k row) (staged_of x) = ap (λ z. outgoing (drop m (stream (take k row))) z (drop k row) (staged_of x)) last in
-    let b : written_row m k x.last row ≡ after_writing n o = ap (λ j. written_row m j x.last row) w.count ∙ sym (written-row n o w.ahead enough) in
+    let begun_on : y.begun_on ≡ begun_on_after x.begun_on (take k row) = c ∙ w.on_is in
+    let a : outgoing (drop m (stream (take k row))) y.begun_on y.last (drop k row) (staged_of x) ≡ outgoing (drop m (stream (take k row))) (begun_on_after x.begun_on (take k row)) (last_after_all x.last (take k row)) (drop k row) (staged_of x) = ap₂ (λ v z. outgoing (drop m (stream (take k row))) v z (drop k row) (staged_of x)) begun_on last in
+    let b : written_row m k x.begun_on x.last row ≡ after_writing n o = ap (λ j. written_row m j x.begun_on x.last row) w.count ∙ sym (written-row n o w.ahead enough) in
     view y gone (drop m (stream (take k row))) past (drop k row) (staged_of x) l
     ∙ (a
     ∙ (ap (λ (z : Output). record { output = z; staged = staged_of x }) b

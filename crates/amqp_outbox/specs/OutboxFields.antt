@@ -42,7 +42,7 @@ staged_of x = frames_in (staged_slots x) (staged_octets x)
 
 abbrev pub outgoing_of : Inside → Outgoing
 outgoing_of x = record {
-  output = record { ahead = drop x.written (take x.begun x.octets.items); last = x.last; row = row_of x };
+  output = record { ahead = drop x.written (take x.begun x.octets.items); begun_on = x.begun_on; last = x.last; row = row_of x };
   staged = staged_of x;
 }
 

@@ -21,6 +21,11 @@ abbrev pub slots_length : List Slot → ℕ
 slots_length [] = 0
 slots_length (slot ∷ later) = slot_length slot + slots_length later
 
+-- how many octets the frames of a channel have together
+abbrev pub slots_length_on : (channel : ℕ) → List Slot → ℕ
+slots_length_on channel [] = 0
+slots_length_on channel (slot ∷ later) = cond (slot.channel == channel) (slot_length slot) 0 + slots_length_on channel later
+
 -- the frame that octets begin with, by its slot
 abbrev pub frame_in : Slot → (octets : List ℕ) → Frame
 frame_in slot octets = record { kind = slot.kind; channel = slot.channel; payload = take slot.size (drop 7 octets) }
@@ -42,6 +47,11 @@ slot_last last slot = cond (slot.channel == 0) last slot.channel
 abbrev pub slots_last : (last : ℕ) → List Slot → ℕ
 slots_last last [] = last
 slots_last last (slot ∷ later) = slots_last (slot_last last slot) later
+
+-- the channel of the last of these frames, begun in turn
+abbrev pub slots_begun_on : (begun_on : ℕ) → List Slot → ℕ
+slots_begun_on begun_on [] = begun_on
+slots_begun_on begun_on (slot ∷ later) = slots_begun_on slot.channel later
 
 -- how many frames of a row are begun, once so many of its octets are written
 abbrev pub begun_by : (octets : ℕ) → List Slot → ℕ

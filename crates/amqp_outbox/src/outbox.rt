@@ -15,23 +15,27 @@
 //! written, and frames that go near its beginning: each moves nearly all of the row. A write reads the slots of the
 //! frames that it begins, and moves nothing: what it wrote is dropped later, before a frame is staged.
 ghost use Rattle.std.specs.Prelude.{◌≡◌, ℕ, ◌+◌, ◌^◌, ◌<◌, ◌≤◌, ◌==◌, [], ◌∷◌, ◌++◌, length, take, drop, slice_set, IfErr, OnOk, OnErr, Err};
-ghost use Rattle.amqp_method.specs.HeaderView.{header_view};
+ghost use Rattle.amqp_method.specs.HeaderView.{properties_view};
 ghost use Rattle.amqp_method.specs.MethodView.{method_view};
 ghost use Rattle.amqp_method.specs.Plain.{plain_method, plain_header, CountsAllFit, CountsPresentFit};
+ghost use Rattle.amqp_method.specs.Properties.{header};
 ghost use Rattle.amqp_model.specs.Output.ArrangementRules.{FollowsRules};
 ghost use Rattle.amqp_model.specs.End.Closes.{method_frame};
+ghost use Rattle.amqp_model.specs.End.Controls.{heartbeat_frame};
 ghost use Rattle.amqp_model.specs.Wire.Methods.{ReadsBack};
-ghost use Rattle.amqp_model.specs.Output.Outputs.{output_octets, after_writing};
+ghost use Rattle.amqp_model.specs.Output.Outputs.{output_octets, waiting_on, after_writing};
 ghost use Rattle.amqp_outbox.specs.OutboxFaults.{out_of_memory, too_long};
 ghost use Rattle.amqp_outbox.specs.OutboxFrames.{header_frame, body_frame, HeaderReadsBack};
 ghost use Rattle.amqp_outbox.specs.OutboxLaps.{laps_in};
 ghost use Rattle.amqp_outbox.specs.OutboxSlots.{slots_in, moved_up, moved_down};
 ghost use Rattle.amqp_outbox.specs.OutboxView.{only, begins_with, with_staged, with_output, all_put, IsPutOfFirst};
 
-use crate::slots::{Waiting, begun_of, length_from, place_of};
-use crate::staging::{StageFault, append_body, append_header, append_method, enlist};
+use crate::slots::{Waiting, begun_of, length_from, length_on, place_of};
+use crate::staging::{
+    StageFault, append_body, append_header, append_heartbeat, append_method, enlist,
+};
 use amqp_frame::FrameKind;
-use amqp_method::{Header, Method};
+use amqp_method::{Method, Properties};
 use amqp_model::arrangement;
 use std::alloc::Global;
 use std::marker::Model;
@@ -59,6 +63,8 @@ pub struct Outbox {
     slots: Vec<Waiting>,
     slots_begun: usize,
     slots_arranged: usize,
+    /// the channel whose frame was begun most recently, channel 0 too, 0 at first
+    begun_on: u16,
     /// the lap in which the frame was begun that moved `last`
     lap: u64,
     /// the channel above 0 whose frame was begun most recently, 0 at first
@@ -90,6 +96,7 @@ impl Outbox {
             slots: Vec::new(alloc),
             slots_begun: 0,
             slots_arranged: 0,
+            begun_on: 0,
             lap: 0,
             last: 0,
         }
@@ -107,6 +114,26 @@ impl Outbox {
         &self.octets[self.written..self.arranged]
     }
 
+    /// How many octets wait of a channel: what is left of the frame that is begun, where it is the channel's, and its
+    /// other frames. The slots of all frames are looked at. The protocol header counts to channel 0.
+    pub fn waiting(&self, channel: u16) -> usize
+        ensures { result ≡ waiting_on channel self.now.output }
+    {
+        let row = &self.slots[self.slots_begun..self.slots_arranged];
+        let waiting = length_on(row, channel);
+        if self.begun_on == channel {
+            return self.begun - self.written + waiting;
+        }
+        waiting
+    }
+
+    /// How many octets wait.
+    pub fn waiting_in_all(&self) -> usize
+        ensures { result ≡ length (output_octets self.now.output) }
+    {
+        self.arranged - self.written
+    }
+
     /// Begins with these octets: what was there is dropped.
     pub fn begin_with(&mut self, octets: &[u8]) -> Result<(), StageFault>
         ensures ok { OnOk result (self.new ≡ begins_with octets.now) }
@@ -122,6 +149,7 @@ impl Outbox {
         self.arranged = octets.len();
         self.slots_begun = 0;
         self.slots_arranged = 0;
+        self.begun_on = 0;
         self.lap = 0;
         self.last = 0;
         Ok(())
@@ -148,9 +176,10 @@ impl Outbox {
         self.written += octets;
         if ahead <= octets {
             let row = &self.slots[self.slots_begun..self.slots_arranged];
-            let begun = begun_of(row, octets - ahead, self.lap, self.last);
+            let begun = begun_of(row, octets - ahead, self.begun_on, self.lap, self.last);
             self.begun += begun.octets;
             self.slots_begun += begun.frames;
+            self.begun_on = begun.on;
             self.lap = begun.lap;
             self.last = begun.last;
         }
@@ -253,18 +282,23 @@ impl Outbox {
         Ok(())
     }
 
-    /// Stages a frame with this content header.
-    pub fn stage_header(&mut self, channel: u16, header: &Header) -> Result<(), StageFault>
-        ensures ok { OnOk result (self.new ≡ with_staged self.old (header_frame channel (header_view header.now) ∷ [])) }
-        ensures reads_back { OnOk result (HeaderReadsBack (header_view header.now)) }
-        ensures too_long { result ≡ Err too_long → length (plain_header (header_view header.now)) < 2 ^ 32 → CountsPresentFit (header_view header.now).properties → ⊥ }
+    /// Stages a frame with the header of a content: the size of its body, and its properties.
+    pub fn stage_header(
+        &mut self,
+        channel: u16,
+        body_size: u64,
+        properties: &Properties,
+    ) -> Result<(), StageFault>
+        ensures ok { OnOk result (self.new ≡ with_staged self.old (header_frame channel (header body_size (properties_view properties.now)) ∷ [])) }
+        ensures reads_back { OnOk result (HeaderReadsBack (header body_size (properties_view properties.now))) }
+        ensures too_long { result ≡ Err too_long → length (plain_header (header body_size (properties_view properties.now))) < 2 ^ 32 → CountsPresentFit (properties_view properties.now) → ⊥ }
         ensures same { OnErr result (self.new ≡ self.old) }
     {
         self.drop_written(USUAL_FRAME);
         self.drop_begun();
         expect_lap(self.slots.len() - self.slots_begun, self.lap)?;
         let at = self.octets.len();
-        append_header(&mut self.octets, channel, header)?;
+        append_header(&mut self.octets, channel, body_size, properties)?;
         let kind = FrameKind::Header;
         enlist(&mut self.octets, &mut self.slots, at, kind, channel)?;
         Ok(())
@@ -283,6 +317,21 @@ impl Outbox {
         append_body(&mut self.octets, channel, part)?;
         let kind = FrameKind::Body;
         enlist(&mut self.octets, &mut self.slots, at, kind, channel)?;
+        Ok(())
+    }
+
+    /// Stages a heartbeat.
+    pub fn stage_heartbeat(&mut self) -> Result<(), StageFault>
+        ensures ok { OnOk result (self.new ≡ with_staged self.old (heartbeat_frame ∷ [])) }
+        ensures same { OnErr result (self.new ≡ self.old) }
+    {
+        self.drop_written(USUAL_FRAME);
+        self.drop_begun();
+        expect_lap(self.slots.len() - self.slots_begun, self.lap)?;
+        let at = self.octets.len();
+        append_heartbeat(&mut self.octets)?;
+        let kind = FrameKind::Heartbeat;
+        enlist(&mut self.octets, &mut self.slots, at, kind, 0)?;
         Ok(())
     }
 

@@ -4,7 +4,7 @@
 ghost use Rattle.std.specs.Prelude.{◌≡◌, ◌+◌, ◌^◌, ◌<◌, ◌≤◌, length, take, drop};
 ghost use Rattle.amqp_model.specs.Laws.ArrangementLaws.{PlaceIsAfterItsQueue};
 ghost use Rattle.amqp_outbox.specs.OutboxLaps.{lap_after, laps_in, laps_of, laps_last, moment, is_after, Counts, IsLap};
-ghost use Rattle.amqp_outbox.specs.OutboxSlots.{slot_length, slots_in, slots_length, slot_last, slots_last, begun_by, EndsWithChannel, IsPlace};
+ghost use Rattle.amqp_outbox.specs.OutboxSlots.{slot_length, slots_in, slots_length, slots_length_on, slots_begun_on, slot_last, slots_last, begun_by, EndsWithChannel, IsPlace};
 
 use amqp_frame::FrameKind;
 use amqp_model::arrangement;
@@ -27,11 +27,13 @@ pub(crate) struct Waiting {
     pub(crate) lap: u64,
 }
 
-/// How many frames of a row are begun, how many octets these have, and where the writer stands then: in a lap, at LAST.
+/// How many frames of a row are begun, how many octets these have, the channel of the last of them, and where the writer
+/// stands then: in a lap, at LAST.
 #[derive(Clone, Copy)]
 pub(crate) struct Begun {
     pub(crate) frames: usize,
     pub(crate) octets: usize,
+    pub(crate) on: u16,
     pub(crate) lap: u64,
     pub(crate) last: u16,
 }
@@ -100,6 +102,20 @@ fn length_of(row: &[Waiting]) -> usize
     total
 }
 
+/// How many octets the frames of a channel have together.
+pub(crate) fn length_on(row: &[Waiting], channel: u16) -> usize
+    requires { slots_length (slots_in row.now) < 2 ^ 64 }
+    ensures { result ≡ slots_length_on channel (slots_in row.now) }
+{
+    let mut total = 0;
+    for waiting in row {
+        if waiting.slot.channel == channel {
+            total += waiting.slot.length();
+        }
+    }
+    total
+}
+
 /// How many octets the frames have from one on, where all have so many: the fewer slots are counted.
 pub(crate) fn length_from(row: &[Waiting], place: usize, total: usize) -> usize
     requires within { place ≤ length row.now }
@@ -114,12 +130,13 @@ pub(crate) fn length_from(row: &[Waiting], place: usize, total: usize) -> usize
 }
 
 /// The frames of a row that are begun, once so many of its octets are written.
-pub(crate) fn begun_of(row: &[Waiting], octets: usize, lap: u64, last: u16) -> Begun
+pub(crate) fn begun_of(row: &[Waiting], octets: usize, begun_on: u16, lap: u64, last: u16) -> Begun
     requires within { octets ≤ slots_length (slots_in row.now) }
     requires fits { slots_length (slots_in row.now) < 2 ^ 64 }
     requires laps { lap + length row.now < 2 ^ 64 }
     ensures frames { result.frames ≡ begun_by octets (slots_in row.now) }
     ensures octets { result.octets ≡ slots_length (take result.frames (slots_in row.now)) }
+    ensures on { result.on ≡ slots_begun_on begun_on (take result.frames (slots_in row.now)) }
     ensures lap { result.lap ≡ laps_last lap last (take result.frames (slots_in row.now)) }
     ensures last { result.last ≡ slots_last last (take result.frames (slots_in row.now)) }
     ensures count { result.frames ≤ length row.now }
@@ -128,6 +145,7 @@ pub(crate) fn begun_of(row: &[Waiting], octets: usize, lap: u64, last: u16) -> B
     let mut begun = Begun {
         frames: 0,
         octets: 0,
+        on: begun_on,
         lap,
         last,
     };
@@ -137,6 +155,7 @@ pub(crate) fn begun_of(row: &[Waiting], octets: usize, lap: u64, last: u16) -> B
         }
         begun.frames += 1;
         begun.octets += waiting.slot.length();
+        begun.on = waiting.slot.channel;
         begun.lap = waiting.slot.lap_after(begun.lap, begun.last);
         begun.last = waiting.slot.last_after(begun.last);
     }

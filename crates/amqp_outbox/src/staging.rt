@@ -1,13 +1,15 @@
 //! Frames, appended to octets: a payload is written in its place, between the start of its frame and the end octet.
 ghost use Rattle.std.specs.Prelude.{◌≡◌, ◌≢◌, ◌+◌, ◌-◌, ◌^◌, ◌<◌, ◌≤◌, [], ◌∷◌, ◌++◌, length, take, drop, IfErr, OnOk, OnErr, Err};
-ghost use Rattle.amqp_frame.specs.Frame.{Frame, header, octets as encoded};
+ghost use Rattle.amqp_frame.specs.Frame.{Frame, header as frame_start, octets as encoded};
 ghost use Rattle.amqp_frame.specs.Writing.{FinishesFrame};
 ghost use Rattle.amqp_method.specs.Faults as method_faults;
-ghost use Rattle.amqp_method.specs.HeaderView.{header_view};
+ghost use Rattle.amqp_method.specs.HeaderView.{properties_view};
 ghost use Rattle.amqp_method.specs.MethodView.{method_view};
 ghost use Rattle.amqp_method.specs.Plain.{plain_method, plain_header, CountsAllFit, CountsPresentFit};
+ghost use Rattle.amqp_method.specs.Properties.{header};
 ghost use Rattle.amqp_model.specs.Output.Arrangement.{names_leaving};
 ghost use Rattle.amqp_model.specs.End.Closes.{method_frame};
+ghost use Rattle.amqp_model.specs.End.Controls.{heartbeat_frame};
 ghost use Rattle.amqp_model.specs.Wire.Methods.{ReadsBack};
 ghost use Rattle.amqp_outbox.specs.OutboxFaults.{out_of_memory, too_long};
 ghost use Rattle.amqp_outbox.specs.OutboxFrames.{header_frame, body_frame, HeaderReadsBack};
@@ -16,7 +18,9 @@ ghost use Rattle.amqp_outbox.specs.OutboxSlots.{slot_of, slots_in};
 
 use crate::slots::{Slot, Waiting};
 use amqp_frame::{FrameKind, begin_frame, finish_frame};
-use amqp_method::{Header, Method, MethodFault, MethodFaultKind, write_header, write_method};
+use amqp_method::{
+    Method, MethodFault, MethodFaultKind, Properties, write_header_parts, write_method,
+};
 use std::alloc::{AllocError, AllocFailed};
 use thiserror::Error;
 
@@ -51,7 +55,7 @@ impl<T: Drop> From<AllocFailed<T>> for StageFault {
 
 /// Begins a frame: its type and its channel, and a hole for the payload's size.
 fn start_frame(octets: &mut Vec<u8>, kind: FrameKind, channel: u16) -> Result<(), StageFault>
-    ensures ok { OnOk result (octets.new.items ≡ octets.old.items ++ header kind channel 0) }
+    ensures ok { OnOk result (octets.new.items ≡ octets.old.items ++ frame_start kind channel 0) }
     ensures err { IfErr result (λ e. e ≡ out_of_memory) }
     ensures same { OnErr result (octets.new.items ≡ octets.old.items) }
 {
@@ -114,22 +118,23 @@ pub(crate) fn append_method(
     }
 }
 
-/// Appends a frame with this content header.
+/// Appends a frame with the header of a content: the size of its body, and its properties.
 pub(crate) fn append_header(
     octets: &mut Vec<u8>,
     channel: u16,
-    header: &Header,
+    body_size: u64,
+    properties: &Properties,
 ) -> Result<(), StageFault>
-    ensures ok { OnOk result (octets.new.items ≡ octets.old.items ++ encoded (header_frame channel (header_view header.now))) }
-    ensures fits { OnOk result (length (plain_header (header_view header.now)) < 2 ^ 32) }
-    ensures reads_back { OnOk result (HeaderReadsBack (header_view header.now)) }
-    ensures too_long { result ≡ Err too_long → length (plain_header (header_view header.now)) < 2 ^ 32 → CountsPresentFit (header_view header.now).properties → ⊥ }
+    ensures ok { OnOk result (octets.new.items ≡ octets.old.items ++ encoded (header_frame channel (header body_size (properties_view properties.now)))) }
+    ensures fits { OnOk result (length (plain_header (header body_size (properties_view properties.now))) < 2 ^ 32) }
+    ensures reads_back { OnOk result (HeaderReadsBack (header body_size (properties_view properties.now))) }
+    ensures too_long { result ≡ Err too_long → length (plain_header (header body_size (properties_view properties.now))) < 2 ^ 32 → CountsPresentFit (properties_view properties.now) → ⊥ }
     ensures same { OnErr result (octets.new.items ≡ octets.old.items) }
 {
     amqp_method::encoded_is_read();
     let at = octets.len();
     start_frame(octets, FrameKind::Header, channel)?;
-    match write_header(header, octets) {
+    match write_header_parts(body_size, properties, octets) {
         Ok(()) => end_frame(octets, at),
         Err(fault) => {
             octets.truncate(at);
@@ -151,6 +156,16 @@ pub(crate) fn append_body(octets: &mut Vec<u8>, channel: u16, part: &[u8]) -> Re
         octets.truncate(at);
         return Err(StageFault::OutOfMemory);
     };
+    end_frame(octets, at)
+}
+
+/// Appends a heartbeat.
+pub(crate) fn append_heartbeat(octets: &mut Vec<u8>) -> Result<(), StageFault>
+    ensures ok { OnOk result (octets.new.items ≡ octets.old.items ++ encoded heartbeat_frame) }
+    ensures same { OnErr result (octets.new.items ≡ octets.old.items) }
+{
+    let at = octets.len();
+    start_frame(octets, FrameKind::Heartbeat, 0)?;
     end_frame(octets, at)
 }
 

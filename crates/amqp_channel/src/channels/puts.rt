@@ -1,15 +1,15 @@
 //! What an end puts on its channels.
 ghost use Rattle.std.specs.Prelude.{◌≡◌, ◌<◌, true, ℕ, List, OnOk, OnErr};
-ghost use Rattle.amqp_method.specs.MessageView.{message_view};
+ghost use Rattle.amqp_method.specs.MethodView.{method_view};
 ghost use Rattle.amqp_model.specs.End.Asks.{is_free, message_payloads};
 ghost use Rattle.amqp_model.specs.End.Closes.{close_as, flow_as, without_arguments};
+ghost use Rattle.amqp_model.specs.End.Events.{Message, method_of};
 ghost use Rattle.amqp_model.specs.Wire.Frame.{Frame};
 ghost use Rattle.amqp_model.specs.History.Histories.{PutHere};
 ghost use Rattle.amqp_model.specs.End.Machine.{channel_after};
 ghost use Rattle.amqp_model.specs.Wire.Notes.{Client};
 ghost use Rattle.amqp_model.specs.Wire.Readings.{Calls, kind_of};
 ghost use Rattle.amqp_channel.specs.LifeView.{IsOther};
-ghost use Rattle.amqp_channel.specs.Messages.{message_of};
 ghost use Rattle.amqp_channel.specs.Puts.{after_payloads};
 ghost use Rattle.amqp_channel.specs.Roles.{role_of};
 ghost use Rattle.amqp_channel.specs.Used.{is_open_at};
@@ -17,17 +17,18 @@ ghost use Rattle.amqp_channel.specs.Used.{is_open_at};
 use crate::channel::Channel;
 use crate::channels::Channels;
 use crate::site::Site;
-use amqp_method::{Kind, Message, OutOfMemory};
+use amqp_method::{Kind, Method, OutOfMemory};
 use std::alloc::Global;
 
 impl Channels {
-    ghost use Rattle.amqp_channel.specs.ChannelsView.{channels_view, OnlyAt};
+    ghost use Rattle.amqp_channel.specs.ChannelsView.{channels_view, NoneLent, OnlyAt};
 
     /// An open that a client puts.
     pub fn put_open(&mut self, number: u16) -> Result<(), OutOfMemory>
         requires above { 0 < number }
         requires free { is_free (channels_view self.old number) ≡ true }
         ensures at { OnOk result ((frame : Frame) → channels_view self.new number ≡ channel_after Client (PutHere (Calls (without_arguments Kind.ChannelOpen)) frame) (channels_view self.old number)) }
+        ensures gathers { NoneLent self.old → NoneLent self.new }
         ensures others { OnOk result (OnlyAt number (channels_view self.old) (channels_view self.new)) }
         ensures err { OnErr result ((other : ℕ) → channels_view self.new other ≡ channels_view self.old other) }
     {
@@ -41,6 +42,7 @@ impl Channels {
         requires above { 0 < site.number }
         requires open { is_open_at (channels_view self.old site.number) ≡ true }
         ensures at { (code : ℕ) (text : List ℕ) (frame : Frame) → channels_view self.new site.number ≡ channel_after (role_of site.side) (PutHere (Calls (close_as Kind.ChannelClose code text)) frame) (channels_view self.old site.number) }
+        ensures gathers { NoneLent self.old → NoneLent self.new }
         ensures others { OnlyAt site.number (channels_view self.old) (channels_view self.new) }
     {
         match self.used.get_mut(&site.number) {
@@ -54,6 +56,7 @@ impl Channels {
         requires above { 0 < site.number }
         requires open { is_open_at (channels_view self.old site.number) ≡ true }
         ensures at { (frame : Frame) → channels_view self.new site.number ≡ channel_after (role_of site.side) (PutHere (Calls (flow_as Kind.ChannelFlow active)) frame) (channels_view self.old site.number) }
+        ensures gathers { NoneLent self.old → NoneLent self.new }
         ensures others { OnlyAt site.number (channels_view self.old) (channels_view self.new) }
     {
         match self.used.get_mut(&site.number) {
@@ -62,22 +65,23 @@ impl Channels {
         }
     }
 
-    /// A message that this end puts, in frames of any size.
+    /// A message with this method that this end puts, in frames of any size. A content after the method changes nothing.
     pub fn put_message(
         &mut self,
         alloc: Global,
         site: Site,
-        message: &Message,
+        method: &Method,
     ) -> Result<(), OutOfMemory>
         requires above { 0 < site.number }
         requires open { is_open_at (channels_view self.old site.number) ≡ true }
-        requires other { IsOther (kind_of (Calls (message_view message.now).call)) }
-        ensures at { OnOk result ((frame_max : ℕ) → channels_view self.new site.number ≡ after_payloads (role_of site.side) site.number (message_payloads frame_max (message_of (message_view message.now))) (channels_view self.old site.number)) }
+        requires other { IsOther (kind_of (Calls (method_view method.now))) }
+        ensures at { OnOk result ((frame_max : ℕ) (message : Message) → method_of message ≡ method_view method.now → channels_view self.new site.number ≡ after_payloads (role_of site.side) site.number (message_payloads frame_max message) (channels_view self.old site.number)) }
+        ensures gathers { NoneLent self.old → NoneLent self.new }
         ensures others { OnlyAt site.number (channels_view self.old) (channels_view self.new) }
         ensures err { OnErr result (channels_view self.new site.number ≡ channels_view self.old site.number) }
     {
         match self.used.get_mut(&site.number) {
-            Some(channel) => channel.put_message(alloc, site, message),
+            Some(channel) => channel.put_message(alloc, site, method),
             None => unreachable!(),
         }
     }

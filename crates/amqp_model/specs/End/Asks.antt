@@ -24,9 +24,10 @@ pub data Ask : Type 0 where
   Blocked : (reason : List ℕ) → Ask
   Unblocked : Ask
 
--- Out of memory stands after these, and is no matter of the asks.
+-- Out of memory, which is 9, stands after these, and is no matter of the asks. That no decision is awaited is no answer
+-- to an ask, but to what else an application does with the connection.
 pub data Refusal : Type 0 where
-  NotRunning BadChannel NotOpen Paused NotSendable TooLarge FlowPending NoFreeChannel ReplyPending NoSuchRequest : Refusal
+  NotRunning BadChannel NotOpen Paused NotSendable TooLarge FlowPending NoFreeChannel ReplyPending NoSuchRequest NotAwaited : Refusal
 
 abbrev pub refusal_number : Refusal → ℕ
 refusal_number NotRunning = 1
@@ -39,6 +40,7 @@ refusal_number FlowPending = 7
 refusal_number NoFreeChannel = 8
 refusal_number ReplyPending = 10
 refusal_number NoSuchRequest = 11
+refusal_number NotAwaited = 12
 
 -- a message without content has a method that carries none, a content one that carries it
 abbrev pub is_made : Ask → Bool

@@ -28,18 +28,22 @@ state_of Opening = State.Opening
 state_of Closing = State.Closing
 state_of (Open life) = State.Open
 
--- what an end in the handshake awaits: the protocol header or a method of the class connection
+-- What an end in the handshake awaits: the protocol header or a method of the class connection; or, where its
+-- application decides, the answer to start, to start-ok or to open.
 pub data HandshakeStep : Type 0 where
   AwaitsProtocolHeader AwaitsStart AwaitsStartOk AwaitsTune AwaitsTuneOk AwaitsOpen AwaitsOpenOk : HandshakeStep
+  HoldsStart HoldsLogin HoldsOpen : HandshakeStep
 
 pub data Phase : Type 0 where
   Handshake : HandshakeStep → Phase
   Running Closing Closed Failed : Phase
 
--- what tune-ok settles: the greatest channel number, and the size of a frame, which counts all of its octets
+-- what tune-ok settles: the greatest channel number; the size of a frame, which counts all of its octets; and the
+-- heartbeat in seconds, of which 0 is none
 pub record Agreed : Type 0 where
   pub channel_max : ℕ
   pub frame_max : ℕ
+  pub heartbeat : ℕ
 
 pub record End : Type 0 where
   pub phase : Phase

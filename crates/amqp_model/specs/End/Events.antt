@@ -22,7 +22,9 @@ pub record Reason : Type 0 where
 abbrev pub reason_in : Method → Reason
 reason_in method = record { code = number_at 0 method; text = octets_at 1 method }
 
+-- In the handshake an application that decides is told what it is asked: the answer to start, to a login, to an open.
 pub data Event : Type 0 where
+  AnswerAsked LoginAsked OpenAsked : Event
   Negotiated : Agreed → Event
   Opened : (channel : ℕ) → Event
   Told : (channel : ℕ) → Message → Event

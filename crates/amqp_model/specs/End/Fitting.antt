@@ -15,6 +15,7 @@ use Rattle.amqp_model.specs.End.Closes.{method_frame}
 use Rattle.amqp_model.specs.End.Events.{Message, Plain, Whole}
 use Rattle.amqp_model.specs.End.ReadingBack.{header_of}
 use Rattle.amqp_model.specs.End.Asks.{Ask, Open, Send, Flow, CloseChannel, Close, Blocked, Unblocked, is_made, channel_max, frame_max}
+use Rattle.amqp_model.specs.End.Controls.{Control, Beat, Admit, Refuse, AnswerStart}
 
 -- the arguments are those of the method's kind, and each fits its field
 pub record MethodFits (method : Method) : Type 0 where
@@ -42,14 +43,15 @@ greeting Server config = start config
 abbrev pub FRAME_MOST : ℕ
 FRAME_MOST = 1048576
 
--- an end takes channels from 1 up to 65535 at most and frames from 4096 up to 1048576 octets at most, its hello fits its
--- fields, and its greeting fits a frame of 4096 octets
+-- an end takes channels from 1 up to 65535 at most and frames from 4096 up to 1048576 octets at most, its heartbeat
+-- and its hello fit their fields, and its greeting fits a frame of 4096 octets
 pub record ConfigFits {role : Role} (config : Config role) : Type 0 where
   pub channel_least : 1 ≤ config.channel_max
   pub channel_most : config.channel_max < 2 ^ 16
   pub frame_least : FRAME_MIN ≤ config.frame_max
   pub frame_most : config.frame_max ≤ FRAME_MOST
   pub body_most : config.max_body < 2 ^ 64
+  pub heartbeat_most : config.heartbeat < 2 ^ 16
   pub hello : HelloFits config.hello
   pub greeting_short : frame_length (method_frame 0 (greeting role config)) ≤ FRAME_MIN
 
@@ -81,6 +83,7 @@ pub record ConfigWrites {role : Role} (config : Config role) : Type 0 where
   pub channel_most : config.channel_max < 2 ^ 16
   pub frame_least : FRAME_MIN ≤ config.frame_max
   pub frame_most : config.frame_max ≤ FRAME_MOST
+  pub heartbeat_most : config.heartbeat < 2 ^ 16
   pub host : HostFits config.hello
   pub greeting_back : ReadsBack (greeting role config)
   pub greeting_short : frame_length (method_frame 0 (greeting role config)) ≤ FRAME_MIN
@@ -122,6 +125,13 @@ PartsFit (CloseChannel channel code text) = (channel < 2 ^ 16) × (code < 2 ^ 16
 PartsFit (Close code text) = (code < 2 ^ 16) × FitsShort text
 PartsFit (Blocked reason) = FitsShort reason
 PartsFit Unblocked = Unit {0}
+
+-- so does each number and string of what else an application does with the connection
+abbrev pub ControlFits : Control → Type 0
+ControlFits Beat = Unit {0}
+ControlFits Admit = Unit {0}
+ControlFits (Refuse code text) = (code < 2 ^ 16) × FitsShort text
+ControlFits (AnswerStart mechanism response locale) = FitsShort mechanism × FitsLong response × FitsShort locale
 
 -- an ask fits its fields, and a message has a content exactly when its method carries one
 pub record AskFits (ask : Ask) : Type 0 where

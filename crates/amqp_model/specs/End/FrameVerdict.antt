@@ -11,10 +11,10 @@ use Rattle.amqp_model.specs.Wire.Methods.{MethodKind, Method, class_of, same_kin
 use Rattle.amqp_model.specs.Wire.Gathering.{Gathering, Nothing, HeaderDue, PastSize, Step, Keeps, Completes, Breaks, step}
 use Rattle.amqp_model.specs.Wire.Readings.{Reading, Calls, UnknownMethod, MalformedMethod, HeaderOf, MalformedHeader, BodyOf, Beat, is_call, kind_of, payload_of}
 use Rattle.amqp_model.specs.End.Channels as channels
-use Rattle.amqp_model.specs.End.Channels.{Life, Channel, Closing, state_of, Phase, Handshake, Closed, Failed, Agreed, AwaitsProtocolHeader, AwaitsStart, AwaitsStartOk, AwaitsTune, AwaitsTuneOk, AwaitsOpen, AwaitsOpenOk}
+use Rattle.amqp_model.specs.End.Channels.{Life, Channel, Closing, state_of, Phase, Handshake, Closed, Failed, Agreed, AwaitsProtocolHeader, AwaitsStart, AwaitsStartOk, AwaitsTune, AwaitsTuneOk, AwaitsOpen, AwaitsOpenOk, HoldsStart, HoldsLogin, HoldsOpen}
 use Rattle.amqp_model.specs.History.Negotiation.{Config, start_ok, tune, settled, tunes_too_small, tune_ok, agreed_in, in_range, connection_open, connection_open_ok}
 use Rattle.amqp_model.specs.End.Closes.{CloseCode, FrameError, SyntaxError, CommandInvalid, ChannelError, UnexpectedFrame, ResourceError, NotImplemented, ContentTooLarge, Owed, connection_close, connection_close_ok, channel_close, reply_to}
-use Rattle.amqp_model.specs.End.Events.{Plain, Whole, Reason, reason_in, Event, Negotiated, Opened, Told, Flow, FlowOk, ChannelClosed, ConnectionClosed, Discarded, Blocked, Unblocked, Quiet, Peer, Fatal, AlreadyClosed, AlreadyFailed, FrameVerdict, Proceeds, RefusesContent, Faults}
+use Rattle.amqp_model.specs.End.Events.{Plain, Whole, Reason, reason_in, Event, AnswerAsked, LoginAsked, OpenAsked, Negotiated, Opened, Told, Flow, FlowOk, ChannelClosed, ConnectionClosed, Discarded, Blocked, Unblocked, Quiet, Peer, Fatal, AlreadyClosed, AlreadyFailed, FrameVerdict, Proceeds, RefusesContent, Faults}
 
 -- all that a verdict rests on: the end's configuration, its phase, what was agreed, the frame's channel, and what
 -- the end keeps of that channel
@@ -120,7 +120,7 @@ abbrev pub negotiated : Option Agreed → Option Event
 negotiated (Some agreed) = Some (Negotiated agreed)
 negotiated None = None
 
--- the method that a step of the handshake awaits
+-- the method that a step of the handshake awaits: none where the application is to decide
 abbrev pub is_awaited : channels.HandshakeStep → MethodKind → Bool
 is_awaited AwaitsProtocolHeader kind = false
 is_awaited AwaitsStart kind = same_kind kind kinds.ConnectionStart
@@ -129,19 +129,31 @@ is_awaited AwaitsTune kind = same_kind kind kinds.ConnectionTune
 is_awaited AwaitsTuneOk kind = same_kind kind kinds.ConnectionTuneOk
 is_awaited AwaitsOpen kind = same_kind kind kinds.ConnectionOpen
 is_awaited AwaitsOpenOk kind = same_kind kind kinds.ConnectionOpenOk
+is_awaited HoldsStart kind = false
+is_awaited HoldsLogin kind = false
+is_awaited HoldsOpen kind = false
+
+-- a gated end asks its application, any other answers at once
+abbrev pub asked_or : (gated : Bool) → Event → FrameVerdict → FrameVerdict
+asked_or true event at_once = Proceeds (Some event) []
+asked_or false event at_once = at_once
 
 -- The awaited method: the client answers start with start-ok, tune with tune-ok and open, and a tune with a frame
--- size too small with a fault; the server answers start-ok with tune and open with open-ok, and a tune-ok past its own
--- limits can't be answered.
+-- size too small with a fault; the server answers start-ok with tune and open with open-ok, and a tune-ok past its
+-- own limits can't be answered. An end that is gated asks its application for the answer to start, to start-ok and to
+-- open.
 abbrev pub on_awaited : (role : Role) → Config role → Option Agreed → channels.HandshakeStep → Method → FrameVerdict
-on_awaited Client config agreed AwaitsStart method = Proceeds (Some Quiet) (on_zero (start_ok config) ∷ [])
+on_awaited Client config agreed AwaitsStart method =
+    asked_or config.gated AnswerAsked (Proceeds (Some Quiet) (on_zero (start_ok config) ∷ []))
 on_awaited Client config agreed AwaitsTune method =
     cond (tunes_too_small method) (fault FrameError)
     (Proceeds (Some Quiet) (on_zero (tune_ok (settled config method)) ∷ on_zero (connection_open config) ∷ []))
 on_awaited Client config agreed AwaitsOpenOk method = Proceeds (negotiated agreed) []
-on_awaited Server config agreed AwaitsStartOk method = Proceeds (Some Quiet) (on_zero (tune config) ∷ [])
+on_awaited Server config agreed AwaitsStartOk method =
+    asked_or config.gated LoginAsked (Proceeds (Some Quiet) (on_zero (tune config) ∷ []))
 on_awaited Server config agreed AwaitsTuneOk method = cond (in_range config (agreed_in method)) (Proceeds (Some Quiet) []) (Faults Fatal)
-on_awaited Server config agreed AwaitsOpen method = Proceeds (negotiated agreed) (on_zero connection_open_ok ∷ [])
+on_awaited Server config agreed AwaitsOpen method =
+    asked_or config.gated OpenAsked (Proceeds (negotiated agreed) (on_zero connection_open_ok ∷ []))
 on_awaited role config agreed step method = fault CommandInvalid
 
 -- The handshake, on channel 0: a close is answered, secure is not there, and the awaited method does its step.

@@ -1,5 +1,6 @@
 -- The histories that an end can have: each frame taken is followed by just the frames that its verdict puts, each
--- other frame put belongs to an accepted ask, whose frames stand together, and after a fault nothing more comes.
+-- other frame put belongs to what its application asks or decides and the end accepts, whose frames stand together,
+-- and after a fault nothing more comes.
 use Rattle.std.specs.Prelude.{◌≡◌, Bool, true, false, List, [], ◌∷◌, Option, Some, None}
 use Rattle.amqp_model.specs.Wire.Frame.{Frame}
 use Rattle.amqp_model.specs.Wire.Notes.{Role, Server}
@@ -10,7 +11,8 @@ use Rattle.amqp_model.specs.End.StateFromHistory.{end_from}
 use Rattle.amqp_model.specs.End.Closes.{method_frame}
 use Rattle.amqp_model.specs.End.Asks.{Ask, is_made, Puts, ask_verdict}
 use Rattle.amqp_model.specs.End.EndVerdict.{end_verdict, end_puts, too_large_puts, goes_on, takes_frames, takes_octets, CanTake}
-use Rattle.amqp_model.specs.End.ReadingBack.{AskReadsBack}
+use Rattle.amqp_model.specs.End.Controls.{Control, control_verdict}
+use Rattle.amqp_model.specs.End.ReadingBack.{AskReadsBack, ControlReadsBack}
 
 -- frames that an end put, the oldest first, after a history
 abbrev pub then_put : List Frame → History → History
@@ -53,6 +55,11 @@ pub data Goes :
   asks :
       {role : Role} {config : Config role} {before : History} (ask : Ask) (frames : List Frame) → is_made ask ≡ true → AskReadsBack ask
       → ask_verdict role (end_of config before) ask ≡ Puts frames → Goes role config before None false (then_put frames before)
+  -- it beats, or decides in the handshake, what can be written, and the end accepts
+  controls :
+      {role : Role} {config : Config role} {before : History} (control : Control) (frames : List Frame) → ControlReadsBack role config control
+      → control_verdict role config (end_of config before) control ≡ Puts frames
+      → Goes role config before None false (then_put frames before)
 
 -- A lawful history of an end, and whether it has failed: any steps, one after another.
 pub data Lawful (role : Role) (config : Config role) : (failed : Bool) → History → Type 0 where

@@ -11,7 +11,7 @@ use Rattle.amqp_model.specs.Wire.Gathering.{Gathering, Nothing, HeaderDue, BodyD
 use Rattle.amqp_model.specs.Wire.Readings.{Reading, Calls, is_call, kind_of, payload_of, reading as reading_of}
 use Rattle.amqp_model.specs.History.Histories.{History, ChannelEntry, PutHere, TookHere, LeftHere, entries_on, notes, under_way, entries_before_leaving}
 use Rattle.amqp_model.specs.History.Replies.{asked_by, answered_by, requested, replied, unreplied}
-use Rattle.amqp_model.specs.End.Channels.{Life, Channel, Free, Opening, Closing, Open, new_life, HandshakeStep, AwaitsProtocolHeader, AwaitsStart, AwaitsStartOk, AwaitsTune, AwaitsTuneOk, AwaitsOpen, AwaitsOpenOk, Phase, Handshake, Running, Closed, Failed, Agreed, End}
+use Rattle.amqp_model.specs.End.Channels.{Life, Channel, Free, Opening, Closing, Open, new_life, HandshakeStep, AwaitsProtocolHeader, AwaitsStart, AwaitsStartOk, AwaitsTune, AwaitsTuneOk, AwaitsOpen, AwaitsOpenOk, HoldsStart, HoldsLogin, HoldsOpen, Phase, Handshake, Running, Closed, Failed, Agreed, End}
 use Rattle.amqp_model.specs.History.Negotiation.{Config, agreed_in}
 use Rattle.amqp_model.specs.End.StateFromHistory.{accepted, awaits_tune_ok, phase_from, agreed_from}
 use Rattle.amqp_model.specs.End.Closes.{FrameError, Owed, frame_of}
@@ -117,29 +117,49 @@ channel_after role LeftHere channel = channel
 
 -- What an entry of channel 0 leaves of the phase and of what was agreed.
 
+-- A step never goes back: what is taken or put moves the earlier ones.
+
 abbrev pub after_start : HandshakeStep → HandshakeStep
-after_start AwaitsStart = AwaitsTune
+after_start AwaitsStart = HoldsStart
 after_start step = step
 
-abbrev pub after_start_ok : HandshakeStep → HandshakeStep
-after_start_ok AwaitsProtocolHeader = AwaitsTuneOk
-after_start_ok AwaitsStartOk = AwaitsTuneOk
-after_start_ok step = step
+abbrev pub after_start_ok_put : HandshakeStep → HandshakeStep
+after_start_ok_put AwaitsStart = AwaitsTune
+after_start_ok_put HoldsStart = AwaitsTune
+after_start_ok_put step = step
 
 abbrev pub after_start_put : HandshakeStep → HandshakeStep
 after_start_put AwaitsProtocolHeader = AwaitsStartOk
 after_start_put step = step
 
--- the client's handshake goes on with start and tune, the server's with start-ok and tune-ok
+abbrev pub after_start_ok : HandshakeStep → HandshakeStep
+after_start_ok AwaitsProtocolHeader = HoldsLogin
+after_start_ok AwaitsStartOk = HoldsLogin
+after_start_ok step = step
+
+abbrev pub after_tune_put : HandshakeStep → HandshakeStep
+after_tune_put AwaitsProtocolHeader = AwaitsTuneOk
+after_tune_put AwaitsStartOk = AwaitsTuneOk
+after_tune_put HoldsLogin = AwaitsTuneOk
+after_tune_put step = step
+
+abbrev pub after_tune_ok : HandshakeStep → HandshakeStep
+after_tune_ok HoldsOpen = HoldsOpen
+after_tune_ok step = AwaitsOpen
+
+-- the client's handshake goes on with start and tune, the server's with start-ok, tune-ok and open
 abbrev pub step_taken : Role → Reading → HandshakeStep → HandshakeStep
 step_taken Client reading step =
     cond (is_call kinds.ConnectionTune reading) AwaitsOpenOk (cond (is_call kinds.ConnectionStart reading) (after_start step) step)
 step_taken Server reading step =
-    cond (is_call kinds.ConnectionTuneOk reading) AwaitsOpen (cond (is_call kinds.ConnectionStartOk reading) (after_start_ok step) step)
+    cond (is_call kinds.ConnectionOpen reading) HoldsOpen
+    (cond (is_call kinds.ConnectionTuneOk reading) (after_tune_ok step) (cond (is_call kinds.ConnectionStartOk reading) (after_start_ok step) step))
 
+-- and with the answers: the client's start-ok, the server's start and tune
 abbrev pub step_put : Role → Reading → HandshakeStep → HandshakeStep
-step_put Client reading step = step
-step_put Server reading step = cond (is_call kinds.ConnectionStart reading) (after_start_put step) step
+step_put Client reading step = cond (is_call kinds.ConnectionStartOk reading) (after_start_ok_put step) step
+step_put Server reading step =
+    cond (is_call kinds.ConnectionTune reading) (after_tune_put step) (cond (is_call kinds.ConnectionStart reading) (after_start_put step) step)
 
 -- open-ok ends the handshake: a client takes it, a server puts it
 abbrev pub taken_ends_handshake : Role → Reading → Bool

@@ -11,7 +11,7 @@ use Rattle.amqp_model.specs.Wire.Methods.{MethodKind, same_kind}
 use Rattle.amqp_model.specs.Wire.Readings.{Calls, is_call}
 use Rattle.amqp_model.specs.History.Histories.{History, ChannelEntry, PutHere, TookHere, entries_on, notes, under_way, entries_before_leaving}
 use Rattle.amqp_model.specs.History.Replies.{unreplied}
-use Rattle.amqp_model.specs.End.Channels.{Life, Channel, Free, Opening, Closing, Open, HandshakeStep, AwaitsProtocolHeader, AwaitsStart, AwaitsStartOk, AwaitsTune, AwaitsTuneOk, AwaitsOpen, AwaitsOpenOk, Phase, Handshake, Running, Closed, Failed, Agreed, End}
+use Rattle.amqp_model.specs.End.Channels.{Life, Channel, Free, Opening, Closing, Open, HandshakeStep, AwaitsProtocolHeader, AwaitsStart, AwaitsStartOk, AwaitsTune, AwaitsTuneOk, AwaitsOpen, AwaitsOpenOk, HoldsStart, HoldsLogin, HoldsOpen, Phase, Handshake, Running, Closed, Failed, Agreed, End}
 use Rattle.amqp_model.specs.History.Negotiation.{Config, agreed_in, in_range}
 
 -- Channel 0: the connection itself.
@@ -47,10 +47,13 @@ is_negotiated Server entries = has_put kinds.ConnectionOpenOk entries
 -- the next step of the handshake, by what has been done of it
 abbrev pub step_from : Role → List ChannelEntry → HandshakeStep
 step_from Client entries =
-    cond (has_taken kinds.ConnectionTune entries) AwaitsOpenOk (cond (has_taken kinds.ConnectionStart entries) AwaitsTune AwaitsStart)
+    cond (has_taken kinds.ConnectionTune entries) AwaitsOpenOk
+    (cond (has_put kinds.ConnectionStartOk entries) AwaitsTune (cond (has_taken kinds.ConnectionStart entries) HoldsStart AwaitsStart))
 step_from Server entries =
-    cond (has_taken kinds.ConnectionTuneOk entries) AwaitsOpen
-    (cond (has_taken kinds.ConnectionStartOk entries) AwaitsTuneOk (cond (has_put kinds.ConnectionStart entries) AwaitsStartOk AwaitsProtocolHeader))
+    cond (has_taken kinds.ConnectionOpen entries) HoldsOpen
+    (cond (has_taken kinds.ConnectionTuneOk entries) AwaitsOpen
+    (cond (has_put kinds.ConnectionTune entries) AwaitsTuneOk
+    (cond (has_taken kinds.ConnectionStartOk entries) HoldsLogin (cond (has_put kinds.ConnectionStart entries) AwaitsStartOk AwaitsProtocolHeader))))
 
 abbrev pub phase_from : Role → (failed : Bool) → List ChannelEntry → Phase
 phase_from role failed entries =

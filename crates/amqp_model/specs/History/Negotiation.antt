@@ -1,5 +1,6 @@
--- The handshake of a connection: AMQP 0-9-1 specification, sections 2.2.4 and 4.2.2, and `amqp0-9-1.xml`, class
--- connection. The order is protocol header, start, start-ok, tune, tune-ok, open, open-ok.
+-- The handshake of a connection: AMQP 0-9-1 specification, sections 2.2.4, 4.2.2 and 4.2.7, and `amqp0-9-1.xml`,
+-- class connection. The order is protocol header, start, start-ok, tune, tune-ok, open, open-ok. An end that is gated
+-- leaves what it answers to start, or to start-ok and open, to its application: that is this profile's.
 use Rattle.std.specs.Prelude.{Bool, cond, not, ◌&&◌, ℕ, nat_lt, nat_le, ◌==◌, min, List, [], ◌∷◌, Option, Some, None}
 use Rattle.amqp_method.specs.declared.kinds.Kind.TheVariants as kinds
 use Rattle.amqp_value.specs.Values.{Pairs}
@@ -14,11 +15,14 @@ pub data Hello : Role → Type 0 where
   OfClient : (properties : Pairs) (mechanism response locale virtual_host : List ℕ) → Hello Client
   OfServer : (properties : Pairs) (mechanisms locales : List ℕ) → Hello Server
 
--- how an end is set up: the greatest frame and the greatest channel number that it takes, the greatest body
+-- how an end is set up: the greatest frame and the greatest channel number that it takes, the greatest body; the
+-- heartbeat that it wants, in seconds, of which 0 is none; and whether it waits for its application in the handshake
 pub record Config (role : Role) : Type 0 where
   pub frame_max : ℕ
   pub channel_max : ℕ
   pub max_body : ℕ
+  pub heartbeat : ℕ
+  pub gated : Bool
   pub hello : Hello role
 
 -- "AMQP", then 0, 0, 9, 1
@@ -52,31 +56,48 @@ start_ok_by (OfClient properties mechanism response locale virtual_host) =
 abbrev pub start_ok : Config Client → Method
 start_ok config = start_ok_by config.hello
 
--- the server's own limits, and no heartbeat
+-- the client's properties, with a mechanism, a response and a locale that its application chose
+abbrev start_ok_with : Hello Client → (mechanism response locale : List ℕ) → Method
+start_ok_with (OfClient properties own_mechanism own_response own_locale virtual_host) mechanism response locale =
+    start_ok_by (OfClient properties mechanism response locale virtual_host)
+
+abbrev pub start_ok_choosing : Config Client → (mechanism response locale : List ℕ) → Method
+start_ok_choosing config mechanism response locale = start_ok_with config.hello mechanism response locale
+
+-- the server's own limits, and the heartbeat that it wants
 abbrev pub tune : Config Server → Method
-tune config = record { kind = kinds.ConnectionTune; args = short config.channel_max ∷ long config.frame_max ∷ short 0 ∷ [] }
+tune config =
+    record { kind = kinds.ConnectionTune; args = short config.channel_max ∷ long config.frame_max ∷ short config.heartbeat ∷ [] }
 
 -- the smaller of two limits, where the other end's 0 means none
 abbrev pub smaller : (own others : ℕ) → ℕ
 smaller own others = cond (others == 0) own (min own others)
 
--- what the client settles on a tune
+-- what the client settles on a tune: of the two heartbeats the smaller, so that there is none where either wants none
 abbrev pub settled : Config Client → Method → Agreed
 settled config method =
-    record { channel_max = smaller config.channel_max (number_at 0 method); frame_max = smaller config.frame_max (number_at 1 method) }
+    record {
+      channel_max = smaller config.channel_max (number_at 0 method);
+      frame_max = smaller config.frame_max (number_at 1 method);
+      heartbeat = min config.heartbeat (number_at 2 method);
+    }
 
 -- a tune with a frame size that is given, and too small
 abbrev pub tunes_too_small : Method → Bool
 tunes_too_small method = not (number_at 1 method == 0) && nat_lt (number_at 1 method) FRAME_MIN
 
 abbrev pub tune_ok : Agreed → Method
-tune_ok agreed = record { kind = kinds.ConnectionTuneOk; args = short agreed.channel_max ∷ long agreed.frame_max ∷ short 0 ∷ [] }
+tune_ok agreed =
+    record {
+      kind = kinds.ConnectionTuneOk;
+      args = short agreed.channel_max ∷ long agreed.frame_max ∷ short agreed.heartbeat ∷ [];
+    }
 
 -- what a tune-ok says
 abbrev pub agreed_in : Method → Agreed
-agreed_in method = record { channel_max = number_at 0 method; frame_max = number_at 1 method }
+agreed_in method = record { channel_max = number_at 0 method; frame_max = number_at 1 method; heartbeat = number_at 2 method }
 
--- the server takes a tune-ok within its own limits
+-- the server takes a tune-ok within its own limits, with any heartbeat
 abbrev pub in_range : Config Server → Agreed → Bool
 in_range config agreed =
     nat_lt 0 agreed.channel_max && nat_le agreed.channel_max config.channel_max && nat_le FRAME_MIN agreed.frame_max

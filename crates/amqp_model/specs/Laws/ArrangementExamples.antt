@@ -74,10 +74,10 @@ LongAndShort =
 -- that is begun stays at the start.
 abbrev pub begun_and_put : Output
 begun_and_put =
-    after_put (select 2) (after_writing 5 (after_put (header 1 0 0) (after_put (publish 1) (record { ahead = []; last = 2; row = [] }))))
+    after_put (select 2) (after_writing 5 (after_put (header 1 0 0) (after_put (publish 1) (record { ahead = []; begun_on = 2; last = 2; row = [] }))))
 
 abbrev pub BegunAndPut : Type 0
 BegunAndPut =
-    (begun_and_put ≡ record { ahead = drop 5 (octets (publish 1)); last = 1; row = select 2 ∷ header 1 0 0 ∷ [] })
+    (begun_and_put ≡ record { ahead = drop 5 (octets (publish 1)); begun_on = 1; last = 1; row = select 2 ∷ header 1 0 0 ∷ [] })
     × (length begun_and_put.ahead ≡ 13)
     × (sizes begun_and_put.row ≡ OctetsOn 12 2 ∷ OctetsOn 22 1 ∷ [])

@@ -92,7 +92,7 @@ LeftIsArranged = (n : ℕ) (old new : Output) → Writes n old new → IsArrange
 
 -- an end begins with the protocol header or with nothing
 abbrev pub OutputBegins : Type 0
-OutputBegins = (opening : List ℕ) → IsOutputOf opening [] [] (record { ahead = opening; last = 0; row = [] })
+OutputBegins = (opening : List ℕ) → IsOutputOf opening [] [] (record { ahead = opening; begun_on = 0; last = 0; row = [] })
 
 abbrev pub OutputAfterPut : Type 0
 OutputAfterPut =

@@ -20,7 +20,8 @@ use Rattle.amqp_model.specs.End.Events.{Event, FrameVerdict, Proceeds, RefusesCo
 use Rattle.amqp_model.specs.End.Answers.{channel_state, gathered, reply_due}
 use Rattle.amqp_model.specs.End.Asks.{is_free, Ask, is_made, method_asked, Puts, ask_verdict}
 use Rattle.amqp_model.specs.End.EndVerdict.{end_verdict, goes_on, too_large_puts, takes_frames, takes_octets, CanTake}
-use Rattle.amqp_model.specs.End.ReadingBack.{AskReadsBack, WritesReadBack}
+use Rattle.amqp_model.specs.End.Controls.{Control, control_verdict}
+use Rattle.amqp_model.specs.End.ReadingBack.{AskReadsBack, ControlReadsBack, WritesReadBack}
 use Rattle.amqp_model.specs.End.LawfulHistories.{then_put, then_taken, Goes, Lawful}
 use Rattle.amqp_model.specs.End.Machine.{end_after, end_after_taken, end_after_too_large, end_after_put, as_failed, new_end}
 use Rattle.amqp_model.specs.End.Machine.{channel_after, may_put_here, ChannelStandsFor, StandsFor}
@@ -259,6 +260,8 @@ pub record StepsOfEnd (role : Role) (config : Config role) (end : End) (history 
   pub fails : takes_octets end.phase ≡ true → Goes role config history None true history
   pub asks : (ask : Ask) (frames : List Frame) → is_made ask ≡ true → AskReadsBack ask → ask_verdict role end ask ≡ Puts frames
       → Goes role config history None false (then_put frames history)
+  pub controls : (control : Control) (frames : List Frame) → ControlReadsBack role config control
+      → control_verdict role config end control ≡ Puts frames → Goes role config history None false (then_put frames history)
 
 abbrev pub EndSteps : Type 0
 EndSteps =

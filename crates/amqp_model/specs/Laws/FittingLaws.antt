@@ -34,7 +34,8 @@ HeaderReadsBack header = HeaderFits header → header_at (plain_header header) �
 abbrev pub FaultlessConfigFits : Type 0
 FaultlessConfigFits =
     (role : Role) (config : Config role)
-    → config_fault role config ≡ None → config.channel_max < 2 ^ 16 → config.max_body < 2 ^ 64 → HelloFits config.hello → ConfigFits config
+    → config_fault role config ≡ None → config.channel_max < 2 ^ 16 → config.max_body < 2 ^ 64 → config.heartbeat < 2 ^ 16 → HelloFits config.hello
+    → ConfigFits config
 
 -- and one that fits has none
 abbrev pub FittingConfigIsFaultless : Type 0

@@ -26,15 +26,17 @@ example_client =
       frame_max = 131072;
       channel_max = 3;
       max_body = 1000;
+      heartbeat = 0;
+      gated = false;
       hello = OfClient no_pairs (codes "PLAIN") [] (codes "en_US") (codes "/");
     }
 
 abbrev pub example_server : Config Server
-example_server = record { frame_max = 4096; channel_max = 2047; max_body = 1000; hello = OfServer no_pairs (codes "PLAIN") (codes "en_US") }
+example_server = record { frame_max = 4096; channel_max = 2047; max_body = 1000; heartbeat = 0; gated = false; hello = OfServer no_pairs (codes "PLAIN") (codes "en_US") }
 
 -- what they settle
 abbrev pub settled_example : Agreed
-settled_example = record { channel_max = 3; frame_max = 4096 }
+settled_example = record { channel_max = 3; frame_max = 4096; heartbeat = 0 }
 
 -- the frame of a method on channel 0, and on channel 1
 abbrev pub zero : Method → Frame

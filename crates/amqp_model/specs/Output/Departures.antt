@@ -6,7 +6,7 @@ use Rattle.amqp_model.specs.Output.Prefixes.{IsPrefixOf}
 use Rattle.amqp_frame.specs.Frame.{Frame}
 use Rattle.amqp_frame.specs.Splitting.{stream, AllFit}
 use Rattle.amqp_model.specs.Output.Arrangement.{is_leaving, Queue, queued, on, last_after_all, IsArranged}
-use Rattle.amqp_model.specs.Output.Outputs.{Output}
+use Rattle.amqp_model.specs.Output.Outputs.{Output, begun_on_after}
 
 -- the frames before the connection.close or close-ok number k, counted from 0; all of them where there is none
 abbrev pub before_close : ℕ → List Frame → List Frame
@@ -27,6 +27,7 @@ pub record IsOutputOf (opening : List ℕ) (put : List Frame) (written : List �
   pub begun : List Frame
   pub all_begun : (before later : List Frame) (f : Frame) → begun ≡ before ++ f ∷ later → length (opening ++ stream before) < length written
   pub octets_are : written ++ o.ahead ≡ opening ++ stream begun
+  pub begun_on_is : o.begun_on ≡ begun_on_after 0 begun
   pub last_is : o.last ≡ last_after_all 0 begun
   pub arranged : IsArranged o.last o.row
   pub fit : AllFit (begun ++ o.row)

@@ -13,6 +13,7 @@ use Rattle.amqp_model.specs.End.Closes.{FrameError, Owed, frame_of}
 use Rattle.amqp_model.specs.End.Events.{Event, Quiet, Fault, Peer, Fatal, WrongProtocolHeader, AlreadyClosed, AlreadyFailed, FrameVerdict, Faults}
 use Rattle.amqp_model.specs.End.FrameVerdict.{Facts, on_zero, methods_put, event_told}
 use Rattle.amqp_model.specs.End.Asks.{Ask, AskVerdict, Refused, Puts, ask_verdict}
+use Rattle.amqp_model.specs.End.Controls.{Control, control_verdict}
 use Rattle.amqp_model.specs.Output.Outputs.{Output, after_puts, after_writing}
 use Rattle.amqp_model.specs.End.EndVerdict.{facts_at, end_verdict, end_puts}
 use Rattle.amqp_model.specs.End.Machine.{end_after_owed, end_after_put, end_after_taken, failed_by, new_end}
@@ -43,7 +44,7 @@ pub record Endpoint : Type 0 where
 
 -- an output of these octets alone
 abbrev pub output_of : List ℕ → Output
-output_of octets = record { ahead = octets; last = 0; row = [] }
+output_of octets = record { ahead = octets; begun_on = 0; last = 0; row = [] }
 
 -- a new client has the protocol header to write, a new server nothing
 abbrev pub new_endpoint : Role → Endpoint
@@ -171,6 +172,10 @@ after_answer role config endpoint (Puts frames) =
 -- an ask
 abbrev pub after_ask : (role : Role) → Config role → Endpoint → Ask → Endpoint
 after_ask role config endpoint ask = after_answer role config endpoint (ask_verdict role endpoint.end ask)
+
+-- a heartbeat, or a decision in the handshake
+abbrev pub after_control : (role : Role) → Config role → Endpoint → Control → Endpoint
+after_control role config endpoint control = after_answer role config endpoint (control_verdict role config endpoint.end control)
 
 -- so many octets of the output were written
 abbrev pub after_wrote : ℕ → Endpoint → Endpoint

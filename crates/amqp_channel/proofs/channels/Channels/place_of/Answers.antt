@@ -1,7 +1,7 @@
 use Rattle.std.proofs.Common.{◌≡◌, slice_get, Some, ap, sym, ◌∙◌}
 use Rattle.std.proofs.lemmas.Bool.{eqb-true}
 use Rattle.std.proofs.lemmas.Map.Made.{lookup_key_passes}
-use Rattle.amqp_channel.proofs.PlaceLemmas.{holds_at, keeps_entries_at, keeps_others_at, taken_at_place, writes_at}
+use Rattle.amqp_channel.proofs.PlaceLemmas.{holds_at, keeps_entries_at, keeps_others_at, kept_at_place, put_at_place, taken_at_place, writes_at}
 use Rattle.amqp_channel.proofs.channels.Channels.place_of.Goals as goal
 
 stood : (c : goal.Then-key-number) → slice_get c.args.self.now.used.entries c.args.self.now.last ≡ Some (c.args.number, c.in-Some.field-0-1.now)
@@ -14,6 +14,12 @@ returns-then-key-number-clause-holds c = holds_at c.args.self.now.used c.args.se
 
 pub returns-then-key-number-clause-written : goal.returns-then-key-number-clause-written
 returns-then-key-number-clause-written c = writes_at c.args.self.now.used c.args.self.now.last c.args.number c.in-Some.field-0-1.now c.requires c.as_slice.ensures.unique (stood c)
+
+pub returns-then-key-number-clause-kept : goal.returns-then-key-number-clause-kept
+returns-then-key-number-clause-kept c = kept_at_place c.args.self.now.used c.args.self.now.last c.args.number c.in-Some.field-0-1.now c.requires c.as_slice.ensures.unique (stood c)
+
+pub returns-then-key-number-clause-put : goal.returns-then-key-number-clause-put
+returns-then-key-number-clause-put c = put_at_place c.args.self.now.used c.args.self.now.last c.args.number c.in-Some.field-0-1.now c.requires c.as_slice.ensures.unique (stood c)
 
 pub returns-then-key-number-clause-others : goal.returns-then-key-number-clause-others
 returns-then-key-number-clause-others c = keeps_others_at c.args.self.now.used c.args.self.now.last c.args.number c.in-Some.field-0-1.now c.requires c.as_slice.ensures.unique (stood c)
@@ -35,6 +41,12 @@ returns-clause-holds c = holds_at c.args.self.now.used c.in-Some-get_full.place 
 
 pub returns-clause-written : goal.returns-clause-written
 returns-clause-written c = writes_at c.args.self.now.used c.in-Some-get_full.place c.args.number c.in-Some-get_full.field-0-2.now c.requires c.as_slice.ensures.unique (found c)
+
+pub returns-clause-kept : goal.returns-clause-kept
+returns-clause-kept c = kept_at_place c.args.self.now.used c.in-Some-get_full.place c.args.number c.in-Some-get_full.field-0-2.now c.requires c.as_slice.ensures.unique (found c)
+
+pub returns-clause-put : goal.returns-clause-put
+returns-clause-put c = put_at_place c.args.self.now.used c.in-Some-get_full.place c.args.number c.in-Some-get_full.field-0-2.now c.requires c.as_slice.ensures.unique (found c)
 
 pub returns-clause-others : goal.returns-clause-others
 returns-clause-others c = keeps_others_at c.args.self.now.used c.in-Some-get_full.place c.args.number c.in-Some-get_full.field-0-2.now c.requires c.as_slice.ensures.unique (found c)

@@ -14,5 +14,5 @@ pub returns-clause-at : goal.returns-clause-at
 returns-clause-at c =
     let before = free_is (channels_view c.args.self.now c.args.number) c.requires.free in
     on_ok_weaker c.set.result
-    (λ at frame. at ∙ (c.put_open.ensures frame ∙ ap (channel_after Client (PutHere (Calls (without_arguments kinds.ChannelOpen)) frame)) (sym before)))
+    (λ at frame. at ∙ (c.put_open.ensures.after frame ∙ ap (channel_after Client (PutHere (Calls (without_arguments kinds.ChannelOpen)) frame)) (sym before)))
     c.set.ensures.at

@@ -30,7 +30,7 @@ pub overflow_add-self-then-ahead-octets : goal.overflow_add-self-then-ahead-octe
 overflow_add-self-then-ahead-octets c =
     let x = c.self.inside in
     let r = c.begun_of-begun in
-    let w = is_write x _ c.args.octets r.result.frames r.result.octets r.result.last c.self.invariant (row-lent x _ c.self.invariant c.deref.ensures.value) c.if-ahead-octets.true r.ensures.frames r.ensures.octets r.ensures.last (few _ _ r.ensures.count) r.ensures.reached in
+    let w = is_write x _ c.args.octets r.result.frames r.result.octets r.result.on r.result.last c.self.invariant (row-lent x _ c.self.invariant c.deref.ensures.value) c.if-ahead-octets.true r.ensures.frames r.ensures.octets r.ensures.on r.ensures.last (few _ _ r.ensures.count) r.ensures.reached in
     let a = row-room x r.result.frames c.self.invariant in
     let b = w.passed_is in
     omega arith
@@ -39,20 +39,20 @@ pub invariant_of-self : goal.invariant_of-self
 invariant_of-self c =
     let x = c.self.inside in
     let r = c.begun_of-begun in
-    let w = is_write x _ c.args.octets r.result.frames r.result.octets r.result.last c.self.invariant (row-lent x _ c.self.invariant c.deref.ensures.value) c.if-ahead-octets.true r.ensures.frames r.ensures.octets r.ensures.last (few _ _ r.ensures.count) r.ensures.reached in
+    let w = is_write x _ c.args.octets r.result.frames r.result.octets r.result.on r.result.last c.self.invariant (row-lent x _ c.self.invariant c.deref.ensures.value) c.if-ahead-octets.true r.ensures.frames r.ensures.octets r.ensures.on r.ensures.last (few _ _ r.ensures.count) r.ensures.reached in
     let lent = row-lent x _ c.self.invariant c.deref.ensures.value in
-    sound _ _ _ _ _ _ _ _ _ (write-laid_out x _ c.args.octets r.result.frames r.result.octets r.result.last c.self.invariant w refl refl refl refl refl refl refl)
-    (write-kept x c.args.octets r.result.frames r.result.octets r.result.last c.self.invariant w)
+    sound _ _ _ _ _ _ _ _ _ (write-laid_out x _ c.args.octets r.result.frames r.result.octets r.result.on r.result.last c.self.invariant w refl refl refl refl refl refl refl)
+    (write-kept x c.args.octets r.result.frames r.result.octets r.result.on r.result.last c.self.invariant w)
     (laps-written x _ r.result.frames c.self.invariant w.few refl (r.ensures.lap ∙ ap (λ xs. laps_last x.lap x.last (take r.result.frames xs)) lent) (r.ensures.last ∙ ap (λ xs. slots_last x.last (take r.result.frames xs)) lent) refl)
 
 pub returns-then-ahead-octets : goal.returns-then-ahead-octets
 returns-then-ahead-octets c =
     let x = c.self.inside in
     let r = c.begun_of-begun in
-    let w = is_write x _ c.args.octets r.result.frames r.result.octets r.result.last c.self.invariant (row-lent x _ c.self.invariant c.deref.ensures.value) c.if-ahead-octets.true r.ensures.frames r.ensures.octets r.ensures.last (few _ _ r.ensures.count) r.ensures.reached in
-    let y : Inside = record x { written = x.written + c.args.octets; begun = x.begun + r.result.octets; slots_begun = x.slots_begun + r.result.frames; lap = r.result.lap; last = r.result.last } in
-    write_view x y c.args.octets r.result.frames r.result.octets r.result.last _ _ c.args.self.now c.self.view_is c.requires w refl
-    (write-laid_out x y c.args.octets r.result.frames r.result.octets r.result.last c.self.invariant w refl refl refl refl refl refl refl)
+    let w = is_write x _ c.args.octets r.result.frames r.result.octets r.result.on r.result.last c.self.invariant (row-lent x _ c.self.invariant c.deref.ensures.value) c.if-ahead-octets.true r.ensures.frames r.ensures.octets r.ensures.on r.ensures.last (few _ _ r.ensures.count) r.ensures.reached in
+    let y : Inside = record x { written = x.written + c.args.octets; begun = x.begun + r.result.octets; slots_begun = x.slots_begun + r.result.frames; begun_on = r.result.on; lap = r.result.lap; last = r.result.last } in
+    write_view x y c.args.octets r.result.frames r.result.octets r.result.on r.result.last _ _ c.args.self.now c.self.view_is c.requires w refl refl
+    (write-laid_out x y c.args.octets r.result.frames r.result.octets r.result.on r.result.last c.self.invariant w refl refl refl refl refl refl refl)
 
 pub begun_of-begun-requires-clause-laps : goal.begun_of-begun-requires-clause-laps
 begun_of-begun-requires-clause-laps c =

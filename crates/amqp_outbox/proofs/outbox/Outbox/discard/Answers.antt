@@ -16,4 +16,4 @@ pub returns : goal.returns
 returns c =
     let x = c.self.inside in
     let y : Inside = record x { octets = c.truncate.new.self; slots = c.truncate-2.new.self } in
-    row_view x y _ _ _ c.self.view_is refl (staged-dropped x y c.self.invariant c.truncate.ensures.items (slots-taken _ _ _ c.truncate-2.ensures.items) refl refl refl refl refl)
+    row_view x y _ _ _ c.self.view_is refl refl (staged-dropped x y c.self.invariant c.truncate.ensures.items (slots-taken _ _ _ c.truncate-2.ensures.items) refl refl refl refl refl)

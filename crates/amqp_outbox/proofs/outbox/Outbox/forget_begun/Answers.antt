@@ -13,4 +13,4 @@ pub returns : goal.returns
 returns c =
     let x = c.self.inside in
     let y : Inside = record x { slots = c.forget.new.items; slots_begun = 0; slots_arranged = x.slots_arranged - x.slots_begun } in
-    same_view x y _ _ _ c.self.view_is refl (begun-dropped x y c.self.invariant refl (slots-dropped c.self.inside.slots_begun c.self.inside.slots.items c.forget.new.items.items c.forget.ensures) refl refl refl refl refl)
+    same_view x y _ _ _ c.self.view_is refl refl (begun-dropped x y c.self.invariant refl (slots-dropped c.self.inside.slots_begun c.self.inside.slots.items c.forget.new.items.items c.forget.ensures) refl refl refl refl refl)

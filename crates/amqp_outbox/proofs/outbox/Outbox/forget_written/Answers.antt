@@ -12,4 +12,4 @@ pub returns : goal.returns
 returns c =
     let x = c.self.inside in
     let y : Inside = record x { octets = c.forget.new.items; written = 0; begun = x.begun - x.written; arranged = x.arranged - x.written } in
-    same_view x y _ _ _ c.self.view_is refl (written-dropped x y c.self.invariant c.forget.ensures refl refl refl refl refl refl)
+    same_view x y _ _ _ c.self.view_is refl refl (written-dropped x y c.self.invariant c.forget.ensures refl refl refl refl refl refl)

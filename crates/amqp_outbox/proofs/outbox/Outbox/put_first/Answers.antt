@@ -121,7 +121,7 @@ returns-then-at-self c f later staged =
     let few : p ≤ length (row_of x) = subst (λ n. p ≤ n) (sym (count-slots _) ∙ (ap length row ∙ length-map (row_of x) slot_of)) c.place_of-place.ensures.within in
     let at = c.place_of-place.ensures.place f (row_of x) s.slot_is (sym row) c.self.invariant.in_turn c.self.invariant.row_channels in
     let y : Inside = record x { octets = c.move_down.new.octets; written = x.written - c.length-count.result; begun = x.begun - c.length-count.result; slots = c.put_slot.new.slots; slots_arranged = x.slots_arranged + 1 } in
-    put_view x y f later p _ _ c.args.self.now c.self.view_is refl at
+    put_view x y f later p _ _ c.args.self.now c.self.view_is refl refl at
     (frame-put-down x y f later p c.length_from-moved.result c.length-count.result c.self.invariant s.staged few moved s.count_is c.if-count-self.true c.move_down.ensures c.put_slot.ensures.slots refl refl refl refl refl)
 
 pub returns-else-count-self : goal.returns-else-count-self
@@ -134,5 +134,5 @@ returns-else-count-self c f later staged =
     let few : p ≤ length (row_of x) = subst (λ n. p ≤ n) (sym (count-slots _) ∙ (ap length row ∙ length-map (row_of x) slot_of)) c.place_of-place.ensures.within in
     let at = c.place_of-place.ensures.place f (row_of x) s.slot_is (sym row) c.self.invariant.in_turn c.self.invariant.row_channels in
     let y : Inside = record x { octets = c.move_up.new.items; arranged = x.arranged + c.length-count.result; slots = c.put_slot.new.slots; slots_arranged = x.slots_arranged + 1 } in
-    put_view x y f later p _ _ c.args.self.now c.self.view_is refl at
+    put_view x y f later p _ _ c.args.self.now c.self.view_is refl refl at
     (frame-put x y f later p c.length_from-moved.result c.length-count.result (x.arranged + c.length-count.result) c.self.invariant s.staged few moved s.count_is refl c.move_up.ensures c.put_slot.ensures.slots refl refl refl refl refl)

@@ -1,6 +1,7 @@
 use Rattle.std.proofs.Common.{refl, ◌∙◌, arith}
 use Rattle.amqp_frame.specs.Frame.{Frame}
-use Rattle.amqp_method.specs.HeaderView.{header_view}
+use Rattle.amqp_method.specs.HeaderView.{properties_view}
+use Rattle.amqp_method.specs.Properties.{header}
 use Rattle.amqp_model.specs.Wire.Methods.{plain_header}
 use Rattle.amqp_outbox.specs.OutboxFrames.{header_frame}
 use Rattle.amqp_outbox.specs.declared.outbox.Outbox.TheInside.{Inside}
@@ -11,21 +12,21 @@ use Rattle.amqp_outbox.proofs.outbox.Outbox.stage_header.Goals as goal
 
 pub enlist-requires-clause-room : goal.enlist-requires-clause-room
 enlist-requires-clause-room c =
-    let f : Frame = header_frame c.args.channel (header_view c.args.header.now) in
+    let f : Frame = header_frame c.args.channel (header c.args.body_size (properties_view c.args.properties.now)) in
     let h = length-appended f c.self.inside.octets.items c.append_header.new.octets.items c.len-at.result (omega arith) c.in_ok-append_header.ensures.ok in
     omega arith
 
 pub enlist-requires-clause-fits : goal.enlist-requires-clause-fits
 unfolding plain_header
 enlist-requires-clause-fits c =
-    let f : Frame = header_frame c.args.channel (header_view c.args.header.now) in
+    let f : Frame = header_frame c.args.channel (header c.args.body_size (properties_view c.args.properties.now)) in
     let h = length-appended f c.self.inside.octets.items c.append_header.new.octets.items c.len-at.result (omega arith) c.in_ok-append_header.ensures.ok in
     let k = c.in_ok-append_header.ensures.fits in
     omega arith
 
 pub invariant_of-self-2 : goal.invariant_of-self-2
 invariant_of-self-2 c =
-    let f : Frame = header_frame c.args.channel (header_view c.args.header.now) in
+    let f : Frame = header_frame c.args.channel (header c.args.body_size (properties_view c.args.properties.now)) in
     let x = c.self.inside in
     let at = frame-appended f x.octets.items c.append_header.new.octets.items c.len-at.result (omega arith) c.in_ok-append_header.ensures.ok in
     let y : Inside = record x { octets = c.enlist.new.octets; slots = c.enlist.new.slots } in
@@ -35,9 +36,9 @@ invariant_of-self-2 c =
 
 pub returns-clause-ok : goal.returns-clause-ok
 returns-clause-ok c =
-    let f : Frame = header_frame c.args.channel (header_view c.args.header.now) in
+    let f : Frame = header_frame c.args.channel (header c.args.body_size (properties_view c.args.properties.now)) in
     let x = c.self.inside in
     let at = frame-appended f x.octets.items c.append_header.new.octets.items c.len-at.result (omega arith) c.in_ok-append_header.ensures.ok in
     let y : Inside = record x { octets = c.enlist.new.octets; slots = c.enlist.new.slots } in
-    staged_view x y f _ _ c.args.self.now (c.self.view_is ∙ (c.drop_begun.ensures ∙ c.drop_written.ensures)) refl
+    staged_view x y f _ _ c.args.self.now (c.self.view_is ∙ (c.drop_begun.ensures ∙ c.drop_written.ensures)) refl refl
     (frame-staged x y f c.self.invariant (c.in_ok-enlist.ensures.same ∙ c.in_ok-append_header.ensures.ok) (c.in_ok-enlist.ensures.slot f refl refl at) refl refl refl refl refl)

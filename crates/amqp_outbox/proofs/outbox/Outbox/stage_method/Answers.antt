@@ -39,5 +39,5 @@ returns-clause-ok c =
     let x = c.self.inside in
     let at = frame-appended f x.octets.items c.append_method.new.octets.items c.len-at.result (omega arith) c.in_ok-append_method.ensures.ok in
     let y : Inside = record x { octets = c.enlist.new.octets; slots = c.enlist.new.slots } in
-    staged_view x y f _ _ c.args.self.now (c.self.view_is ∙ (c.drop_begun.ensures ∙ c.drop_written.ensures)) refl
+    staged_view x y f _ _ c.args.self.now (c.self.view_is ∙ (c.drop_begun.ensures ∙ c.drop_written.ensures)) refl refl
     (frame-staged x y f c.self.invariant (c.in_ok-enlist.ensures.same ∙ c.in_ok-append_method.ensures.ok) (c.in_ok-enlist.ensures.slot f refl refl at) refl refl refl refl refl)

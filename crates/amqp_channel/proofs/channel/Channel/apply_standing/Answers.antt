@@ -1,0 +1,23 @@
+-- Out of memory, what stands beside the content is as it was.
+use Rattle.std.proofs.Common.{ap, sym, ◌∙◌}
+use Rattle.std.proofs.lemmas.Result.{on_err_weaker}
+use Rattle.amqp_model.specs.Lent.Streaming.{AwaitsBody, AwaitsHeader, gathered_as}
+use Rattle.amqp_channel.specs.ChannelView.{channel_view}
+use Rattle.amqp_channel.specs.GatheringView.{gathering_view}
+use Rattle.amqp_channel.proofs.channel.Channel.apply_standing.Goals as goal
+
+pub returns-in-Open-clause-err : goal.returns-in-Open-clause-err
+returns-in-Open-clause-err c =
+    on_err_weaker c.take.result (λ same. same (gathering_view c.in-Open.life.content) ∙ sym (ap channel_view c.in-Open.is)) c.take.ensures.err
+
+pub returns-in-LentHeader-clause-err : goal.returns-in-LentHeader-clause-err
+returns-in-LentHeader-clause-err c =
+    on_err_weaker c.take-in-LentHeader.result
+    (λ same. same (gathered_as (AwaitsHeader c.in-LentHeader.kind)) ∙ sym (ap channel_view c.in-LentHeader.is))
+    c.take-in-LentHeader.ensures.err
+
+pub returns-in-LentBody-clause-err : goal.returns-in-LentBody-clause-err
+returns-in-LentBody-clause-err c =
+    let lent = c.in-LentBody in
+    on_err_weaker c.take-in-LentBody.result
+    (λ same. same (gathered_as (AwaitsBody lent.kind lent.size lent.came)) ∙ sym (ap channel_view lent.is)) c.take-in-LentBody.ensures.err
