@@ -14,7 +14,7 @@ use Rattle.amqp_frame.specs.declared.faults.FrameFaultKind.TheVariants as kinds
 use Rattle.amqp_model.specs.Stream.Endpoint.{Endpoint, Feeding, Outcome, Unfinished, Finished, Found, Judgement, Begun, Whole, Wrong, after_judged, after_feed, awaits_opening, goes_on_with, greeting, outcome_of, owed_at_fault}
 use Rattle.amqp_model.specs.End.EndVerdict.{end_verdict, facts_at, takes_frames}
 use Rattle.amqp_model.specs.End.Events.{Event, Quiet, WrongProtocolHeader, FrameVerdict, Proceeds, RefusesContent, Faults}
-use Rattle.amqp_model.specs.End.Channels.{Phase, Handshake, AwaitsProtocolHeader}
+use Rattle.amqp_model.specs.End.Channels.{End, Phase, Handshake, AwaitsProtocolHeader}
 use Rattle.amqp_model.specs.Wire.Frame.{Frame}
 use Rattle.amqp_model.specs.End.FrameVerdict.{Facts}
 use Rattle.amqp_model.specs.History.Negotiation.{Config, frame_limit}
@@ -35,7 +35,7 @@ use Rattle.amqp_core.proofs.FeedLemmas.{reads}
 
 -- Outcomes.
 
-abbrev is_unfinished : Outcome → Bool
+abbrev pub is_unfinished : Outcome → Bool
 is_unfinished Unfinished = true
 is_unfinished outcome = false
 
@@ -48,9 +48,13 @@ ends facts (Proceeds event owed) e = false≢true (ap is_unfinished e)
 ends facts RefusesContent e = false≢true (ap is_unfinished e)
 ends facts (Faults fault) e = false≢true (ap is_unfinished e)
 
+-- a frame that was taken ends what was unfinished
+pub ends_frame : {role : Role} (config : Config role) (end : End) (frame : Frame) → outcome_of (facts_at config end frame.channel) (end_verdict config end frame) ≢ Unfinished
+ends_frame config end frame = ends (facts_at config end frame.channel) (end_verdict config end frame)
+
 -- Judgements.
 
-abbrev is_begun : Judgement → Bool
+abbrev pub is_begun : Judgement → Bool
 is_begun Begun = true
 is_begun judgement = false
 
@@ -58,7 +62,7 @@ abbrev is_wrong : Judgement → Bool
 is_wrong (Wrong kind) = true
 is_wrong judgement = false
 
-abbrev frame_or : Frame → Judgement → Frame
+abbrev pub frame_or : Frame → Judgement → Frame
 frame_or other (Whole frame) = frame
 frame_or other judgement = other
 
@@ -67,12 +71,12 @@ kind_or other (Wrong kind) = kind
 kind_or other judgement = other
 
 -- the phase of an end that awaits the protocol header takes no frames
-no_frames : (role : Role) (phase : Phase) → awaits_opening role phase ≡ true → takes_frames phase ≡ true → ⊥
+pub no_frames : (role : Role) (phase : Phase) → awaits_opening role phase ≡ true → takes_frames phase ≡ true → ⊥
 no_frames Client phase e t = false≢true e
 no_frames Server (Handshake AwaitsProtocolHeader) e t = false≢true t
 no_frames Server phase e t = false≢true e
 
-awaits_none : (role : Role) (phase : Phase) → reads_frames role phase ≡ true → awaits_opening role phase ≡ true → ⊥
+pub awaits_none : (role : Role) (phase : Phase) → reads_frames role phase ≡ true → awaits_opening role phase ≡ true → ⊥
 awaits_none role phase r awaits = false≢true (sym (reads role phase r).opened ∙ awaits)
 
 -- A whole frame was taken.
@@ -214,14 +218,14 @@ abbrev is_some : {A : Type 0} → Option A → Bool
 is_some (Some x) = true
 is_some None = false
 
-none_is_some : {A : Type 0} {x : A} → Some x ≡ None → ⊥
+pub none_is_some : {A : Type 0} {x : A} → Some x ≡ None → ⊥
 none_is_some e = false≢true (sym (ap is_some e))
 
 abbrev event_or : Outcome → Option Event
 event_or (Finished event) = event
 event_or outcome = None
 
-nothing_finished : (outcome : Outcome) → TellsEvent None outcome → outcome ≢ Finished (Some Quiet)
+pub nothing_finished : (outcome : Outcome) → TellsEvent None outcome → outcome ≢ Finished (Some Quiet)
 nothing_finished Unfinished says e = false≢true (sym (ap is_unfinished e))
 nothing_finished (Finished told) says e = let there : told ≡ Some Quiet = ap event_or e in none_is_some (sym there ∙ says)
 nothing_finished (Found fault) says e = absurd says
@@ -231,7 +235,7 @@ fault_finished outcome (inl says) e = false≢true (sym (ap is_found (sym says �
 fault_finished outcome (inr says) e = false≢true (sym (ap is_found (sym says ∙ e)))
 
 -- A part of the header came, or an octet that differs: no frame is taken, and nothing put.
-quiet_unfinished : (outcome : Outcome) → TellsEvent (Some Quiet) outcome → outcome ≢ Unfinished
+pub quiet_unfinished : (outcome : Outcome) → TellsEvent (Some Quiet) outcome → outcome ≢ Unfinished
 quiet_unfinished Unfinished says e = none_is_some says
 quiet_unfinished (Finished told) says e = false≢true (ap is_unfinished e)
 quiet_unfinished (Found fault) says e = absurd says

@@ -1,15 +1,10 @@
 -- What an accepted ask leaves: the end of its frames, and the output with them.
 use Rattle.std.proofs.Common.{◌≡◌, ◌<◌, Bool, true, false, ℕ, List, [], ◌∷◌, ◌++◌, map, length, Some, None, refl, ap, sym, ◌∙◌, subst}
 use Rattle.std.proofs.lemmas.Bool.{false≢true}
-use Rattle.amqp_method.specs.CarrierView.{carrier_view}
 use Rattle.amqp_method.specs.Kinds.{has_content}
-use Rattle.amqp_method.specs.MaybeBoxed.{boxed_value}
-use Rattle.amqp_method.specs.Messages.{KindFits, letter}
 use Rattle.amqp_method.specs.MethodView.{method_view}
 use Rattle.amqp_method.specs.Sorts.{sort_alone}
 use Rattle.amqp_method.specs.declared.kinds.Kind.TheVariants as kinds
-use Rattle.amqp_method.specs.declared.messages.Form.{Form}
-use Rattle.amqp_method.specs.declared.messages.Form.TheVariants as form
 use Rattle.amqp_model.specs.End.Asks.{Ask, Open, Send, Close, Blocked, Unblocked, frames_asked, is_made, message_payloads, lowest_free, method_asked, is_running, opens_on, payload_frame, refusal}
 use Rattle.amqp_model.specs.End.Channels.{Channel, End, Running}
 use Rattle.amqp_model.specs.End.Closes.{method_frame, without_arguments}
@@ -37,9 +32,12 @@ use Rattle.amqp_core.specs.Asked.{IsAccepted, IsAllowed, IsRefusal, IsRefused}
 use Rattle.amqp_core.specs.ConnectionView.{site_at}
 use Rattle.amqp_core.specs.Faults.{refusal_view}
 use Rattle.amqp_core.specs.Laws.{AreWritten, SayPayloads}
+use Rattle.amqp_core.specs.LentForm.{KindFits, form_letter}
 use Rattle.amqp_core.specs.Settings.{config_view, role_for}
 use Rattle.amqp_core.specs.Stages.{agreed_at, phase_at}
 use Rattle.amqp_core.specs.declared.faults.AskFault.{AskFault}
+use Rattle.amqp_core.specs.declared.lent_message.Form.{Form}
+use Rattle.amqp_core.specs.declared.lent_message.Form.TheVariants as form
 use Rattle.amqp_core.specs.declared.settings.Settings.{Settings}
 use Rattle.amqp_core.specs.declared.stage.Stage.{Stage}
 use Rattle.amqp_core.specs.declared.stage.Stage.TheVariants as stages
@@ -103,7 +101,7 @@ channel_end : (settings : Settings) (agreed : Agreed) (number : ℕ) (payload : 
     ≡ end_after_put (role_for settings) (config_view settings) (map (payload_frame number) (payload ∷ later)) (running agreed before)
 channel_end settings agreed number payload later before after above written say left others =
     ap (running agreed) (set_only number before after others ∙ ap (λ c. set_channel number c before) left)
-    ∙ sym (puts_as_end (site_at settings number agreed.channel_max) (config_view settings) agreed.frame_max before payload later above written say)
+    ∙ sym (puts_as_end (site_at settings number agreed.channel_max) (config_view settings) (agreed_view agreed) before payload later above written say)
 
 -- the channel of a site is left as these payloads leave it
 abbrev pub LeavesHere : Site → List Payload → (before after : ℕ → Channel) → Type 0
@@ -234,9 +232,9 @@ carries_if method h = rw h refl
 carries_not : (method : Method) → has_content method.kind ≡ false → carries_content method ≡ false
 carries_not method h = rw h (begins_none method.kind _)
 
-pub message_made : (number : ℕ) (form : Form) → KindFits form → is_made (Send number (message_of (letter form))) ≡ true
-message_made number (form.Plain method) h = rw (carries_not (method_view method) h) refl
-message_made number (form.Content content) h = carries_if (carrier_view (boxed_value content).method) h
+pub message_made : (number : ℕ) (parts : Form) → KindFits parts → is_made (Send number (message_of (form_letter parts))) ≡ true
+message_made number (form.Plain method) h = rw (carries_not (method_view method.now) h) refl
+message_made number (form.Content method properties body) h = carries_if (method_view method.now) h
 
 -- Methods of the connection.
 

@@ -5,7 +5,7 @@ use Rattle.std.proofs.lemmas.Bool.{true≢false, false≢true}
 use Rattle.amqp_frame.specs.Stream.{Stream}
 use Rattle.amqp_model.specs.End.Asks.{Ask, Refusal, ask_verdict, first_refusal, frames_asked, is_running, refusal, refused_or_put, when, NotRunning, Puts, Refused}
 use Rattle.amqp_model.specs.End.Bounds.{AskStaysWithin, EndIsWithin}
-use Rattle.amqp_model.specs.End.Channels.{Agreed, End, Phase, Handshake, AwaitsProtocolHeader, AwaitsStart, AwaitsStartOk, AwaitsTune, AwaitsTuneOk, AwaitsOpen, AwaitsOpenOk, Running, Closing, Closed, Failed}
+use Rattle.amqp_model.specs.End.Channels.{Agreed, End, Phase, Handshake, AwaitsProtocolHeader, AwaitsStart, AwaitsStartOk, AwaitsTune, AwaitsTuneOk, AwaitsOpen, AwaitsOpenOk, HoldsStart, HoldsLogin, HoldsOpen, Running, Closing, Closed, Failed}
 use Rattle.amqp_model.specs.Laws.EndLaws.{AskOfHistory}
 use Rattle.amqp_model.specs.End.EndVerdict.{takes_octets}
 use Rattle.amqp_model.specs.Stream.Endpoint as model
@@ -54,7 +54,7 @@ not_awaited : (role : Role) (phase : Phase) → phase ≡ Running → awaits_ope
 not_awaited Client phase e = refl
 not_awaited Server phase e = ap (awaits_opening Server) e
 
-never_both : (role : Role) (phase : Phase) → is_opened phase ≡ true → awaits_opening role phase ≡ true → ⊥
+pub never_both : (role : Role) (phase : Phase) → is_opened phase ≡ true → awaits_opening role phase ≡ true → ⊥
 never_both Client phase o e = false≢true e
 never_both Server (Handshake AwaitsProtocolHeader) o e = false≢true o
 never_both Server (Handshake AwaitsStart) o e = false≢true e
@@ -63,6 +63,9 @@ never_both Server (Handshake AwaitsTune) o e = false≢true e
 never_both Server (Handshake AwaitsTuneOk) o e = false≢true e
 never_both Server (Handshake AwaitsOpen) o e = false≢true e
 never_both Server (Handshake AwaitsOpenOk) o e = false≢true e
+never_both Server (Handshake HoldsStart) o e = false≢true e
+never_both Server (Handshake HoldsLogin) o e = false≢true e
+never_both Server (Handshake HoldsOpen) o e = false≢true e
 never_both Server Running o e = false≢true e
 never_both Server Closing o e = false≢true e
 never_both Server Closed o e = false≢true e
@@ -85,7 +88,7 @@ left_is role config old ask end output allowed ends puts =
     let there : ◌≡◌ {A = model.Endpoint} (record { end = end; unfinished = old.unfinished; output = output }) (after_answer role config old (Puts (frames_asked old.end ask))) = λ i. record { end = ends i; unfinished = old.unfinished; output = puts i } in
     there ∙ sym (ap (λ r. after_answer role config old (refused_or_put r (frames_asked old.end ask))) allowed)
 
-agreed_fits : (agreed : Option Agreed) → IfAgreedFits agreed → AgreedFits agreed
+pub agreed_fits : (agreed : Option Agreed) → IfAgreedFits agreed → AgreedFits agreed
 agreed_fits None fits = record { channel_most = omega arith; frame_most = omega arith }
 agreed_fits (Some agreed) fits = record { channel_most = fits.channel_most; frame_most = fits.frame_most }
 

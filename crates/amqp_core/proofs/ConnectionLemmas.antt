@@ -28,6 +28,14 @@ only_at false number other old new e h = h other (eqb-false other number e)
 pub set_only : (number : ℕ) (old new : ℕ → Channel) → OnlyAt number old new → new ≡ set_channel number (new number) old
 set_only number old new h = λ i other. only_at (other == number) number other old new refl h i
 
+-- The channel that may have changed did not, so none did.
+same_at : (b : Bool) (number other : ℕ) (old new : ℕ → Channel) → (other == number) ≡ b → OnlyAt number old new → new number ≡ old number → new other ≡ old other
+same_at true number other old new e others here = ap new (eqb-true other number e) ∙ (here ∙ ap old (sym (eqb-true other number e)))
+same_at false number other old new e others here = others other (eqb-false other number e)
+
+pub none_changed : (number : ℕ) (old new : ℕ → Channel) → OnlyAt number old new → new number ≡ old number → new ≡ old
+none_changed number old new others here = λ i other. same_at (other == number) number other old new refl others here i
+
 -- Frames that are dropped.
 
 and_false : (b : Bool) → (b && false) ≡ false

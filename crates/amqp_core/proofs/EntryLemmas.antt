@@ -100,7 +100,7 @@ no_call kind (Beat empty) h = refl
 
 phase_stays : (role : Role) (reading : Reading) (phase : Phase) → IsNoCall reading → phase_taken role reading phase ≡ phase
 phase_stays Client reading (Handshake step) h = rw (no_call kinds.ConnectionClose reading h, no_call kinds.ConnectionCloseOk reading h, no_call kinds.ConnectionOpenOk reading h, no_call kinds.ConnectionTune reading h, no_call kinds.ConnectionStart reading h) refl
-phase_stays Server reading (Handshake step) h = rw (no_call kinds.ConnectionClose reading h, no_call kinds.ConnectionCloseOk reading h, no_call kinds.ConnectionTuneOk reading h, no_call kinds.ConnectionStartOk reading h) refl
+phase_stays Server reading (Handshake step) h = rw (no_call kinds.ConnectionClose reading h, no_call kinds.ConnectionCloseOk reading h, no_call kinds.ConnectionOpen reading h, no_call kinds.ConnectionTuneOk reading h, no_call kinds.ConnectionStartOk reading h) refl
 phase_stays role reading Running h = rw (no_call kinds.ConnectionClose reading h, no_call kinds.ConnectionCloseOk reading h) refl
 phase_stays role reading Closing h = rw (no_call kinds.ConnectionCloseOk reading h) refl
 phase_stays role reading Closed h = refl

@@ -15,6 +15,7 @@ use Rattle.amqp_model.specs.Laws.OctetLaws.{FeedStaysClosed, FeedStaysFailed, no
 use Rattle.amqp_model.specs.Stream.Octets.{opening_read}
 use Rattle.amqp_core.specs.Answering.{Reports, ran_out, is_out_of_memory}
 use Rattle.amqp_core.specs.FeedFaults.{FeedFaults, IsRefused, FailsAfter}
+use Rattle.amqp_core.specs.Lending.{AnswersLent, IsLent, LentSeen}
 use Rattle.amqp_core.specs.Feeding.{AnswersPiece, IsFed, seen, SameEndpoint, ran_out_of}
 use Rattle.amqp_core.specs.Overs.{IsOver}
 use Rattle.amqp_core.specs.declared.faults.CoreFault.{CoreFault}
@@ -179,3 +180,35 @@ ok_seen (Err fault) ok = ok
 pub count_seen : (result : Result Taken CoreFault) (P : ℕ → Type 0) → IfOk (seen result) (λ taken. P taken.octets) → IfOk result (λ taken. P taken.octets)
 count_seen (Ok taken) P holds = holds
 count_seen (Err fault) P holds = holds
+
+-- So it is where events lend.
+
+over_lent : (fault : events.Fault) (answer : CoreFault) (result : Result LentSeen CoreFault) (outcome : Outcome) → AnswersLent result outcome → outcome ≡ Found fault
+    → ((told : CoreFault) → Reports told (Found fault) → is_out_of_memory told ≡ false → told ≡ answer) → ran_out result ≡ false → result ≡ Err answer
+over_lent fault answer (Ok seen) outcome answers is by lasts = absurd (subst (λ (o : Outcome). AnswersLent (Ok seen) o) is answers)
+over_lent fault answer (Err told) outcome answers is by lasts = ap Err (by told (subst (λ (o : Outcome). AnswersLent (Err told) o) is answers) lasts)
+
+fails_lent : (role : Role) (config : Config role) (result : Result LentSeen CoreFault) (old new : Endpoint) (piece : List ℕ) (fed : Feeding) → IsLent role config result old piece fed new → FailsWith fed.outcome fed.endpoint.end.phase → IfErr result (λ fault. FailsAfter fault new.end.phase)
+fails_lent role config (Ok seen) old new piece fed is fails = tt
+fails_lent role config (Err fault) old new piece fed is fails = told_failed fault old fed new.end.phase is.answer is.left.end.phase fails
+
+stays_same : (old new : Endpoint) → new ≡ old → SameEndpoint old new
+stays_same old new e = subst (λ (x : Endpoint). SameEndpoint old x) (sym e) (record { end = record { phase = refl; agreed = refl; no_channel = refl; channels = λ running. refl }; unfinished = refl; output = refl })
+
+pub lent_faults : (role : Role) (config : Config role) (result : Result LentSeen CoreFault) (old new : Endpoint) (piece : List ℕ) → IsLent role config result old piece (after_feed role config old piece) new
+    → FeedStaysClosed role config old piece → FeedStaysFailed role config old piece → (ran_out result ≡ true → takes_octets old.end.phase ≡ true) → (takes_octets old.end.phase ≡ false → new ≡ old) → FeedFaults result old new
+lent_faults role config result old new piece is closed failed memory over = record {
+  fails = fails_lent role config result old new piece (after_feed role config old piece) is (feed_fails role config old piece);
+  closed = λ e.
+      let stays = closed e in
+      record {
+        answer = over_lent events.AlreadyClosed core.Closed result (after_feed role config old piece).outcome is.answer (ap (λ (f : Feeding). f.outcome) stays) closed_told (kept_memory (ran_out result) old.end.phase memory (ap takes_octets e));
+        same = stays_same old new (over (ap takes_octets e));
+      };
+  failed = λ e.
+      let stays = failed e in
+      record {
+        answer = over_lent events.AlreadyFailed core.Failed result (after_feed role config old piece).outcome is.answer (ap (λ (f : Feeding). f.outcome) stays) failed_told (kept_memory (ran_out result) old.end.phase memory (ap takes_octets e));
+        same = stays_same old new (over (ap takes_octets e));
+      };
+}

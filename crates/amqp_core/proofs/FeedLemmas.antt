@@ -3,7 +3,7 @@ use Rattle.std.proofs.Common.{◌≡◌, ◌<◌, ◌≤◌, ◌&&◌, not, get_
 use Rattle.std.proofs.Math.Logic.{∥∥₁_elim}
 use Rattle.std.proofs.lemmas.Bool.{true≢false, false≢true}
 use Rattle.std.proofs.lemmas.List.Elements.{All-from_get_or}
-use Rattle.amqp_frame.specs.Splitter.{Completes, Waits, FirstFault, Faults, after_feed_ref, after_taking, place_after}
+use Rattle.amqp_frame.specs.Splitter.{Completes, Waits, FirstFault, Faults, after_feed_ref, after_taking, given_after, place_after}
 use Rattle.amqp_frame.specs.Stream.{Stream}
 use Rattle.amqp_frame.specs.declared.faults.FrameFault.{FrameFault}
 use Rattle.amqp_frame.specs.declared.faults.FrameFaultKind.{FrameFaultKind}
@@ -11,7 +11,7 @@ use Rattle.amqp_frame.specs.declared.faults.FrameFaultKind.TheVariants as kinds
 use Rattle.amqp_frame.specs.declared.faults.FrameFaultKind.TheVariants.{UnknownType, TooLarge, BadEnd, OutOfMemory}
 use Rattle.amqp_frame.specs.declared.frames.FrameRef.{FrameRef}
 use Rattle.amqp_frame.specs.declared.splitting.FedRef.{FedRef}
-use Rattle.amqp_model.specs.End.Channels.{End, Phase, Handshake, Running, Closing, Closed, Failed, AwaitsProtocolHeader, AwaitsStart, AwaitsStartOk, AwaitsTune, AwaitsTuneOk, AwaitsOpen, AwaitsOpenOk, Agreed}
+use Rattle.amqp_model.specs.End.Channels.{End, Phase, Handshake, Running, Closing, Closed, Failed, AwaitsProtocolHeader, AwaitsStart, AwaitsStartOk, AwaitsTune, AwaitsTuneOk, AwaitsOpen, AwaitsOpenOk, HoldsStart, HoldsLogin, HoldsOpen, Agreed}
 use Rattle.amqp_model.specs.End.Closes.{frame_of}
 use Rattle.amqp_model.specs.End.EndVerdict.{end_puts, end_verdict, facts_at, takes_frames, takes_octets}
 use Rattle.amqp_model.specs.Stream.Endpoint as model
@@ -54,6 +54,9 @@ takes_when (Handshake AwaitsTune) e o = refl
 takes_when (Handshake AwaitsTuneOk) e o = refl
 takes_when (Handshake AwaitsOpen) e o = refl
 takes_when (Handshake AwaitsOpenOk) e o = refl
+takes_when (Handshake HoldsStart) e o = refl
+takes_when (Handshake HoldsLogin) e o = refl
+takes_when (Handshake HoldsOpen) e o = refl
 takes_when Running e o = refl
 takes_when Closing e o = refl
 takes_when Closed e o = absurd (false≢true e)
@@ -185,10 +188,10 @@ stopped_fed fault octets old next new unfinished put output outcome says same no
 
 -- The splitter after each answer.
 
-pub after_rest : (old : Stream) (piece : List ℕ) (result : Result FedRef FrameFault) (fed : FedRef) (new : Stream) → new ≡ after_feed_ref old piece result → result ≡ Ok fed → fed.frame ≡ None → new ≡ record old { pending = old.pending ++ piece; taken = place_after old.taken fed.taken }
+pub after_rest : (old : Stream) (piece : List ℕ) (result : Result FedRef FrameFault) (fed : FedRef) (new : Stream) → new ≡ after_feed_ref old piece result → result ≡ Ok fed → fed.frame ≡ None → new ≡ record old { pending = old.pending ++ piece; taken = place_after old.taken fed.taken; given = None }
 after_rest old piece result fed new e is none = e ∙ (ap (after_feed_ref old piece) is ∙ ap (after_taking old piece fed.taken) none)
 
-pub after_frame : (old : Stream) (piece : List ℕ) (result : Result FedRef FrameFault) (fed : FedRef) (frame : FrameRef) (new : Stream) → new ≡ after_feed_ref old piece result → result ≡ Ok fed → fed.frame ≡ Some frame → new ≡ record old { pending = []; taken = place_after old.taken fed.taken }
+pub after_frame : (old : Stream) (piece : List ℕ) (result : Result FedRef FrameFault) (fed : FedRef) (frame : FrameRef) (new : Stream) → new ≡ after_feed_ref old piece result → result ≡ Ok fed → fed.frame ≡ Some frame → new ≡ record old { pending = []; taken = place_after old.taken fed.taken; given = given_after old.pending (take fed.taken piece) }
 after_frame old piece result fed frame new e is some = e ∙ (ap (after_feed_ref old piece) is ∙ ap (after_taking old piece fed.taken) some)
 
 pub after_stop : (old : Stream) (piece : List ℕ) (result : Result FedRef FrameFault) (fault : FrameFault) (new : Stream) → new ≡ after_feed_ref old piece result → result ≡ Err fault → new.pending ≡ []
@@ -196,7 +199,7 @@ after_stop old piece result fault new e is = ap (λ (s : Stream). s.pending) (e 
 
 -- What holds of the fields then.
 
-pub fields_rest : (role : Role) (end : End) (heard taken : ℕ) (pending : List ℕ) (stream new : Stream) → reads_frames role end.phase ≡ true → FieldsFit role end heard stream → new ≡ record stream { pending = pending; taken = taken } → FieldsFit role end heard new
+pub fields_rest : (role : Role) (end : End) (heard taken : ℕ) (pending : List ℕ) (stream new : Stream) → reads_frames role end.phase ≡ true → FieldsFit role end heard stream → new ≡ record stream { pending = pending; taken = taken; given = None } → FieldsFit role end heard new
 fields_rest role end heard taken pending stream new r fit e = record {
   agreed = fit.agreed;
   opening = λ awaits. absurd (false≢true (sym (reads role end.phase r).opened ∙ awaits));
@@ -207,7 +210,7 @@ fields_rest role end heard taken pending stream new r fit e = record {
   ready = λ octets. record { running = ap (λ (s : Stream). s.fault) e ∙ (fit.ready octets).running; limit_is = ap (λ (s : Stream). s.limit) e ∙ (fit.ready octets).limit_is };
 }
 
-pub fields_frame : (role : Role) (old new : End) (heard : ℕ) (stream after tuned : Stream) (taken : ℕ) → reads_frames role old.phase ≡ true → FieldsFit role old heard stream → after ≡ record stream { pending = []; taken = taken } → tuned ≡ record after { limit = frame_limit new.agreed } → IfAgreedFits new.agreed → is_opened new.phase ≡ true → FieldsFit role new heard tuned
+pub fields_frame : {given : Option Frame} (role : Role) (old new : End) (heard : ℕ) (stream after tuned : Stream) (taken : ℕ) → reads_frames role old.phase ≡ true → FieldsFit role old heard stream → after ≡ record stream { pending = []; taken = taken; given = given } → tuned ≡ record after { limit = frame_limit new.agreed } → IfAgreedFits new.agreed → is_opened new.phase ≡ true → FieldsFit role new heard tuned
 fields_frame role old new heard stream after tuned taken r fit e t agreed read_on = record {
   agreed = agreed;
   opening = λ awaits. ap (λ (s : Stream). s.pending) t ∙ ap (λ (s : Stream). s.pending) e;
@@ -289,7 +292,7 @@ fault_fed role config old stream piece kinds.Failed at fault new unfinished outg
 
 -- The unfinished octets then.
 
-pub rest_unfinished : (heard taken : ℕ) (old new : Stream) (piece : List ℕ) → heard ≡ 0 → new ≡ record old { pending = old.pending ++ piece; taken = taken } → unfinished_of heard old.pending ++ piece ≡ unfinished_of heard new.pending
+pub rest_unfinished : (heard taken : ℕ) (old new : Stream) (piece : List ℕ) → heard ≡ 0 → new ≡ record old { pending = old.pending ++ piece; taken = taken; given = None } → unfinished_of heard old.pending ++ piece ≡ unfinished_of heard new.pending
 rest_unfinished heard taken old new piece none e =
     ap (λ (u : List ℕ). u ++ piece) (unfinished_is heard old.pending none) ∙ (sym (ap (λ (s : Stream). s.pending) e) ∙ sym (unfinished_is heard new.pending none))
 

@@ -89,7 +89,7 @@ keeps role config old new history fed written law runs stands octets same =
       out = subst (λ (o : Output). IsOutputOf (opening_written role) (frames_put history) written o) same.output ran.out;
     }
 
-by_memory : (role : Role) (config : Config role) (b : Bool) (old new : Endpoint) (history : History) (fed written piece : List ℕ) → ((end next : End) (h : History) → FailedIsRead role config end next h) → RunsOut role config old history fed written → FeedFollows role config old history fed written piece → All IsOctet piece → ConfigWrites config → (b ≡ true → takes_octets old.end.phase ≡ true) → EndpointStandsFor role config old history fed written
+pub by_memory : (role : Role) (config : Config role) (b : Bool) (old new : Endpoint) (history : History) (fed written piece : List ℕ) → ((end next : End) (h : History) → FailedIsRead role config end next h) → RunsOut role config old history fed written → FeedFollows role config old history fed written piece → All IsOctet piece → ConfigWrites config → (b ≡ true → takes_octets old.end.phase ≡ true) → EndpointStandsFor role config old history fed written
     → SameEndpoint (cond b (ran_out_of old) (after_feed role config old piece).endpoint) new → GoesOn role config b old history fed written piece (after_feed role config old piece) new
 by_memory role config true old new history fed written piece law runs follows octets writes taking stands same = keeps role config old new history fed written (law _ _ history) runs stands (taking refl) same
 by_memory role config false old new history fed written piece law runs follows octets writes taking stands same =

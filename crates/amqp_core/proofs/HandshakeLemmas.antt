@@ -1,11 +1,11 @@
 -- The steps of the handshake, one by one.
-use Rattle.std.proofs.Common.{◌≡◌, ◌<◌, ◌==◌, ◌&&◌, Bool, true, false, ℕ, [], ◌∷◌, Option, Some, None, refl, sym, arith}
+use Rattle.std.proofs.Common.{◌≡◌, ◌<◌, ◌==◌, ◌&&◌, Bool, true, false, min, ℕ, [], ◌∷◌, Option, Some, None, refl, sym, arith}
 use Rattle.amqp_method.specs.declared.kinds.Kind.TheVariants as kinds
 use Rattle.amqp_model.specs.End.Channels as channels
-use Rattle.amqp_model.specs.End.Channels.{Channel, End, Phase, Handshake, Running, Closing, Closed, Failed, HandshakeStep, AwaitsProtocolHeader, AwaitsStart, AwaitsStartOk, AwaitsTune, AwaitsTuneOk, AwaitsOpen, AwaitsOpenOk, Agreed}
+use Rattle.amqp_model.specs.End.Channels.{Channel, End, Phase, Handshake, Running, Closing, Closed, Failed, HandshakeStep, AwaitsProtocolHeader, AwaitsStart, AwaitsStartOk, AwaitsTune, AwaitsTuneOk, AwaitsOpen, AwaitsOpenOk, HoldsStart, HoldsLogin, HoldsOpen, Agreed}
 use Rattle.amqp_model.specs.End.Closes.{FrameError, CommandInvalid, NotImplemented, connection_close_ok}
 use Rattle.amqp_model.specs.End.EndVerdict.{takes_frames}
-use Rattle.amqp_model.specs.End.Events.{Event, Fault, FrameVerdict, Proceeds, Faults, Fatal, Quiet, Negotiated}
+use Rattle.amqp_model.specs.End.Events.{Event, Fault, FrameVerdict, Proceeds, Faults, Fatal, Quiet, AnswerAsked, LoginAsked, OpenAsked, Negotiated}
 use Rattle.amqp_model.specs.End.FrameVerdict.{on_zero, fault, closed_by, is_awaited, verdict_on}
 use Rattle.amqp_model.specs.Wire.Methods.{Method, MethodKind, same_kind, number_at}
 use Rattle.amqp_model.specs.History.Negotiation.{Hello, OfClient, Config, smaller, agreed_in, tunes_too_small, connection_open_ok}
@@ -34,8 +34,9 @@ end_in phase agreed channels = record { phase = phase; agreed = agreed; channels
 abbrev pub verdict_0 : {role : Role} → Config role → Phase → Option Agreed → Method → FrameVerdict
 verdict_0 config phase agreed method = verdict_on (record { config = config; phase = phase; agreed = agreed; number = 0; channel = channels.Free }) (Calls method)
 
-abbrev settled_up : {role : Role} → (frame_max channel_max max_body : ℕ) → Hello role → Config role
-settled_up frame_max channel_max max_body hello = record { frame_max = frame_max; channel_max = channel_max; max_body = max_body; hello = hello }
+abbrev settled_up : {role : Role} → (frame_max channel_max max_body heartbeat : ℕ) (gated : Bool) → Hello role → Config role
+settled_up frame_max channel_max max_body heartbeat gated hello =
+    record { frame_max = frame_max; channel_max = channel_max; max_body = max_body; heartbeat = heartbeat; gated = gated; hello = hello }
 
 -- The other end closes the connection.
 
@@ -57,36 +58,62 @@ closed_left role config Failed agreed channels method event takes stays e = cc
 
 -- A client answers start.
 
-pub start_verdict : (role : Role) (config : Config role) (agreed : Option Agreed) (method : Method) → role ≡ Client → method.kind ≡ kinds.ConnectionStart → verdict_0 config (Handshake AwaitsStart) agreed method ≡ Proceeds (Some Quiet) (answers_start role config)
-start_verdict Client config agreed method r e = rw e refl
-start_verdict Server config agreed method r e = cc
+pub start_verdict : (role : Role) (config : Config role) (agreed : Option Agreed) (method : Method) → role ≡ Client → method.kind ≡ kinds.ConnectionStart → config.gated ≡ false → verdict_0 config (Handshake AwaitsStart) agreed method ≡ Proceeds (Some Quiet) (answers_start role config)
+start_verdict Client config agreed method r e g = rw (e, g) refl
+start_verdict Server config agreed method r e g = cc
 
-start_by_hello : (frame_max channel_max max_body : ℕ) (hello : Hello Client) (agreed : Option Agreed) (channels : ℕ → Channel) (method : Method) → method.kind ≡ kinds.ConnectionStart → EndLeft (settled_up frame_max channel_max max_body hello) 0 (Calls method) (Proceeds (Some Quiet) (answers_start Client (settled_up frame_max channel_max max_body hello))) (end_in (Handshake AwaitsStart) agreed channels) (end_in (Handshake AwaitsTune) agreed channels)
-start_by_hello frame_max channel_max max_body (OfClient properties mechanism response locale virtual_host) agreed channels method e = λ kind payload. rw e refl
+start_by_hello : (frame_max channel_max max_body heartbeat : ℕ) (gated : Bool) (hello : Hello Client) (agreed : Option Agreed) (channels : ℕ → Channel) (method : Method) → method.kind ≡ kinds.ConnectionStart → EndLeft (settled_up frame_max channel_max max_body heartbeat gated hello) 0 (Calls method) (Proceeds (Some Quiet) (answers_start Client (settled_up frame_max channel_max max_body heartbeat gated hello))) (end_in (Handshake AwaitsStart) agreed channels) (end_in (Handshake AwaitsTune) agreed channels)
+start_by_hello frame_max channel_max max_body heartbeat gated (OfClient properties mechanism response locale virtual_host) agreed channels method e = λ kind payload. rw e refl
 
 pub start_left : (role : Role) (config : Config role) (agreed : Option Agreed) (channels : ℕ → Channel) (method : Method) → role ≡ Client → method.kind ≡ kinds.ConnectionStart → EndLeft config 0 (Calls method) (Proceeds (Some Quiet) (answers_start role config)) (end_in (Handshake AwaitsStart) agreed channels) (end_in (Handshake AwaitsTune) agreed channels)
-start_left Client config agreed channels method r e = start_by_hello config.frame_max config.channel_max config.max_body config.hello agreed channels method e
+start_left Client config agreed channels method r e = start_by_hello config.frame_max config.channel_max config.max_body config.heartbeat config.gated config.hello agreed channels method e
 start_left Server config agreed channels method r e = cc
 
--- A server answers start-ok with tune.
+-- A gated client asks its application what to answer.
 
-pub start_ok_verdict : (role : Role) (config : Config role) (agreed : Option Agreed) (method : Method) → role ≡ Server → method.kind ≡ kinds.ConnectionStartOk → verdict_0 config (Handshake AwaitsStartOk) agreed method ≡ Proceeds (Some Quiet) (tunes role config)
-start_ok_verdict Server config agreed method r e = rw e refl
-start_ok_verdict Client config agreed method r e = cc
+pub start_asks : (role : Role) (config : Config role) (agreed : Option Agreed) (method : Method) → role ≡ Client → method.kind ≡ kinds.ConnectionStart → config.gated ≡ true → verdict_0 config (Handshake AwaitsStart) agreed method ≡ Proceeds (Some AnswerAsked) []
+start_asks Client config agreed method r e g = rw (e, g) refl
+start_asks Server config agreed method r e g = cc
+
+pub start_held : (role : Role) (config : Config role) (agreed : Option Agreed) (channels : ℕ → Channel) (method : Method) → role ≡ Client → method.kind ≡ kinds.ConnectionStart → EndLeft config 0 (Calls method) (Proceeds (Some AnswerAsked) []) (end_in (Handshake AwaitsStart) agreed channels) (end_in (Handshake HoldsStart) agreed channels)
+start_held Client config agreed channels method r e = λ kind payload. rw e refl
+start_held Server config agreed channels method r e = cc
+
+-- A server answers start-ok with tune, or asks.
+
+pub start_ok_verdict : (role : Role) (config : Config role) (agreed : Option Agreed) (method : Method) → role ≡ Server → method.kind ≡ kinds.ConnectionStartOk → config.gated ≡ false → verdict_0 config (Handshake AwaitsStartOk) agreed method ≡ Proceeds (Some Quiet) (tunes role config)
+start_ok_verdict Server config agreed method r e g = rw (e, g) refl
+start_ok_verdict Client config agreed method r e g = cc
 
 pub start_ok_left : (role : Role) (config : Config role) (agreed : Option Agreed) (channels : ℕ → Channel) (method : Method) → role ≡ Server → method.kind ≡ kinds.ConnectionStartOk → EndLeft config 0 (Calls method) (Proceeds (Some Quiet) (tunes role config)) (end_in (Handshake AwaitsStartOk) agreed channels) (end_in (Handshake AwaitsTuneOk) agreed channels)
 start_ok_left Server config agreed channels method r e = λ kind payload. rw e refl
 start_ok_left Client config agreed channels method r e = cc
 
--- A server answers open, and a client takes open-ok.
+pub start_ok_asks : (role : Role) (config : Config role) (agreed : Option Agreed) (method : Method) → role ≡ Server → method.kind ≡ kinds.ConnectionStartOk → config.gated ≡ true → verdict_0 config (Handshake AwaitsStartOk) agreed method ≡ Proceeds (Some LoginAsked) []
+start_ok_asks Server config agreed method r e g = rw (e, g) refl
+start_ok_asks Client config agreed method r e g = cc
 
-pub open_verdict : (role : Role) (config : Config role) (agreed : Agreed) (method : Method) → role ≡ Server → method.kind ≡ kinds.ConnectionOpen → verdict_0 config (Handshake AwaitsOpen) (Some agreed) method ≡ Proceeds (Some (Negotiated agreed)) (on_zero connection_open_ok ∷ [])
-open_verdict Server config agreed method r e = rw e refl
-open_verdict Client config agreed method r e = cc
+pub start_ok_held : (role : Role) (config : Config role) (agreed : Option Agreed) (channels : ℕ → Channel) (method : Method) → role ≡ Server → method.kind ≡ kinds.ConnectionStartOk → EndLeft config 0 (Calls method) (Proceeds (Some LoginAsked) []) (end_in (Handshake AwaitsStartOk) agreed channels) (end_in (Handshake HoldsLogin) agreed channels)
+start_ok_held Server config agreed channels method r e = λ kind payload. rw e refl
+start_ok_held Client config agreed channels method r e = cc
+
+-- A server answers open, or asks, and a client takes open-ok.
+
+pub open_verdict : (role : Role) (config : Config role) (agreed : Agreed) (method : Method) → role ≡ Server → method.kind ≡ kinds.ConnectionOpen → config.gated ≡ false → verdict_0 config (Handshake AwaitsOpen) (Some agreed) method ≡ Proceeds (Some (Negotiated agreed)) (on_zero connection_open_ok ∷ [])
+open_verdict Server config agreed method r e g = rw (e, g) refl
+open_verdict Client config agreed method r e g = cc
 
 pub open_left : (role : Role) (config : Config role) (agreed : Agreed) (channels : ℕ → Channel) (method : Method) (event : Option Event) → role ≡ Server → method.kind ≡ kinds.ConnectionOpen → EndLeft config 0 (Calls method) (Proceeds event (on_zero connection_open_ok ∷ [])) (end_in (Handshake AwaitsOpen) (Some agreed) channels) (end_in Running (Some agreed) channels)
 open_left Server config agreed channels method event r e = λ kind payload. rw e refl
 open_left Client config agreed channels method event r e = cc
+
+pub open_asks : (role : Role) (config : Config role) (agreed : Agreed) (method : Method) → role ≡ Server → method.kind ≡ kinds.ConnectionOpen → config.gated ≡ true → verdict_0 config (Handshake AwaitsOpen) (Some agreed) method ≡ Proceeds (Some OpenAsked) []
+open_asks Server config agreed method r e g = rw (e, g) refl
+open_asks Client config agreed method r e g = cc
+
+pub open_held : (role : Role) (config : Config role) (agreed : Agreed) (channels : ℕ → Channel) (method : Method) → role ≡ Server → method.kind ≡ kinds.ConnectionOpen → EndLeft config 0 (Calls method) (Proceeds (Some OpenAsked) []) (end_in (Handshake AwaitsOpen) (Some agreed) channels) (end_in (Handshake HoldsOpen) (Some agreed) channels)
+open_held Server config agreed channels method r e = λ kind payload. rw e refl
+open_held Client config agreed channels method r e = cc
 
 pub open_ok_verdict : (role : Role) (config : Config role) (agreed : Agreed) (method : Method) → role ≡ Client → method.kind ≡ kinds.ConnectionOpenOk → verdict_0 config (Handshake AwaitsOpenOk) (Some agreed) method ≡ Proceeds (Some (Negotiated agreed)) []
 open_ok_verdict Client config agreed method r e = rw e refl
@@ -98,15 +125,15 @@ open_ok_left Server config agreed channels method event r e = cc
 
 -- A client answers tune with tune-ok and open, unless it is tuned too small.
 
-pub tune_verdict : (role : Role) (config : Config role) (agreed : Option Agreed) (channel_max frame_max : ℕ) (method : Method) → role ≡ Client → method.kind ≡ kinds.ConnectionTune → tunes_too_small method ≡ false → channel_max ≡ smaller config.channel_max (number_at 0 method) → frame_max ≡ smaller config.frame_max (number_at 1 method) → verdict_0 config (Handshake AwaitsTune) agreed method ≡ Proceeds (Some Quiet) (answers_tune role config (record { channel_max = channel_max; frame_max = frame_max }))
-tune_verdict Client config agreed channel_max frame_max method r e small c f = rw (c, f, e, small) refl
-tune_verdict Server config agreed channel_max frame_max method r e small c f = cc
+pub tune_verdict : (role : Role) (config : Config role) (agreed : Option Agreed) (channel_max frame_max heartbeat : ℕ) (method : Method) → role ≡ Client → method.kind ≡ kinds.ConnectionTune → tunes_too_small method ≡ false → channel_max ≡ smaller config.channel_max (number_at 0 method) → frame_max ≡ smaller config.frame_max (number_at 1 method) → heartbeat ≡ min config.heartbeat (number_at 2 method) → verdict_0 config (Handshake AwaitsTune) agreed method ≡ Proceeds (Some Quiet) (answers_tune role config (record { channel_max = channel_max; frame_max = frame_max; heartbeat = heartbeat }))
+tune_verdict Client config agreed channel_max frame_max heartbeat method r e small c f b = rw (c, f, b, e, small) refl
+tune_verdict Server config agreed channel_max frame_max heartbeat method r e small c f b = cc
 
-tune_by_hello : (frame_most channel_most max_body : ℕ) (hello : Hello Client) (agreed : Option Agreed) (settled_to : Agreed) (channels : ℕ → Channel) (method : Method) → method.kind ≡ kinds.ConnectionTune → EndLeft (settled_up frame_most channel_most max_body hello) 0 (Calls method) (Proceeds (Some Quiet) (answers_tune Client (settled_up frame_most channel_most max_body hello) settled_to)) (end_in (Handshake AwaitsTune) agreed channels) (end_in (Handshake AwaitsOpenOk) (Some settled_to) channels)
-tune_by_hello frame_most channel_most max_body (OfClient properties mechanism response locale virtual_host) agreed settled_to channels method e = λ kind payload. rw e refl
+tune_by_hello : (frame_most channel_most max_body heartbeat : ℕ) (gated : Bool) (hello : Hello Client) (agreed : Option Agreed) (settled_to : Agreed) (channels : ℕ → Channel) (method : Method) → method.kind ≡ kinds.ConnectionTune → EndLeft (settled_up frame_most channel_most max_body heartbeat gated hello) 0 (Calls method) (Proceeds (Some Quiet) (answers_tune Client (settled_up frame_most channel_most max_body heartbeat gated hello) settled_to)) (end_in (Handshake AwaitsTune) agreed channels) (end_in (Handshake AwaitsOpenOk) (Some settled_to) channels)
+tune_by_hello frame_most channel_most max_body heartbeat gated (OfClient properties mechanism response locale virtual_host) agreed settled_to channels method e = λ kind payload. rw e refl
 
 pub tune_left : (role : Role) (config : Config role) (agreed : Option Agreed) (settled_to : Agreed) (channels : ℕ → Channel) (method : Method) → role ≡ Client → method.kind ≡ kinds.ConnectionTune → EndLeft config 0 (Calls method) (Proceeds (Some Quiet) (answers_tune role config settled_to)) (end_in (Handshake AwaitsTune) agreed channels) (end_in (Handshake AwaitsOpenOk) (Some settled_to) channels)
-tune_left Client config agreed settled_to channels method r e = tune_by_hello config.frame_max config.channel_max config.max_body config.hello agreed settled_to channels method e
+tune_left Client config agreed settled_to channels method r e = tune_by_hello config.frame_max config.channel_max config.max_body config.heartbeat config.gated config.hello agreed settled_to channels method e
 tune_left Server config agreed settled_to channels method r e = cc
 
 pub tune_fault : (role : Role) (config : Config role) (agreed : Option Agreed) (method : Method) → role ≡ Client → method.kind ≡ kinds.ConnectionTune → tunes_too_small method ≡ true → verdict_0 config (Handshake AwaitsTune) agreed method ≡ fault FrameError
@@ -115,19 +142,19 @@ tune_fault Server config agreed method r e small = cc
 
 -- A server takes a tune-ok within its own limits.
 
-pub tune_ok_verdict : (role : Role) (config : Config role) (agreed : Option Agreed) (method : Method) → role ≡ Server → method.kind ≡ kinds.ConnectionTuneOk → within config.channel_max config.frame_max (agreed_in method) ≡ true → verdict_0 config (Handshake AwaitsTuneOk) agreed method ≡ Proceeds (Some Quiet) []
+pub tune_ok_verdict : (role : Role) (config : Config role) (agreed : Option Agreed) (method : Method) → role ≡ Server → method.kind ≡ kinds.ConnectionTuneOk → within config.channel_max config.frame_max (number_at 0 method) (number_at 1 method) ≡ true → verdict_0 config (Handshake AwaitsTuneOk) agreed method ≡ Proceeds (Some Quiet) []
 tune_ok_verdict Server config agreed method r e w = rw (e, w) refl
 tune_ok_verdict Client config agreed method r e w = cc
 
-pub tune_ok_left : (role : Role) (config : Config role) (agreed : Option Agreed) (channels : ℕ → Channel) (method : Method) → role ≡ Server → method.kind ≡ kinds.ConnectionTuneOk → within config.channel_max config.frame_max (agreed_in method) ≡ true → EndLeft config 0 (Calls method) (Proceeds (Some Quiet) []) (end_in (Handshake AwaitsTuneOk) agreed channels) (end_in (Handshake AwaitsOpen) (Some (agreed_in method)) channels)
+pub tune_ok_left : (role : Role) (config : Config role) (agreed : Option Agreed) (channels : ℕ → Channel) (method : Method) → role ≡ Server → method.kind ≡ kinds.ConnectionTuneOk → within config.channel_max config.frame_max (number_at 0 method) (number_at 1 method) ≡ true → EndLeft config 0 (Calls method) (Proceeds (Some Quiet) []) (end_in (Handshake AwaitsTuneOk) agreed channels) (end_in (Handshake AwaitsOpen) (Some (agreed_in method)) channels)
 tune_ok_left Server config agreed channels method r e w = λ kind payload. rw (e, w) refl
 tune_ok_left Client config agreed channels method r e w = cc
 
-pub tune_ok_fault : (role : Role) (config : Config role) (agreed : Option Agreed) (method : Method) → role ≡ Server → method.kind ≡ kinds.ConnectionTuneOk → within config.channel_max config.frame_max (agreed_in method) ≡ false → verdict_0 config (Handshake AwaitsTuneOk) agreed method ≡ Faults Fatal
+pub tune_ok_fault : (role : Role) (config : Config role) (agreed : Option Agreed) (method : Method) → role ≡ Server → method.kind ≡ kinds.ConnectionTuneOk → within config.channel_max config.frame_max (number_at 0 method) (number_at 1 method) ≡ false → verdict_0 config (Handshake AwaitsTuneOk) agreed method ≡ Faults Fatal
 tune_ok_fault Server config agreed method r e w = rw (e, w) refl
 tune_ok_fault Client config agreed method r e w = cc
 
-pub tune_ok_failed : (role : Role) (config : Config role) (channels : ℕ → Channel) (method : Method) (fault : Fault) → role ≡ Server → method.kind ≡ kinds.ConnectionTuneOk → within config.channel_max config.frame_max (agreed_in method) ≡ false → EndLeft config 0 (Calls method) (Faults fault) (end_in (Handshake AwaitsTuneOk) None channels) (end_in (Handshake AwaitsTuneOk) None channels)
+pub tune_ok_failed : (role : Role) (config : Config role) (channels : ℕ → Channel) (method : Method) (fault : Fault) → role ≡ Server → method.kind ≡ kinds.ConnectionTuneOk → within config.channel_max config.frame_max (number_at 0 method) (number_at 1 method) ≡ false → EndLeft config 0 (Calls method) (Faults fault) (end_in (Handshake AwaitsTuneOk) None channels) (end_in (Handshake AwaitsTuneOk) None channels)
 tune_ok_failed Server config channels method fault r e w = ((λ kind payload. rw (e, w) refl), refl)
 tune_ok_failed Client config channels method fault r e w = cc
 
@@ -171,6 +198,9 @@ wrong_side Server config AwaitsStart agreed method awaited wrong = rw (same_is m
 wrong_side Server config AwaitsTune agreed method awaited wrong = rw (same_is method.kind kinds.ConnectionTune awaited) refl
 wrong_side Server config AwaitsOpenOk agreed method awaited wrong = rw (same_is method.kind kinds.ConnectionOpenOk awaited) refl
 wrong_side role config AwaitsProtocolHeader agreed method awaited wrong = cc
+wrong_side role config HoldsStart agreed method awaited wrong = cc
+wrong_side role config HoldsLogin agreed method awaited wrong = cc
+wrong_side role config HoldsOpen agreed method awaited wrong = cc
 wrong_side Client config AwaitsStart agreed method awaited wrong = cc
 wrong_side Client config AwaitsTune agreed method awaited wrong = cc
 wrong_side Client config AwaitsOpenOk agreed method awaited wrong = cc
@@ -188,6 +218,9 @@ no_tune_ok AwaitsStartOk kind h = and_false (same_kind kind kinds.ConnectionTune
 no_tune_ok AwaitsTune kind h = and_false (same_kind kind kinds.ConnectionTuneOk)
 no_tune_ok AwaitsOpen kind h = and_false (same_kind kind kinds.ConnectionTuneOk)
 no_tune_ok AwaitsOpenOk kind h = and_false (same_kind kind kinds.ConnectionTuneOk)
+no_tune_ok HoldsStart kind h = and_false (same_kind kind kinds.ConnectionTuneOk)
+no_tune_ok HoldsLogin kind h = and_false (same_kind kind kinds.ConnectionTuneOk)
+no_tune_ok HoldsOpen kind h = and_false (same_kind kind kinds.ConnectionTuneOk)
 
 pub order_left : (role : Role) (config : Config role) (phase : Phase) (agreed : Option Agreed) (channels : ℕ → Channel) (method : Method) (fault : Fault) → awaited_in phase method.kind ≡ false → EndLeft config 0 (Calls method) (Faults fault) (end_in phase agreed channels) (end_in phase agreed channels)
 order_left Client config phase agreed channels method fault h = ((λ kind payload. refl), refl)
@@ -216,6 +249,9 @@ not_tune_ok (Handshake AwaitsStartOk) h = refl
 not_tune_ok (Handshake AwaitsTune) h = refl
 not_tune_ok (Handshake AwaitsOpen) h = refl
 not_tune_ok (Handshake AwaitsOpenOk) h = refl
+not_tune_ok (Handshake HoldsStart) h = refl
+not_tune_ok (Handshake HoldsLogin) h = refl
+not_tune_ok (Handshake HoldsOpen) h = refl
 not_tune_ok Running h = refl
 not_tune_ok Closing h = refl
 not_tune_ok Closed h = refl

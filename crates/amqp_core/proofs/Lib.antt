@@ -1,8 +1,10 @@
 pub mod EntryLemmas
 pub mod ConnectionLemmas
 pub mod KindLemmas
+pub mod LentLemmas
 pub mod LeavingLemmas
 pub mod HandshakeLemmas
+pub mod HeartbeatLemmas
 pub mod VerdictLemmas
 pub mod ReceiveLemmas
 pub mod OutcomeLemmas
@@ -22,6 +24,9 @@ pub mod AskedLemmas
 pub mod AnswerLemmas
 pub mod EndpointNew
 pub mod SettingsLemmas
+pub mod DecisionLemmas
+pub mod ControlLemmas
+pub mod ControlTrace
 pub mod GreetingLemmas
 pub mod GreetingLengths
 pub mod SettingsWrite
@@ -30,6 +35,7 @@ pub mod RefusalLemmas
 pub mod PieceLemmas
 pub mod AskLemmas
 pub mod AccountLemmas
+pub mod StreamLemmas
 pub mod GrowthLemmas
 pub mod LifeCountLemmas
 pub mod TraceLemmas
@@ -44,4 +50,8 @@ pub mod QueryLemmas
 pub mod FeedFaultLemmas
 pub mod OfHistoryLemmas
 pub mod OutputLemmas
+pub mod CounterLemmas
+pub mod LendLemmas
+pub mod StreamHistoryLemmas
+pub mod TurningLemmas
 pub mod CutLemmas

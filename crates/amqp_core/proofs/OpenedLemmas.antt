@@ -2,14 +2,14 @@
 use Rattle.std.proofs.Common.{◌≡◌, Bool, true, false, cond, ℕ, zero, suc, List, [], ◌∷◌, refl}
 use Rattle.std.proofs.lemmas.Bool.{false≢true}
 use Rattle.amqp_method.specs.declared.kinds.Kind.TheVariants as kinds
-use Rattle.amqp_model.specs.End.Channels.{End, Phase, Handshake, Running, Closing, Closed, Failed, HandshakeStep, AwaitsProtocolHeader, AwaitsStart, AwaitsStartOk, AwaitsTune, AwaitsTuneOk, AwaitsOpen, AwaitsOpenOk}
+use Rattle.amqp_model.specs.End.Channels.{End, Phase, Handshake, Running, Closing, Closed, Failed, HandshakeStep, AwaitsProtocolHeader, AwaitsStart, AwaitsStartOk, AwaitsTune, AwaitsTuneOk, AwaitsOpen, AwaitsOpenOk, HoldsStart, HoldsLogin, HoldsOpen}
 use Rattle.amqp_model.specs.End.Closes.{Owed, frame_of}
 use Rattle.amqp_model.specs.End.EndVerdict.{facts_at, takes_octets}
 use Rattle.amqp_model.specs.End.Events.{FrameVerdict, Proceeds, RefusesContent, Faults}
 use Rattle.amqp_model.specs.Wire.Frame.{Frame}
 use Rattle.amqp_model.specs.End.FrameVerdict.{methods_put}
 use Rattle.amqp_model.specs.History.Histories.{PutHere, TookHere}
-use Rattle.amqp_model.specs.End.Machine.{after_start, after_start_ok, after_start_put, end_after, end_after_owed, end_after_put, end_after_taken, failed_by, phase_put, phase_taken, step_put, step_taken, taken_verdict, taken_ends_handshake, put_ends_handshake}
+use Rattle.amqp_model.specs.End.Machine.{after_start, after_start_ok, after_start_ok_put, after_start_put, after_tune_ok, after_tune_put, end_after, end_after_owed, end_after_put, end_after_taken, failed_by, phase_put, phase_taken, step_put, step_taken, taken_verdict, taken_ends_handshake, put_ends_handshake}
 use Rattle.amqp_model.specs.History.Negotiation.{Config}
 use Rattle.amqp_model.specs.Wire.Notes.{Role, Client, Server}
 use Rattle.amqp_model.specs.Wire.Readings.{Reading, Calls, is_call, reading as reading_of}
@@ -31,6 +31,9 @@ starts AwaitsTune o = refl
 starts AwaitsTuneOk o = refl
 starts AwaitsOpen o = refl
 starts AwaitsOpenOk o = refl
+starts HoldsStart o = refl
+starts HoldsLogin o = refl
+starts HoldsOpen o = refl
 
 starts_ok : (step : HandshakeStep) → is_opened (Handshake step) ≡ true → is_opened (Handshake (after_start_ok step)) ≡ true
 starts_ok AwaitsProtocolHeader o = absurd (false≢true o)
@@ -40,6 +43,9 @@ starts_ok AwaitsTune o = refl
 starts_ok AwaitsTuneOk o = refl
 starts_ok AwaitsOpen o = refl
 starts_ok AwaitsOpenOk o = refl
+starts_ok HoldsStart o = refl
+starts_ok HoldsLogin o = refl
+starts_ok HoldsOpen o = refl
 
 starts_put : (step : HandshakeStep) → is_opened (Handshake step) ≡ true → is_opened (Handshake (after_start_put step)) ≡ true
 starts_put AwaitsProtocolHeader o = absurd (false≢true o)
@@ -49,14 +55,56 @@ starts_put AwaitsTune o = refl
 starts_put AwaitsTuneOk o = refl
 starts_put AwaitsOpen o = refl
 starts_put AwaitsOpenOk o = refl
+starts_put HoldsStart o = refl
+starts_put HoldsLogin o = refl
+starts_put HoldsOpen o = refl
+
+starts_ok_put : (step : HandshakeStep) → is_opened (Handshake step) ≡ true → is_opened (Handshake (after_start_ok_put step)) ≡ true
+starts_ok_put AwaitsProtocolHeader o = absurd (false≢true o)
+starts_ok_put AwaitsStart o = refl
+starts_ok_put AwaitsStartOk o = refl
+starts_ok_put AwaitsTune o = refl
+starts_ok_put AwaitsTuneOk o = refl
+starts_ok_put AwaitsOpen o = refl
+starts_ok_put AwaitsOpenOk o = refl
+starts_ok_put HoldsStart o = refl
+starts_ok_put HoldsLogin o = refl
+starts_ok_put HoldsOpen o = refl
+
+tunes_put : (step : HandshakeStep) → is_opened (Handshake step) ≡ true → is_opened (Handshake (after_tune_put step)) ≡ true
+tunes_put AwaitsProtocolHeader o = absurd (false≢true o)
+tunes_put AwaitsStart o = refl
+tunes_put AwaitsStartOk o = refl
+tunes_put AwaitsTune o = refl
+tunes_put AwaitsTuneOk o = refl
+tunes_put AwaitsOpen o = refl
+tunes_put AwaitsOpenOk o = refl
+tunes_put HoldsStart o = refl
+tunes_put HoldsLogin o = refl
+tunes_put HoldsOpen o = refl
+
+tunes_ok : (step : HandshakeStep) → is_opened (Handshake step) ≡ true → is_opened (Handshake (after_tune_ok step)) ≡ true
+tunes_ok AwaitsProtocolHeader o = absurd (false≢true o)
+tunes_ok AwaitsStart o = refl
+tunes_ok AwaitsStartOk o = refl
+tunes_ok AwaitsTune o = refl
+tunes_ok AwaitsTuneOk o = refl
+tunes_ok AwaitsOpen o = refl
+tunes_ok AwaitsOpenOk o = refl
+tunes_ok HoldsStart o = refl
+tunes_ok HoldsLogin o = refl
+tunes_ok HoldsOpen o = refl
 
 taken_step : (role : Role) (r : Reading) (step : HandshakeStep) → is_opened (Handshake step) ≡ true → is_opened (Handshake (step_taken role r step)) ≡ true
 taken_step Client r step o = either_step (is_call kinds.ConnectionTune r) _ _ refl (either_step (is_call kinds.ConnectionStart r) _ _ (starts step o) o)
-taken_step Server r step o = either_step (is_call kinds.ConnectionTuneOk r) _ _ refl (either_step (is_call kinds.ConnectionStartOk r) _ _ (starts_ok step o) o)
+taken_step Server r step o =
+    either_step (is_call kinds.ConnectionOpen r) _ _ refl
+    (either_step (is_call kinds.ConnectionTuneOk r) _ _ (tunes_ok step o) (either_step (is_call kinds.ConnectionStartOk r) _ _ (starts_ok step o) o))
 
 put_step : (role : Role) (r : Reading) (step : HandshakeStep) → is_opened (Handshake step) ≡ true → is_opened (Handshake (step_put role r step)) ≡ true
-put_step Client r step o = o
-put_step Server r step o = either_step (is_call kinds.ConnectionStart r) _ _ (starts_put step o) o
+put_step Client r step o = either_step (is_call kinds.ConnectionStartOk r) _ _ (starts_ok_put step o) o
+put_step Server r step o =
+    either_step (is_call kinds.ConnectionTune r) _ _ (tunes_put step o) (either_step (is_call kinds.ConnectionStart r) _ _ (starts_put step o) o)
 
 phase_after_taken : (role : Role) (r : Reading) (phase : Phase) → is_opened phase ≡ true → is_opened (phase_taken role r phase) ≡ true
 phase_after_taken role r (Handshake step) o = either _ Closed _ refl (either (taken_ends_handshake role r) Running _ refl (taken_step role r step o))

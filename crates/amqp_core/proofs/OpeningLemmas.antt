@@ -1,9 +1,9 @@
 -- A server that has read the protocol header.
-use Rattle.std.proofs.Common.{◌≡◌, ◌≢◌, ◌<◌, ◌≤◌, ◌+◌, ◌-◌, true, ℕ, List, ◌++◌, take, drop, length, slice_index, Option, None, refl, ap, sym, ◌∙◌, subst, arith}
+use Rattle.std.proofs.Common.{◌≡◌, ◌≢◌, ◌<◌, ◌≤◌, ◌+◌, ◌-◌, Bool, true, ℕ, List, ◌++◌, take, drop, length, slice_index, Option, None, refl, ap, sym, ◌∙◌, subst, arith}
 use Rattle.std.proofs.Math.Seq.{take-add}
 use Rattle.std.proofs.lemmas.List.{length-drop, get_or-drop, take_all}
 use Rattle.std.proofs.lemmas.Bool.{false≢true}
-use Rattle.amqp_model.specs.End.Channels.{Channel, Phase, Handshake, Running, Closing, Closed, Failed, AwaitsProtocolHeader, AwaitsStart, AwaitsStartOk, AwaitsTune, AwaitsTuneOk, AwaitsOpen, AwaitsOpenOk, Agreed}
+use Rattle.amqp_model.specs.End.Channels.{Channel, Phase, Handshake, Running, Closing, Closed, Failed, AwaitsProtocolHeader, AwaitsStart, AwaitsStartOk, AwaitsTune, AwaitsTuneOk, AwaitsOpen, AwaitsOpenOk, HoldsStart, HoldsLogin, HoldsOpen, Agreed}
 use Rattle.amqp_model.specs.Stream.Endpoint.{awaits_opening, greeting}
 use Rattle.amqp_model.specs.End.Machine.{end_after_owed}
 use Rattle.amqp_model.specs.History.Negotiation.{Config, Hello, OfServer, PROTOCOL_HEADER}
@@ -21,25 +21,31 @@ nothing_agreed Server code.AwaitsTune e = refl
 nothing_agreed Server code.AwaitsTuneOk e = refl
 nothing_agreed Server (code.AwaitsOpen agreed) e = absurd (false≢true e)
 nothing_agreed Server (code.AwaitsOpenOk agreed) e = absurd (false≢true e)
+nothing_agreed Server code.HoldsStart e = refl
+nothing_agreed Server code.HoldsLogin e = refl
+nothing_agreed Server (code.HoldsOpen agreed) e = absurd (false≢true e)
 nothing_agreed Server (code.Running agreed) e = absurd (false≢true e)
 nothing_agreed Server (code.Closing agreed) e = absurd (false≢true e)
 nothing_agreed Server (code.Closed agreed) e = absurd (false≢true e)
 nothing_agreed Server (code.Failed agreed) e = absurd (false≢true e)
 
-started : (frame_max channel_max max_body : ℕ) (hello : Hello Server) (agreed : Option Agreed) (channels : ℕ → Channel) →
-    let config : Config Server = record { frame_max = frame_max; channel_max = channel_max; max_body = max_body; hello = hello } in
+started : (frame_max channel_max max_body heartbeat : ℕ) (gated : Bool) (hello : Hello Server) (agreed : Option Agreed) (channels : ℕ → Channel) →
+    let config : Config Server = record { frame_max = frame_max; channel_max = channel_max; max_body = max_body; heartbeat = heartbeat; gated = gated; hello = hello } in
     end_after_owed Server config (greeting Server config) (record { phase = Handshake AwaitsProtocolHeader; agreed = agreed; channels = channels }) ≡ record { phase = Handshake AwaitsStartOk; agreed = agreed; channels = channels }
-started frame_max channel_max max_body (OfServer properties mechanisms locales) agreed channels = refl
+started frame_max channel_max max_body heartbeat gated (OfServer properties mechanisms locales) agreed channels = refl
 
 greeted : (role : Role) (config : Config role) (phase : Phase) (agreed : Option Agreed) (channels : ℕ → Channel) → awaits_opening role phase ≡ true → end_after_owed role config (greeting role config) (record { phase = phase; agreed = agreed; channels = channels }) ≡ record { phase = Handshake AwaitsStartOk; agreed = agreed; channels = channels }
 greeted Client config phase agreed channels e = absurd (false≢true e)
-greeted Server config (Handshake AwaitsProtocolHeader) agreed channels e = started config.frame_max config.channel_max config.max_body config.hello agreed channels
+greeted Server config (Handshake AwaitsProtocolHeader) agreed channels e = started config.frame_max config.channel_max config.max_body config.heartbeat config.gated config.hello agreed channels
 greeted Server config (Handshake AwaitsStart) agreed channels e = absurd (false≢true e)
 greeted Server config (Handshake AwaitsStartOk) agreed channels e = absurd (false≢true e)
 greeted Server config (Handshake AwaitsTune) agreed channels e = absurd (false≢true e)
 greeted Server config (Handshake AwaitsTuneOk) agreed channels e = absurd (false≢true e)
 greeted Server config (Handshake AwaitsOpen) agreed channels e = absurd (false≢true e)
 greeted Server config (Handshake AwaitsOpenOk) agreed channels e = absurd (false≢true e)
+greeted Server config (Handshake HoldsStart) agreed channels e = absurd (false≢true e)
+greeted Server config (Handshake HoldsLogin) agreed channels e = absurd (false≢true e)
+greeted Server config (Handshake HoldsOpen) agreed channels e = absurd (false≢true e)
 greeted Server config Running agreed channels e = absurd (false≢true e)
 greeted Server config Closing agreed channels e = absurd (false≢true e)
 greeted Server config Closed agreed channels e = absurd (false≢true e)

@@ -48,9 +48,9 @@ pub answers_start-client : (settings : Settings) (hello : ClientHello) (method :
 answers_start-client settings hello method is = by_hello (AnswersStart method) settings (code.Client hello) is (λ e. ap one (sym e))
 
 pub tunes-server : (settings : Settings) (hello : ServerHello) (method : Method) → settings.hello ≡ code.Server hello
-    → IsTune settings.channel_max settings.frame_max method → Tunes method (role_for settings) (config_view settings)
+    → IsTune settings.channel_max settings.frame_max settings.heartbeat method → Tunes method (role_for settings) (config_view settings)
 tunes-server settings hello method is said =
-    by_hello (Tunes method) settings (code.Server hello) is (ap one (sym (said (config_with settings (code.Server hello)) refl refl)))
+    by_hello (Tunes method) settings (code.Server hello) is (ap one (sym (said (config_with settings (code.Server hello)) refl refl refl)))
 
 pub answers_tune-client : (settings : Settings) (hello : ClientHello) (agreed : Agreed) (settled opening : Method) → settings.hello ≡ code.Client hello
     → settled ≡ tune_ok agreed → IsOpen hello opening → AnswersTune agreed settled opening (role_for settings) (config_view settings)

@@ -1,7 +1,7 @@
 -- What is put on a channel is what the end puts: payload by payload.
 use Rattle.std.proofs.Common.{◌≡◌, ◌<◌, ℕ, List, [], ◌∷◌, map, refl, ap, ◌∙◌}
 use Rattle.amqp_model.specs.End.Asks.{payload_frame}
-use Rattle.amqp_model.specs.End.Channels.{Channel}
+use Rattle.amqp_model.specs.End.Channels.{Agreed, Channel}
 use Rattle.amqp_model.specs.Wire.Contents as contents
 use Rattle.amqp_model.specs.Wire.Contents.{Payload, Unread}
 use Rattle.amqp_model.specs.History.Histories.{PutHere}
@@ -56,24 +56,24 @@ channel_is number (contents.Body octets) = refl
 channel_is number Unread = refl
 
 -- one frame
-put_once : (site : Site) (config : Config (role_of site.side)) (frame_max : ℕ) (payload : Payload) (channels : ℕ → Channel) → 0 < site.number → IsWritten payload → payload_of (reading_of (payload_frame site.number payload)) ≡ payload → end_after (role_of site.side) config (payload_frame site.number payload).channel (PutHere (reading_of (payload_frame site.number payload)) (payload_frame site.number payload)) (running_end site frame_max channels) ≡ running_end site frame_max (set_channel site.number (channel_after (role_of site.side) (PutHere (reading_as payload) (payload_frame site.number payload)) (channels site.number)) channels)
-put_once site config frame_max payload channels h written says =
-    ap (λ k. end_after (role_of site.side) config k (PutHere (reading_of (payload_frame site.number payload)) (payload_frame site.number payload)) (running_end site frame_max channels)) (channel_is site.number payload)
-    ∙ (ap (λ r. end_after (role_of site.side) config site.number (PutHere r (payload_frame site.number payload)) (running_end site frame_max channels)) (read_as (reading_of (payload_frame site.number payload)) payload written says)
-    ∙ entry_above site config frame_max site.number (PutHere (reading_as payload) (payload_frame site.number payload)) channels h)
+put_once : (site : Site) (config : Config (role_of site.side)) (limits : Agreed) (payload : Payload) (channels : ℕ → Channel) → 0 < site.number → IsWritten payload → payload_of (reading_of (payload_frame site.number payload)) ≡ payload → end_after (role_of site.side) config (payload_frame site.number payload).channel (PutHere (reading_of (payload_frame site.number payload)) (payload_frame site.number payload)) (running_end site limits channels) ≡ running_end site limits (set_channel site.number (channel_after (role_of site.side) (PutHere (reading_as payload) (payload_frame site.number payload)) (channels site.number)) channels)
+put_once site config limits payload channels h written says =
+    ap (λ k. end_after (role_of site.side) config k (PutHere (reading_of (payload_frame site.number payload)) (payload_frame site.number payload)) (running_end site limits channels)) (channel_is site.number payload)
+    ∙ (ap (λ r. end_after (role_of site.side) config site.number (PutHere r (payload_frame site.number payload)) (running_end site limits channels)) (read_as (reading_of (payload_frame site.number payload)) payload written says)
+    ∙ entry_above site config limits site.number (PutHere (reading_as payload) (payload_frame site.number payload)) channels h)
 
-from_set : (site : Site) (config : Config (role_of site.side)) (frame_max : ℕ) (payloads : List Payload) (channel : Channel) (channels : ℕ → Channel) → 0 < site.number → AreWritten payloads → SayPayloads site.number payloads → end_after_put (role_of site.side) config (map (payload_frame site.number) payloads) (running_end site frame_max (set_channel site.number channel channels)) ≡ running_end site frame_max (set_channel site.number (after_payloads (role_of site.side) site.number payloads channel) channels)
-from_set site config frame_max [] channel channels h written say = refl
-from_set site config frame_max (payload ∷ payloads) channel channels h written say =
+from_set : (site : Site) (config : Config (role_of site.side)) (limits : Agreed) (payloads : List Payload) (channel : Channel) (channels : ℕ → Channel) → 0 < site.number → AreWritten payloads → SayPayloads site.number payloads → end_after_put (role_of site.side) config (map (payload_frame site.number) payloads) (running_end site limits (set_channel site.number channel channels)) ≡ running_end site limits (set_channel site.number (after_payloads (role_of site.side) site.number payloads channel) channels)
+from_set site config limits [] channel channels h written say = refl
+from_set site config limits (payload ∷ payloads) channel channels h written say =
     let after : Channel → Channel = channel_after (role_of site.side) (PutHere (reading_as payload) (payload_frame site.number payload)) in
     let here : after (set_channel site.number channel channels site.number) ≡ after channel = ap after (set_here site.number channel channels) in
     ap (end_after_put (role_of site.side) config (map (payload_frame site.number) payloads))
-    (put_once site config frame_max payload (set_channel site.number channel channels) h written.0 say.0
-    ∙ (ap (λ c. running_end site frame_max (set_channel site.number c (set_channel site.number channel channels))) here
-    ∙ ap (running_end site frame_max) (set_twice site.number channel (after channel) channels)))
-    ∙ from_set site config frame_max payloads (after channel) channels h written.1 say.1
+    (put_once site config limits payload (set_channel site.number channel channels) h written.0 say.0
+    ∙ (ap (λ c. running_end site limits (set_channel site.number c (set_channel site.number channel channels))) here
+    ∙ ap (running_end site limits) (set_twice site.number channel (after channel) channels)))
+    ∙ from_set site config limits payloads (after channel) channels h written.1 say.1
 
-pub puts_as_end : (site : Site) (config : Config (role_of site.side)) (frame_max : ℕ) (channels : ℕ → Channel) (payload : Payload) (later : List Payload) → PutsAsEnd site config frame_max channels payload later
-puts_as_end site config frame_max channels payload later h written say =
-    ap (end_after_put (role_of site.side) config (map (payload_frame site.number) later)) (put_once site config frame_max payload channels h written.0 say.0)
-    ∙ from_set site config frame_max later (channel_after (role_of site.side) (PutHere (reading_as payload) (payload_frame site.number payload)) (channels site.number)) channels h written.1 say.1
+pub puts_as_end : (site : Site) (config : Config (role_of site.side)) (limits : Agreed) (channels : ℕ → Channel) (payload : Payload) (later : List Payload) → PutsAsEnd site config limits channels payload later
+puts_as_end site config limits channels payload later h written say =
+    ap (end_after_put (role_of site.side) config (map (payload_frame site.number) later)) (put_once site config limits payload channels h written.0 say.0)
+    ∙ from_set site config limits later (channel_after (role_of site.side) (PutHere (reading_as payload) (payload_frame site.number payload)) (channels site.number)) channels h written.1 say.1

@@ -171,6 +171,9 @@ told_alone settings end number reading closing (OnChannel ruled.RefusesContent) 
 told_alone settings end number reading closing (OnChannel (ruled.Faults code)) fits is = absurd is
 told_alone settings end number reading closing (Proceeds notice.Quiet stage owed) fits is = absurd is
 told_alone settings end number reading closing (Proceeds notice.Discarded stage owed) fits is = absurd is
+told_alone settings end number reading closing (Proceeds notice.AnswerAsked stage owed) fits is = absurd is
+told_alone settings end number reading closing (Proceeds notice.LoginAsked stage owed) fits is = absurd is
+told_alone settings end number reading closing (Proceeds notice.OpenAsked stage owed) fits is = absurd is
 told_alone settings end number reading closing (Proceeds (notice.Negotiated agreed) stage owed) fits is = absurd is
 told_alone settings end number reading closing (Proceeds notice.ClosedByPeer stage owed) fits is = absurd is
 told_alone settings end number reading closing (Proceeds notice.ClosedByUs stage owed) fits is = absurd is

@@ -41,6 +41,8 @@ set_up_with settings said =
       frame_max = settings.frame_max;
       channel_max = settings.channel_max;
       max_body = settings.max_body;
+      heartbeat = settings.heartbeat;
+      gated = settings.gated;
       hello = said.1;
     } in
     (said.0, config)

@@ -43,6 +43,7 @@ none_holds false false false false e = (refl, refl, refl, refl)
 pub record IsTried (role : Role) (config : Config role) (made : Method) : Type 0 where
   pub faultless : config_fault role config ≡ None
   pub channel : config.channel_max < 2 ^ 16
+  pub heartbeat : config.heartbeat < 2 ^ 16
   pub host : HostFits config.hello
   pub made_is : made ≡ greeting role config
   pub encoded : Encoded made
@@ -57,6 +58,7 @@ writes read role config made tried =
       channel_most = tried.channel;
       frame_least = ltb-false config.frame_max FRAME_MIN none.0;
       frame_most = ltb-false FRAME_MOST config.frame_max none.1;
+      heartbeat_most = tried.heartbeat;
       host = tried.host;
       greeting_back = subst ReadsBack tried.made_is (encoded_reads_back read made tried.encoded);
       greeting_short = ltb-false FRAME_MIN (greeting_length role config) none.3;

@@ -1,7 +1,7 @@
 -- The rules for a frame, one by one: the verdict is the one of the definitions, and it says what the frame leaves.
 use Rattle.std.proofs.lemmas.Bool.{false≢true}
 use Rattle.std.proofs.lemmas.Bool.Decides.{nat_tests}
-use Rattle.std.proofs.Common.{◌≡◌, ◌<◌, ◌==◌, ◌&&◌, Bool, true, false, cond, ℕ, zero, suc, List, [], ◌∷◌, Option, Some, None, refl, ap, sym, ◌∙◌, subst, arith}
+use Rattle.std.proofs.Common.{◌≡◌, ◌<◌, ◌==◌, ◌&&◌, Bool, true, false, cond, min, ℕ, zero, suc, List, [], ◌∷◌, Option, Some, None, refl, ap, sym, ◌∙◌, subst, arith}
 use Rattle.amqp_frame.specs.declared.frames.FrameKind.{FrameKind}
 use Rattle.amqp_method.specs.declared.kinds.Kind.TheVariants as kinds
 use Rattle.amqp_model.specs.End.Channels as model
@@ -136,36 +136,70 @@ close_rules settings stage agreed channels method stays going close same =
 
 pub start_rules :
     (settings : Settings) (channels : Channels) (method : Method)
-    → side_in settings.hello ≡ side.Client → method.kind ≡ kinds.ConnectionStart
+    → side_in settings.hello ≡ side.Client → method.kind ≡ kinds.ConnectionStart → settings.gated ≡ false
     → FrameRules settings (end_at stages.AwaitsStart channels) 0 (Calls method) (Proceeds notice.Quiet stages.AwaitsTune owed.StartOk)
-start_rules settings channels method s k =
+start_rules settings channels method s k g =
     record {
-      verdict = sym (steps.start_verdict (role_for settings) (config_view settings) None method (ap role_of s) k);
+      verdict = sym (steps.start_verdict (role_for settings) (config_view settings) None method (ap role_of s) k g);
       leaves = steps.start_left (role_for settings) (config_view settings) None (channels_view channels) method (ap role_of s) k;
+      fits = (tt, λ e. refl);
+    }
+
+pub start_asked_rules :
+    (settings : Settings) (channels : Channels) (method : Method)
+    → side_in settings.hello ≡ side.Client → method.kind ≡ kinds.ConnectionStart → settings.gated ≡ true
+    → FrameRules settings (end_at stages.AwaitsStart channels) 0 (Calls method) (Proceeds notice.AnswerAsked stages.HoldsStart owed.Nothing)
+start_asked_rules settings channels method s k g =
+    record {
+      verdict = sym (steps.start_asks (role_for settings) (config_view settings) None method (ap role_of s) k g);
+      leaves = steps.start_held (role_for settings) (config_view settings) None (channels_view channels) method (ap role_of s) k;
       fits = (tt, λ e. refl);
     }
 
 pub start_ok_rules :
     (settings : Settings) (channels : Channels) (method : Method)
-    → side_in settings.hello ≡ side.Server → method.kind ≡ kinds.ConnectionStartOk
+    → side_in settings.hello ≡ side.Server → method.kind ≡ kinds.ConnectionStartOk → settings.gated ≡ false
     → FrameRules settings (end_at stages.AwaitsStartOk channels) 0 (Calls method) (Proceeds notice.Quiet stages.AwaitsTuneOk owed.Tune)
-start_ok_rules settings channels method s k =
+start_ok_rules settings channels method s k g =
     record {
-      verdict = sym (steps.start_ok_verdict (role_for settings) (config_view settings) None method (ap role_of s) k);
+      verdict = sym (steps.start_ok_verdict (role_for settings) (config_view settings) None method (ap role_of s) k g);
       leaves = steps.start_ok_left (role_for settings) (config_view settings) None (channels_view channels) method (ap role_of s) k;
+      fits = (tt, λ e. refl);
+    }
+
+pub login_asked_rules :
+    (settings : Settings) (channels : Channels) (method : Method)
+    → side_in settings.hello ≡ side.Server → method.kind ≡ kinds.ConnectionStartOk → settings.gated ≡ true
+    → FrameRules settings (end_at stages.AwaitsStartOk channels) 0 (Calls method) (Proceeds notice.LoginAsked stages.HoldsLogin owed.Nothing)
+login_asked_rules settings channels method s k g =
+    record {
+      verdict = sym (steps.start_ok_asks (role_for settings) (config_view settings) None method (ap role_of s) k g);
+      leaves = steps.start_ok_held (role_for settings) (config_view settings) None (channels_view channels) method (ap role_of s) k;
       fits = (tt, λ e. refl);
     }
 
 pub open_rules :
     (settings : Settings) (agreed : code_agreed.Agreed) (channels : Channels) (method : Method)
-    → side_in settings.hello ≡ side.Server → method.kind ≡ kinds.ConnectionOpen
+    → side_in settings.hello ≡ side.Server → method.kind ≡ kinds.ConnectionOpen → settings.gated ≡ false
     → FrameRules settings (end_at (stages.AwaitsOpen agreed) channels) 0 (Calls method)
     (Proceeds (notice.Negotiated agreed) (stages.Running agreed) owed.OpenOk)
-open_rules settings agreed channels method s k =
+open_rules settings agreed channels method s k g =
     record {
-      verdict = sym (steps.open_verdict (role_for settings) (config_view settings) (agreed_view agreed) method (ap role_of s) k);
+      verdict = sym (steps.open_verdict (role_for settings) (config_view settings) (agreed_view agreed) method (ap role_of s) k g);
       leaves = steps.open_left (role_for settings) (config_view settings) (agreed_view agreed) (channels_view channels) method (Some (events.Negotiated (agreed_view agreed))) (ap role_of s) k;
       fits = (tt, λ e. absurd (false≢true e));
+    }
+
+pub open_asked_rules :
+    (settings : Settings) (agreed : code_agreed.Agreed) (channels : Channels) (method : Method)
+    → side_in settings.hello ≡ side.Server → method.kind ≡ kinds.ConnectionOpen → settings.gated ≡ true
+    → FrameRules settings (end_at (stages.AwaitsOpen agreed) channels) 0 (Calls method)
+    (Proceeds notice.OpenAsked (stages.HoldsOpen agreed) owed.Nothing)
+open_asked_rules settings agreed channels method s k g =
+    record {
+      verdict = sym (steps.open_asks (role_for settings) (config_view settings) (agreed_view agreed) method (ap role_of s) k g);
+      leaves = steps.open_held (role_for settings) (config_view settings) (agreed_view agreed) (channels_view channels) method (ap role_of s) k;
+      fits = (tt, λ e. refl);
     }
 
 pub open_ok_rules :
@@ -180,17 +214,18 @@ open_ok_rules settings agreed channels method s k =
       fits = (tt, λ e. absurd (false≢true e));
     }
 
--- a tune that settles these limits
+-- a tune that settles these limits and this heartbeat
 pub settled_rules :
     (settings : Settings) (agreed : code_agreed.Agreed) (channels : Channels) (method : Method)
     → side_in settings.hello ≡ side.Client → method.kind ≡ kinds.ConnectionTune → tunes_too_small method ≡ false
     → agreed.channel_max ≡ negotiation.smaller settings.channel_max (number_at 0 method)
     → agreed.frame_max ≡ negotiation.smaller settings.frame_max (number_at 1 method)
+    → agreed.heartbeat ≡ min settings.heartbeat (number_at 2 method)
     → FrameRules settings (end_at stages.AwaitsTune channels) 0 (Calls method)
     (Proceeds notice.Quiet (stages.AwaitsOpenOk agreed) (owed.TuneOkAndOpen agreed))
-settled_rules settings agreed channels method s k small c f =
+settled_rules settings agreed channels method s k small c f b =
     record {
-      verdict = sym (steps.tune_verdict (role_for settings) (config_view settings) None agreed.channel_max agreed.frame_max method (ap role_of s) k small c f);
+      verdict = sym (steps.tune_verdict (role_for settings) (config_view settings) None agreed.channel_max agreed.frame_max agreed.heartbeat method (ap role_of s) k small c f b);
       leaves = steps.tune_left (role_for settings) (config_view settings) None (agreed_view agreed) (channels_view channels) method (ap role_of s) k;
       fits = (tt, λ e. refl);
     }
@@ -211,7 +246,7 @@ pub ruleset tune_rules = (settled_rules, small_rules)
 pub within_rules :
     (settings : Settings) (agreed : code_agreed.Agreed) (channels : Channels) (method : Method)
     → side_in settings.hello ≡ side.Server → method.kind ≡ kinds.ConnectionTuneOk → agreed_in method ≡ agreed_view agreed
-    → within settings.channel_max settings.frame_max (agreed_in method) ≡ true
+    → within settings.channel_max settings.frame_max (number_at 0 method) (number_at 1 method) ≡ true
     → FrameRules settings (end_at stages.AwaitsTuneOk channels) 0 (Calls method)
     (Proceeds notice.Quiet (stages.AwaitsOpen agreed) owed.Nothing)
 within_rules settings agreed channels method s k same w =
@@ -226,7 +261,7 @@ within_rules settings agreed channels method s k same w =
 pub past_rules :
     (settings : Settings) (channels : Channels) (method : Method)
     → side_in settings.hello ≡ side.Server → method.kind ≡ kinds.ConnectionTuneOk
-    → within settings.channel_max settings.frame_max (agreed_in method) ≡ false
+    → within settings.channel_max settings.frame_max (number_at 0 method) (number_at 1 method) ≡ false
     → FrameRules settings (end_at stages.AwaitsTuneOk channels) 0 (Calls method) (Faults faults.Fatal)
 past_rules settings channels method s k w =
     record {
@@ -485,7 +520,7 @@ channel_rules settings agreed channels number site reading said site_is above ru
     let P : Site → Type 0 = λ s. Rules s (channels_view channels s.number) reading said in
     let here : P (site_at settings number agreed.channel_max) = subst P site_is rules in
     record {
-      verdict = here.verdict (config_view settings) agreed.frame_max refl;
+      verdict = here.verdict (config_view settings) (agreed_view agreed) refl;
       leaves =
           ruled_left (role_for settings) (config_view settings) number reading said (end_at (stages.Running agreed) channels) above refl
           (λ kind payload. here.leaves (frame_at number kind payload));

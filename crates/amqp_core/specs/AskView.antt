@@ -2,6 +2,7 @@
 use Rattle.amqp_method.specs.MessageView.{message_view}
 use Rattle.amqp_model.specs.End.Asks as model
 use Rattle.amqp_channel.specs.Messages.{message_of}
+use Rattle.amqp_core.specs.LentLetter.{lent_letter}
 use Rattle.amqp_core.specs.declared.asks.Ask.{Ask}
 use Rattle.amqp_core.specs.declared.asks.LentAsk.{LentAsk}
 use Rattle.amqp_core.specs.declared.asks.LentAsk.TheVariants as lent
@@ -19,7 +20,7 @@ ask_view Unblocked = model.Unblocked
 -- the same of an ask that is lent
 abbrev pub lent_view : LentAsk → model.Ask
 lent_view lent.Open = model.Open
-lent_view (lent.Send channel message) = model.Send channel (message_of (message_view message.now))
+lent_view (lent.Send channel message) = model.Send channel (message_of (lent_letter message))
 lent_view (lent.Flow channel active) = model.Flow channel active
 lent_view (lent.CloseChannel channel code text) = model.CloseChannel channel code text.now
 lent_view (lent.Close code text) = model.Close code text.now

@@ -1,4 +1,5 @@
 -- Hellos and configurations of either role, each with the role that it is of.
+use Rattle.std.specs.Prelude.{false}
 use Rattle.amqp_model.specs.History.Negotiation as model
 use Rattle.amqp_model.specs.Wire.Notes.{Role}
 use Rattle.amqp_core.specs.Settings.{role_in, hello_view, role_for, config_view}
@@ -17,4 +18,12 @@ set_up_as settings = (role_for settings, config_view settings)
 -- the settings that a configuration comes to, where this turns its hello into one of either role
 abbrev pub settings_of : {R H : Type 0} → (H → Hello) → Config R H → Settings
 settings_of hello_of config =
-    record { frame_max = config.frame_max; channel_max = config.channel_max; max_body = config.max_body; hello = hello_of config.hello }
+    record {
+      frame_max = config.frame_max;
+      channel_max = config.channel_max;
+      max_body = config.max_body;
+      heartbeat = config.heartbeat;
+      gated = config.gated;
+      hello = hello_of config.hello;
+      lends = false;
+    }

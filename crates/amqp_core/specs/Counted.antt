@@ -2,7 +2,7 @@
 --
 -- A history says nothing of a failure, since a wrong end octet or out of memory leaves it as it was: whether the end
 -- has failed stands beside it.
-use Rattle.std.specs.Prelude.{◌≡◌, ◌<◌, ◌≤◌, Bool, true, false, ℕ, List, length, Option}
+use Rattle.std.specs.Prelude.{◌≡◌, ◌<◌, ◌≤◌, Bool, true, false, ℕ, List, length, Option, Some, None}
 use Rattle.amqp_model.specs.End.Answers as answers
 use Rattle.amqp_model.specs.End.Answers.{channel_state, first_of}
 use Rattle.amqp_model.specs.Laws.AnswersInWords.{taken_on}
@@ -50,6 +50,14 @@ PhaseIs role failed history phase = phase ≡ phase_name (phase_counted role fai
 
 abbrev pub AgreedIs : (role : Role) → Config role → History → Option Agreed → Type 0
 AgreedIs role config history agreed = agreed ≡ agreed_counted role config history
+
+-- the heartbeat of it, in seconds; none, which is 0, where nothing was agreed
+abbrev pub heartbeat_in : Option Agreed → ℕ
+heartbeat_in None = 0
+heartbeat_in (Some agreed) = agreed.heartbeat
+
+abbrev pub HeartbeatIs : (role : Role) → Config role → History → ℕ → Type 0
+HeartbeatIs role config history heartbeat = heartbeat ≡ heartbeat_in (agreed_counted role config history)
 
 pub record StateIs (role : Role) (config : Config role) (failed : Bool) (history : History)
     (number : ℕ) (state : State) : Type 0 where

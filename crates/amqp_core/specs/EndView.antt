@@ -2,6 +2,7 @@
 use Rattle.amqp_model.specs.Stream.Endpoint.{Endpoint}
 use Rattle.amqp_model.specs.History.Negotiation.{Config}
 use Rattle.amqp_model.specs.Wire.Notes.{Role}
+use Rattle.amqp_core.specs.Counters.{Counters}
 use Rattle.amqp_core.specs.EndpointView.{endpoint_view}
 use Rattle.amqp_core.specs.Settings.{config_view, role_for}
 use Rattle.amqp_core.specs.declared.end.End.{End}
@@ -21,3 +22,7 @@ config_at end = config_view (settings_at end)
 -- what it keeps, the octets that are no whole frame yet, and what it has to write
 abbrev pub endpoint_of : {R H : Type 0} {G : Ghosts R H} → End R H G → Endpoint
 endpoint_of end = endpoint_view end.inner
+
+-- what it counted since it began
+abbrev pub counters_of : {R H : Type 0} {G : Ghosts R H} → End R H G → Counters
+counters_of end = record { frames = end.frames_taken; octets = end.octets_written }

@@ -45,6 +45,7 @@ refusal_view ask.NoFreeChannel = Some asks.NoFreeChannel
 refusal_view ask.OutOfMemory = None
 refusal_view ask.ReplyPending = Some asks.ReplyPending
 refusal_view ask.NoSuchRequest = Some asks.NoSuchRequest
+refusal_view ask.NotAwaited = Some asks.NotAwaited
 
 abbrev number_by : Option Refusal → ℕ
 number_by (Some refusal) = refusal_number refusal

@@ -5,7 +5,6 @@ use Rattle.amqp_model.specs.Stream.Endpoint.{Endpoint}
 use Rattle.amqp_core.specs.Feeding.{SameEndpoint}
 use Rattle.amqp_core.specs.declared.faults.CoreFault.{CoreFault}
 use Rattle.amqp_core.specs.declared.faults.CoreFault.TheVariants as core
-use Rattle.amqp_core.specs.declared.taken.Taken.{Taken}
 
 -- after every fault but that of a closed end the end has failed
 abbrev pub FailsAfter : CoreFault → channels.Phase → Type 0
@@ -13,11 +12,11 @@ FailsAfter core.Closed phase = Unit {0}
 FailsAfter fault phase = phase ≡ channels.Failed
 
 -- this is answered, no octet is taken, and the end stays as it is
-pub record IsRefused (fault : CoreFault) (result : Result Taken CoreFault) (old new : Endpoint) : Type 0 where
+pub record IsRefused {A : Type 0} (fault : CoreFault) (result : Result A CoreFault) (old new : Endpoint) : Type 0 where
   pub answer : result ≡ Err fault
   pub same : SameEndpoint old new
 
-pub record FeedFaults (result : Result Taken CoreFault) (old new : Endpoint) : Type 0 where
+pub record FeedFaults {A : Type 0} (result : Result A CoreFault) (old new : Endpoint) : Type 0 where
   -- after a fault the end has failed, unless it is closed
   pub fails : IfErr result (λ fault. FailsAfter fault new.end.phase)
   -- an end that is closed, or has failed, takes nothing

@@ -1,6 +1,7 @@
 -- What a stage of the handshake awaits, in the words of the model.
 use Rattle.std.specs.Prelude.{Bool, true, false, ◌&&◌, nat_lt, nat_le, ℕ}
-use Rattle.amqp_model.specs.End.Channels.{Phase, Handshake, HandshakeStep, AwaitsStart, AwaitsStartOk, AwaitsTune, AwaitsTuneOk, AwaitsOpen, AwaitsOpenOk, Agreed}
+use Rattle.amqp_method.specs.declared.kinds.Kind.TheVariants as kinds
+use Rattle.amqp_model.specs.End.Channels.{Phase, Handshake, HandshakeStep, AwaitsStart, AwaitsStartOk, AwaitsTune, AwaitsTuneOk, AwaitsOpen, AwaitsOpenOk}
 use Rattle.amqp_model.specs.Wire.Notes.{Role, Client, Server}
 use Rattle.amqp_model.specs.End.FrameVerdict.{is_awaited}
 use Rattle.amqp_model.specs.Wire.Methods.{MethodKind}
@@ -15,13 +16,20 @@ awaited_in phase kind = false
 abbrev pub awaits_at : Stage → MethodKind → Bool
 awaits_at stage kind = awaited_in (phase_at stage) kind
 
+-- a tune or a tune-ok, the third argument of which is a heartbeat
+abbrev pub SaysHeartbeat : MethodKind → Type 0
+SaysHeartbeat kinds.ConnectionTune = Unit {0}
+SaysHeartbeat kinds.ConnectionTuneOk = Unit {0}
+SaysHeartbeat kind = ⊥
+
 abbrev pub is_in_handshake : Phase → Bool
 is_in_handshake (Handshake step) = true
 is_in_handshake phase = false
 
 -- what a server takes of a tune-ok: some channel and no more than its own, and a frame of 4096 octets up to its own
-abbrev pub within : (channel_most frame_most : ℕ) → Agreed → Bool
-within channel_most frame_most agreed = nat_lt 0 agreed.channel_max && nat_le agreed.channel_max channel_most && nat_le FRAME_MIN agreed.frame_max && nat_le agreed.frame_max frame_most
+abbrev pub within : (channel_most frame_most channel_max frame_max : ℕ) → Bool
+within channel_most frame_most channel_max frame_max =
+    nat_lt 0 channel_max && nat_le channel_max channel_most && nat_le FRAME_MIN frame_max && nat_le frame_max frame_most
 
 -- the role takes the method that the step awaits
 abbrev pub answers_at : Role → HandshakeStep → Bool

@@ -2,7 +2,7 @@
 use Rattle.std.specs.Prelude.{◌≡◌, ◌<◌, true, ℕ, List, [], ◌∷◌, map, Some}
 use Rattle.amqp_frame.specs.declared.frames.FrameKind.{FrameKind}
 use Rattle.amqp_model.specs.End.Asks.{payload_frame}
-use Rattle.amqp_model.specs.End.Channels.{Channel, Running, End}
+use Rattle.amqp_model.specs.End.Channels.{Agreed, Channel, Running, End}
 use Rattle.amqp_model.specs.Wire.Contents.{Payload, Unread}
 use Rattle.amqp_model.specs.Wire.Frame.{Frame}
 use Rattle.amqp_model.specs.End.EndVerdict.{goes_on}
@@ -16,28 +16,28 @@ use Rattle.amqp_channel.specs.declared.site.Site.{Site}
 use Rattle.amqp_channel.specs.declared.verdict.Verdict.{Verdict}
 
 -- an end whose connection is Running
-abbrev pub running_end : Site → (frame_max : ℕ) → (ℕ → Channel) → End
-running_end site frame_max channels = record { phase = Running; agreed = Some (record { channel_max = site.channel_max; frame_max = frame_max }); channels = channels }
+abbrev pub running_end : Site → (limits : Agreed) → (ℕ → Channel) → End
+running_end site limits channels = record { phase = Running; agreed = Some (record limits { channel_max = site.channel_max }); channels = channels }
 
 abbrev pub frame_here : Site → FrameKind → List ℕ → Frame
 frame_here site kind payload = record { kind = kind; channel = site.number; payload = payload }
 
 -- the verdict is the end's, and the end keeps the channel that is left, and all else as it was
-pub record IsStepOfEnd (site : Site) (config : Config (role_of site.side)) (frame_max : ℕ) (channels : ℕ → Channel) (frame : Frame)
+pub record IsStepOfEnd (site : Site) (config : Config (role_of site.side)) (limits : Agreed) (channels : ℕ → Channel) (frame : Frame)
     (reading : Reading) (said : Verdict) : Type 0 where
   pub verdict_is :
-      taken_verdict config (running_end site frame_max channels) site.number reading
+      taken_verdict config (running_end site limits channels) site.number reading
       ≡ verdict_view site.number reading (whole_now (channels site.number) reading) said
   pub end_is :
-      end_after_taken (role_of site.side) config (running_end site frame_max channels) reading frame
-      ≡ running_end site frame_max (set_channel site.number (left_by (role_of site.side) reading said (channels site.number)) channels)
+      end_after_taken (role_of site.side) config (running_end site limits channels) reading frame
+      ≡ running_end site limits (set_channel site.number (left_by (role_of site.side) reading said (channels site.number)) channels)
 
-abbrev pub StepsAsEnd : (site : Site) → Config (role_of site.side) → (frame_max : ℕ) → (ℕ → Channel)
+abbrev pub StepsAsEnd : (site : Site) → Config (role_of site.side) → (limits : Agreed) → (ℕ → Channel)
     → FrameKind → List ℕ → Reading → Verdict → Type 0
-StepsAsEnd site config frame_max channels kind payload reading said =
+StepsAsEnd site config limits channels kind payload reading said =
     0 < site.number → config.max_body ≡ site.max_body → Rules site (channels site.number) reading said
     → goes_on (verdict_view site.number reading (whole_now (channels site.number) reading) said) ≡ true
-    → IsStepOfEnd site config frame_max channels (frame_here site kind payload) reading said
+    → IsStepOfEnd site config limits channels (frame_here site kind payload) reading said
 
 -- an end writes such a payload
 abbrev pub IsWritten : Payload → Type 0
@@ -54,8 +54,8 @@ SayPayloads number [] = Unit {0}
 SayPayloads number (payload ∷ later) = (payload_of (reading (payload_frame number payload)) ≡ payload) × SayPayloads number later
 
 -- What payloads that are put leave of a channel is what the end keeps of it then.
-abbrev pub PutsAsEnd : (site : Site) → Config (role_of site.side) → (frame_max : ℕ) → (ℕ → Channel) → Payload → List Payload → Type 0
-PutsAsEnd site config frame_max channels payload later =
+abbrev pub PutsAsEnd : (site : Site) → Config (role_of site.side) → (limits : Agreed) → (ℕ → Channel) → Payload → List Payload → Type 0
+PutsAsEnd site config limits channels payload later =
     0 < site.number → AreWritten (payload ∷ later) → SayPayloads site.number (payload ∷ later)
-    → end_after_put (role_of site.side) config (map (payload_frame site.number) (payload ∷ later)) (running_end site frame_max channels)
-    ≡ running_end site frame_max (set_channel site.number (after_payloads (role_of site.side) site.number (payload ∷ later) (channels site.number)) channels)
+    → end_after_put (role_of site.side) config (map (payload_frame site.number) (payload ∷ later)) (running_end site limits channels)
+    ≡ running_end site limits (set_channel site.number (after_payloads (role_of site.side) site.number (payload ∷ later) (channels site.number)) channels)

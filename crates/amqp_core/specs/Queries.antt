@@ -5,7 +5,7 @@ use Rattle.amqp_model.specs.History.Histories.{History}
 use Rattle.amqp_model.specs.Wire.Methods.{MethodKind}
 use Rattle.amqp_model.specs.Laws.OctetLaws.{EndpointStandsFor}
 use Rattle.amqp_model.specs.History.States.{State}
-use Rattle.amqp_core.specs.Counted.{AgreedIs, DueIs, GatheredIs, PendingIs, PhaseIs, StateIs}
+use Rattle.amqp_core.specs.Counted.{AgreedIs, DueIs, GatheredIs, HeartbeatIs, PendingIs, PhaseIs, StateIs}
 use Rattle.amqp_core.specs.EndView.{config_at, endpoint_of, role_played}
 use Rattle.amqp_core.specs.OfHistory.{VerdictsAreOf}
 use Rattle.amqp_core.specs.OutputOrder.{OutputInOrder, WroteGoesOn}
@@ -26,6 +26,10 @@ PhaseOfHistory end phase = OfEachHistory end (λ history fed. PhaseIs (role_play
 abbrev pub AgreedOfHistory : {R H : Type 0} {G : Ghosts R H} → End R H G → Option Agreed → Type 0
 AgreedOfHistory end agreed =
     OfEachHistory end (λ history fed. AgreedIs (role_played end) (config_at end) history agreed)
+
+abbrev pub HeartbeatOfHistory : {R H : Type 0} {G : Ghosts R H} → End R H G → (heartbeat : ℕ) → Type 0
+HeartbeatOfHistory end heartbeat =
+    OfEachHistory end (λ history fed. HeartbeatIs (role_played end) (config_at end) history heartbeat)
 
 abbrev pub StateOfHistory : {R H : Type 0} {G : Ghosts R H} → End R H G → (number : ℕ) → State → Type 0
 StateOfHistory end number state =

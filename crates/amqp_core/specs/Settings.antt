@@ -34,4 +34,12 @@ abbrev pub role_for : Settings → Role
 role_for settings = role_in settings.hello
 
 abbrev pub config_view : (settings : Settings) → model.Config (role_for settings)
-config_view settings = record { frame_max = settings.frame_max; channel_max = settings.channel_max; max_body = settings.max_body; hello = hello_view settings.hello }
+config_view settings =
+    record {
+      frame_max = settings.frame_max;
+      channel_max = settings.channel_max;
+      max_body = settings.max_body;
+      heartbeat = settings.heartbeat;
+      gated = settings.gated;
+      hello = hello_view settings.hello;
+    }

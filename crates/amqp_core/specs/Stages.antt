@@ -10,10 +10,13 @@ use Rattle.amqp_core.specs.declared.stage.Stage.TheVariants as code
 abbrev pub phase_at : Stage → model.Phase
 phase_at code.AwaitsProtocolHeader = model.Handshake model.AwaitsProtocolHeader
 phase_at code.AwaitsStart = model.Handshake model.AwaitsStart
+phase_at code.HoldsStart = model.Handshake model.HoldsStart
 phase_at code.AwaitsStartOk = model.Handshake model.AwaitsStartOk
+phase_at code.HoldsLogin = model.Handshake model.HoldsLogin
 phase_at code.AwaitsTune = model.Handshake model.AwaitsTune
 phase_at code.AwaitsTuneOk = model.Handshake model.AwaitsTuneOk
 phase_at (code.AwaitsOpen agreed) = model.Handshake model.AwaitsOpen
+phase_at (code.HoldsOpen agreed) = model.Handshake model.HoldsOpen
 phase_at (code.AwaitsOpenOk agreed) = model.Handshake model.AwaitsOpenOk
 phase_at (code.Running agreed) = model.Running
 phase_at (code.Closing agreed) = model.Phase.Closing
@@ -22,6 +25,7 @@ phase_at (code.Failed agreed) = model.Failed
 
 abbrev pub agreed_at : Stage → Option model.Agreed
 agreed_at (code.AwaitsOpen agreed) = Some (agreed_view agreed)
+agreed_at (code.HoldsOpen agreed) = Some (agreed_view agreed)
 agreed_at (code.AwaitsOpenOk agreed) = Some (agreed_view agreed)
 agreed_at (code.Running agreed) = Some (agreed_view agreed)
 agreed_at (code.Closing agreed) = agreed_there agreed

@@ -4,7 +4,7 @@ use Rattle.amqp_model.specs.End.Channels.{Agreed}
 use Rattle.amqp_model.specs.History.Histories.{History}
 use Rattle.amqp_model.specs.Wire.Methods.{MethodKind}
 use Rattle.amqp_model.specs.History.States.{State}
-use Rattle.amqp_core.specs.Counted.{AgreedIs, DueIs, GatheredIs, PendingIs, PhaseIs, StateIs, is_failed}
+use Rattle.amqp_core.specs.Counted.{AgreedIs, DueIs, GatheredIs, HeartbeatIs, PendingIs, PhaseIs, StateIs, is_failed}
 use Rattle.amqp_core.specs.OfHistory.{VerdictsAreOf}
 use Rattle.amqp_core.specs.Tracing.{IsTraceOf, IsWrittenInOrder}
 use Rattle.amqp_core.specs.TracedView.{config_at, role_played, traced_of}
@@ -33,6 +33,10 @@ PhaseOfHistory traced phase =
 abbrev pub AgreedOfHistory : {R H : Type 0} {G : Ghosts R H} → Traced R H G → Option Agreed → Type 0
 AgreedOfHistory traced agreed =
     OfItsHistory traced (λ history. AgreedIs (role_played traced) (config_at traced) history agreed)
+
+abbrev pub HeartbeatOfHistory : {R H : Type 0} {G : Ghosts R H} → Traced R H G → (heartbeat : ℕ) → Type 0
+HeartbeatOfHistory traced heartbeat =
+    OfItsHistory traced (λ history. HeartbeatIs (role_played traced) (config_at traced) history heartbeat)
 
 abbrev pub StateOfHistory : {R H : Type 0} {G : Ghosts R H} → Traced R H G → (number : ℕ) → State → Type 0
 StateOfHistory traced number state =

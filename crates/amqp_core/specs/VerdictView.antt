@@ -45,6 +45,9 @@ blocked_read reading = None
 abbrev pub noticed : (number : ℕ) → Reading → Notice → Option Event
 noticed number reading notice.Quiet = Some events.Quiet
 noticed number reading notice.Discarded = Some (events.Discarded number)
+noticed number reading notice.AnswerAsked = Some events.AnswerAsked
+noticed number reading notice.LoginAsked = Some events.LoginAsked
+noticed number reading notice.OpenAsked = Some events.OpenAsked
 noticed number reading (notice.Negotiated agreed) = Some (events.Negotiated (agreed_view agreed))
 noticed number reading notice.ClosedByPeer = Some (events.ConnectionClosed (reason_read reading))
 noticed number reading notice.ClosedByUs = Some (events.ConnectionClosed None)

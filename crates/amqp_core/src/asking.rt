@@ -3,21 +3,22 @@
 //! The refusals come first, and change nothing. Then all is done that may want memory, the frames being staged; then the state
 //! changes, and the frames are put, which can't fail.
 ghost use Rattle.std.specs.Prelude.{◌≡◌, [], Some, IfOk, IfErr, OnOk};
-ghost use Rattle.amqp_method.specs.MessageView.{message_view};
 ghost use Rattle.amqp_model.specs.End.Asks as asks;
 ghost use Rattle.amqp_model.specs.End.Asks.{lowest_free};
 ghost use Rattle.amqp_channel.specs.Messages.{message_of};
 ghost use Rattle.amqp_core.specs.AskView.{lent_view};
 ghost use Rattle.amqp_core.specs.Asked.{number_taken, IsAccepted, IsRefused};
+ghost use Rattle.amqp_core.specs.LentLetter.{lent_letter};
 
 use crate::asks::LentAsk;
 use crate::connection::Connection;
 use crate::faults::AskFault;
+use crate::lent_message::LentMessage;
 use crate::replies::bare;
 use crate::sending;
 use crate::stage::Stage;
 use amqp_channel::Channel;
-use amqp_method::{Kind, Message};
+use amqp_method::Kind;
 use amqp_outbox::Outbox;
 use amqp_value::ShortStr;
 
@@ -48,11 +49,11 @@ impl Connection {
         &mut self,
         outbox: &mut Outbox,
         number: u16,
-        message: &Message,
+        message: LentMessage<'_>,
     ) -> Result<(), AskFault>
         requires staged { outbox.old.staged ≡ [] }
-        ensures accepted { OnOk result (IsAccepted self.old.settings (asks.Send number (message_of (message_view message.now))) (connection_end self.old) (connection_end self.new) outbox.old outbox.new) }
-        ensures refused { IfErr result (λ fault. IsRefused self.old.settings (asks.Send number (message_of (message_view message.now))) fault (connection_end self.old) (connection_end self.new) outbox.old outbox.new) }
+        ensures accepted { OnOk result (IsAccepted self.old.settings (asks.Send number (message_of (lent_letter message.entry))) (connection_end self.old) (connection_end self.new) outbox.old outbox.new) }
+        ensures refused { IfErr result (λ fault. IsRefused self.old.settings (asks.Send number (message_of (lent_letter message.entry))) fault (connection_end self.old) (connection_end self.new) outbox.old outbox.new) }
         ensures settings { self.new.settings ≡ self.old.settings }
     {
         let agreed = self.allow_send(number, message)?;
@@ -61,7 +62,10 @@ impl Connection {
             outbox.discard();
             return Err(AskFault::OutOfMemory);
         };
-        let Ok(()) = self.channels.put_message(self.alloc, site, message) else {
+        let Ok(()) = self
+            .channels
+            .put_message(self.alloc, site, message.method())
+        else {
             outbox.discard();
             return Err(AskFault::OutOfMemory);
         };

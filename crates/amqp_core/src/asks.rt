@@ -1,11 +1,12 @@
 //! What an application asks of an end.
 ghost use Rattle.std.specs.Prelude.{◌≡◌, ◌<◌, IfOk};
-ghost use Rattle.amqp_method.specs.MessageView.{message_view};
 ghost use Rattle.amqp_channel.specs.Messages.{message_of};
 ghost use Rattle.amqp_core.specs.AskNoting.{count_asked, frames_of_message};
 ghost use Rattle.amqp_core.specs.AskView.{ask_view, lent_view};
+ghost use Rattle.amqp_core.specs.LentLetter.{lent_letter};
 
 use crate::faults::OutOfMemory;
+use crate::lent_message::LentMessage;
 use amqp_method::Message;
 use amqp_value::ShortStr;
 
@@ -33,7 +34,7 @@ pub enum Ask {
 #[derive(Clone, Copy)]
 pub(crate) enum LentAsk<'a> {
     Open,
-    Send(u16, &'a Message),
+    Send(u16, LentMessage<'a>),
     Flow(u16, bool),
     CloseChannel(u16, u16, &'a ShortStr),
     Close(u16, &'a ShortStr),
@@ -45,9 +46,9 @@ pub(crate) enum LentAsk<'a> {
 const AROUND_PAYLOAD: usize = 8;
 
 /// How many frames a message is put in, none of them longer than so many octets.
-fn frames_of(message: &Message, frame_max: u32) -> usize
+fn frames_of(message: LentMessage<'_>, frame_max: u32) -> usize
     requires { 8 < frame_max }
-    ensures { result ≡ frames_of_message frame_max (message_of (message_view message.now)) }
+    ensures { result ≡ frames_of_message frame_max (message_of (lent_letter message.entry)) }
 {
     match message.content_parts() {
         Some((_, body)) => {
@@ -83,7 +84,7 @@ impl Ask {
     {
         match self {
             Ask::Open => LentAsk::Open,
-            Ask::Send(channel, message) => LentAsk::Send(*channel, message),
+            Ask::Send(channel, message) => LentAsk::Send(*channel, LentMessage::of(message)),
             Ask::Flow(channel, active) => LentAsk::Flow(*channel, *active),
             Ask::CloseChannel(channel, code, text) => LentAsk::CloseChannel(*channel, *code, text),
             Ask::Close(code, text) => LentAsk::Close(*code, text),

@@ -1,5 +1,5 @@
 //! What an application sets an end up with.
-ghost use Rattle.std.specs.Prelude.{◌≡◌, IfOk};
+ghost use Rattle.std.specs.Prelude.{◌≡◌, false, IfOk};
 ghost use Rattle.amqp_core.specs.Configs.{set_up_as, settings_of};
 ghost use Rattle.amqp_core.specs.Settings.{role_for};
 
@@ -18,23 +18,34 @@ pub struct Config<R: Role> {
     /// The greatest body of a content that the end takes, in octets. A content whose header says more is refused, which
     /// closes its channel.
     pub max_body: u64,
+    /// The heartbeat that the end wants, in seconds; 0 is none. A server says it in tune, and takes whatever the
+    /// client settles; a client settles on the smaller of its own and the server's, which is none where either is 0.
+    pub heartbeat: u16,
+    /// Whether the application decides in the handshake: a server's what to answer to start-ok and to open, a
+    /// client's what to answer to start. The end tells that it is asked, and puts nothing until the application
+    /// answers. An end that is not gated answers at once.
+    pub gated: bool,
     /// What the end says of itself: a server in start, a client in start-ok and in open. The frame of start or of start-ok
     /// has at most 4096 octets.
     pub hello: R::Hello,
 }
 
 impl<R: Role> Config<R> {
-    /// The defaults: frames of 131072 octets, 2047 channels, bodies of 16777216 octets.
+    /// The defaults: frames of 131072 octets, 2047 channels, bodies of 16777216 octets, no heartbeat, not gated.
     pub fn new(hello: R::Hello) -> Config<R>
         ensures frame { result.frame_max ≡ 131072 }
         ensures channels { result.channel_max ≡ 2047 }
         ensures body { result.max_body ≡ 16777216 }
+        ensures heartbeat { result.heartbeat ≡ 0 }
+        ensures gated { result.gated ≡ false }
         ensures hello { result.hello ≡ hello }
     {
         Config {
             frame_max: 131_072,
             channel_max: 2047,
             max_body: 16_777_216,
+            heartbeat: 0,
+            gated: false,
             hello,
         }
     }
@@ -48,6 +59,8 @@ impl<R: Role> Config<R> {
             frame_max: self.frame_max,
             channel_max: self.channel_max,
             max_body: self.max_body,
+            heartbeat: self.heartbeat,
+            gated: self.gated,
             hello,
         })
     }
@@ -61,7 +74,10 @@ impl<R: Role> Config<R> {
             frame_max: self.frame_max,
             channel_max: self.channel_max,
             max_body: self.max_body,
+            heartbeat: self.heartbeat,
+            gated: self.gated,
             hello: R::into_hello(self.hello),
+            lends: false,
         }
     }
 }

@@ -1,7 +1,9 @@
 //! What an end keeps of its connection.
 ghost use Rattle.amqp_core.specs.FreeBefore.{FreeBefore};
+ghost use Rattle.amqp_core.specs.Gathers.{Gathers};
 
 mod handshake;
+mod lend;
 mod receive;
 mod reply;
 
@@ -19,6 +21,7 @@ pub(crate) struct Connection {
     pub(crate) stage: Stage,
     pub(crate) channels: Channels,
     pub ghost free: { FreeBefore stage channels },
+    pub ghost gathers: { Gathers settings channels },
 }
 
 impl Connection {

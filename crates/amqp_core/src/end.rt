@@ -1,11 +1,16 @@
 //! One end of a connection, a client or a server.
-ghost use Rattle.std.specs.Prelude.{ℕ, List, ◌≡◌, ◌≢◌, ◌<◌, ◌≤◌, true, false, [], length, IsOk, IfOk, IfErr, OnOk, MatchOption, Some, None};
+ghost use Rattle.std.specs.Prelude.{ℕ, List, ◌≡◌, ◌≢◌, ◌<◌, ◌≤◌, true, false, [], length, IsOk, IfOk, IfErr, OnOk, MatchOption, Some, None, Err};
+ghost use Rattle.amqp_method.specs.HeaderView.{properties_view};
+ghost use Rattle.amqp_method.specs.Kinds.{has_content};
+ghost use Rattle.amqp_method.specs.Messages.{letter_with};
 ghost use Rattle.amqp_method.specs.MessageView.{message_view};
+ghost use Rattle.amqp_method.specs.MethodView.{method_view};
 ghost use Rattle.amqp_model.specs.Output.ArrangementRules.{FollowsRules};
 ghost use Rattle.amqp_model.specs.End.Answers.{channel_state, gathered, reply_due};
 ghost use Rattle.amqp_model.specs.End.Asks as asks;
 ghost use Rattle.amqp_model.specs.End.Asks.{lowest_free, refusal};
 ghost use Rattle.amqp_model.specs.End.Bounds.{OthersAreFree};
+ghost use Rattle.amqp_model.specs.End.Controls as controls;
 ghost use Rattle.amqp_model.specs.End.EndVerdict.{takes_octets};
 ghost use Rattle.amqp_model.specs.Stream.Endpoint.{after_feed, after_wrote, new_endpoint};
 ghost use Rattle.amqp_model.specs.End.Fitting.{config_fault};
@@ -13,15 +18,20 @@ ghost use Rattle.amqp_model.specs.History.Histories.{History};
 ghost use Rattle.amqp_model.specs.History.Negotiation as negotiation;
 ghost use Rattle.amqp_model.specs.History.Negotiation.{frame_limit};
 ghost use Rattle.amqp_model.specs.Laws.OctetLaws.{EndpointStandsFor};
-ghost use Rattle.amqp_model.specs.Output.Outputs.{output_octets};
-ghost use Rattle.amqp_core.specs.AccountView.{IsFresh};
+ghost use Rattle.amqp_model.specs.Output.Outputs.{output_octets, waiting_on};
+ghost use Rattle.amqp_core.specs.AccountView.{IsFresh, note_there};
 ghost use Rattle.amqp_core.specs.Answering.{ran_out};
 ghost use Rattle.amqp_core.specs.AskNoting.{IsChannelOf, IsSizeOf};
-ghost use Rattle.amqp_core.specs.AskView.{ask_view};
+ghost use Rattle.amqp_core.specs.AskView.{ask_view, lent_view};
 ghost use Rattle.amqp_core.specs.Asked.{number_taken};
 ghost use Rattle.amqp_core.specs.Asking.{AcceptsAsk, RefusesAsk};
 ghost use Rattle.amqp_core.specs.Bounded.{IsBounded};
 ghost use Rattle.amqp_core.specs.Configs.{settings_of};
+ghost use Rattle.amqp_core.specs.ControlView.{control_view};
+ghost use Rattle.amqp_core.specs.Controlled.{refusal_by};
+ghost use Rattle.amqp_core.specs.Controlling.{RefusesControl, verdict_at};
+ghost use Rattle.amqp_core.specs.Counted.{heartbeat_in};
+ghost use Rattle.amqp_core.specs.Counters.{counted_with, counts_octets, nothing_counted};
 ghost use Rattle.amqp_core.specs.EndpointView.{role_at};
 ghost use Rattle.std.proofs.Props.{props};
 ghost use Rattle.amqp_channel.specs.EventView.{agreed_there};
@@ -41,13 +51,16 @@ use crate::account::Account;
 use crate::allowing::Place;
 use crate::asks::{Ask, LentAsk};
 use crate::config::Config;
+use crate::controls::LentControl;
 use crate::endpoint::Endpoint;
 use crate::faults::{AskFault, ConfigFault, CoreFault};
+use crate::lent_message::LentMessage;
+use crate::notes::Note;
 use crate::roles::Role;
 use crate::stage::Phase;
 use crate::taken::Taken;
 use amqp_channel::{Agreed, ChannelState, Side};
-use amqp_method::{Kind, Message};
+use amqp_method::{Kind, Message, Method, Properties};
 use amqp_model::{answers, arrangement, bounds, fitting, octets, one_end, replies, traces};
 use amqp_value::ShortStr;
 use std::alloc::Global;
@@ -73,23 +86,39 @@ use std::marker::PhantomData;
 /// After a fault, and after a close, what was put before can still be sent.
 #[derive(Drop)]
 pub struct End<R: Role> {
-    inner: Endpoint,
-    role: PhantomData<R>,
+    pub(crate) inner: Endpoint,
+    pub(crate) role: PhantomData<R>,
+    /// how many frames were taken, and how many octets of the output were written, up to the greatest number
+    pub(crate) frames_taken: u64,
+    pub(crate) octets_written: u64,
     pub ghost kept: { IsKept inner } by { Prim.hlevel (props, agreed_prop) },
     pub ghost plays: { role_at inner ≡ R.role },
+    pub ghost gathers: { inner.connection.settings.lends ≡ false },
+}
+
+/// One more than before, where a frame was taken.
+fn counted(before: u64, took: Option<Note>) -> u64
+    ensures { result ≡ counted_with (note_there took) before }
+{
+    match took {
+        Some(_) => before.saturating_add(1),
+        None => before,
+    }
 }
 
 impl<R: Role> End<R> {
     ghost use Rattle.amqp_core.specs.AccountView.{IsAccount, came_by, taken_by};
     ghost use Rattle.amqp_core.specs.Beginning.{BeginsHistory};
+    ghost use Rattle.amqp_core.specs.Counters.{CountsFrame};
+    ghost use Rattle.amqp_core.specs.EndControls.{Controlled};
     ghost use Rattle.amqp_core.specs.EndAsks.{AnswersLowest, AnswersNumber, Asked};
-    ghost use Rattle.amqp_core.specs.EndView.{config_at, endpoint_of, role_played, settings_at};
-    ghost use Rattle.amqp_core.specs.Feeds.{Feeds};
+    ghost use Rattle.amqp_core.specs.EndView.{config_at, counters_of, endpoint_of, role_played, settings_at};
+    ghost use Rattle.amqp_core.specs.Feeds.{Feeds, fed_to};
     ghost use Rattle.amqp_core.specs.FeedFaults.{FeedFaults};
     ghost use Rattle.amqp_core.specs.Feeding.{SameEndpoint, ran_out_of};
     ghost use Rattle.amqp_core.specs.Growth.{GrowsLittle};
     ghost use Rattle.amqp_core.specs.Overs.{IsOver};
-    ghost use Rattle.amqp_core.specs.Queries.{AgreedOfHistory, DueOfHistory, GatheredOfHistory, OutputIsInOrder, PendingOfHistory, PhaseOfHistory, StateOfHistory, VerdictsOfHistory, WritesOn};
+    ghost use Rattle.amqp_core.specs.Queries.{AgreedOfHistory, DueOfHistory, GatheredOfHistory, HeartbeatOfHistory, OutputIsInOrder, PendingOfHistory, PhaseOfHistory, StateOfHistory, VerdictsOfHistory, WritesOn};
 
     /// An end as it begins. A client has the protocol header to write, a server nothing.
     pub fn new(alloc: Global, config: Config<R>) -> Result<End<R>, ConfigFault>
@@ -98,6 +127,7 @@ impl<R: Role> End<R> {
         ensures faultless { IfOk result (λ end. config_fault (role_played end) (config_at end) ≡ None) }
         // It stands for the empty history, and what it writes of itself reads back.
         ensures history { IfOk result (λ end. BeginsHistory end) }
+        ensures counters { IfOk result (λ end. counters_of end ≡ nothing_counted) }
         ensures fault { IfErr result (λ fault. config_fault_view fault ≡ config_fault (role_for (settings_of R.hello_of config)) (config_view (settings_of R.hello_of config))) }
     {
         octets::octets_follow();
@@ -111,6 +141,8 @@ impl<R: Role> End<R> {
         Ok(End {
             inner,
             role: PhantomData,
+            frames_taken: 0,
+            octets_written: 0,
         })
     }
 
@@ -123,6 +155,10 @@ impl<R: Role> End<R> {
         ensures feeds { Feeds self.old piece.now result self.new }
         ensures within { IfOk result (λ taken. taken.octets ≤ length piece.now) }
         ensures progress { IfOk result (λ taken. piece.now ≢ [] → 0 < taken.octets) }
+        // A frame that is taken is counted, and no octets are.
+        ensures frames { takes_octets (endpoint_of self.old).end.phase ≡ true → ran_out result ≡ false
+            → CountsFrame (role_played self.old) (config_at self.old) (endpoint_of self.old) piece.now (fed_to self.old piece.now) (counters_of self.old) (counters_of self.new) }
+        ensures octets { (counters_of self.new).octets ≡ (counters_of self.old).octets }
     {
         octets::cut_changes_nothing();
         one_end::record_reads();
@@ -145,12 +181,16 @@ impl<R: Role> End<R> {
         // A message that is told leaves all but its channel as it was.
         ensures message { OnOk result (IsMessage (parts_there account.new.parts) → SameButChannels (endpoint_of self.old) (endpoint_of self.new)) }
         ensures grows { GrowsLittle (endpoint_of self.old).output (endpoint_of self.new).output }
+        ensures frames { (counters_of self.new).frames ≡ counted_with (note_there account.new.took) (counters_of self.old).frames }
+        ensures octets { (counters_of self.new).octets ≡ (counters_of self.old).octets }
         ensures settings { settings_at self.new ≡ settings_at self.old }
     {
         octets::octets_follow();
         one_end::failed_follows();
         traces::memory_runs_out();
-        self.inner.feed(piece, account)
+        let answer = self.inner.feed(piece, account);
+        self.frames_taken = counted(self.frames_taken, account.took);
+        answer
     }
 
     /// Out of memory: the end has failed, and what it has put can still be sent.
@@ -200,17 +240,34 @@ impl<R: Role> End<R> {
         self.inner.outbox.output()
     }
 
+    /// How many octets wait of a channel, put and not sent: what is left of the frame that is begun, where it is the
+    /// channel's, and its other frames. The protocol header counts to channel 0. All frames that wait are looked at.
+    pub fn waiting(&self, channel: u16) -> usize
+        ensures { result ≡ waiting_on channel (endpoint_of self.now).output }
+    {
+        self.inner.outbox.waiting(channel)
+    }
+
+    /// How many octets wait, put and not sent: as many as the output has.
+    pub fn waiting_in_all(&self) -> usize
+        ensures { result ≡ length (output_octets (endpoint_of self.now).output) }
+    {
+        self.inner.outbox.waiting_in_all()
+    }
+
     /// So many octets of the output were sent.
     pub fn wrote(&mut self, octets: usize)
         requires { octets ≤ length (output_octets (endpoint_of self.old).output) }
         ensures written { endpoint_of self.new ≡ after_wrote octets (endpoint_of self.old) }
         ensures history { WritesOn self.old octets self.new }
+        ensures counters { counters_of self.new ≡ counts_octets octets (counters_of self.old) }
         ensures settings { settings_at self.new ≡ settings_at self.old }
     {
         octets::octets_follow();
         arrangement::write_keeps_arranged();
         arrangement::output_follows();
         self.inner.wrote(octets);
+        self.octets_written = self.octets_written.saturating_add(octets as u64);
     }
 
     /// How far the connection is.
@@ -227,6 +284,30 @@ impl<R: Role> End<R> {
         ensures history { AgreedOfHistory self.now (agreed_there result) }
     {
         self.inner.connection.stage.agreed()
+    }
+
+    /// The heartbeat that was agreed, in seconds; 0 is none, and what stands before tune-ok (section 4.2.7).
+    pub fn heartbeat(&self) -> u16
+        ensures agreed { result ≡ heartbeat_in (endpoint_of self.now).end.agreed }
+        ensures history { HeartbeatOfHistory self.now result }
+    {
+        self.inner.connection.stage.heartbeat()
+    }
+
+    /// How many frames the end took, heartbeats too, whatever came of them. Where it is the same at two looks no frame
+    /// came between them. It stays at the greatest number of 64 bits.
+    pub fn frames_taken(&self) -> u64
+        ensures { result ≡ (counters_of self.now).frames }
+    {
+        self.frames_taken
+    }
+
+    /// How many octets of the output were written, as [`End::wrote`] said: where it is the same at two looks, no octet
+    /// went between them. It stays at the greatest number of 64 bits.
+    pub fn octets_written(&self) -> u64
+        ensures { result ≡ (counters_of self.now).octets }
+    {
+        self.octets_written
     }
 
     /// The state of a channel. Channel 0 and the numbers above the agreed maximum are Free.
@@ -287,18 +368,86 @@ impl<R: Role> End<R> {
         ensures asked { Asked self.old (ask_view ask.now) result self.new }
         ensures number { AnswersNumber self.old (ask_view ask.now) result }
     {
-        self.inner.ask(ask.lent())
+        self.ask_lent(ask.lent())
+    }
+
+    /// The same of an ask that is lent.
+    pub(crate) fn ask_lent(&mut self, ask: LentAsk<'_>) -> Result<Option<u16>, AskFault>
+        ensures asked { Asked self.old (lent_view ask.entry) result self.new }
+        ensures number { AnswersNumber self.old (lent_view ask.entry) result }
+    {
+        self.inner.ask(ask)
     }
 
     /// Where the frames of an ask go, or why it is refused.
-    pub(crate) fn allow(&self, ask: &Ask) -> Result<Place, AskFault>
-        ensures allowed { OnOk result (refusal (role_played self.now) (endpoint_of self.now).end (ask_view ask.now) ≡ None) }
-        ensures refused { IfErr result (λ fault. RefusesAsk (role_played self.now) (ask_view ask.now) fault (endpoint_of self.now) (endpoint_of self.now)) }
-        ensures channel { IfOk result (λ place. IsChannelOf (endpoint_of self.now).end (ask_view ask.now) place.channel) }
+    pub(crate) fn allow(&self, ask: LentAsk<'_>) -> Result<Place, AskFault>
+        ensures allowed { OnOk result (refusal (role_played self.now) (endpoint_of self.now).end (lent_view ask.entry) ≡ None) }
+        ensures refused { IfErr result (λ fault. RefusesAsk (role_played self.now) (lent_view ask.entry) fault (endpoint_of self.now) (endpoint_of self.now)) }
+        ensures channel { IfOk result (λ place. IsChannelOf (endpoint_of self.now).end (lent_view ask.entry) place.channel) }
         ensures size { IfOk result (λ place. IsSizeOf (endpoint_of self.now).end.agreed place.frame_max) }
         ensures least { IfOk result (λ place. negotiation.FRAME_MIN ≤ place.frame_max) }
     {
-        self.inner.allow(ask.lent())
+        self.inner.allow(ask)
+    }
+
+    /// Why a heartbeat, or what the application decides, is refused, if it is. It takes no memory.
+    pub(crate) fn allow_control(&self, control: LentControl<'_>) -> Result<(), AskFault>
+        ensures allowed { OnOk result (refusal_by (verdict_at (role_played self.now) (config_at self.now) (control_view control.entry) (endpoint_of self.now)) ≡ None) }
+        ensures refused { IfErr result (λ fault. RefusesControl (role_played self.now) (config_at self.now) (control_view control.entry) fault (endpoint_of self.now) (endpoint_of self.now)) }
+    {
+        self.inner.allow_control(control)
+    }
+
+    /// Puts a heartbeat, or what the application decides in the handshake.
+    pub(crate) fn control(&mut self, control: LentControl<'_>) -> Result<(), AskFault>
+        ensures { Controlled self.old (control_view control.entry) result self.new }
+    {
+        self.inner.control(control)
+    }
+
+    /// Puts a heartbeat, on a connection that is Running (section 4.2.7).
+    ///
+    /// When to beat is the application's: an end knows no clock. It owes one each [`Agreed::heartbeat`] seconds in which it
+    /// writes nothing else, and where that is 0 none.
+    pub fn beat(&mut self) -> Result<(), AskFault>
+        ensures { Controlled self.old controls.Beat result self.new }
+    {
+        self.control(LentControl::Beat)
+    }
+
+    /// Admits what a gated server holds: a login, to which it then puts tune, or an open, to which it puts open-ok. With the
+    /// latter the connection is Running.
+    ///
+    /// It is refused as [`AskFault::NotAwaited`] where no [`Event::LoginAsked`](crate::Event::LoginAsked) or
+    /// [`Event::OpenAsked`](crate::Event::OpenAsked) waits for it, and always at a client.
+    pub fn admit(&mut self) -> Result<(), AskFault>
+        ensures { Controlled self.old controls.Admit result self.new }
+    {
+        self.control(LentControl::Admit)
+    }
+
+    /// Refuses what a gated server holds, a login or an open: it closes the connection, with a code and a text, as 403
+    /// access-refused or 530 not-allowed. It is refused itself where [`End::admit`] is.
+    pub fn refuse(&mut self, code: u16, text: &ShortStr) -> Result<(), AskFault>
+        ensures { Controlled self.old (controls.Refuse code text.now) result self.new }
+    {
+        self.control(LentControl::Refuse(code, text))
+    }
+
+    /// Answers the start that a gated client holds: it puts start-ok with its own properties, and with the mechanism, the
+    /// response and the locale that its application chose of those that the server offers.
+    ///
+    /// It is refused as [`AskFault::NotAwaited`] where no [`Event::AnswerAsked`](crate::Event::AnswerAsked) waits for it, and
+    /// always at a server; and as [`AskFault::TooLarge`] where the frame would be longer than 4096 octets.
+    pub fn answer_start(
+        &mut self,
+        mechanism: &ShortStr,
+        response: &[u8],
+        locale: &ShortStr,
+    ) -> Result<(), AskFault>
+        ensures { Controlled self.old (controls.AnswerStart mechanism.now response.now locale.now) result self.new }
+    {
+        self.control(LentControl::AnswerStart(mechanism, response, locale))
     }
 
     /// Opens the lowest channel that is free, which it answers. Only a client opens channels.
@@ -316,6 +465,29 @@ impl<R: Role> End<R> {
     pub fn send(&mut self, channel: u16, message: &Message) -> Result<(), AskFault>
         ensures { Asked self.old (asks.Send channel (message_of (message_view message.now))) result self.new }
     {
+        self.inner
+            .ask(LentAsk::Send(channel, LentMessage::of(message)))?;
+        Ok(())
+    }
+
+    /// Sends a method and its content on a channel, as [`End::send`] sends the message that these make. The body is copied
+    /// once, into the output, and nothing else is.
+    ///
+    /// A method that no content follows makes no such message: it is [`AskFault::NotSendable`], whatever else is so.
+    pub fn send_content(
+        &mut self,
+        channel: u16,
+        method: &Method,
+        properties: &Properties,
+        body: &[u8],
+    ) -> Result<(), AskFault>
+        ensures asked { has_content (method_view method.now).kind ≡ true → Asked self.old (asks.Send channel (message_of (letter_with (method_view method.now) (properties_view properties.now) body.now))) result self.new }
+        ensures alone { has_content (method_view method.now).kind ≡ false → (result ≡ Err AskFault.NotSendable) × (self.new ≡ self.old) }
+    {
+        if !method.has_content() {
+            return Err(AskFault::NotSendable);
+        }
+        let message = LentMessage::content(method, properties, body);
         self.inner.ask(LentAsk::Send(channel, message))?;
         Ok(())
     }

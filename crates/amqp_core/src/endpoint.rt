@@ -20,6 +20,9 @@ ghost use Rattle.amqp_core.specs.AskView.{lent_view};
 ghost use Rattle.amqp_core.specs.Asked.{number_taken};
 ghost use Rattle.amqp_core.specs.Asking.{AcceptsAsk, RefusesAsk};
 ghost use Rattle.amqp_core.specs.Answering.{ran_out};
+ghost use Rattle.amqp_core.specs.ControlView.{control_view};
+ghost use Rattle.amqp_core.specs.Controlled.{refusal_by};
+ghost use Rattle.amqp_core.specs.Controlling.{AcceptsControl, RefusesControl, verdict_at};
 ghost use Rattle.amqp_core.specs.Dropping.{DropsInPlace};
 ghost use Rattle.amqp_channel.specs.PartsView.{parts_there};
 ghost use Rattle.amqp_core.specs.Feeding.{event_in, ran_out_of, IsFed, IsMessage, SameButChannels, SameEndpoint};
@@ -30,6 +33,7 @@ use crate::account::Account;
 use crate::allowing::Place;
 use crate::asks::LentAsk;
 use crate::connection::Connection;
+use crate::controls::LentControl;
 use crate::faults::{AskFault, CoreFault, OutOfMemory};
 use crate::opening::going_on;
 use crate::owed::Owed;
@@ -37,7 +41,7 @@ use crate::settings::Settings;
 use crate::stage::Stage;
 use amqp_channel::{EventParts, Side};
 use amqp_frame::{PROTOCOL_HEADER, Splitter, faults_are_judged, one_frame_at_start};
-use amqp_model::{bounds, fitting, octets, one_end, pieces};
+use amqp_model::{bounds, controls, fitting, octets, one_end, pieces};
 use amqp_outbox::Outbox;
 use std::alloc::Global;
 
@@ -66,7 +70,7 @@ impl Drop for Endpoint {
 const FRAME_MIN: u32 = 4096;
 
 /// Frames are taken up to the agreed size from the moment on that it is agreed.
-fn tune(splitter: &mut Splitter, stage: Stage)
+pub(crate) fn tune(splitter: &mut Splitter, stage: Stage)
     requires pending { splitter.old.pending ≡ [] }
     requires fits { IfAgreedFits (agreed_at stage) }
     ensures { splitter.new ≡ record splitter.old { limit = frame_limit (agreed_at stage) } }
@@ -102,7 +106,7 @@ impl Endpoint {
 
     /// Octets of the protocol header, at a server that awaits it.
     #[inline(never)]
-    fn hear(&mut self, piece: &[u8], account: &mut Account) -> Result<(), CoreFault>
+    pub(crate) fn hear(&mut self, piece: &[u8], account: &mut Account) -> Result<(), CoreFault>
         requires sound { IsSound self.old }
         requires fresh { IsFresh account.old }
         requires awaits { awaits_opening (role_at self.old) (phase_at self.old.connection.stage) ≡ true }
@@ -144,6 +148,7 @@ impl Endpoint {
     #[inline(always)]
     fn read(&mut self, piece: &[u8], account: &mut Account) -> Result<(), CoreFault>
         requires sound { IsSound self.old }
+        requires gathers { self.old.connection.settings.lends ≡ false }
         requires fresh { IsFresh account.old }
         requires reads { reads_frames (role_at self.old) (phase_at self.old.connection.stage) ≡ true }
         ensures fed { IsFed (taken_by result account.new) (endpoint_view self.old) (after_feed (role_at self.old) (config_view self.old.connection.settings) (endpoint_view self.old) piece.now) (endpoint_view self.new) }
@@ -201,6 +206,7 @@ impl Endpoint {
     /// Takes octets up to the end of the next frame, or of the protocol header at a server that awaits it.
     pub(crate) fn feed(&mut self, piece: &[u8], account: &mut Account) -> Result<(), CoreFault>
         requires sound { IsSound self.old }
+        requires gathers { self.old.connection.settings.lends ≡ false }
         requires fresh { IsFresh account.old }
         ensures fed { IsFed (taken_by result account.new) (endpoint_view self.old) (after_feed (role_at self.old) (config_view self.old.connection.settings) (endpoint_view self.old) piece.now) (endpoint_view self.new) }
         ensures memory { ran_out result ≡ true → takes_octets (phase_at self.old.connection.stage) ≡ true }
@@ -241,7 +247,7 @@ impl Endpoint {
     }
 
     /// Whether the protocol header is awaited.
-    fn awaits_header(&self) -> bool
+    pub(crate) fn awaits_header(&self) -> bool
         ensures { result ≡ awaits_opening (role_at self.now) (phase_at self.now.connection.stage) }
     {
         match self.connection.stage {
@@ -252,6 +258,9 @@ impl Endpoint {
             | Stage::AwaitsTuneOk
             | Stage::AwaitsOpen(_)
             | Stage::AwaitsOpenOk(_)
+            | Stage::HoldsStart
+            | Stage::HoldsLogin
+            | Stage::HoldsOpen(_)
             | Stage::Running(_)
             | Stage::Closing(_)
             | Stage::Closed(_)
@@ -292,6 +301,32 @@ impl Endpoint {
     {
         one_end::ask_is_of_history();
         self.connection.allow(ask)
+    }
+
+    /// Why a heartbeat, or what an application decides in the handshake, is refused, if it is. It takes no memory.
+    pub(crate) fn allow_control(&self, control: LentControl<'_>) -> Result<(), AskFault>
+        ensures allowed { OnOk result (refusal_by (verdict_at (role_at self.now) (config_view self.now.connection.settings) (control_view control.entry) (endpoint_view self.now)) ≡ None) }
+        ensures refused { IfErr result (λ fault. RefusesControl (role_at self.now) (config_view self.now.connection.settings) (control_view control.entry) fault (endpoint_view self.now) (endpoint_view self.now)) }
+    {
+        controls::controls_follow();
+        self.connection.allow_control(control)
+    }
+
+    /// A heartbeat, or what an application decides in the handshake: it is refused, or its frame is put.
+    pub(crate) fn control(&mut self, control: LentControl<'_>) -> Result<(), AskFault>
+        requires { IsSound self.old }
+        ensures accepted { OnOk result (AcceptsControl (role_at self.old) (config_view self.old.connection.settings) (control_view control.entry) (endpoint_view self.old) (endpoint_view self.new)) }
+        ensures refused { IfErr result (λ fault. RefusesControl (role_at self.old) (config_view self.old.connection.settings) (control_view control.entry) fault (endpoint_view self.old) (endpoint_view self.new)) }
+        ensures sound { IsSound self.new }
+        ensures settings { self.new.connection.settings ≡ self.old.connection.settings }
+    {
+        controls::controls_follow();
+        controls::controls_follow_octets();
+        fitting::owed_read_back();
+        match self.connection.control(&mut self.outbox, control) {
+            Ok(()) => Ok(()),
+            Err(fault) => Err(fault),
+        }
     }
 
     /// What an application asks: it is refused, or its frames are put. The answer is the channel that an open takes.

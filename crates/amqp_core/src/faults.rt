@@ -154,6 +154,9 @@ pub enum AskFault {
     /// A server's reply doesn't answer the oldest request, or there is none.
     #[error("no request for this reply")]
     NoSuchRequest = 11,
+    /// The end holds no start, login or open that its application could answer.
+    #[error("no decision is awaited")]
+    NotAwaited = 12,
 }
 
 impl AskFault {

@@ -1,12 +1,14 @@
 //! What an end says of itself in the handshake: a server in start and tune, a client in start-ok and open.
 ghost use Rattle.std.specs.Prelude.{◌≡◌, IfOk};
+ghost use Rattle.amqp_value.specs.Tables.{table_view};
 ghost use Rattle.amqp_method.specs.MethodView.{method_view};
 ghost use Rattle.amqp_model.specs.End.Fitting as fitting;
-ghost use Rattle.amqp_core.specs.HandshakeMethods.{IsStart, IsStartOk, IsOpen, IsTune};
+ghost use Rattle.amqp_core.specs.HandshakeMethods.{IsStart, IsOpen, IsTune, start_ok_saying};
 
 use crate::faults::OutOfMemory;
 use crate::settings::{ClientHello, Hello, ServerHello, Settings};
 use amqp_method::{Arg, Kind, Method};
+use amqp_value::{ShortStr, Table};
 use std::alloc::Global;
 
 /// The version of the protocol, 0 and 9, and what a server says of itself.
@@ -26,14 +28,20 @@ fn start(alloc: Global, hello: &ServerHello) -> Result<Method, OutOfMemory>
     Ok(Method::new(Kind::ConnectionStart, args))
 }
 
-/// What a client says of itself.
-fn start_ok(alloc: Global, hello: &ClientHello) -> Result<Method, OutOfMemory>
-    ensures { IfOk result (λ m. IsStartOk hello.now (method_view m)) }
+/// A client's start-ok: what it says of itself, the mechanism that it picks with the response to it, and the locale.
+pub(crate) fn start_ok(
+    alloc: Global,
+    properties: &Table,
+    mechanism: &ShortStr,
+    response: &[u8],
+    locale: &ShortStr,
+) -> Result<Method, OutOfMemory>
+    ensures { IfOk result (λ m. method_view m ≡ start_ok_saying (table_view properties.now) mechanism.now response.now locale.now) }
 {
-    let properties = Arg::Table(hello.properties.copy()?);
-    let mechanism = Arg::ShortStr(hello.mechanism.copy()?);
-    let response = Arg::LongStr(Vec::from_slice(alloc, &hello.response)?);
-    let locale = Arg::ShortStr(hello.locale.copy()?);
+    let properties = Arg::Table(properties.copy()?);
+    let mechanism = Arg::ShortStr(mechanism.copy()?);
+    let response = Arg::LongStr(Vec::from_slice(alloc, response)?);
+    let locale = Arg::ShortStr(locale.copy()?);
     let args = vec![in alloc; properties, mechanism, response, locale]?;
     Ok(Method::new(Kind::ConnectionStartOk, args))
 }
@@ -47,12 +55,13 @@ pub(crate) fn open(alloc: Global, hello: &ClientHello) -> Result<Method, OutOfMe
     Ok(Method::new(Kind::ConnectionOpen, args))
 }
 
-/// A server's limits, and no heartbeat.
+/// A server's limits, and the heartbeat that it wants.
 pub(crate) fn tune(alloc: Global, settings: &Settings) -> Result<Method, OutOfMemory>
-    ensures { IfOk result (λ m. IsTune settings.now.channel_max settings.now.frame_max (method_view m)) }
+    ensures { IfOk result (λ m. IsTune settings.now.channel_max settings.now.frame_max settings.now.heartbeat (method_view m)) }
 {
     let channels = Arg::Short(settings.channel_max);
-    let args = vec![in alloc; channels, Arg::Long(settings.frame_max), Arg::Short(0)]?;
+    let heartbeat = Arg::Short(settings.heartbeat);
+    let args = vec![in alloc; channels, Arg::Long(settings.frame_max), heartbeat]?;
     Ok(Method::new(Kind::ConnectionTune, args))
 }
 
@@ -64,7 +73,13 @@ impl Settings {
         ensures { IfOk result (λ m. method_view m ≡ fitting.greeting (role_for self.now) (config_view self.now)) }
     {
         match &self.hello {
-            Hello::Client(hello) => start_ok(alloc, hello),
+            Hello::Client(hello) => start_ok(
+                alloc,
+                &hello.properties,
+                &hello.mechanism,
+                &hello.response,
+                &hello.locale,
+            ),
             Hello::Server(hello) => start(alloc, hello),
         }
     }

@@ -2,7 +2,7 @@
 //! clauses.
 ghost use Rattle.std.specs.Prelude.{ℕ, List};
 ghost use Rattle.amqp_frame.specs.declared.frames.FrameKind.{FrameKind};
-ghost use Rattle.amqp_model.specs.End.Channels.{Channel};
+ghost use Rattle.amqp_model.specs.End.Channels.{Agreed, Channel};
 ghost use Rattle.amqp_model.specs.Wire.Contents.{Payload};
 ghost use Rattle.amqp_model.specs.History.Negotiation.{Config};
 ghost use Rattle.amqp_model.specs.Wire.Readings.{Reading};
@@ -40,11 +40,11 @@ pub fn cuts_change_nothing()
 /// What is decided on one channel of a connection that is Running is the end's verdict, and where it goes on, what the end
 /// keeps then is the channel that is left, and all else as it was.
 pub(crate) fn channel_steps_as_end()
-    ensures { (site : Site) (config : Config (role_of site.side)) (frame_max : ℕ) (channels : ℕ → Channel) (kind : FrameKind) (payload : List ℕ) (reading : Reading) (said : Verdict)
-        → StepsAsEnd site config frame_max channels kind payload reading said }
+    ensures { (site : Site) (config : Config (role_of site.side)) (limits : Agreed) (channels : ℕ → Channel) (kind : FrameKind) (payload : List ℕ) (reading : Reading) (said : Verdict)
+        → StepsAsEnd site config limits channels kind payload reading said }
 {}
 
 /// What payloads that are put leave of a channel is what the end keeps of it then, where each frame says its payload.
 pub(crate) fn channel_puts_as_end()
-    ensures { (site : Site) (config : Config (role_of site.side)) (frame_max : ℕ) (channels : ℕ → Channel) (payload : Payload) (later : List Payload) → PutsAsEnd site config frame_max channels payload later }
+    ensures { (site : Site) (config : Config (role_of site.side)) (limits : Agreed) (channels : ℕ → Channel) (payload : Payload) (later : List Payload) → PutsAsEnd site config limits channels payload later }
 {}

@@ -159,7 +159,7 @@ impl Ledger {
     }
 
     /// A frame is put that changes nothing of its channel's life.
-    fn note_other(&mut self, channel: u16)
+    pub(crate) fn note_other(&mut self, channel: u16)
         requires room { vec_len self.old.notes < vec_capacity self.old.notes }
         ensures notes { notes_in self.new ≡ notes_in self.old ++ noted_as IsPut channel traces.Other ∷ [] }
         ensures len { vec_len self.new.notes ≡ vec_len self.old.notes + 1 }

@@ -1,24 +1,28 @@
 //! Why what is asked is refused: the reasons in their order, of which the first that applies is answered. Nothing here takes
 //! memory, and nothing that is seen changes.
-ghost use Rattle.std.specs.Prelude.{◌≡◌, ◌<◌, ◌+◌, ◌&&◌, true, Bool, ℕ, List, Option, length, nat_lt, Some, None, IfOk, IfErr, OnOk};
+ghost use Rattle.std.specs.Prelude.{◌≡◌, ◌<◌, ◌+◌, ◌&&◌, true, false, Bool, ℕ, List, Option, length, nat_lt, Some, None, IfOk, IfErr, OnErr, OnOk};
 ghost use Rattle.amqp_method.specs.HeaderView.{properties_view};
-ghost use Rattle.amqp_method.specs.MessageView.{message_view};
 ghost use Rattle.amqp_method.specs.MethodView.{method_view};
 ghost use Rattle.amqp_method.specs.Properties.{header};
 ghost use Rattle.amqp_model.specs.End.Asks.{is_pausable as is_paused_with, is_sendable as is_sent_as_message, Refusal};
 ghost use Rattle.amqp_model.specs.Wire.Methods.{plain_method, plain_header};
 ghost use Rattle.amqp_value.specs.Lengths.{capped};
-ghost use Rattle.amqp_channel.specs.LifeView.{life_view, IsOther};
+ghost use Rattle.amqp_model.specs.Wire.Gathering.{Gathering};
+ghost use Rattle.amqp_channel.specs.LentView.{content_on};
+ghost use Rattle.amqp_channel.specs.LifeView.{life_on, IsOther};
 ghost use Rattle.amqp_channel.specs.Messages.{message_of};
 ghost use Rattle.amqp_channel.specs.Roles.{role_of};
+ghost use Rattle.amqp_core.specs.LentLetter.{lent_letter};
+ghost use Rattle.amqp_channel.specs.StandingView.{paused_in, requests_in};
 ghost use Rattle.amqp_core.specs.Refusals.{refusal_there, refusal_in, reply_refusal, passes as is_passed, is_too_large as is_longer};
 
 use crate::connection::Connection;
 use crate::faults::AskFault;
+use crate::lent_message::LentMessage;
 use crate::stage::Stage;
 use amqp_channel::words::same;
-use amqp_channel::{Agreed, Channel, Life, Side};
-use amqp_method::{Kind, Message, Method, Properties};
+use amqp_channel::{Agreed, Side, Standing};
+use amqp_method::{Kind, Method, Properties};
 
 /// A payload of so many octets is too long for a frame, in which eight octets stand around it.
 fn passes(frame_max: u32, payload: u64) -> bool
@@ -44,8 +48,8 @@ fn header_passes(frame_max: u32, properties: &Properties) -> bool
 }
 
 /// The method or the content header is too long for a frame.
-fn is_too_large(frame_max: u32, message: &Message) -> bool
-    ensures { result ≡ is_longer frame_max (message_of (message_view message.now)) }
+fn is_too_large(frame_max: u32, message: LentMessage<'_>) -> bool
+    ensures { result ≡ is_longer frame_max (message_of (lent_letter message.entry)) }
 {
     if method_passes(frame_max, message.method()) {
         return true;
@@ -57,8 +61,8 @@ fn is_too_large(frame_max: u32, message: &Message) -> bool
 }
 
 /// The message has a content that a paused end may not begin.
-fn is_pausable(message: &Message) -> bool
-    ensures { result ≡ is_paused_with (message_of (message_view message.now)) }
+fn is_pausable(message: LentMessage<'_>) -> bool
+    ensures { result ≡ is_paused_with (message_of (lent_letter message.entry)) }
 {
     match message.content_parts() {
         Some(_) => !same(message.method().kind(), Kind::BasicGetOk),
@@ -67,10 +71,10 @@ fn is_pausable(message: &Message) -> bool
 }
 
 /// The other end asked for no more contents, and the message has one that waits for that.
-fn is_paused(life: &Life, message: &Message) -> bool
-    ensures { result ≡ (is_paused_with (message_of (message_view message.now)) && (life_view life.now).paused) }
+fn is_paused(standing: &Standing, message: LentMessage<'_>) -> bool
+    ensures { result ≡ (is_paused_with (message_of (lent_letter message.entry)) && paused_in standing.now) }
 {
-    is_pausable(message) && life.standing.is_paused()
+    is_pausable(message) && standing.is_paused()
 }
 
 /// The side may send the method, and it is sent as a message.
@@ -81,17 +85,17 @@ fn is_sendable(side: Side, kind: Kind) -> bool
 }
 
 /// Why a request or a reply is out of turn.
-fn refusal_of_turn(side: Side, life: &Life, method: &Method) -> Option<AskFault>
-    ensures { refusal_there result ≡ reply_refusal (role_of side) (life_view life.now).requests (method_view method.now) }
+fn refusal_of_turn(side: Side, standing: &Standing, method: &Method) -> Option<AskFault>
+    ensures { refusal_there result ≡ reply_refusal (role_of side) (requests_in standing.now) (method_view method.now) }
 {
     match side {
         Side::Client => {
-            if method.is_request() && life.standing.requests() > 0 {
+            if method.is_request() && standing.requests() > 0 {
                 return Some(AskFault::ReplyPending);
             }
         }
         Side::Server => {
-            if method.kind().is_reply() && !life.standing.is_answered_by(method.kind()) {
+            if method.kind().is_reply() && !standing.is_answered_by(method.kind()) {
                 return Some(AskFault::NoSuchRequest);
             }
         }
@@ -103,12 +107,13 @@ fn refusal_of_turn(side: Side, life: &Life, method: &Method) -> Option<AskFault>
 fn refusal_of_message(
     side: Side,
     frame_max: u32,
-    life: &Life,
-    message: &Message,
+    standing: &Standing,
+    message: LentMessage<'_>,
 ) -> Option<AskFault>
-    ensures { refusal_there result ≡ refusal_in (role_of side) frame_max (life_view life.now) (message_of (message_view message.now)) }
+    ensures { (content : Gathering) → refusal_there result
+        ≡ refusal_in (role_of side) frame_max (life_on content standing.now) (message_of (lent_letter message.entry)) }
 {
-    if is_paused(life, message) {
+    if is_paused(standing, message) {
         return Some(AskFault::Paused);
     }
     if !is_sendable(side, message.method().kind()) {
@@ -117,7 +122,7 @@ fn refusal_of_message(
     if is_too_large(frame_max, message) {
         return Some(AskFault::TooLarge);
     }
-    refusal_of_turn(side, life, message.method())
+    refusal_of_turn(side, standing, message.method())
 }
 
 impl Connection {
@@ -132,11 +137,14 @@ impl Connection {
     ghost use Rattle.amqp_core.specs.Faults.{refusal_view};
     ghost use Rattle.amqp_core.specs.Refusals.{refused_on, IsOpenIn};
     ghost use Rattle.amqp_core.specs.Settings.{role_for};
+    ghost use Rattle.amqp_core.specs.Stages.{phase_at};
     ghost use Rattle.amqp_core.specs.declared.stage.Stage.TheVariants.{Running};
 
     /// What was agreed on a connection that is Running.
     pub(crate) fn running(&self) -> Result<Agreed, AskFault>
         ensures running { IfOk result (λ agreed. self.now.stage ≡ Running agreed) }
+        ensures idle { OnErr result (is_running (phase_at self.now.stage) ≡ false) }
+        ensures not_running { IfErr result (λ fault. fault ≡ AskFault.NotRunning) }
         ensures refused { IfErr result (λ fault. (role : Role) (ask : asks.Ask) → refusal_view fault ≡ refusal role (connection_end self.now) ask) }
     {
         match self.stage {
@@ -148,26 +156,30 @@ impl Connection {
             | Stage::AwaitsTuneOk
             | Stage::AwaitsOpen(_)
             | Stage::AwaitsOpenOk(_)
+            | Stage::HoldsStart
+            | Stage::HoldsLogin
+            | Stage::HoldsOpen(_)
             | Stage::Closing(_)
             | Stage::Closed(_)
             | Stage::Failed(_) => Err(AskFault::NotRunning),
         }
     }
 
-    /// The life of a channel that is Open.
-    fn open_life(&self, agreed: Agreed, number: u16) -> Result<&Life, AskFault>
+    /// What stands beside the content of a channel that is Open.
+    fn open_standing(&self, agreed: Agreed, number: u16) -> Result<&Standing, AskFault>
         requires { self.now.stage ≡ Running agreed }
-        ensures open { IfOk result (λ life. IsOpenIn (connection_end self.now) number (life_view life.now)) }
+        ensures open { IfOk result (λ standing. IsOpenIn (connection_end self.now) number
+            (life_on (content_on (channels_view self.now.channels number)) standing.now)) }
         ensures refused { IfErr result (λ fault. (later : List (Option Refusal)) → refusal_view fault ≡ refused_on (connection_end self.now) number later) }
     {
         if number == 0 || agreed.channel_max < number {
             return Err(AskFault::BadChannel);
         }
         match self.channels.get(number) {
-            Some(Channel::Open(life)) => Ok(life),
-            Some(Channel::Free) => Err(AskFault::NotOpen),
-            Some(Channel::Opening) => Err(AskFault::NotOpen),
-            Some(Channel::Closing) => Err(AskFault::NotOpen),
+            Some(channel) => match channel.standing() {
+                Some(standing) => Ok(standing),
+                None => Err(AskFault::NotOpen),
+            },
             None => Err(AskFault::NotOpen),
         }
     }
@@ -196,19 +208,23 @@ impl Connection {
     }
 
     /// What was agreed, where a message isn't refused.
-    pub(crate) fn allow_send(&self, number: u16, message: &Message) -> Result<Agreed, AskFault>
-        ensures allowed { OnOk result (IsAllowed self.now.settings (connection_end self.now) (asks.Send number (message_of (message_view message.now)))) }
-        ensures refused { IfErr result (λ fault. IsRefusal self.now.settings (connection_end self.now) (asks.Send number (message_of (message_view message.now))) fault) }
+    pub(crate) fn allow_send(
+        &self,
+        number: u16,
+        message: LentMessage<'_>,
+    ) -> Result<Agreed, AskFault>
+        ensures allowed { OnOk result (IsAllowed self.now.settings (connection_end self.now) (asks.Send number (message_of (lent_letter message.entry)))) }
+        ensures refused { IfErr result (λ fault. IsRefusal self.now.settings (connection_end self.now) (asks.Send number (message_of (lent_letter message.entry))) fault) }
         ensures running { IfOk result (λ agreed. self.now.stage ≡ Running agreed) }
         ensures above { OnOk result (0 < number) }
         ensures open { OnOk result (is_open_at (channels_view self.now.channels number) ≡ true) }
-        ensures other { OnOk result (IsOther (kind_of (Calls (message_view message.now).call))) }
+        ensures other { OnOk result (IsOther (kind_of (Calls (lent_letter message.entry).call))) }
         ensures room { IfOk result (λ agreed. 8 < agreed.frame_max) }
     {
         let agreed = self.running()?;
-        let life = self.open_life(agreed, number)?;
+        let standing = self.open_standing(agreed, number)?;
         let side = self.settings.hello.side();
-        match refusal_of_message(side, agreed.frame_max, life, message) {
+        match refusal_of_message(side, agreed.frame_max, standing, message) {
             Some(fault) => Err(fault),
             None => Ok(agreed),
         }
@@ -223,8 +239,8 @@ impl Connection {
         ensures open { OnOk result (is_open_at (channels_view self.now.channels number) ≡ true) }
     {
         let agreed = self.running()?;
-        let life = self.open_life(agreed, number)?;
-        if life.standing.awaits_flow_ok() {
+        let standing = self.open_standing(agreed, number)?;
+        if standing.awaits_flow_ok() {
             return Err(AskFault::FlowPending);
         }
         Ok(agreed)
@@ -239,7 +255,7 @@ impl Connection {
         ensures open { OnOk result (is_open_at (channels_view self.now.channels number) ≡ true) }
     {
         let agreed = self.running()?;
-        let _life = self.open_life(agreed, number)?;
+        let _standing = self.open_standing(agreed, number)?;
         Ok(agreed)
     }
 

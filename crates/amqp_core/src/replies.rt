@@ -48,6 +48,7 @@ pub(crate) fn tune_ok(alloc: Global, agreed: Agreed) -> Result<Method, OutOfMemo
     ensures { IfOk result (λ m. method_view m ≡ negotiation.tune_ok (agreed_view agreed)) }
 {
     let channels = Arg::Short(agreed.channel_max);
-    let args = vec![in alloc; channels, Arg::Long(agreed.frame_max), Arg::Short(0)]?;
+    let heartbeat = Arg::Short(agreed.heartbeat);
+    let args = vec![in alloc; channels, Arg::Long(agreed.frame_max), heartbeat]?;
     Ok(Method::new(Kind::ConnectionTuneOk, args))
 }

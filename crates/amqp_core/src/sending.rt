@@ -7,12 +7,12 @@ ghost use Rattle.std.specs.Prelude.{◌≡◌, ◌<◌, [], ◌∷◌, length, m
 ghost use Rattle.amqp_method.specs.Arguments.{call, short_string};
 ghost use Rattle.amqp_method.specs.Fitting.{AreOctets, FitsShort};
 ghost use Rattle.amqp_method.specs.HeaderView.{properties_view};
-ghost use Rattle.amqp_method.specs.MessageView.{message_view};
 ghost use Rattle.amqp_method.specs.MethodView.{method_view};
 ghost use Rattle.amqp_method.specs.Properties.{header};
 ghost use Rattle.amqp_model.specs.End.Asks.{payload_frame, message_payloads, Send};
 ghost use Rattle.amqp_model.specs.End.Closes.{close_as, flow_as, method_frame};
 ghost use Rattle.amqp_model.specs.Wire.Contents.{pieces};
+ghost use Rattle.amqp_model.specs.End.Controls.{heartbeat_frame};
 ghost use Rattle.amqp_model.specs.Wire.Methods.{ReadsBack};
 ghost use Rattle.amqp_model.specs.End.ReadingBack.{AskReadsBack};
 ghost use Rattle.amqp_outbox.specs.OutboxFrames.{header_frame, body_frame, HeaderReadsBack};
@@ -20,9 +20,11 @@ ghost use Rattle.amqp_outbox.specs.OutboxView.{with_staged};
 ghost use Rattle.amqp_channel.specs.Messages.{message_of};
 ghost use Rattle.amqp_channel.specs.Reasons.{IsClose};
 ghost use Rattle.amqp_core.specs.Faults.{refusal_view};
+ghost use Rattle.amqp_core.specs.LentLetter.{lent_letter};
 
 use crate::faults::AskFault;
-use amqp_method::{Arg, Header, Kind, Message, Method, Properties};
+use crate::lent_message::LentMessage;
+use amqp_method::{Arg, Kind, Method, Properties};
 use amqp_outbox::Outbox;
 use amqp_value::ShortStr;
 use std::alloc::Global;
@@ -112,6 +114,18 @@ pub(crate) fn stage_method(
     Ok(())
 }
 
+/// Stages a heartbeat.
+pub(crate) fn stage_heartbeat(outbox: &mut Outbox) -> Result<(), AskFault>
+    ensures ok { OnOk result (outbox.new ≡ with_staged outbox.old (heartbeat_frame ∷ [])) }
+    ensures err { IfErr result (λ fault. refusal_view fault ≡ None) }
+    ensures same { OnErr result (outbox.new ≡ outbox.old) }
+{
+    let Ok(()) = outbox.stage_heartbeat() else {
+        return Err(AskFault::OutOfMemory);
+    };
+    Ok(())
+}
+
 /// Stages the header of a content.
 fn stage_header(
     outbox: &mut Outbox,
@@ -124,14 +138,7 @@ fn stage_header(
     ensures err { IfErr result (λ fault. refusal_view fault ≡ None) }
     ensures same { OnErr result (outbox.new ≡ outbox.old) }
 {
-    let Ok(properties) = properties.copy() else {
-        return Err(AskFault::OutOfMemory);
-    };
-    let header = Header {
-        body_size: body.len() as u64,
-        properties,
-    };
-    let Ok(()) = outbox.stage_header(channel, &header) else {
+    let Ok(()) = outbox.stage_header(channel, body.len() as u64, properties) else {
         return Err(AskFault::OutOfMemory);
     };
     Ok(())
@@ -175,11 +182,11 @@ pub(crate) fn stage_message(
     outbox: &mut Outbox,
     channel: u16,
     frame_max: u32,
-    message: &Message,
+    message: LentMessage<'_>,
 ) -> Result<(), AskFault>
     requires { 8 < frame_max }
-    ensures ok { OnOk result (outbox.new ≡ with_staged outbox.old (map (payload_frame channel) (message_payloads frame_max (message_of (message_view message.now))))) }
-    ensures reads_back { OnOk result (AskReadsBack (Send channel (message_of (message_view message.now)))) }
+    ensures ok { OnOk result (outbox.new ≡ with_staged outbox.old (map (payload_frame channel) (message_payloads frame_max (message_of (lent_letter message.entry))))) }
+    ensures reads_back { OnOk result (AskReadsBack (Send channel (message_of (lent_letter message.entry)))) }
     ensures err { IfErr result (λ fault. refusal_view fault ≡ None) }
     ensures output { outbox.new.output ≡ outbox.old.output }
 {

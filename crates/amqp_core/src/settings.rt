@@ -1,15 +1,26 @@
 //! What an end is set up with: its limits, and what it says of itself.
-ghost use Rattle.std.specs.Prelude.{◌≡◌, ◌<◌, ◌≤◌, ◌^◌, ◌↔◌, length, IfOk, IfSome, OnOk, None};
+ghost use Rattle.std.specs.Prelude.{◌≡◌, ◌<◌, ◌≤◌, ◌^◌, ◌↔◌, length, nat_lt, false, IfErr, IfOk, IfSome, OnOk, None};
+ghost use Rattle.amqp_frame.specs.Frame.{frame_length};
 ghost use Rattle.amqp_value.specs.Lengths.{capped};
+ghost use Rattle.amqp_value.specs.Tables.{table_view};
 ghost use Rattle.amqp_method.specs.Fitting.{FitsShort};
+ghost use Rattle.amqp_method.specs.MethodView.{method_view};
+ghost use Rattle.amqp_model.specs.End.Channels.{Handshake, HoldsStart};
+ghost use Rattle.amqp_model.specs.End.Closes.{method_frame};
+ghost use Rattle.amqp_model.specs.End.Controls.{answers_in, puts_short, AnswerStart};
 ghost use Rattle.amqp_model.specs.End.Fitting.{ConfigWrites, HostFits, config_fault};
-ghost use Rattle.amqp_core.specs.Faults.{config_fault_view};
-ghost use Rattle.amqp_core.specs.HandshakeMethods.{IsStartLength, IsStartOkLength, greeting_length};
+ghost use Rattle.amqp_model.specs.History.Negotiation as negotiation;
+ghost use Rattle.amqp_core.specs.Controlled.{refusal_by};
+ghost use Rattle.amqp_core.specs.Decisions.{Decides};
+ghost use Rattle.amqp_core.specs.Faults.{config_fault_view, refusal_view};
+ghost use Rattle.amqp_core.specs.HandshakeMethods.{IsStartLength, greeting_length, said_by, start_ok_octets};
 ghost use Rattle.amqp_core.specs.Settings.{client_hello_view, server_hello_view, hello_view, side_in};
 
-use crate::faults::{ConfigFault, OutOfMemory};
+use crate::faults::{AskFault, ConfigFault, OutOfMemory};
+use crate::greeting::start_ok;
+use crate::stage::Stage;
 use amqp_channel::Side;
-use amqp_method::{encoded_is_read, write_method};
+use amqp_method::{Method, encoded_is_read, write_method};
 use amqp_value::{ShortStr, Table};
 use std::alloc::Global;
 use std::fmt;
@@ -91,17 +102,58 @@ impl ClientHello {
         })
     }
 
-    /// How long the frame of the start-ok would be. `u64::MAX` stands for every length from there on.
-    fn start_ok_length(&self) -> u64
-        ensures { IsStartOkLength self.now result }
+    /// Whether the start-ok with what was chosen fits a frame of 4096 octets.
+    fn allow_answer(
+        &self,
+        mechanism: &ShortStr,
+        response: &[u8],
+        locale: &ShortStr,
+    ) -> Result<(), AskFault>
+        ensures short { OnOk result (nat_lt negotiation.FRAME_MIN (frame_length (method_frame 0 (said_by self.now mechanism.now response.now locale.now))) ≡ false) }
+        ensures refused { IfErr result (λ fault. refusal_view fault
+            ≡ refusal_by (puts_short (method_frame 0 (said_by self.now mechanism.now response.now locale.now)))) }
     {
-        let texts = (self.mechanism.len() as u64 + self.locale.len() as u64).saturating_add(
-            self.response.len() as u64,
-        );
-        START_OK_LENGTH
-            .saturating_add(self.properties.encoded_length())
-            .saturating_add(texts)
+        if FRAME_MIN < start_ok_length(&self.properties, mechanism, response, locale) {
+            return Err(AskFault::TooLarge);
+        }
+        Ok(())
     }
+
+    /// The start-ok with what the client says of itself, and with a mechanism, a response and a locale that were chosen.
+    /// Its frame has at most 4096 octets.
+    fn answer(
+        &self,
+        alloc: Global,
+        mechanism: &ShortStr,
+        response: &[u8],
+        locale: &ShortStr,
+    ) -> Result<Method, AskFault>
+        ensures ok { IfOk result (λ m. method_view m ≡ said_by self.now mechanism.now response.now locale.now) }
+        ensures short { OnOk result (nat_lt negotiation.FRAME_MIN (frame_length (method_frame 0 (said_by self.now mechanism.now response.now locale.now))) ≡ false) }
+        ensures refused { IfErr result (λ fault. refusal_view fault
+            ≡ refusal_by (puts_short (method_frame 0 (said_by self.now mechanism.now response.now locale.now)))) }
+    {
+        self.allow_answer(mechanism, response, locale)?;
+        let method = start_ok(alloc, &self.properties, mechanism, response, locale)?;
+        Ok(method)
+    }
+}
+
+/// How long the frame of a start-ok would be. `u64::MAX` stands for every length from there on.
+fn start_ok_length(
+    properties: &Table,
+    mechanism: &ShortStr,
+    response: &[u8],
+    locale: &ShortStr,
+) -> u64
+    ensures { result ≡ capped (start_ok_octets (table_view properties.now) mechanism.now response.now locale.now) }
+{
+    let texts = (mechanism.len() as u64 + locale.len() as u64).saturating_add(
+        response.len() as u64,
+    );
+    START_OK_LENGTH
+        .saturating_add(properties.encoded_length())
+        .saturating_add(texts)
 }
 
 impl ServerHello {
@@ -161,7 +213,11 @@ pub(crate) struct Settings {
     pub(crate) frame_max: u32,
     pub(crate) channel_max: u16,
     pub(crate) max_body: u64,
+    pub(crate) heartbeat: u16,
+    pub(crate) gated: bool,
     pub(crate) hello: Hello,
+    /// The end lends what it takes, and keeps of a content under way only how far it has come.
+    pub(crate) lends: bool,
 }
 
 impl Settings {
@@ -172,7 +228,12 @@ impl Settings {
         ensures { result ≡ capped (greeting_length (role_for self.now) (config_view self.now)) }
     {
         match &self.hello {
-            Hello::Client(hello) => hello.start_ok_length(),
+            Hello::Client(hello) => start_ok_length(
+                &hello.properties,
+                &hello.mechanism,
+                &hello.response,
+                &hello.locale,
+            ),
             Hello::Server(hello) => hello.start_length(),
         }
     }
@@ -195,15 +256,54 @@ impl Settings {
         None
     }
 
-    /// A channel number is of 16 bits, and a virtual host is a short string.
+    /// A channel number and a heartbeat are of 16 bits, and a virtual host is a short string.
     fn fits_fields(&self)
         ensures channel { self.now.channel_max < 2 ^ 16 }
+        ensures heartbeat { self.now.heartbeat < 2 ^ 16 }
         ensures host { HostFits (hello_view self.now.hello) }
     {
         let _channel_max = self.channel_max;
+        let _heartbeat = self.heartbeat;
         match &self.hello {
             Hello::Client(hello) => fits_field(hello.virtual_host.as_bytes()),
             Hello::Server(_) => {}
+        }
+    }
+
+    /// Whether a client can answer start with what was chosen. It takes no memory.
+    pub(crate) fn allow_answer(
+        &self,
+        mechanism: &ShortStr,
+        response: &[u8],
+        locale: &ShortStr,
+    ) -> Result<(), AskFault>
+        ensures allowed { OnOk result (refusal_by
+            (answers_in (role_for self.now) (config_view self.now) (Handshake HoldsStart) mechanism.now response.now locale.now) ≡ None) }
+        ensures refused { IfErr result (λ fault. refusal_view fault
+            ≡ refusal_by (answers_in (role_for self.now) (config_view self.now) (Handshake HoldsStart) mechanism.now response.now locale.now)) }
+    {
+        match &self.hello {
+            Hello::Client(hello) => hello.allow_answer(mechanism, response, locale),
+            Hello::Server(_) => Err(AskFault::NotAwaited),
+        }
+    }
+
+    /// What a client answers to start with the mechanism, the response and the locale that its application chose. A
+    /// server answers no start.
+    pub(crate) fn answer(
+        &self,
+        alloc: Global,
+        mechanism: &ShortStr,
+        response: &[u8],
+        locale: &ShortStr,
+    ) -> Result<Method, AskFault>
+        ensures decides { IfOk result (λ m. Decides self.now (AnswerStart mechanism.now response.now locale.now) Stage.HoldsStart Stage.AwaitsTune (method_view m)) }
+        ensures refused { IfErr result (λ fault. refusal_view fault
+            ≡ refusal_by (answers_in (role_for self.now) (config_view self.now) (Handshake HoldsStart) mechanism.now response.now locale.now)) }
+    {
+        match &self.hello {
+            Hello::Client(hello) => hello.answer(alloc, mechanism, response, locale),
+            Hello::Server(_) => Err(AskFault::NotAwaited),
         }
     }
 

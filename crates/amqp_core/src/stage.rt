@@ -5,13 +5,16 @@
 //!     Handshake --open-ok--> Running --close put--> Closing --close-ok--> Closed
 //!     Handshake, Running --close taken--> Closed
 //!
-//! A fault of the peer, or out of memory, leads from each but Closed to Failed.
+//! A fault of the peer, or out of memory, leads from each but Closed to Failed. An end that is gated holds start, the
+//! login or open until its application has answered.
 ghost use Rattle.std.specs.Prelude.{◌≡◌, ◌≢◌, true, false, None};
 ghost use Rattle.amqp_model.specs.End.Channels as model;
 ghost use Rattle.amqp_model.specs.End.EndVerdict.{takes_octets};
 ghost use Rattle.amqp_model.specs.End.Machine.{new_end};
 ghost use Rattle.amqp_channel.specs.Roles.{role_of};
 ghost use Rattle.amqp_channel.specs.EventView.{agreed_there};
+ghost use Rattle.amqp_core.specs.Counted.{heartbeat_in};
+ghost use Rattle.amqp_core.specs.Decisions.{holds_client};
 ghost use Rattle.amqp_core.specs.Stages.{agreed_at, phase_at, phase_name, leaves};
 
 use amqp_channel::{Agreed, Side};
@@ -33,10 +36,16 @@ pub enum Phase {
 pub(crate) enum Stage {
     AwaitsProtocolHeader,
     AwaitsStart,
+    /// A gated client has taken start, and its application is to answer it.
+    HoldsStart,
     AwaitsStartOk,
+    /// A gated server has taken start-ok, and its application is to admit the login or to refuse it.
+    HoldsLogin,
     AwaitsTune,
     AwaitsTuneOk,
     AwaitsOpen(Agreed),
+    /// A gated server has taken open, and its application is to admit it or to refuse it.
+    HoldsOpen(Agreed),
     AwaitsOpenOk(Agreed),
     Running(Agreed),
     Closing(Option<Agreed>),
@@ -62,10 +71,13 @@ impl Stage {
         match self {
             Stage::AwaitsProtocolHeader
             | Stage::AwaitsStart
+            | Stage::HoldsStart
             | Stage::AwaitsStartOk
+            | Stage::HoldsLogin
             | Stage::AwaitsTune
             | Stage::AwaitsTuneOk
             | Stage::AwaitsOpen(_)
+            | Stage::HoldsOpen(_)
             | Stage::AwaitsOpenOk(_) => Phase::Handshake,
             Stage::Running(_) => Phase::Running,
             Stage::Closing(_) => Phase::Closing,
@@ -80,13 +92,26 @@ impl Stage {
         match self {
             Stage::AwaitsProtocolHeader
             | Stage::AwaitsStart
+            | Stage::HoldsStart
             | Stage::AwaitsStartOk
+            | Stage::HoldsLogin
             | Stage::AwaitsTune
             | Stage::AwaitsTuneOk => None,
-            Stage::AwaitsOpen(agreed) | Stage::AwaitsOpenOk(agreed) | Stage::Running(agreed) => {
-                Some(agreed)
-            }
+            Stage::AwaitsOpen(agreed)
+            | Stage::HoldsOpen(agreed)
+            | Stage::AwaitsOpenOk(agreed)
+            | Stage::Running(agreed) => Some(agreed),
             Stage::Closing(agreed) | Stage::Closed(agreed) | Stage::Failed(agreed) => agreed,
+        }
+    }
+
+    /// The heartbeat that was agreed, in seconds; none, which is 0, before.
+    pub(crate) fn heartbeat(self) -> u16
+        ensures { result ≡ heartbeat_in (agreed_at self) }
+    {
+        match self.agreed() {
+            Some(agreed) => agreed.heartbeat,
+            None => 0,
         }
     }
 
@@ -98,12 +123,36 @@ impl Stage {
             Stage::Closing(_) => true,
             Stage::AwaitsProtocolHeader
             | Stage::AwaitsStart
+            | Stage::HoldsStart
+            | Stage::AwaitsStartOk
+            | Stage::HoldsLogin
+            | Stage::AwaitsTune
+            | Stage::AwaitsTuneOk
+            | Stage::AwaitsOpen(_)
+            | Stage::HoldsOpen(_)
+            | Stage::AwaitsOpenOk(_)
+            | Stage::Running(_)
+            | Stage::Closed(_)
+            | Stage::Failed(_) => false,
+        }
+    }
+
+    /// Whether a server holds a login or an open.
+    pub(crate) fn holds_client(self) -> bool
+        ensures { result ≡ holds_client (phase_at self) }
+    {
+        match self {
+            Stage::HoldsLogin | Stage::HoldsOpen(_) => true,
+            Stage::AwaitsProtocolHeader
+            | Stage::AwaitsStart
+            | Stage::HoldsStart
             | Stage::AwaitsStartOk
             | Stage::AwaitsTune
             | Stage::AwaitsTuneOk
             | Stage::AwaitsOpen(_)
             | Stage::AwaitsOpenOk(_)
             | Stage::Running(_)
+            | Stage::Closing(_)
             | Stage::Closed(_)
             | Stage::Failed(_) => false,
         }
@@ -118,10 +167,13 @@ impl Stage {
             Stage::Closed(_) => true,
             Stage::AwaitsProtocolHeader
             | Stage::AwaitsStart
+            | Stage::HoldsStart
             | Stage::AwaitsStartOk
+            | Stage::HoldsLogin
             | Stage::AwaitsTune
             | Stage::AwaitsTuneOk
             | Stage::AwaitsOpen(_)
+            | Stage::HoldsOpen(_)
             | Stage::AwaitsOpenOk(_)
             | Stage::Running(_)
             | Stage::Closing(_)
@@ -138,10 +190,13 @@ impl Stage {
             Stage::Failed(_) => true,
             Stage::AwaitsProtocolHeader
             | Stage::AwaitsStart
+            | Stage::HoldsStart
             | Stage::AwaitsStartOk
+            | Stage::HoldsLogin
             | Stage::AwaitsTune
             | Stage::AwaitsTuneOk
             | Stage::AwaitsOpen(_)
+            | Stage::HoldsOpen(_)
             | Stage::AwaitsOpenOk(_)
             | Stage::Running(_)
             | Stage::Closing(_)

@@ -11,6 +11,7 @@ use crate::asks::LentAsk;
 use crate::faults::OutOfMemory;
 use amqp_channel::EventParts;
 use amqp_method::Message;
+use std::alloc::Global;
 
 /// What an application sends or receives on a channel.
 #[derive(PartialEq, Eq, Debug, Drop)]
@@ -50,13 +51,13 @@ impl Item {
     }
 
     /// The item that an ask says, if it says one.
-    pub(crate) fn of_ask(ask: LentAsk<'_>) -> Result<Option<Item>, OutOfMemory>
+    pub(crate) fn of_ask(ask: LentAsk<'_>, alloc: Global) -> Result<Option<Item>, OutOfMemory>
         ensures { IfOk result (λ item. item_there item ≡ item_asked (lent_view ask.entry)) }
     {
         match ask {
             LentAsk::Send(_, message) => {
-                let item = copied(message)?;
-                Ok(Some(item))
+                let message = message.copy(alloc)?;
+                Ok(Some(Item::Message(message)))
             }
             LentAsk::Flow(_, active) => Ok(Some(Item::Flow(active))),
             LentAsk::Open
@@ -84,7 +85,10 @@ impl Item {
             Some(EventParts::Flow(_, active)) => Ok(Some(Item::Flow(*active))),
             Some(EventParts::FlowOk(_, active)) => Ok(Some(Item::FlowOk(*active))),
             Some(
-                EventParts::Negotiated(_)
+                EventParts::AnswerAsked
+                | EventParts::LoginAsked
+                | EventParts::OpenAsked
+                | EventParts::Negotiated(_)
                 | EventParts::Opened(_)
                 | EventParts::ChannelClosed(_, _)
                 | EventParts::ConnectionClosed(_)

@@ -1,24 +1,33 @@
 //! An end of a connection that is kept with its history.
-ghost use Rattle.std.specs.Prelude.{◌≡◌, ◌≢◌, ◌+◌, ◌<◌, ◌≤◌, ℕ, List, [], true, false, ◌++◌, length, map, take as first, vec_len, vec_capacity, IfOk, IfErr, OnOk, OnErr};
+ghost use Rattle.std.specs.Prelude.{◌≡◌, ◌≢◌, ◌+◌, ◌<◌, ◌≤◌, ℕ, List, [], true, false, ◌++◌, length, map, take as first, vec_len, vec_capacity, Err, IfOk, IfErr, OnOk, OnErr};
 ghost use Rattle.amqp_model.specs.Output.ArrangementRules.{FollowsRules};
 ghost use Rattle.amqp_model.specs.End.Answers.{channel_state, gathered, reply_due};
+ghost use Rattle.amqp_method.specs.HeaderView.{properties_view};
+ghost use Rattle.amqp_method.specs.Kinds.{has_content};
+ghost use Rattle.amqp_method.specs.Messages.{letter_with};
+ghost use Rattle.amqp_method.specs.MethodView.{method_view};
+ghost use Rattle.amqp_model.specs.End.Asks as asks;
 ghost use Rattle.amqp_model.specs.End.Asks.{frames_asked};
 ghost use Rattle.amqp_model.specs.Stream.Endpoint.{after_feed, after_wrote, new_endpoint};
 ghost use Rattle.amqp_model.specs.End.Bounds.{OthersAreFree};
+ghost use Rattle.amqp_model.specs.End.Controls.{Admit, AnswerStart, Beat, Refuse};
 ghost use Rattle.amqp_model.specs.End.EndVerdict.{takes_octets};
 ghost use Rattle.amqp_model.specs.End.Fitting.{ConfigWrites};
 ghost use Rattle.amqp_model.specs.History.Histories.{History};
 ghost use Rattle.amqp_model.specs.History.Negotiation.{frame_limit};
 ghost use Rattle.amqp_model.specs.End.LawfulHistories.{then_put};
-ghost use Rattle.amqp_model.specs.Output.Outputs.{output_octets};
+ghost use Rattle.amqp_model.specs.Output.Outputs.{output_octets, waiting_on};
 ghost use Rattle.amqp_channel.specs.EventView.{agreed_there};
+ghost use Rattle.amqp_channel.specs.Messages.{message_of};
 ghost use Rattle.amqp_channel.specs.Roles.{role_of};
 ghost use Rattle.amqp_channel.specs.StateView.{state_view};
 ghost use Rattle.amqp_core.specs.Answering.{ran_out};
-ghost use Rattle.amqp_core.specs.AskView.{ask_view};
+ghost use Rattle.amqp_core.specs.AskView.{ask_view, lent_view};
 ghost use Rattle.amqp_core.specs.Asked.{number_taken};
 ghost use Rattle.amqp_core.specs.Asking.{AcceptsAsk, RefusesAsk};
 ghost use Rattle.amqp_core.specs.Bounded.{IsBounded};
+ghost use Rattle.amqp_core.specs.ControlView.{control_view};
+ghost use Rattle.amqp_core.specs.Counted.{heartbeat_in};
 ghost use Rattle.amqp_core.specs.EndView as ends;
 ghost use Rattle.amqp_core.specs.Feeding.{seen, IsFed};
 ghost use Rattle.amqp_core.specs.LedgerView.{HasRoom};
@@ -27,19 +36,22 @@ ghost use Rattle.amqp_core.specs.Stages.{phase_name};
 ghost use Rattle.amqp_core.specs.TracedFields.{kept_of};
 ghost use Rattle.amqp_core.specs.Tracing.{IsTraceOf, FedGrows, SameLists, TraceGoesOn};
 
-use crate::asks::Ask;
+use crate::asks::{Ask, LentAsk};
+use crate::controls::LentControl;
 use crate::end::End;
 use crate::faults::{AskFault, CoreFault, OutOfMemory};
 use crate::ledger::Ledger;
+use crate::lent_message::LentMessage;
 use crate::notes::Note;
 use crate::roles::Role;
 use crate::stage::Phase;
 use crate::taken::Taken;
 use crate::tellings::Telling;
-use crate::tracing::{make_room, put, room_for_ask, take};
+use crate::tracing::{make_room, put, put_control, room_for_ask, take};
 use amqp_channel::{Agreed, ChannelState};
-use amqp_method::Kind;
-use amqp_model::{answers, arrangement, fitting, octets, one_end, replies, traces};
+use amqp_method::{Kind, Method, Properties};
+use amqp_model::{answers, arrangement, controls, fitting, octets, one_end, replies, traces};
+use amqp_value::ShortStr;
 
 /// An end of a connection, kept with its history: a note of each frame that it put and took, the items that it told and said,
 /// and all octets that it was fed and that it wrote.
@@ -58,12 +70,17 @@ pub struct Traced<R: Role> {
 /// How many octets a piece lets the output grow by, at most: two frames of 4096.
 const MOST_PUT: usize = 8192;
 
+/// How many octets a heartbeat, or a decision in the handshake, lets the output grow by, at most: a frame of 4096.
+const MOST_CONTROLLED: usize = 4096;
+
 /// How many frames a piece makes an end note, at most: one that it takes, and two that it puts.
 const MOST_NOTED: usize = 3;
 
 impl<R: Role> Traced<R> {
     ghost use Rattle.amqp_core.specs.FeedFaults.{FeedFaults};
-    ghost use Rattle.amqp_core.specs.TracedQueries.{AgreedOfHistory, DueOfHistory, GatheredOfHistory, OutputOfHistory, PendingOfHistory, PhaseOfHistory, StateOfHistory, VerdictsOfHistory};
+    ghost use Rattle.amqp_core.specs.TracedAsks.{Asked};
+    ghost use Rattle.amqp_core.specs.TracedControls.{ControlledTrace};
+    ghost use Rattle.amqp_core.specs.TracedQueries.{AgreedOfHistory, DueOfHistory, GatheredOfHistory, HeartbeatOfHistory, OutputOfHistory, PendingOfHistory, PhaseOfHistory, StateOfHistory, VerdictsOfHistory};
     ghost use Rattle.amqp_core.specs.TracedView.{config_at, role_played, settings_at, traced_of};
 
     /// An end with its history, as it begins.
@@ -131,11 +148,90 @@ impl<R: Role> Traced<R> {
         ensures written { (traced_of self.new).written ≡ (traced_of self.old).written }
         ensures settings { settings_at self.new ≡ settings_at self.old }
     {
+        self.ask_lent(ask.lent())
+    }
+
+    /// Sends a method and its content on a channel, as [`End::send_content`] does. What is kept of the item is a copy.
+    pub fn send_content(
+        &mut self,
+        channel: u16,
+        method: &Method,
+        properties: &Properties,
+        body: &[u8],
+    ) -> Result<(), AskFault>
+        ensures asked { has_content (method_view method.now).kind ≡ true → Asked self.old (asks.Send channel (message_of (letter_with (method_view method.now) (properties_view properties.now) body.now))) result self.new }
+        ensures alone { has_content (method_view method.now).kind ≡ false → (result ≡ Err AskFault.NotSendable) × (self.new ≡ self.old) }
+    {
+        if !method.has_content() {
+            return Err(AskFault::NotSendable);
+        }
+        let message = LentMessage::content(method, properties, body);
+        self.ask_lent(LentAsk::Send(channel, message))?;
+        Ok(())
+    }
+
+    /// Does what an ask that is lent says.
+    fn ask_lent(&mut self, ask: LentAsk<'_>) -> Result<Option<u16>, AskFault>
+        ensures accepted { OnOk result (AcceptsAsk (role_played self.old) (config_at self.old) (lent_view ask.entry) (traced_of self.old).endpoint (traced_of self.new).endpoint) }
+        ensures refused { IfErr result (λ fault. RefusesAsk (role_played self.old) (lent_view ask.entry) fault (traced_of self.old).endpoint (traced_of self.new).endpoint) }
+        ensures number { IfOk result (λ number. number ≡ number_taken (traced_of self.old).endpoint.end (lent_view ask.entry)) }
+        ensures history { OnOk result ((history : History) → IsTraceOf (role_played self.old) (config_at self.old) (traced_of self.old) history
+            → ∥ IsTraceOf (role_played self.old) (config_at self.old) (traced_of self.new) (then_put (frames_asked (traced_of self.old).endpoint.end (lent_view ask.entry)) history) ∥₁) }
+        ensures same { OnErr result (SameLists (traced_of self.old) (traced_of self.new)) }
+        ensures fed { (traced_of self.new).fed ≡ (traced_of self.old).fed }
+        ensures written { (traced_of self.new).written ≡ (traced_of self.old).written }
+        ensures settings { settings_at self.new ≡ settings_at self.old }
+    {
         let place = self.end.allow(ask)?;
         let Ok(item) = room_for_ask(&self.end, &mut self.ledger, ask, place) else {
             return Err(AskFault::OutOfMemory);
         };
         put(&mut self.end, &mut self.ledger, ask, place, item)
+    }
+
+    /// Puts a heartbeat, or what the application decides in the handshake. Out of memory, nothing has changed.
+    fn control(&mut self, control: LentControl<'_>) -> Result<(), AskFault>
+        ensures { ControlledTrace self.old (control_view control.entry) result self.new }
+    {
+        controls::controls_follow();
+        self.end.allow_control(control)?;
+        let Ok(()) = make_room(&self.end, &mut self.ledger, 1, 0, MOST_CONTROLLED) else {
+            return Err(AskFault::OutOfMemory);
+        };
+        put_control(&mut self.end, &mut self.ledger, control)
+    }
+
+    /// Puts a heartbeat, as [`End::beat`] does.
+    pub fn beat(&mut self) -> Result<(), AskFault>
+        ensures { ControlledTrace self.old Beat result self.new }
+    {
+        self.control(LentControl::Beat)
+    }
+
+    /// Admits a login or an open, as [`End::admit`] does.
+    pub fn admit(&mut self) -> Result<(), AskFault>
+        ensures { ControlledTrace self.old Admit result self.new }
+    {
+        self.control(LentControl::Admit)
+    }
+
+    /// Refuses a login or an open, as [`End::refuse`] does.
+    pub fn refuse(&mut self, code: u16, text: &ShortStr) -> Result<(), AskFault>
+        ensures { ControlledTrace self.old (Refuse code text.now) result self.new }
+    {
+        self.control(LentControl::Refuse(code, text))
+    }
+
+    /// Answers start, as [`End::answer_start`] does.
+    pub fn answer_start(
+        &mut self,
+        mechanism: &ShortStr,
+        response: &[u8],
+        locale: &ShortStr,
+    ) -> Result<(), AskFault>
+        ensures { ControlledTrace self.old (AnswerStart mechanism.now response.now locale.now) result self.new }
+    {
+        self.control(LentControl::AnswerStart(mechanism, response, locale))
     }
 
     /// The octets to send next.
@@ -147,6 +243,20 @@ impl<R: Role> Traced<R> {
         ensures order { OutputOfHistory self.now }
     {
         self.end.output()
+    }
+
+    /// How many octets wait of a channel, as [`End::waiting`] counts them.
+    pub fn waiting(&self, channel: u16) -> usize
+        ensures { result ≡ waiting_on channel (traced_of self.now).endpoint.output }
+    {
+        self.end.waiting(channel)
+    }
+
+    /// How many octets wait.
+    pub fn waiting_in_all(&self) -> usize
+        ensures { result ≡ length (output_octets (traced_of self.now).endpoint.output) }
+    {
+        self.end.waiting_in_all()
     }
 
     /// So many octets of the output were sent.
@@ -179,6 +289,14 @@ impl<R: Role> Traced<R> {
         ensures history { AgreedOfHistory self.now (agreed_there result) }
     {
         self.end.agreed()
+    }
+
+    /// The heartbeat that was agreed, in seconds; 0 is none, and what stands before tune-ok.
+    pub fn heartbeat(&self) -> u16
+        ensures agreed { result ≡ heartbeat_in (traced_of self.now).endpoint.end.agreed }
+        ensures history { HeartbeatOfHistory self.now result }
+    {
+        self.end.heartbeat()
     }
 
     /// The state of a channel. Channel 0 and the numbers above the agreed maximum are Free.

@@ -11,8 +11,11 @@ ghost use Rattle.amqp_channel.specs.PartsView.{parts_there};
 ghost use Rattle.amqp_channel.specs.Roles.{role_of};
 ghost use Rattle.amqp_core.specs.Answering.{ran_out};
 ghost use Rattle.amqp_core.specs.AskNoting.{GrowsByFrames, IsChannelOf, IsSizeOf, count_asked, item_asked};
-ghost use Rattle.amqp_core.specs.AskView.{ask_view};
+ghost use Rattle.amqp_core.specs.AskView.{lent_view};
 ghost use Rattle.amqp_core.specs.Asked.{number_taken};
+ghost use Rattle.amqp_core.specs.ControlView.{control_view};
+ghost use Rattle.amqp_core.specs.Controlled.{frames_by};
+ghost use Rattle.amqp_core.specs.Controlling.{AcceptsControl, RefusesControl, verdict_at};
 ghost use Rattle.amqp_core.specs.Asking.{AcceptsAsk, RefusesAsk};
 ghost use Rattle.amqp_core.specs.EndView.{config_at, endpoint_of, role_played, settings_at};
 ghost use Rattle.amqp_core.specs.Growth.{GrowsLittle};
@@ -25,7 +28,8 @@ ghost use Rattle.amqp_model.specs.History.Negotiation as negotiation;
 
 use crate::account::Account;
 use crate::allowing::Place;
-use crate::asks::Ask;
+use crate::asks::LentAsk;
+use crate::controls::LentControl;
 use crate::end::End;
 use crate::faults::{AskFault, CoreFault, OutOfMemory};
 use crate::ledger::Ledger;
@@ -33,7 +37,7 @@ use crate::roles::Role;
 use crate::taken::Taken;
 use crate::tellings::Item;
 use amqp_channel::EventParts;
-use amqp_model::{fitting, octets, one_end, traces};
+use amqp_model::{controls, fitting, octets, one_end, traces};
 
 /// Makes room for so many frames, so many octets that are fed, and as many that are written as the output has and may get.
 pub(crate) fn make_room<R: Role>(
@@ -130,20 +134,20 @@ pub(crate) fn take<R: Role>(
 pub(crate) fn room_for_ask<R: Role>(
     end: &End<R>,
     ledger: &mut Ledger,
-    ask: &Ask,
+    ask: LentAsk<'_>,
     place: Place,
 ) -> Result<Option<Item>, OutOfMemory>
     requires { 8 < place.frame_max }
-    ensures item { IfOk result (λ item. item_there item ≡ item_asked (ask_view ask.now)) }
-    ensures room { OnOk result (HasRoom ledger.new (count_asked place.frame_max (ask_view ask.now)) 0) }
-    ensures written { OnOk result (vec_len ledger.new.written + (length (output_octets (endpoint_of end.now).output) + count_asked place.frame_max (ask_view ask.now) * place.frame_max) ≤ vec_capacity ledger.new.written) }
+    ensures item { IfOk result (λ item. item_there item ≡ item_asked (lent_view ask.entry)) }
+    ensures room { OnOk result (HasRoom ledger.new (count_asked place.frame_max (lent_view ask.entry)) 0) }
+    ensures written { OnOk result (vec_len ledger.new.written + (length (output_octets (endpoint_of end.now).output) + count_asked place.frame_max (lent_view ask.entry) * place.frame_max) ≤ vec_capacity ledger.new.written) }
     ensures kept { vec_len ledger.new.written ≡ vec_len ledger.old.written }
     ensures capacity { vec_capacity ledger.old.written ≤ vec_capacity ledger.new.written }
     ensures same { SameLists (kept_of end.now ledger.old) (kept_of end.now ledger.new) }
     ensures side { ledger.new.side ≡ ledger.old.side }
 {
-    let item = Item::of_ask(ask.lent())?;
-    let frames = ask.lent().frames(place.frame_max);
+    let item = Item::of_ask(ask, end.allocator())?;
+    let frames = ask.frames(place.frame_max);
     let Some(grows) = frames.checked_mul(place.frame_max as usize) else {
         drop(item);
         return Err(OutOfMemory);
@@ -161,23 +165,23 @@ pub(crate) fn room_for_ask<R: Role>(
 pub(crate) fn put<R: Role>(
     end: &mut End<R>,
     ledger: &mut Ledger,
-    ask: &Ask,
+    ask: LentAsk<'_>,
     place: Place,
     item: Option<Item>,
 ) -> Result<Option<u16>, AskFault>
-    requires room { HasRoom ledger.old (count_asked place.frame_max (ask_view ask.now)) 0 }
-    requires item { item_there item ≡ item_asked (ask_view ask.now) }
-    requires place { IsChannelOf (endpoint_of end.old).end (ask_view ask.now) place.channel }
+    requires room { HasRoom ledger.old (count_asked place.frame_max (lent_view ask)) 0 }
+    requires item { item_there item ≡ item_asked (lent_view ask) }
+    requires place { IsChannelOf (endpoint_of end.old).end (lent_view ask) place.channel }
     requires size { IsSizeOf (endpoint_of end.old).end.agreed place.frame_max }
     requires least { negotiation.FRAME_MIN ≤ place.frame_max }
     requires plays { role_of ledger.old.side ≡ role_played end.old }
-    ensures accepted { OnOk result (AcceptsAsk (role_played end.old) (config_at end.old) (ask_view ask.now) (endpoint_of end.old) (endpoint_of end.new)) }
-    ensures refused { IfErr result (λ fault. RefusesAsk (role_played end.old) (ask_view ask.now) fault (endpoint_of end.old) (endpoint_of end.new)) }
-    ensures number { IfOk result (λ number. number ≡ number_taken (endpoint_of end.old).end (ask_view ask.now)) }
+    ensures accepted { OnOk result (AcceptsAsk (role_played end.old) (config_at end.old) (lent_view ask.entry) (endpoint_of end.old) (endpoint_of end.new)) }
+    ensures refused { IfErr result (λ fault. RefusesAsk (role_played end.old) (lent_view ask.entry) fault (endpoint_of end.old) (endpoint_of end.new)) }
+    ensures number { IfOk result (λ number. number ≡ number_taken (endpoint_of end.old).end (lent_view ask.entry)) }
     ensures history { OnOk result ((history : History) → IsTraceOf (role_played end.old) (config_at end.old) (kept_of end.old ledger.old) history
-        → ∥ IsTraceOf (role_played end.old) (config_at end.old) (kept_of end.new ledger.new) (then_put (frames_asked (endpoint_of end.old).end (ask_view ask.now)) history) ∥₁) }
+        → ∥ IsTraceOf (role_played end.old) (config_at end.old) (kept_of end.new ledger.new) (then_put (frames_asked (endpoint_of end.old).end (lent_view ask.entry)) history) ∥₁) }
     ensures same { OnErr result (SameLists (kept_of end.old ledger.old) (kept_of end.new ledger.new)) }
-    ensures grows { OnOk result (GrowsByFrames (count_asked place.frame_max (ask_view ask.now)) place.frame_max (endpoint_of end.old).output (endpoint_of end.new).output) }
+    ensures grows { OnOk result (GrowsByFrames (count_asked place.frame_max (lent_view ask.entry)) place.frame_max (endpoint_of end.old).output (endpoint_of end.new).output) }
     ensures fed { ledger.new.fed ≡ ledger.old.fed }
     ensures written { ledger.new.written ≡ ledger.old.written }
     ensures settings { settings_at end.new ≡ settings_at end.old }
@@ -189,14 +193,46 @@ pub(crate) fn put<R: Role>(
     traces::messages_are_said();
     fitting::owed_read_back();
     fitting::frames_are_within();
-    match end.ask(ask) {
+    match end.ask_lent(ask) {
         Ok(number) => {
-            ledger.put(ask.lent(), place, item);
+            ledger.put(ask, place, item);
             Ok(number)
         }
         Err(fault) => {
             drop(item);
             Err(fault)
         }
+    }
+}
+
+/// Puts a heartbeat, or what the application decides, for which there is room.
+pub(crate) fn put_control<R: Role>(
+    end: &mut End<R>,
+    ledger: &mut Ledger,
+    control: LentControl<'_>,
+) -> Result<(), AskFault>
+    requires room { HasRoom ledger.old 1 0 }
+    ensures accepted { OnOk result (AcceptsControl (role_played end.old) (config_at end.old) (control_view control.entry) (endpoint_of end.old) (endpoint_of end.new)) }
+    ensures refused { IfErr result (λ fault. RefusesControl (role_played end.old) (config_at end.old) (control_view control.entry) fault (endpoint_of end.old) (endpoint_of end.new)) }
+    ensures history { OnOk result ((history : History) → IsTraceOf (role_played end.old) (config_at end.old) (kept_of end.old ledger.old) history
+        → ∥ IsTraceOf (role_played end.old) (config_at end.old) (kept_of end.new ledger.new)
+        (then_put (frames_by (verdict_at (role_played end.old) (config_at end.old) (control_view control.entry) (endpoint_of end.old))) history) ∥₁) }
+    ensures same { OnErr result (SameLists (kept_of end.old ledger.old) (kept_of end.new ledger.new)) }
+    ensures grows { OnOk result (GrowsByFrames 1 negotiation.FRAME_MIN (endpoint_of end.old).output (endpoint_of end.new).output) }
+    ensures fed { ledger.new.fed ≡ ledger.old.fed }
+    ensures written { ledger.new.written ≡ ledger.old.written }
+    ensures settings { settings_at end.new ≡ settings_at end.old }
+    ensures side { ledger.new.side ≡ ledger.old.side }
+{
+    controls::controls_follow();
+    controls::controls_are_written();
+    traces::frames_are_noted();
+    traces::events_are_told();
+    match end.control(control) {
+        Ok(()) => {
+            ledger.note_other(0);
+            Ok(())
+        }
+        Err(fault) => Err(fault),
     }
 }

@@ -22,6 +22,12 @@ pub(crate) enum Notice {
     /// A step of the handshake, a heartbeat, or a close that crosses this end's own.
     Quiet,
     Discarded,
+    /// The application is to answer start.
+    AnswerAsked,
+    /// The application is to admit the login or to refuse it.
+    LoginAsked,
+    /// The application is to admit the open or to refuse it.
+    OpenAsked,
     /// The handshake is over.
     Negotiated(Agreed),
     /// The other end's close, which is the frame, ended the connection.

@@ -9,13 +9,15 @@ use amqp_method::Message;
 use amqp_value::ShortStr;
 use std::alloc::Global;
 
-/// How an end is asked. The same comes of it in either way.
+/// How an end is asked. The same comes of it in each way.
 #[derive(Clone, Copy)]
 pub(crate) enum Asking {
     /// By [`End::ask`], with a copy.
     ByAsk,
     /// By the call that the ask has of its own.
     ByCall,
+    /// By that call too, but a message with a content by its parts: [`End::send_content`].
+    ByParts,
 }
 
 /// The first word of what is asked, and after it:
@@ -116,7 +118,7 @@ fn send(alloc: Global, asked: Asked, words: &[&str]) -> Result<Ask, Trouble> {
     }
 }
 
-fn text(alloc: Global, octets: &[u8]) -> Result<ShortStr, Trouble> {
+pub(crate) fn text(alloc: Global, octets: &[u8]) -> Result<ShortStr, Trouble> {
     match ShortStr::new(alloc, octets) {
         Ok(text) => Ok(text),
         Err(_) => Err(Trouble::OutOfMemory),
@@ -169,11 +171,26 @@ fn ask_copy<R: Role>(end: &mut End<R>, ask: &Ask) -> Result<Option<u16>, AskFaul
     answer
 }
 
+/// Sends a message, one with a content by its parts if so wanted.
+fn send_to<R: Role>(
+    asking: Asking,
+    end: &mut End<R>,
+    channel: u16,
+    message: &Message,
+) -> Result<(), AskFault> {
+    match (asking, message.content_parts()) {
+        (Asking::ByParts, Some((properties, body))) => {
+            end.send_content(channel, message.method(), properties, body)
+        }
+        _ => end.send(channel, message),
+    }
+}
+
 /// What an end answers to the call that an ask has of its own.
-fn call<R: Role>(end: &mut End<R>, ask: &Ask) -> Result<Option<u16>, AskFault> {
+fn call<R: Role>(asking: Asking, end: &mut End<R>, ask: &Ask) -> Result<Option<u16>, AskFault> {
     let put = match ask {
         Ask::Open => return Ok(Some(end.open_channel()?)),
-        Ask::Send(channel, message) => end.send(*channel, message),
+        Ask::Send(channel, message) => send_to(asking, end, *channel, message),
         Ask::Flow(channel, active) => end.flow(*channel, *active),
         Ask::CloseChannel(channel, code, text) => end.close_channel(*channel, *code, text),
         Ask::Close(code, text) => end.close(*code, text),
@@ -188,7 +205,7 @@ fn call<R: Role>(end: &mut End<R>, ask: &Ask) -> Result<Option<u16>, AskFault> {
 pub(crate) fn ask_end<R: Role>(asking: Asking, end: &mut End<R>, ask: &Ask) -> Came {
     let answer = match asking {
         Asking::ByAsk => ask_copy(end, ask),
-        Asking::ByCall => call(end, ask),
+        Asking::ByCall | Asking::ByParts => call(asking, end, ask),
     };
     match answer {
         Ok(Some(channel)) => Came::Opened(channel),

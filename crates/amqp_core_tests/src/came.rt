@@ -23,6 +23,7 @@ pub(crate) enum Came {
     Agreed(Option<Agreed>),
     Due(Option<Kind>),
     Count(usize),
+    Number(u64),
     /// The end has other octets to write.
     OtherOctets,
     /// No such content was completed.
@@ -35,6 +36,7 @@ fn write_agreed<W: fmt::Write>(f: &mut fmt::Formatter<W>, agreed: Agreed) -> fmt
     let Agreed {
         channel_max,
         frame_max,
+        ..
     } = agreed;
     write!(f, "channels {channel_max} frames {frame_max}")
 }
@@ -71,6 +73,7 @@ impl fmt::Display for Came {
             Came::Due(Some(kind)) => f.write_str(kind.name()),
             Came::Agreed(None) | Came::Due(None) => f.write_str("none"),
             Came::Count(count) => write!(f, "{count}"),
+            Came::Number(number) => write!(f, "{number}"),
             Came::OtherOctets => f.write_str("other octets"),
             Came::NoContent => f.write_str("no content"),
             Came::NotOpen => f.write_str("not open"),

@@ -14,6 +14,8 @@ mod closes;
 #[cfg(test)]
 mod configurations;
 #[cfg(test)]
+mod decisions;
+#[cfg(test)]
 mod fairness;
 #[cfg(test)]
 mod frames;
@@ -23,6 +25,8 @@ mod handshake;
 mod large;
 #[cfg(test)]
 mod lives;
+#[cfg(test)]
+mod marking;
 #[cfg(test)]
 mod memory;
 #[cfg(test)]
@@ -42,6 +46,8 @@ mod refusals;
 #[cfg(test)]
 mod scripts;
 #[cfg(test)]
+mod streams;
+#[cfg(test)]
 mod traces;
 #[cfg(test)]
 mod trouble;
@@ -49,5 +55,7 @@ mod trouble;
 mod verdict_rows;
 #[cfg(test)]
 mod verdicts;
+#[cfg(test)]
+mod waiting;
 #[cfg(test)]
 mod words;

@@ -1,5 +1,7 @@
 //! What ends answer where memory is refused. With ample memory none is; where each request is refused in turn
-//! (`checks/memory/refused_calls.py`), each run ends in its own answer, or in out of memory.
+//! (`checks/memory/refused_calls.py`), each run ends in its own answer, or in out of memory. And what a call asks of the
+//! allocator, where requests are counted between the marks (`checks/memory/count.c`, preloaded).
+use crate::marking::mark;
 use crate::messages::message;
 use crate::octets::octets_of;
 use crate::pairs::{DEFAULT, Pair, SMALL_FRAMES, Setting};
@@ -126,6 +128,71 @@ fn a_content_is_put_whole_or_not(rt: HostRuntime) -> Result<(), Fail> {
     let alloc = rt.alloc();
     let mut pair = pair_after(alloc, SMALL_FRAMES, "both open 1")?;
     let came = send_all(&rt, alloc, &mut pair.client);
+    drop(pair);
+    came
+}
+
+/// The headers of a content: the count 4, and the pair of the name `a` and the truth value that holds.
+static HEADERS: [u8; 8] = [0, 0, 0, 4, 1, b'a', b't', 1];
+
+/// The part of the count, the length of a body, and how many octets its content has in frames: the method's 18, the
+/// header's 30, and a frame of the body if it has any.
+static CONTENTS: [(u8, usize, usize); 4] = [
+    (0, 50_000, 50_056),
+    (50, 0, 48),
+    (51, 1_024, 1_080),
+    (52, 50_000, 50_056),
+];
+
+/// Sends a message by its parts between the marks, and says how many octets wait then.
+fn send_between(
+    rt: &impl Abort,
+    alloc: Global,
+    part: u8,
+    client: &mut End<Client>,
+    message: &Message,
+) -> Result<usize, Fail> {
+    let Some((properties, body)) = message.content_parts() else {
+        return Ok(0);
+    };
+    mark(rt, alloc, part)?;
+    let answer = client.send_content(1, message.method(), properties, body);
+    mark(rt, alloc, 0)?;
+    assert!(rt; answer.is_ok());
+    Ok(client.waiting(1))
+}
+
+/// Sends a content with headers and loses it, and says how many octets waited.
+fn count_sent(
+    rt: &impl Abort,
+    alloc: Global,
+    part: u8,
+    client: &mut End<Client>,
+    size: usize,
+) -> Result<usize, Fail> {
+    let method = octets_of(alloc, &["basic.publish"])?;
+    let message = message(alloc, &method, &HEADERS, size)?;
+    let count = send_between(rt, alloc, part, client, &message);
+    drop(message);
+    client.wrote(client.output().len());
+    count
+}
+
+/// Sends each content, the first, which isn't counted, to make room in the output.
+fn count_each(rt: &impl Abort, alloc: Global, client: &mut End<Client>) -> Result<(), Fail> {
+    for (part, size, octets) in CONTENTS.iter().copied() {
+        let count = count_sent(rt, alloc, part, client, size)?;
+        assert!(rt; count == octets, "{size}: {count} octets");
+    }
+    Ok(())
+}
+
+/// Contents that are sent by their parts take room in the output, and where it is there nothing.
+#[test]
+fn contents_take_room_alone(rt: HostRuntime) -> Result<(), Fail> {
+    let alloc = rt.alloc();
+    let mut pair = pair_after(alloc, DEFAULT, "both open 1")?;
+    let came = count_each(&rt, alloc, &mut pair.client);
     drop(pair);
     came
 }

@@ -12,6 +12,8 @@ pub(crate) struct Limits {
     pub(crate) frame_max: u32,
     pub(crate) channel_max: u16,
     pub(crate) max_body: u64,
+    pub(crate) heartbeat: u16,
+    pub(crate) gated: bool,
     /// The response or the mechanisms are filled up, so that the frame with the hello has so many octets.
     pub(crate) hello: usize,
 }
@@ -27,6 +29,8 @@ pub(crate) const LIMITS: Limits = Limits {
     frame_max: 131_072,
     channel_max: 2047,
     max_body: 16_777_216,
+    heartbeat: 0,
+    gated: false,
     hello: 0,
 };
 
@@ -69,6 +73,54 @@ pub(crate) const SMALL_BODIES: Setting = Setting {
         max_body: 1,
         ..LIMITS
     },
+};
+
+/// The client's application answers start.
+pub(crate) const GATED_CLIENT: Setting = Setting {
+    client: Limits {
+        gated: true,
+        ..LIMITS
+    },
+    server: LIMITS,
+};
+
+/// The server's application admits logins and opens.
+pub(crate) const GATED_SERVER: Setting = Setting {
+    client: LIMITS,
+    server: Limits {
+        gated: true,
+        ..LIMITS
+    },
+};
+
+/// The client wants the smaller heartbeat.
+pub(crate) const BEATS: Setting = Setting {
+    client: Limits {
+        heartbeat: 10,
+        ..LIMITS
+    },
+    server: Limits {
+        heartbeat: 30,
+        ..LIMITS
+    },
+};
+
+/// The client wants no heartbeat.
+pub(crate) const NO_BEATS_AT_CLIENT: Setting = Setting {
+    client: LIMITS,
+    server: Limits {
+        heartbeat: 30,
+        ..LIMITS
+    },
+};
+
+/// The server wants no heartbeat.
+pub(crate) const NO_BEATS_AT_SERVER: Setting = Setting {
+    client: Limits {
+        heartbeat: 30,
+        ..LIMITS
+    },
+    server: LIMITS,
 };
 
 /// One channel is agreed.
@@ -128,6 +180,8 @@ fn limited<R: Role>(alloc: Global, hello: R::Hello, limits: Limits) -> Result<En
         frame_max: limits.frame_max,
         channel_max: limits.channel_max,
         max_body: limits.max_body,
+        heartbeat: limits.heartbeat,
+        gated: limits.gated,
         hello,
     };
     let copy = config.copy();

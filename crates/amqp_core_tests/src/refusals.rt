@@ -1,6 +1,10 @@
 //! Asks that are refused, each with the first reason that applies, and what is put beside them.
-use crate::pairs::{DEFAULT, ONE_CHANNEL, SMALL_FRAMES};
-use crate::scripts::{run, run_all};
+use crate::octets::octets_of;
+use crate::pairs::{DEFAULT, ONE_CHANNEL, Pair, SMALL_FRAMES};
+use crate::scripts::{AT_ONCE, run, run_all};
+use amqp_core::{AskFault, Client, End};
+use amqp_method::{Properties, read_method};
+use std::alloc::Global;
 use std::test::Fail;
 
 static SCRIPTS: [&str; 7] = [
@@ -130,4 +134,32 @@ fn asks_are_refused(rt: HostRuntime) -> Result<(), Fail> {
     run_all(rt.alloc(), DEFAULT, &SCRIPTS)?;
     run(rt.alloc(), SMALL_FRAMES, SCRIPT_OF_SMALL_FRAMES)?;
     run(rt.alloc(), ONE_CHANNEL, SCRIPT_OF_ONE_CHANNEL)
+}
+
+/// Whether a content is refused after a method that none follows, and nothing is put.
+fn refuses_content(alloc: Global, client: &mut End<Client>, method: &str) -> Result<bool, Fail> {
+    let octets = octets_of(alloc, &[method])?;
+    let method = read_method(alloc, &octets)?;
+    let before = client.waiting_in_all();
+    let answer = client.send_content(1, &method, &Properties::default(), b"abc");
+    Ok(answer == Err(AskFault::NotSendable) && client.waiting_in_all() == before)
+}
+
+/// Whether it is so before the handshake, and on an open channel.
+fn refuses_always(alloc: Global, pair: &mut Pair) -> Result<bool, Fail> {
+    let early = refuses_content(alloc, &mut pair.client, "tx.select")?;
+    pair.follow(alloc, AT_ONCE, "a content after tx.select", "both open 1")?;
+    let later = refuses_content(alloc, &mut pair.client, "tx.select")?;
+    Ok(early && later)
+}
+
+/// No content follows a method that has none.
+#[test]
+fn contents_of_other_methods_are_refused(rt: HostRuntime) -> Result<(), Fail> {
+    let alloc = rt.alloc();
+    let mut pair = Pair::new(alloc, DEFAULT)?;
+    let refused = refuses_always(alloc, &mut pair);
+    drop(pair);
+    assert!(rt; refused?);
+    Ok(())
 }

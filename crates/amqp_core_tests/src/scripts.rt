@@ -6,6 +6,10 @@
 //!     both open COUNT                     the handshake, and the opening of the channels up to this one
 //!     END asks ASK -> put                 its application asks something of it (the words are those of `Asked`), which is put;
 //!     END asks open -> channel NUMBER     or takes a channel; or is refused: the refusal's number and name
+//!     END beats -> put                    it puts a heartbeat,
+//!     END admits -> put                   admits a login or an open,
+//!     END refuses CODE TEXT -> put        refuses it,
+//!     END answers MECHANISM -> put        or answers start; or any of these is refused
 //!     END takes OCTETS -> events COUNT    it takes octets that the other end has not written, of which come events,
 //!     END takes OCTETS -> FAULT           or a fault: the code of the close that is put, or the name of another one
 //!     END carries COUNT                   so many octets of its output are carried to the other end, or `all`
@@ -15,12 +19,17 @@
 //!     END begins OCTETS                   what it has to write begins with these octets
 //!     END phase -> PHASE
 //!     END agreed -> channels NUMBER frames NUMBER, or none
+//!     END heartbeat -> SECONDS            the heartbeat that is agreed, 0 for none
 //!     END channel NUMBER -> STATE
 //!     END due NUMBER -> METHOD            the request that is to be answered next on a channel, or none
 //!     END pending -> COUNT                so many octets were taken of a frame that isn't whole
 //!     END gathered NUMBER -> COUNT        so many octets are kept of the body that comes on a channel
+//!     END took -> COUNT                   so many frames were taken
+//!     END wrote -> COUNT                  so many octets of the output were written
+//!     END waits NUMBER -> COUNT           so many octets wait on a channel, or, for `all`, on all of them
 use crate::asks::{Asking, ask, ask_end};
 use crate::came::Came;
+use crate::decisions::{answers, came_of, refuses};
 use crate::octets::octets_of;
 use crate::pairs::{Pair, Setting};
 use crate::pieces::{carry, deliver, lose, take};
@@ -30,7 +39,7 @@ use amqp_core::{Ask, ChannelState, End, Phase, Role};
 use std::alloc::Global;
 use std::test::Fail;
 
-/// How a script is run. The same comes of it in either way.
+/// How a script is run. The same comes of it in each way.
 #[derive(Clone, Copy)]
 pub(crate) struct Way {
     name: &'static str,
@@ -51,10 +60,20 @@ pub(crate) const IN_PARTS: Way = Way {
     part: 1,
 };
 
+pub(crate) const BY_PARTS: Way = Way {
+    name: "by parts",
+    asking: Asking::ByParts,
+    part: usize::MAX,
+};
+
 /// What is done with an end, or seen of it.
 #[derive(Clone, Copy)]
 enum Verb {
     Asks,
+    Beats,
+    Admits,
+    Refuses,
+    Answers,
     Takes,
     Carries,
     Delivers,
@@ -63,14 +82,22 @@ enum Verb {
     Begins,
     Phase,
     Agreed,
+    Heartbeat,
     Channel,
     Due,
     Pending,
     Gathered,
+    Took,
+    Wrote,
+    Waits,
 }
 
-static VERBS: [(&str, Verb); 13] = [
+static VERBS: [(&str, Verb); 21] = [
     ("asks", Verb::Asks),
+    ("beats", Verb::Beats),
+    ("admits", Verb::Admits),
+    ("refuses", Verb::Refuses),
+    ("answers", Verb::Answers),
     ("takes", Verb::Takes),
     ("carries", Verb::Carries),
     ("delivers", Verb::Delivers),
@@ -79,10 +106,14 @@ static VERBS: [(&str, Verb); 13] = [
     ("begins", Verb::Begins),
     ("phase", Verb::Phase),
     ("agreed", Verb::Agreed),
+    ("heartbeat", Verb::Heartbeat),
     ("channel", Verb::Channel),
     ("due", Verb::Due),
     ("pending", Verb::Pending),
     ("gathered", Verb::Gathered),
+    ("took", Verb::Took),
+    ("wrote", Verb::Wrote),
+    ("waits", Verb::Waits),
 ];
 
 fn verb_by(word: &str) -> Result<Verb, Trouble> {
@@ -102,15 +133,27 @@ fn as_said(is_so: bool) -> Came {
     }
 }
 
+/// How many octets wait on a channel, or on all of them.
+fn waits<R: Role>(end: &End<R>, words: &[&str]) -> Result<usize, Trouble> {
+    if word(words, 0)? == "all" {
+        return Ok(end.waiting_in_all());
+    }
+    Ok(end.waiting(number(words, 0)?))
+}
+
 /// What is seen of an end. The words after the verb are its numbers.
 fn seen<R: Role>(end: &End<R>, verb: Verb, words: &[&str]) -> Result<Came, Trouble> {
     match verb {
         Verb::Phase => Ok(Came::Phase(end.phase())),
         Verb::Agreed => Ok(Came::Agreed(end.agreed())),
+        Verb::Heartbeat => Ok(Came::Count(usize::from(end.heartbeat()))),
         Verb::Channel => Ok(Came::State(end.channel_state(number(words, 0)?))),
         Verb::Due => Ok(Came::Due(end.reply_due(number(words, 0)?))),
         Verb::Pending => Ok(Came::Count(end.pending())),
         Verb::Gathered => Ok(Came::Count(end.gathered(number(words, 0)?))),
+        Verb::Took => Ok(Came::Number(end.frames_taken())),
+        Verb::Wrote => Ok(Came::Number(end.octets_written())),
+        Verb::Waits => Ok(Came::Count(waits(end, words)?)),
         _ => Err(Trouble::UnknownWord),
     }
 }
@@ -182,6 +225,10 @@ fn act<M: Role, O: Role>(
     };
     match verb_by(verb)? {
         Verb::Asks => ask(alloc, way.asking, mine, rest),
+        Verb::Beats => Ok(came_of(mine.beat())),
+        Verb::Admits => Ok(came_of(mine.admit())),
+        Verb::Refuses => refuses(alloc, mine, rest),
+        Verb::Answers => answers(alloc, mine, rest),
         Verb::Takes => takes(alloc, way, mine, rest),
         Verb::Carries => carries(way, mine, other, rest),
         Verb::Delivers => delivers(alloc, mine, other, rest),
@@ -309,11 +356,12 @@ fn run_once(
     outcome
 }
 
-/// Runs a script with ends that are set up so, in either way.
+/// Runs a script with ends that are set up so, in each way.
 pub(crate) fn run(alloc: Global, setting: Setting, script: &str) -> Result<(), Fail> {
     let (name, lines) = script.split_once('\n').unwrap_or((script, ""));
     run_once(alloc, AT_ONCE, setting, name, lines)?;
-    run_once(alloc, IN_PARTS, setting, name, lines)
+    run_once(alloc, IN_PARTS, setting, name, lines)?;
+    run_once(alloc, BY_PARTS, setting, name, lines)
 }
 
 /// Runs scripts with ends that are set up so.

@@ -46,6 +46,9 @@ static CLIENT_STATES: [&str; 8] = [
 /// The name of an event.
 fn name_of(event: &Event) -> &'static str {
     match event {
+        Event::AnswerAsked => "answer-asked",
+        Event::LoginAsked => "login-asked",
+        Event::OpenAsked => "open-asked",
         Event::Negotiated(_) => "negotiated",
         Event::Opened(_) => "opened",
         Event::Told(_, _) => "told",

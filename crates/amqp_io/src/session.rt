@@ -1,14 +1,19 @@
 //! One end of a connection, over a stream.
-ghost use Rattle.std.specs.Prelude.{◌≡◌, ◌⊎◌, ◌<◌, ℕ, min, [], ◌++◌, length, option_to_list, Result, Ok, Err, Some, None, IfOk, IfErr, OnOk};
+ghost use Rattle.std.specs.Prelude.{◌≡◌, ◌⊎◌, ◌<◌, ℕ, min, true, false, [], ◌++◌, length, option_to_list, Result, Ok, Err, Some, None, IfOk, IfErr, OnOk};
 ghost use Rattle.std.specs.VecDeque.{deque_len, deque_capacity};
 ghost use Rattle.amqp_model.specs.Output.Outputs.{output_octets};
+ghost use Rattle.amqp_method.specs.HeaderView.{properties_view};
+ghost use Rattle.amqp_method.specs.Kinds.{has_content};
+ghost use Rattle.amqp_method.specs.Messages.{letter_with};
 ghost use Rattle.amqp_method.specs.MessageView.{message_view};
+ghost use Rattle.amqp_method.specs.MethodView.{method_view};
 ghost use Rattle.amqp_model.specs.End.Asks as asks;
+ghost use Rattle.amqp_model.specs.End.Controls as controls;
 ghost use Rattle.amqp_channel.specs.Messages.{message_of};
 ghost use Rattle.amqp_core.specs.AskView.{ask_view};
 ghost use Rattle.amqp_core.specs.EndAsks.{AnswersLowest, AnswersNumber};
 ghost use Rattle.amqp_core.specs.EndView.{endpoint_of};
-ghost use Rattle.amqp_io.specs.SessionAsks.{Asked};
+ghost use Rattle.amqp_io.specs.SessionAsks.{Asked, Controlled};
 ghost use Rattle.amqp_io.specs.Sessions.{FeedsThose, Pulls, Pushes, Turns};
 ghost use Rattle.amqp_io.specs.Streams.{Marks};
 
@@ -18,7 +23,7 @@ use crate::stream::Stream;
 use crate::unfed::Unfed;
 use crate::writing::write_prefix;
 use amqp_core::{Ask, AskFault, End, Event, Role, Taken};
-use amqp_method::Message;
+use amqp_method::{Message, Method, Properties};
 use amqp_value::ShortStr;
 use std::alloc::Global;
 use std::collections::VecDeque;
@@ -173,6 +178,21 @@ impl<R: Role, S: Stream> Session<R, S> {
         self.end.send(channel, message)
     }
 
+    /// Sends a method and its content on a channel, as [`End::send_content`]. A method that no content follows is
+    /// [`AskFault::NotSendable`].
+    pub fn send_content(
+        &mut self,
+        channel: u16,
+        method: &Method,
+        properties: &Properties,
+        body: &[u8],
+    ) -> Result<(), AskFault>
+        ensures asked { has_content (method_view method.now).kind ≡ true → Asked self.old (asks.Send channel (message_of (letter_with (method_view method.now) (properties_view properties.now) body.now))) result self.new }
+        ensures alone { has_content (method_view method.now).kind ≡ false → (result ≡ Err AskFault.NotSendable) × (self.new ≡ self.old) }
+    {
+        self.end.send_content(channel, method, properties, body)
+    }
+
     /// Asks the other end to send contents on a channel, or no more of them, as [`End::flow`].
     pub fn flow(&mut self, channel: u16, active: bool) -> Result<(), AskFault>
         ensures { Asked self.old (asks.Flow channel active) result self.new }
@@ -211,6 +231,39 @@ impl<R: Role, S: Stream> Session<R, S> {
         ensures { Asked self.old asks.Unblocked result self.new }
     {
         self.end.unblocked()
+    }
+
+    /// Puts a heartbeat, as [`End::beat`]. Nothing is written yet.
+    pub fn beat(&mut self) -> Result<(), AskFault>
+        ensures { Controlled self.old controls.Beat result self.new }
+    {
+        self.end.beat()
+    }
+
+    /// Admits a login or an open, as [`End::admit`].
+    pub fn admit(&mut self) -> Result<(), AskFault>
+        ensures { Controlled self.old controls.Admit result self.new }
+    {
+        self.end.admit()
+    }
+
+    /// Refuses a login or an open, as [`End::refuse`].
+    pub fn refuse(&mut self, code: u16, text: &ShortStr) -> Result<(), AskFault>
+        ensures { Controlled self.old (controls.Refuse code text.now) result self.new }
+    {
+        self.end.refuse(code, text)
+    }
+
+    /// Answers start, as [`End::answer_start`].
+    pub fn answer_start(
+        &mut self,
+        mechanism: &ShortStr,
+        response: &[u8],
+        locale: &ShortStr,
+    ) -> Result<(), AskFault>
+        ensures { Controlled self.old (controls.AnswerStart mechanism.now response.now locale.now) result self.new }
+    {
+        self.end.answer_start(mechanism, response, locale)
     }
 
     /// The oldest of the events that were not handed out yet.

@@ -4,15 +4,19 @@ use crate::scripts::script_of;
 use crate::turns::{assert_output, feed, qos};
 use amqp_core::{AskFault, Client};
 use amqp_io::{Script, Session};
+use amqp_method::{Properties, read_method};
 use amqp_value::ShortStr;
 use std::alloc::Global;
 use std::process::Abort;
 use std::test::Fail;
 
 /// The protocol header, start-ok, tune-ok and connection.open are written before; these are channel.open and what
-/// follows on it: basic.qos, channel.flow with active false, channel.close with 200, and connection.close with 320.
+/// follows on it: basic.qos, basic.publish with a content of two octets, channel.flow with active false, channel.close with 200, and connection.close with 320.
 const ASKED: &str = "01 0001 00000005 0014000a 00 ce
     01 0001 0000000b 003c000a 00000000 0001 00 ce
+    01 0001 00000009 003c0028 0000 00 00 00 ce
+    02 0001 0000000e 003c0000 0000000000000002 0000 ce
+    03 0001 00000002 6869 ce
     01 0001 00000005 00140014 00 ce
     01 0001 0000000b 00140028 00c8 00 0000 0000 ce
     01 0000 0000000b 000a0032 0140 00 0000 0000 ce";
@@ -25,6 +29,14 @@ fn shaken(alloc: Global) -> Result<Session<Client, Script>, Fail> {
     end.wrote(waiting);
     let stream = script_of(alloc, "channel-opened", "")?;
     Ok(Session::new(alloc, end, stream))
+}
+
+/// Sends the content `hi` after basic.publish, which names no exchange and no queue.
+fn send_by_parts(alloc: Global, session: &mut Session<Client, Script>) -> Result<(), Fail> {
+    let octets = hex::decode(alloc, "003c00280000000000")?;
+    let method = read_method(alloc, &octets)?;
+    session.send_content(1, &method, &Properties::default(), b"hi")?;
+    Ok(())
 }
 
 fn ask_all(
@@ -40,6 +52,7 @@ fn ask_all(
     let sent = session.send(1, &message);
     drop(message);
     sent?;
+    send_by_parts(alloc, session)?;
     session.flow(1, false)?;
     session.close_channel(1, 200, text)?;
     session.close(320, text)?;

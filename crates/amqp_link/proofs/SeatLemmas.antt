@@ -41,6 +41,7 @@ refused-side ask asking.FlowPending old new there refused lists set_up dropped =
 refused-side ask asking.NoFreeChannel old new there refused lists set_up dropped = (there, sym refused.refused, (λ none. none-some _ (sym none)), same-side old new set_up refused.same lists dropped)
 refused-side ask asking.ReplyPending old new there refused lists set_up dropped = (there, sym refused.refused, (λ none. none-some _ (sym none)), same-side old new set_up refused.same lists dropped)
 refused-side ask asking.NoSuchRequest old new there refused lists set_up dropped = (there, sym refused.refused, (λ none. none-some _ (sym none)), same-side old new set_up refused.same lists dropped)
+refused-side ask asking.NotAwaited old new there refused lists set_up dropped = (there, sym refused.refused, (λ none. none-some _ (sym none)), same-side old new set_up refused.same lists dropped)
 refused-side ask asking.OutOfMemory old new there refused lists set_up dropped = (there, sym refused.refused, same-side old new set_up refused.same lists dropped)
 
 -- a new side, by what it is set up with

@@ -98,6 +98,8 @@ fn limited<R: Role>(hello: R::Hello, limits: Limits) -> Config<R> {
         frame_max: limits.frame_max,
         channel_max: limits.channel_max,
         max_body: limits.max_body,
+        heartbeat: 0,
+        gated: false,
         hello,
     }
 }

@@ -25,9 +25,9 @@ pub record ListedSoFar (input rest : List ℕ) (frames : List RawFrame) (splitte
   pub joined : input ≡ stream (map owned frames) ++ rest
   pub fit : AllFit (map owned frames)
   pub within : AllWithin (map owned frames)
-  pub between : splitter ≡ record { pending = []; limit = GREATEST_FRAME; taken = place_after 0 (length (stream (map owned frames))); fault = None; taken_to_fault = 0 }
+  pub between : splitter ≡ record { pending = []; limit = GREATEST_FRAME; taken = place_after 0 (length (stream (map owned frames))); fault = None; taken_to_fault = 0; given = None }
 
-pub listed_nothing : (input : List ℕ) (splitter : Stream) → splitter ≡ record { pending = []; limit = GREATEST_FRAME; taken = 0; fault = None; taken_to_fault = 0 } → ListedSoFar input input [] splitter
+pub listed_nothing : (input : List ℕ) (splitter : Stream) → splitter ≡ record { pending = []; limit = GREATEST_FRAME; taken = 0; fault = None; taken_to_fault = 0; given = None } → ListedSoFar input input [] splitter
 listed_nothing input splitter between = record { joined = refl; fit = tt; within = tt; between = between }
 
 -- a frame more
@@ -50,5 +50,5 @@ listed_frame input rest after frames more old new taken f so_far within complete
       joined = so_far.joined ∙ rw (stream_is, after_is, append_assoc (stream (map owned frames)) (octets (owned f)) (drop taken rest), ← in_piece, take-append-drop taken rest) refl;
       fit = rw frames_are (AllFit-push (map owned frames) (owned f) so_far.fit completes.fits);
       within = rw frames_are (AllWithin-push (map owned frames) (owned f) so_far.within (rw limit at completes.within));
-      between = new_is ∙ rw (limit, counted, running, unshown, total, place) refl;
+      between = new_is ∙ rw (pending, limit, counted, running, unshown, total, place) refl;
     }

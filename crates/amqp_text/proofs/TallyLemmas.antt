@@ -3,7 +3,7 @@ use Rattle.std.proofs.Common.{◌≡◌, ◌↔◌, ℕ, ◌+◌, ◌%◌, ◌^�
 use Rattle.std.proofs.lemmas.Bool.{eqb-true}
 use Rattle.std.proofs.lemmas.List.FromFn.{map-range_with_len_more}
 use Rattle.amqp_channel.specs.declared.events.Event.{Event}
-use Rattle.amqp_channel.specs.declared.events.Event.TheVariants.{Negotiated, Opened, Told, Flow, FlowOk, ChannelClosed, ConnectionClosed, Discarded, Blocked, Unblocked, Quiet}
+use Rattle.amqp_channel.specs.declared.events.Event.TheVariants.{AnswerAsked, LoginAsked, OpenAsked, Negotiated, Opened, Told, Flow, FlowOk, ChannelClosed, ConnectionClosed, Discarded, Blocked, Unblocked, Quiet}
 use Rattle.amqp_method.specs.MessageView.{message_view}
 use Rattle.amqp_method.specs.declared.messages.Message.{Message}
 use Rattle.amqp_text.specs.Tallies.{body_of, AreExactly, CountsOne, Heard, HearsAnother, Publishes, before, other, too_many}
@@ -18,6 +18,9 @@ exactly-one body m n [] a b = a ∙ sym b
 exactly-one body m n (Told channel message ∷ events) a b =
     let fewer : a.1.0 ≡ b.1.0 = exactly-one body a.1.0 b.1.0 events a.1.2 b.1.2 in
     omega (arith, a.1.1, b.1.1)
+exactly-one body m n (AnswerAsked ∷ events) a b = exactly-one body m n events a b
+exactly-one body m n (LoginAsked ∷ events) a b = exactly-one body m n events a b
+exactly-one body m n (OpenAsked ∷ events) a b = exactly-one body m n events a b
 exactly-one body m n (Negotiated agreed ∷ events) a b = exactly-one body m n events a b
 exactly-one body m n (Opened channel ∷ events) a b = exactly-one body m n events a b
 exactly-one body m n (Flow channel active ∷ events) a b = exactly-one body m n events a b

@@ -8,7 +8,7 @@ use Rattle.amqp_method.specs.Messages.{Letter}
 use Rattle.amqp_method.specs.Places.{argument_at, found, short_string_of}
 use Rattle.amqp_method.specs.declared.kinds.Kind.TheVariants.{BasicPublish}
 use Rattle.amqp_channel.specs.declared.events.Event.{Event}
-use Rattle.amqp_channel.specs.declared.events.Event.TheVariants.{Negotiated, Opened, Told, Flow, FlowOk, ChannelClosed, ConnectionClosed, Discarded, Blocked, Unblocked, Quiet}
+use Rattle.amqp_channel.specs.declared.events.Event.TheVariants.{AnswerAsked, LoginAsked, OpenAsked, Negotiated, Opened, Told, Flow, FlowOk, ChannelClosed, ConnectionClosed, Discarded, Blocked, Unblocked, Quiet}
 use Rattle.amqp_text.specs.declared.tally.Load.{Load}
 use Rattle.amqp_text.specs.declared.tally.Tally.{Tally}
 
@@ -36,6 +36,9 @@ pub record Publishes (body : List ℕ) (letter : Letter) : Type 0 where
 abbrev pub AreExactly : (body : List ℕ) → (count : ℕ) → List Event → Type 0
 AreExactly body count [] = count ≡ 0
 AreExactly body count (Told channel message ∷ events) = Publishes body (message_view message) × ((fewer : ℕ) × (count ≡ fewer + 1) × AreExactly body fewer events)
+AreExactly body count (AnswerAsked ∷ events) = AreExactly body count events
+AreExactly body count (LoginAsked ∷ events) = AreExactly body count events
+AreExactly body count (OpenAsked ∷ events) = AreExactly body count events
 AreExactly body count (Negotiated agreed ∷ events) = AreExactly body count events
 AreExactly body count (Opened channel ∷ events) = AreExactly body count events
 AreExactly body count (Flow channel active ∷ events) = AreExactly body count events

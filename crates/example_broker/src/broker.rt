@@ -89,7 +89,7 @@ impl Broker {
 
     /// Does what an event asks for.
     ///
-    /// Users and virtual hosts would be looked at where a connection is negotiated: today every login is taken.
+    /// Every login is taken, and every virtual host: its ends are not gated, so that none asks for either.
     fn handle(&mut self, connection: u64, event: Event) -> Result<(), AllocError> {
         let at = |channel| Place {
             connection,
@@ -104,7 +104,10 @@ impl Broker {
                 self.close_channel(at(channel))
             }
             Event::ConnectionClosed(_) => Ok(self.finish(connection)),
-            Event::Negotiated(_)
+            Event::AnswerAsked
+            | Event::LoginAsked
+            | Event::OpenAsked
+            | Event::Negotiated(_)
             | Event::FlowOk(..)
             | Event::Blocked(_)
             | Event::Unblocked

@@ -24,6 +24,8 @@ pub fn server_end(alloc: Global) -> anyhow::Result<End<Server>> {
         frame_max: FRAME_MAX,
         channel_max: CHANNEL_MAX,
         max_body: MAX_BODY,
+        heartbeat: 0,
+        gated: false,
         hello,
     };
     Ok(End::new(alloc, config)?)

@@ -72,7 +72,7 @@ SetsLimit (Some (Splitter s)) limit status new =
 
 -- a splitter as it begins
 abbrev pub new_stream : ℕ → Stream
-new_stream limit = record { pending = []; limit = limit; taken = 0; fault = None; taken_to_fault = 0 }
+new_stream limit = record { pending = []; limit = limit; taken = 0; fault = None; taken_to_fault = 0; given = None }
 
 -- a closed handle is opened with a new splitter, unless the limit leaves no room for a frame or memory is refused
 abbrev pub OpensSplitter : Option Held → ℕ → ℕ → Option Held → Type 0

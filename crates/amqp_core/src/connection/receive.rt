@@ -30,7 +30,9 @@ ghost use Rattle.amqp_core.specs.declared.settings.Settings.{Settings};
 
 use crate::account::Account;
 use crate::connection::Connection;
-use crate::connection::handshake::{is_too_small, is_within, smaller};
+use crate::connection::handshake::{
+    heartbeat_in, is_too_small, is_within, smaller, smaller_heartbeat,
+};
 use crate::connection::reply::{owed_at, put_owed};
 use crate::faults::{CoreFault, OutOfMemory};
 use crate::notes::Note;
@@ -130,7 +132,7 @@ fn judge_close(stage: Stage, method: MethodRef<'_>) -> Verdict
     }
 }
 
-/// A client answers start with start-ok.
+/// A client answers start with start-ok, or asks its application for the answer.
 #[tactic(auto, using(crate::proofs::VerdictLemmas::start_rules))]
 fn judge_start(settings: &Settings, method: MethodRef<'_>) -> Verdict
     requires side { side_in settings.now.hello ≡ Side.Client }
@@ -138,6 +140,13 @@ fn judge_start(settings: &Settings, method: MethodRef<'_>) -> Verdict
     ensures { (channels : Channels)
         → FrameRules settings.now (end_at Stage.AwaitsStart channels) 0 (Calls (lent_call method.entry)) result }
 {
+    if settings.gated {
+        return Verdict::Proceeds {
+            notice: Notice::AnswerAsked,
+            stage: Stage::HoldsStart,
+            owed: Owed::Nothing,
+        };
+    }
     Verdict::Proceeds {
         notice: Notice::Quiet,
         stage: Stage::AwaitsTune,
@@ -145,7 +154,7 @@ fn judge_start(settings: &Settings, method: MethodRef<'_>) -> Verdict
     }
 }
 
-/// A server answers start-ok with tune.
+/// A server answers start-ok with tune, or asks its application whether to.
 #[tactic(auto, using(crate::proofs::VerdictLemmas::start_ok_rules))]
 fn judge_start_ok(settings: &Settings, method: MethodRef<'_>) -> Verdict
     requires side { side_in settings.now.hello ≡ Side.Server }
@@ -153,6 +162,13 @@ fn judge_start_ok(settings: &Settings, method: MethodRef<'_>) -> Verdict
     ensures { (channels : Channels)
         → FrameRules settings.now (end_at Stage.AwaitsStartOk channels) 0 (Calls (lent_call method.entry)) result }
 {
+    if settings.gated {
+        return Verdict::Proceeds {
+            notice: Notice::LoginAsked,
+            stage: Stage::HoldsLogin,
+            owed: Owed::Nothing,
+        };
+    }
     Verdict::Proceeds {
         notice: Notice::Quiet,
         stage: Stage::AwaitsTuneOk,
@@ -176,6 +192,7 @@ fn judge_tune(settings: &Settings, method: MethodRef<'_>) -> Verdict
     let agreed = Agreed {
         channel_max: smaller(settings.channel_max as u64, channels) as u16,
         frame_max: smaller(settings.frame_max as u64, frame) as u32,
+        heartbeat: smaller_heartbeat(settings.heartbeat, heartbeat_in(method)),
     };
     Verdict::Proceeds {
         notice: Notice::Quiet,
@@ -202,12 +219,13 @@ fn judge_tune_ok(settings: &Settings, method: MethodRef<'_>) -> Verdict
         stage: Stage::AwaitsOpen(Agreed {
             channel_max: channels as u16,
             frame_max: frame as u32,
+            heartbeat: heartbeat_in(method),
         }),
         owed: Owed::Nothing,
     }
 }
 
-/// A server answers open with open-ok, and the connection is Running.
+/// A server answers open with open-ok, and the connection is Running; or it asks its application whether to.
 #[tactic(auto, using(crate::proofs::VerdictLemmas::open_rules))]
 fn judge_open(settings: &Settings, agreed: Agreed, method: MethodRef<'_>) -> Verdict
     requires side { side_in settings.now.hello ≡ Side.Server }
@@ -215,6 +233,13 @@ fn judge_open(settings: &Settings, agreed: Agreed, method: MethodRef<'_>) -> Ver
     ensures { (channels : Channels)
         → FrameRules settings.now (end_at (Stage.AwaitsOpen agreed) channels) 0 (Calls (lent_call method.entry)) result }
 {
+    if settings.gated {
+        return Verdict::Proceeds {
+            notice: Notice::OpenAsked,
+            stage: Stage::HoldsOpen(agreed),
+            owed: Owed::Nothing,
+        };
+    }
     Verdict::Proceeds {
         notice: Notice::Negotiated(agreed),
         stage: Stage::Running(agreed),
@@ -253,6 +278,9 @@ fn judge_awaited(settings: &Settings, stage: Stage, method: MethodRef<'_>) -> Ve
         Stage::AwaitsOpen(agreed) => judge_open(settings, agreed, method),
         Stage::AwaitsOpenOk(agreed) => judge_open_ok(settings, agreed, method),
         Stage::AwaitsProtocolHeader => unreachable!(),
+        Stage::HoldsStart => unreachable!(),
+        Stage::HoldsLogin => unreachable!(),
+        Stage::HoldsOpen(_) => unreachable!(),
         Stage::Running(_) => unreachable!(),
         Stage::Closing(_) => unreachable!(),
         Stage::Closed(_) => unreachable!(),
@@ -402,7 +430,7 @@ fn owed_of(verdict: ChannelVerdict, closing: bool, number: u16) -> Owed
 
 impl Verdict {
     /// What the end owes, which is leaving the connection or is not.
-    fn owed(self, closing: bool, number: u16) -> Owed
+    pub(crate) fn owed(self, closing: bool, number: u16) -> Owed
         ensures owed { (settings : Settings) (reading : readings.Reading) (whole : Option contents.Content)
             → owed_view settings result ≡ owed_by closing number (verdict_view settings number reading whole self) }
         ensures light { (channel : Channel) → IsLight channel self → IsNothing result }
@@ -415,7 +443,7 @@ impl Verdict {
     }
 
     /// The fault that the end finds, if it finds one.
-    fn fault(self) -> Option<Fault>
+    pub(crate) fn fault(self) -> Option<Fault>
         ensures fault { (settings : Settings) (number : ℕ) (reading : readings.Reading) (whole : Option contents.Content)
             → fault_there result ≡ fault_by (verdict_view settings number reading whole self) }
         ensures light { (channel : Channel) → IsLight channel self → result ≡ None }
@@ -447,6 +475,9 @@ fn tell_notice(
     match notice {
         Notice::Quiet => EventParts::Quiet.put_in(place),
         Notice::Discarded => EventParts::Discarded(Aligned::new(number)).put_in(place),
+        Notice::AnswerAsked => EventParts::AnswerAsked.put_in(place),
+        Notice::LoginAsked => EventParts::LoginAsked.put_in(place),
+        Notice::OpenAsked => EventParts::OpenAsked.put_in(place),
         Notice::Negotiated(agreed) => EventParts::Negotiated(Aligned::new(agreed)).put_in(place),
         Notice::ClosedByPeer => {
             let Reading::Method(method) = reading else {
@@ -537,7 +568,8 @@ impl Connection {
         reading: Reading<'_>,
         verdict: Verdict,
     ) -> Result<Option<Box<Content>>, OutOfMemory>
-        requires { FitsVerdict (connection_end self.old) number (reading_view reading) verdict }
+        requires gathers { self.old.settings.lends ≡ false }
+        requires fits { FitsVerdict (connection_end self.old) number (reading_view reading) verdict }
         ensures content { IfOk result (λ content. content_there content
             ≡ content_of verdict (channels_view self.old.channels number) (reading_view reading.entry)) }
         ensures left { OnOk result (connection_end self.new
@@ -588,10 +620,13 @@ impl Connection {
             Stage::Running(agreed) => self.judge_running(agreed, number, reading),
             Stage::Closing(agreed) => judge_leaving(agreed, number, reading),
             Stage::AwaitsStart
+            | Stage::HoldsStart
             | Stage::AwaitsStartOk
+            | Stage::HoldsLogin
             | Stage::AwaitsTune
             | Stage::AwaitsTuneOk
             | Stage::AwaitsOpen(_)
+            | Stage::HoldsOpen(_)
             | Stage::AwaitsOpenOk(_) => judge_handshake(
                 &self.settings,
                 self.stage,
@@ -614,6 +649,7 @@ impl Connection {
         verdict: Verdict,
         account: &mut Account,
     ) -> Result<(), OutOfMemory>
+        requires gathers { self.old.settings.lends ≡ false }
         requires fits { FitsVerdict (connection_end self.old) number (reading_view reading) verdict }
         requires staged { outbox.old.staged ≡ [] }
         requires none { account.old.parts ≡ None }
@@ -655,6 +691,7 @@ impl Connection {
         frame: FrameRef<'_>,
         account: &mut Account,
     ) -> Result<(), CoreFault>
+        requires gathers { self.old.settings.lends ≡ false }
         requires taking { takes_frames (phase_at self.old.stage) ≡ true }
         requires staged { outbox.old.staged ≡ [] }
         requires none { account.old.parts ≡ None }
@@ -695,7 +732,7 @@ impl Connection {
     }
 
     /// An end that has found fault fails.
-    fn fail_by(&mut self, fault: Option<Fault>)
+    pub(crate) fn fail_by(&mut self, fault: Option<Fault>)
         ensures end { connection_end self.new ≡ ended_if (fault_there fault) (connection_end self.old) }
         ensures settings { self.new.settings ≡ self.old.settings }
     {

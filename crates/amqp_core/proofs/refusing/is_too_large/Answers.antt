@@ -1,5 +1,5 @@
 use Rattle.std.proofs.Common.{◌≡◌, false, ap, sym, ◌∙◌}
-use Rattle.amqp_method.specs.MessageView.{message_view}
+use Rattle.amqp_core.specs.LentLetter.{lent_letter}
 use Rattle.amqp_model.specs.Wire.Methods.{plain_method}
 use Rattle.amqp_core.specs.Refusals.{passes}
 use Rattle.amqp_core.proofs.RefusalLemmas.{too_large_by}
@@ -7,7 +7,7 @@ use Rattle.amqp_core.proofs.refusing.is_too_large.Goals as goal
 
 pub returns-in-Some : goal.returns-in-Some
 returns-in-Some c =
-    let message = message_view c.args.message.now in
+    let message = lent_letter c.args.message in
     let fits : passes c.args.frame_max (plain_method message.call) ≡ false = ap (λ m. passes c.args.frame_max (plain_method m)) (sym c.method.ensures)
     ∙ (sym c.method_passes.ensures ∙ c.if-method_passes.false) in
     c.header_passes.ensures _ ∙ sym (too_large_by c.args.frame_max message.call message.properties message.body _ c.in-Some.ensures.0 fits)

@@ -8,7 +8,7 @@ returns-in_err-agreed-clause-refused c =
     let p = err_from_is_err_and c.from_residual.result c.from_residual.ensures.1 in
     rw (p.1, p.2) (λ code text. c.in_err-agreed.ensures.refused (role_for c.args.self.now.settings) (asks.CloseChannel c.args.number code text))
 
-pub returns-in_err-_life-clause-refused : goal.returns-in_err-_life-clause-refused
-returns-in_err-_life-clause-refused c =
-    let p = err_from_is_err_and c.from_residual-in_err-_life.result c.from_residual-in_err-_life.ensures.1 in
-    rw (p.1, p.2) (λ code text. c.in_err-_life.ensures.refused _)
+pub returns-in_err-_standing-clause-refused : goal.returns-in_err-_standing-clause-refused
+returns-in_err-_standing-clause-refused c =
+    let p = err_from_is_err_and c.from_residual-in_err-_standing.result c.from_residual-in_err-_standing.ensures.1 in
+    rw (p.1, p.2) (λ code text. c.in_err-_standing.ensures.refused _)

@@ -8,7 +8,7 @@ returns-in_err-agreed-clause-refused c =
     let p = err_from_is_err_and c.from_residual.result c.from_residual.ensures.1 in
     rw (p.1, p.2) (λ active. c.in_err-agreed.ensures.refused (role_for c.args.self.now.settings) (asks.Flow c.args.number active))
 
-pub returns-in_err-life-clause-refused : goal.returns-in_err-life-clause-refused
-returns-in_err-life-clause-refused c =
-    let p = err_from_is_err_and c.from_residual-in_err-life.result c.from_residual-in_err-life.ensures.1 in
-    rw (p.1, p.2) (λ active. c.in_err-life.ensures.refused _)
+pub returns-in_err-standing-clause-refused : goal.returns-in_err-standing-clause-refused
+returns-in_err-standing-clause-refused c =
+    let p = err_from_is_err_and c.from_residual-in_err-standing.result c.from_residual-in_err-standing.ensures.1 in
+    rw (p.1, p.2) (λ active. c.in_err-standing.ensures.refused _)

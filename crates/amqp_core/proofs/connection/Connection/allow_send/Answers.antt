@@ -1,12 +1,15 @@
 use Rattle.std.proofs.Common.{◌≡◌, ℕ, ap, sym, ◌∙◌}
 use Rattle.std.proofs.lemmas.Result.{err_from_is_err_and}
-use Rattle.amqp_method.specs.MessageView.{message_view}
+use Rattle.amqp_core.specs.LentLetter.{lent_letter}
 use Rattle.amqp_model.specs.End.Asks as asks
 use Rattle.amqp_model.specs.End.Asks.{refusal}
 use Rattle.amqp_model.specs.End.Channels.{Life}
 use Rattle.amqp_model.specs.End.Events.{Message}
+use Rattle.amqp_model.specs.Wire.Gathering.{Gathering}
 use Rattle.amqp_channel.specs.EventView.{agreed_view}
-use Rattle.amqp_channel.specs.LifeView.{life_view}
+use Rattle.amqp_channel.specs.ChannelsView.{channels_view}
+use Rattle.amqp_channel.specs.LentView.{content_on}
+use Rattle.amqp_channel.specs.LifeView.{life_on}
 use Rattle.amqp_channel.specs.Messages.{message_of}
 use Rattle.amqp_channel.specs.Roles.{role_of}
 use Rattle.amqp_channel.specs.declared.events.Agreed.{Agreed}
@@ -27,34 +30,38 @@ here connection agreed number side life message stage_is side_is open_is =
     message_refusal (role_for connection.settings) (connection_end connection) (agreed_view agreed) number life message (ap agreed_at stage_is) open_is
     ∙ ap (λ s. refusal_in (role_of s) agreed.frame_max life message) (sym side_is)
 
+-- the content under way on the channel
+abbrev content_at : Connection → (number : ℕ) → Gathering
+content_at connection number = content_on (channels_view connection.channels number)
+
 pub returns-in_err-agreed-clause-refused : goal.returns-in_err-agreed-clause-refused
 returns-in_err-agreed-clause-refused c =
     let p = err_from_is_err_and c.from_residual.result c.from_residual.ensures.1 in
     rw (p.1, p.2) (c.in_err-agreed.ensures.refused (role_for c.args.self.now.settings)
-    (asks.Send c.args.number (message_of (message_view c.args.message.now))))
+    (asks.Send c.args.number (message_of (lent_letter c.args.message))))
 
-pub returns-in_err-life-clause-refused : goal.returns-in_err-life-clause-refused
-returns-in_err-life-clause-refused c =
-    let p = err_from_is_err_and c.from_residual-in_err-life.result c.from_residual-in_err-life.ensures.1 in
-    rw (p.1, p.2) (c.in_err-life.ensures.refused _)
+pub returns-in_err-standing-clause-refused : goal.returns-in_err-standing-clause-refused
+returns-in_err-standing-clause-refused c =
+    let p = err_from_is_err_and c.from_residual-in_err-standing.result c.from_residual-in_err-standing.ensures.1 in
+    rw (p.1, p.2) (c.in_err-standing.ensures.refused _)
 
 pub returns-in-Some-clause-refused : goal.returns-in-Some-clause-refused
-returns-in-Some-clause-refused c = c.in-Some.ensures ∙ sym
-    (here c.args.self.now c.in_ok-agreed.agreed c.args.number c.side-side.result _ (message_of (message_view c.args.message.now))
-    c.in_ok-agreed.ensures.running c.side-side.ensures c.in_ok-life.ensures.open)
+returns-in-Some-clause-refused c = c.in-Some.ensures (content_at c.args.self.now c.args.number) ∙ sym
+    (here c.args.self.now c.in_ok-agreed.agreed c.args.number c.side-side.result _ (message_of (lent_letter c.args.message))
+    c.in_ok-agreed.ensures.running c.side-side.ensures c.in_ok-standing.ensures.open)
 
 pub returns-in-None-clause-allowed : goal.returns-in-None-clause-allowed
 returns-in-None-clause-allowed c = here c.args.self.now c.in_ok-agreed.agreed c.args.number c.side-side.result _
-    (message_of (message_view c.args.message.now)) c.in_ok-agreed.ensures.running c.side-side.ensures c.in_ok-life.ensures.open ∙ sym c.in-None.ensures
+    (message_of (lent_letter c.args.message)) c.in_ok-agreed.ensures.running c.side-side.ensures c.in_ok-standing.ensures.open ∙ sym (c.in-None.ensures (content_at c.args.self.now c.args.number))
 
 pub returns-in-None-clause-other : goal.returns-in-None-clause-other
 returns-in-None-clause-other c =
-    let letter = message_view c.args.message.now in
-    sent_is_other (role_of c.side-side.result) c.in_ok-agreed.agreed.frame_max (life_view c.in_ok-life.life.now) letter.call letter.properties letter.body
-    (sym c.in-None.ensures)
+    let letter = lent_letter c.args.message in
+    sent_is_other (role_of c.side-side.result) c.in_ok-agreed.agreed.frame_max (life_on (content_at c.args.self.now c.args.number) c.in_ok-standing.standing.now) letter.call letter.properties letter.body
+    (sym (c.in-None.ensures (content_at c.args.self.now c.args.number)))
 
 pub returns-in-None-clause-room : goal.returns-in-None-clause-room
 returns-in-None-clause-room c =
-    let letter = message_view c.args.message.now in
-    sent_has_room (role_of c.side-side.result) c.in_ok-agreed.agreed.frame_max (life_view c.in_ok-life.life.now) letter.call letter.properties letter.body
-    (sym c.in-None.ensures)
+    let letter = lent_letter c.args.message in
+    sent_has_room (role_of c.side-side.result) c.in_ok-agreed.agreed.frame_max (life_on (content_at c.args.self.now c.args.number) c.in_ok-standing.standing.now) letter.call letter.properties letter.body
+    (sym (c.in-None.ensures (content_at c.args.self.now c.args.number)))

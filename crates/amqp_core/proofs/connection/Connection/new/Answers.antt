@@ -9,4 +9,7 @@ use Rattle.amqp_core.proofs.connection.Connection.new.Goals as goal
 
 pub returns-clause-end : goal.returns-clause-end
 returns-clause-end c =
-    new_is (role_for c.args.settings) (phase_at c.first-stage.result) (agreed_at c.first-stage.result) (channels_view c.new-channels.result) (c.first-stage.ensures.phase ∙ ap (λ s. (new_end (role_of s)).phase) c.side.ensures) c.first-stage.ensures.agreed c.new-channels.ensures
+    new_is (role_for c.args.settings) (phase_at c.first-stage.result) (agreed_at c.first-stage.result) (channels_view c.new-channels.result) (c.first-stage.ensures.phase ∙ ap (λ s. (new_end (role_of s)).phase) c.side.ensures) c.first-stage.ensures.agreed c.new-channels.ensures.free
+
+pub invariant_of-result-clause-gathers : goal.invariant_of-result-clause-gathers
+invariant_of-result-clause-gathers c = λ lends. c.new-channels.ensures.gathers

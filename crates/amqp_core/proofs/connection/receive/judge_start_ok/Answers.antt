@@ -1,6 +1,11 @@
 use Rattle.amqp_method.specs.MethodRefView.{lent_call}
-use Rattle.amqp_core.proofs.VerdictLemmas.{start_ok_rules}
+use Rattle.amqp_core.proofs.VerdictLemmas.{login_asked_rules, start_ok_rules}
 use Rattle.amqp_core.proofs.connection.receive.judge_start_ok.Goals as goal
 
+pub returns-then-settings : goal.returns-then-settings
+returns-then-settings c =
+    λ channels. login_asked_rules c.args.settings.now channels (lent_call c.args.method) c.requires.side c.requires.kind c.if-settings.true
+
 pub returns : goal.returns
-returns c = λ channels. start_ok_rules c.args.settings.now channels (lent_call c.args.method) c.requires.side c.requires.kind
+returns c =
+    λ channels. start_ok_rules c.args.settings.now channels (lent_call c.args.method) c.requires.side c.requires.kind c.if-settings.false

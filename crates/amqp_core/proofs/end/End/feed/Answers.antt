@@ -8,6 +8,7 @@ use Rattle.amqp_core.specs.Feeding.{IsFed, Seen, seen}
 use Rattle.amqp_core.specs.Feeds.{fed_to}
 use Rattle.amqp_core.specs.Following.{GoesOn}
 use Rattle.amqp_core.specs.declared.faults.CoreFault.{CoreFault}
+use Rattle.amqp_core.proofs.CounterLemmas.{frame_counted}
 use Rattle.amqp_core.proofs.FeedFaultLemmas.{count_seen, feed_faults, ok_seen, ran_seen}
 use Rattle.amqp_core.proofs.FeedLemmas.{ok_with, ran_with}
 use Rattle.amqp_core.proofs.OfHistoryLemmas.{verdicts_are}
@@ -50,3 +51,13 @@ returns-clause-within g c = count_seen c.taken.result (λ n. n ≤ length c.args
 pub returns-clause-progress : goal.returns-clause-progress
 returns-clause-progress g c = count_seen c.taken.result (λ n. c.args.piece.now ≢ [] → 0 < n)
     (subst (λ (r : Result Seen CoreFault). IfOk r (λ taken. c.args.piece.now ≢ [] → 0 < taken.octets)) (sym c.taken.ensures) c.advance-answer.ensures.progress)
+
+pub returns-clause-frames : goal.returns-clause-frames
+returns-clause-frames g c = λ takes ran.
+    let old = c.args.self.now in
+    let account = c.advance-answer.new.account in
+    let result = c.taken.result in
+    let same : ran_out result ≡ ran_out c.advance-answer.result =
+    sym (ran_seen result) ∙ (ap ran_out c.taken.ensures ∙ ran_with c.advance-answer.result account.octets (parts_there account.parts)) in
+    frame_counted (role_played old) (config_at old) (endpoint_of old) c.args.piece.now (fed_to old c.args.piece.now) account.octets _ _ _
+    (c.advance-answer.ensures.account takes (sym same ∙ ran)) c.advance-answer.ensures.frames

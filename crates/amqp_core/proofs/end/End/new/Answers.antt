@@ -13,6 +13,7 @@ pub invariant_of-result : goal.invariant_of-result
 invariant_of-result g c = record {
   kept = sound_kept c.in_ok-inner.inner c.in_ok-inner.ensures.sound;
   plays = ap (λ (s : Settings). role_for s) c.in_ok-inner.ensures.settings ∙ c.into_settings-settings.ensures.role;
+  gathers = ap (λ (s : Settings). s.lends) (c.in_ok-inner.ensures.settings ∙ c.into_settings-settings.ensures.settings);
 }
 
 pub returns-clause-begins : goal.returns-clause-begins

@@ -12,4 +12,5 @@ pub invariant_of-self : goal.invariant_of-self
 invariant_of-self g c = record {
   kept = sound_kept c.ask.new.self c.ask.ensures.sound;
   plays = ap (λ (s : Settings). role_for s) c.ask.ensures.settings ∙ c.args.self.now.plays;
+  gathers = ap (λ (s : Settings). s.lends) c.ask.ensures.settings ∙ c.args.self.now.gathers;
 }

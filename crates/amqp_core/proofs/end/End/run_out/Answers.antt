@@ -12,4 +12,5 @@ pub invariant_of-self : goal.invariant_of-self
 invariant_of-self g c = record {
   kept = sound_kept c.run_out.new.self c.run_out.ensures.sound;
   plays = ap (λ (s : Settings). role_for s) c.run_out.ensures.settings ∙ c.args.self.now.plays;
+  gathers = ap (λ (s : Settings). s.lends) c.run_out.ensures.settings ∙ c.args.self.now.gathers;
 }

@@ -1,5 +1,10 @@
--- What holds of the end holds of its endpoint.
-use Rattle.std.proofs.Common.{ap, ◌∙◌}
+-- What holds of the end holds of its endpoint, and what holds of the message that is lent holds of the message.
+use Rattle.std.proofs.Common.{refl, ap, ◌∙◌, subst}
+use Rattle.amqp_model.specs.End.Asks.{Send}
+use Rattle.amqp_model.specs.End.Events.{Message}
+use Rattle.amqp_core.specs.Asking.{AcceptsAsk}
+use Rattle.amqp_core.specs.EndView.{config_at, endpoint_of, role_played}
+use Rattle.amqp_core.specs.EndpointView.{endpoint_view}
 use Rattle.amqp_core.specs.Settings.{role_for}
 use Rattle.amqp_core.specs.declared.settings.Settings.{Settings}
 use Rattle.amqp_core.proofs.KeptLemmas.{kept_sound, sound_kept}
@@ -12,4 +17,17 @@ pub invariant_of-self : goal.invariant_of-self
 invariant_of-self g c = record {
   kept = sound_kept c.ask.new.self c.ask.ensures.sound;
   plays = ap (λ (s : Settings). role_for s) c.ask.ensures.settings ∙ c.args.self.now.plays;
+  gathers = ap (λ (s : Settings). s.lends) c.ask.ensures.settings ∙ c.args.self.now.gathers;
 }
+
+pub returns : goal.returns
+returns g c =
+    let old = c.args.self.now in
+    record {
+      accepted =
+          subst (λ (m : Message). AcceptsAsk (role_played old) (config_at old) (Send c.args.channel m) (endpoint_of old) (endpoint_view c.ask.new.self)) c.of.ensures
+          c.in_ok-ask.ensures.accepted;
+      refused = tt;
+      settings = c.in_ok-ask.ensures.settings;
+      counters = refl;
+    }

@@ -9,6 +9,7 @@ returns c =
     (record {
       faultless = c.requires;
       channel = c.fits_fields.ensures.channel;
+      heartbeat = c.fits_fields.ensures.heartbeat;
       host = c.fits_fields.ensures.host;
       made_is = c.in_ok-method.ensures;
       encoded = c.in-Ok.ensures.encoded;

@@ -1,0 +1,13 @@
+use Rattle.amqp_method.specs.MethodRefView.{lent_call}
+use Rattle.amqp_core.proofs.VerdictLemmas.{open_asked_rules, open_rules}
+use Rattle.amqp_core.proofs.connection.receive.judge_open.Goals as goal
+
+pub returns-then-settings : goal.returns-then-settings
+returns-then-settings c =
+    λ channels.
+    open_asked_rules c.args.settings.now c.args.agreed channels (lent_call c.args.method) c.requires.side c.requires.kind c.if-settings.true
+
+pub returns : goal.returns
+returns c =
+    λ channels.
+    open_rules c.args.settings.now c.args.agreed channels (lent_call c.args.method) c.requires.side c.requires.kind c.if-settings.false

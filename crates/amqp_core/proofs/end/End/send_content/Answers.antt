@@ -1,0 +1,34 @@
+-- What holds of the end holds of its endpoint, and what holds of the message that is lent holds of its parts.
+use Rattle.std.proofs.Common.{refl, ap, ◌∙◌, subst}
+use Rattle.amqp_method.specs.Messages.{Letter}
+use Rattle.amqp_model.specs.End.Asks.{Send}
+use Rattle.amqp_channel.specs.Messages.{message_of}
+use Rattle.amqp_core.specs.Asking.{AcceptsAsk}
+use Rattle.amqp_core.specs.EndView.{config_at, endpoint_of, role_played}
+use Rattle.amqp_core.specs.EndpointView.{endpoint_view}
+use Rattle.amqp_core.specs.Settings.{role_for}
+use Rattle.amqp_core.specs.declared.settings.Settings.{Settings}
+use Rattle.amqp_core.proofs.KeptLemmas.{kept_sound, sound_kept}
+use Rattle.amqp_core.proofs.end.End.send_content.Goals as goal
+
+pub ask-requires : goal.ask-requires
+ask-requires g c = kept_sound c.args.self.now.inner c.args.self.now.kept
+
+pub invariant_of-self : goal.invariant_of-self
+invariant_of-self g c = record {
+  kept = sound_kept c.ask.new.self c.ask.ensures.sound;
+  plays = ap (λ (s : Settings). role_for s) c.ask.ensures.settings ∙ c.args.self.now.plays;
+  gathers = ap (λ (s : Settings). s.lends) c.ask.ensures.settings ∙ c.args.self.now.gathers;
+}
+
+pub returns-clause-asked : goal.returns-clause-asked
+returns-clause-asked g c = λ content.
+    let old = c.args.self.now in
+    record {
+      accepted =
+          subst (λ (l : Letter). AcceptsAsk (role_played old) (config_at old) (Send c.args.channel (message_of l)) (endpoint_of old) (endpoint_view c.ask.new.self))
+          c.content-message.ensures c.in_ok-ask.ensures.accepted;
+      refused = tt;
+      settings = c.in_ok-ask.ensures.settings;
+      counters = refl;
+    }

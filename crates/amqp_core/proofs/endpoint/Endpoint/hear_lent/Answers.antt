@@ -1,0 +1,22 @@
+-- Of the protocol header an end tells that it came, and nothing else.
+use Rattle.std.proofs.Common.{Result, sym, subst}
+use Rattle.amqp_model.specs.Stream.Endpoint.{after_feed}
+use Rattle.amqp_channel.specs.PartsView.{parts_there}
+use Rattle.amqp_core.specs.EndpointView.{endpoint_view, role_at}
+use Rattle.amqp_core.specs.Lending.{IsLent, LentSeen}
+use Rattle.amqp_core.specs.Settings.{config_view}
+use Rattle.amqp_core.specs.declared.faults.CoreFault.{CoreFault}
+use Rattle.amqp_core.proofs.StreamLemmas.{heard_lent}
+use Rattle.amqp_core.proofs.endpoint.Endpoint.hear_lent.Goals as goal
+
+pub returns-clause-lent : goal.returns-clause-lent
+returns-clause-lent c =
+    let old = c.args.self.now in
+    let role = role_at old in
+    let config = config_view old.connection.settings in
+    let piece = c.args.piece.now in
+    let fed = after_feed role config (endpoint_view old) piece in
+    let account = c.hear-answer.new.account in
+    let new = endpoint_view c.hear-answer.new.self in
+    subst (λ (r : Result LentSeen CoreFault). IsLent role config r (endpoint_view old) piece fed new) (sym (c.step_heard.ensures c.hear-answer.new.self.splitter.given))
+    (heard_lent role config c.hear-answer.result account.octets (parts_there account.parts) (endpoint_view old) piece fed new c.requires.awaits c.hear-answer.ensures.fed)

@@ -1,0 +1,18 @@
+-- The request that is due is the one that every history counts.
+use Rattle.std.proofs.Common.{false, suc, sym, ◌∙◌}
+use Rattle.amqp_model.specs.History.Histories.{entries_on}
+use Rattle.amqp_core.specs.StreamView.{config_at, endpoint_of, role_played}
+use Rattle.amqp_core.proofs.QueryLemmas.{due_is}
+use Rattle.amqp_core.proofs.stream.StreamEnd.reply_due.Goals as goal
+
+pub returns-clause-history : goal.returns-clause-history
+returns-clause-history g c = λ history fed written s.
+    let end = c.args.self.now in
+    let role = role_played end in
+    let config = config_at end in
+    let kept = s.gathers.end in
+    due_is role config false kept history c.args.channel c.reply_due.result
+    (c.answers_are_of_history.ensures role config false kept history c.args.channel)
+    (record { channel = λ n. c.record_reads.ensures.channel role (kept.channels (suc n)) (entries_on (suc n) history); state = λ n. c.record_reads.ensures.state role (entries_on (suc n) history) })
+    (c.unanswered_are_kept.ensures.due role config kept history) (c.owed_read_back.ensures.all role config) end.kept.writes
+    s.stands.lawful s.stands.stands (c.reply_due.ensures ∙ sym (c.alike_ends_ask_alike.ensures.queries kept (endpoint_of end).end c.args.channel s.alike.end).request)

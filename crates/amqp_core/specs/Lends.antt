@@ -1,0 +1,48 @@
+-- What a feed of an end does whose events lend. Read before: what a piece comes to (`Lending`), and what such an end
+-- stands for (`StreamHistory`).
+use Rattle.std.specs.Prelude.{◌≡◌, true, ℕ, List, Result, IsOk, IfErr}
+use Rattle.amqp_model.specs.End.Channels as channels
+use Rattle.amqp_model.specs.End.EndVerdict.{takes_octets}
+use Rattle.amqp_model.specs.History.Histories.{History}
+use Rattle.amqp_model.specs.Laws.StreamingLaws.{StreamStandsFor}
+use Rattle.amqp_model.specs.Stream.Endpoint as model
+use Rattle.amqp_model.specs.Stream.Endpoint.{after_feed}
+use Rattle.amqp_core.specs.Answering.{ran_out}
+use Rattle.amqp_core.specs.Dropping.{DropsInPlace}
+use Rattle.amqp_core.specs.FeedFaults.{FeedFaults}
+use Rattle.amqp_core.specs.Lending.{IsLent, LentSeen}
+use Rattle.amqp_core.specs.StreamHistory.{StreamGoesOn}
+use Rattle.amqp_core.specs.StreamView.{config_at, endpoint_of, role_played, settings_at}
+use Rattle.amqp_core.specs.declared.faults.CoreFault.{CoreFault}
+use Rattle.amqp_core.specs.declared.roles.Role.{Ghosts}
+use Rattle.amqp_core.specs.declared.stream.StreamEnd.{StreamEnd}
+
+-- what the definitions make of a piece that the end is fed
+abbrev pub lent_to : {R H : Type 0} {G : Ghosts R H} → StreamEnd R H G → (piece : List ℕ) → model.Feeding
+lent_to end piece = after_feed (role_played end) (config_at end) (endpoint_of end) piece
+
+-- each history that the end stands for goes on with what comes of the piece
+abbrev pub StreamHistoriesGoOn : {R H : Type 0} {G : Ghosts R H} → (old : StreamEnd R H G) → (piece : List ℕ)
+    → Result LentSeen CoreFault → (new : StreamEnd R H G) → Type 0
+StreamHistoriesGoOn old piece result new =
+    (history : History) (fed written : List ℕ)
+    → StreamStandsFor (role_played old) (config_at old) (endpoint_of old) history fed written
+    → ∥ StreamGoesOn (role_played old) (config_at old) (ran_out result) (endpoint_of old) history fed written piece
+    (endpoint_of new) ∥₁
+
+pub record Lends {R H : Type 0} {G : Ghosts R H} (old : StreamEnd R H G) (piece : List ℕ)
+    (result : Result LentSeen CoreFault) (new : StreamEnd R H G) : Type 0 where
+  -- The octets taken and the fault are those of the definitions, the event is what is lent where that is told, and
+  -- what is left is alike; out of memory, the end has failed.
+  pub lent :
+      IsLent (role_played old) (config_at old) result (endpoint_of old) piece (lent_to old piece) (endpoint_of new)
+  -- A header, a body or a heartbeat that is dropped takes no memory, where it lies whole in the piece.
+  pub in_place : DropsInPlace (role_played old) (endpoint_of old) piece → IsOk result
+  -- Every history that the end stood for goes on with what came of the piece.
+  pub history : StreamHistoriesGoOn old piece result new
+  -- Memory is refused only to an end that takes octets.
+  pub memory : ran_out result ≡ true → takes_octets (endpoint_of old).end.phase ≡ true
+  -- After a fault the end has failed. One that is closed, or had failed before, takes nothing and stays as it is.
+  pub faults : FeedFaults result (endpoint_of old) (endpoint_of new)
+  -- Its settings stay.
+  pub settings : settings_at new ≡ settings_at old

@@ -1,0 +1,225 @@
+//! A frame that is taken by an end whose events lend: the same rules decide, and of a content under way only how far
+//! it has come is kept.
+ghost use Rattle.std.specs.Prelude.{◌≡◌, true, false, ℕ, [], map, Option, IfOk, IsOk, OnErr, OnOk};
+ghost use Rattle.amqp_channel.specs.ChannelsView.{channels_view};
+ghost use Rattle.amqp_channel.specs.ReadingView.{reading_view};
+ghost use Rattle.amqp_model.specs.End.Channels.{Channel, End};
+ghost use Rattle.amqp_model.specs.End.EndVerdict.{takes_frames};
+ghost use Rattle.amqp_model.specs.End.Events as events;
+ghost use Rattle.amqp_model.specs.Lent.Alike.{lent as lent_of, maybe_telling, AlikeEnds};
+ghost use Rattle.amqp_model.specs.Wire.Contents as contents;
+ghost use Rattle.amqp_model.specs.Wire.Readings as readings;
+ghost use Rattle.amqp_core.specs.Answering.{answer_with, is_out_of_memory, ran_out, stopped, AnswersFrame, Reports};
+ghost use Rattle.amqp_core.specs.Dropping.{IsDropped};
+ghost use Rattle.amqp_core.specs.EventRefView.{report_lent};
+ghost use Rattle.amqp_core.specs.Lending.{AlikeLeft};
+ghost use Rattle.amqp_core.specs.Outcomes.{SameEnd, owed_by};
+ghost use Rattle.amqp_model.specs.Stream.Endpoint.{Found, fault_told, owed_at_fault};
+ghost use Rattle.amqp_core.specs.Settings.{role_for};
+ghost use Rattle.amqp_core.specs.Stages.{leaves, phase_at};
+ghost use Rattle.amqp_core.specs.VerdictView.{event_by, fault_by, outcome_with, verdict_here, verdict_view, FitsVerdict, IsLight};
+ghost use Rattle.amqp_core.specs.declared.settings.Settings.{Settings};
+
+use crate::account::Account;
+use crate::connection::Connection;
+use crate::connection::reply::put_owed;
+use crate::faults::{CoreFault, OutOfMemory};
+use crate::step::Report;
+use crate::verdict::Verdict;
+use amqp_channel::{Reading, Told, Verdict as ChannelVerdict};
+use amqp_frame::{FrameFaultKind, FrameRef};
+use amqp_outbox::Outbox;
+
+impl Verdict {
+    /// What is told of the frame, or the fault that is found with it.
+    #[tactic(auto, using(crate::proofs::LendLemmas::told_lends, crate::proofs::LendLemmas::notice_lends))]
+    fn report(self) -> Result<Report, CoreFault>
+        ensures says { (settings : Settings) (number : ℕ) (reading : readings.Reading) (whole : Option contents.Content)
+            → AnswersFrame (answer_with result (event_by number (verdict_view settings number reading whole self)))
+            (outcome_with (event_by number (verdict_view settings number reading whole self))
+            (fault_by (verdict_view settings number reading whole self))) }
+        ensures told { IfOk result
+            (λ report. (settings : Settings) (end : End) (number : ℕ) (reading : readings.Reading)
+            → FitsVerdict end number reading self → report_lent number reading report
+            ≡ lent_of number reading (maybe_telling (event_by number
+            (verdict_here settings end number reading self)))) }
+        ensures memory { ran_out result ≡ false }
+        ensures light { (channel : Channel) → IsLight channel self → IsOk result }
+    {
+        match self {
+            Verdict::OnChannel(ChannelVerdict::Proceeds(told, _)) => Ok(Report::OnChannel(told)),
+            Verdict::OnChannel(ChannelVerdict::RefusesContent) => {
+                Ok(Report::OnChannel(Told::Discarded))
+            }
+            Verdict::OnChannel(ChannelVerdict::Faults(code)) => Err(CoreFault::Peer(code)),
+            Verdict::Proceeds { notice, .. } => Ok(Report::OfConnection(notice)),
+            Verdict::Faults(fault) => Err(fault.reported()),
+        }
+    }
+}
+
+impl Connection {
+    ghost use Rattle.std.specs.Prelude.{cond};
+    ghost use Rattle.amqp_channel.specs.ChannelsView.{NoneUnderWay};
+    ghost use Rattle.amqp_core.specs.ConnectionView.{connection_end};
+    ghost use Rattle.amqp_frame.specs.Frame.{lent};
+    ghost use Rattle.amqp_model.specs.End.Closes.{frame_of};
+    ghost use Rattle.amqp_model.specs.End.EndVerdict.{end_puts, end_verdict, facts_at};
+    ghost use Rattle.amqp_model.specs.End.Machine.{as_failed, end_after_taken};
+    ghost use Rattle.amqp_model.specs.Laws.OctetLaws.{event_of_frame};
+    ghost use Rattle.amqp_model.specs.Output.Outputs.{after_puts};
+    ghost use Rattle.amqp_model.specs.Stream.Endpoint.{outcome_of};
+    ghost use Rattle.amqp_model.specs.Wire.Readings.{reading as says};
+    ghost use Rattle.amqp_outbox.specs.OutboxView.{only};
+    ghost use Rattle.amqp_core.specs.Answering.{PutsAs};
+    ghost use Rattle.amqp_core.specs.Lending.{EndsAlike};
+    ghost use Rattle.amqp_core.specs.Settings.{config_view};
+    ghost use Rattle.amqp_core.specs.VerdictView.{end_left};
+
+    /// From here on the end lends what it takes.
+    pub(crate) fn lend(&mut self)
+        ensures end { connection_end self.new ≡ connection_end self.old }
+        ensures settings { self.new.settings ≡ record self.old.settings { lends = true } }
+    {
+        self.settings.lends = true;
+    }
+
+    /// From here on the end gathers whole contents, if none is under way. The answer is whether that is so.
+    pub(crate) fn gather(&mut self) -> bool
+        ensures end { connection_end self.new ≡ connection_end self.old }
+        ensures settings { self.new.settings ≡ cond result (record self.old.settings {
+          lends = false;
+        }) self.old.settings }
+        ensures none { result ≡ true → NoneUnderWay self.old.channels }
+    {
+        if self.channels.is_any_under_way() {
+            return false;
+        }
+        self.settings.lends = false;
+        true
+    }
+
+    /// Leaves the end as a frame with this verdict does. Out of memory, nothing that was agreed is lost.
+    #[tactic(auto, using(crate::proofs::StreamLemmas::end_itself))]
+    fn apply_lent(
+        &mut self,
+        number: u16,
+        reading: Reading<'_>,
+        verdict: Verdict,
+    ) -> Result<(), OutOfMemory>
+        requires lends { self.old.settings.lends ≡ true }
+        requires fits { FitsVerdict (connection_end self.old) number (reading_view reading) verdict }
+        ensures left { OnOk result (AlikeEnds
+            (end_left (role_for self.old.settings) number (reading_view reading.entry) verdict
+            (connection_end self.old))
+            (connection_end self.new)) }
+        ensures settings { self.new.settings ≡ self.old.settings }
+        ensures err { OnErr result (self.new.stage ≡ self.old.stage) }
+        ensures light { IsLight (channels_view self.old.channels number) verdict → IsOk result }
+    {
+        match verdict {
+            Verdict::OnChannel(said) => {
+                let side = self.settings.hello.side();
+                self.channels
+                    .apply_lent(self.alloc, side, number, reading, said)?;
+                Ok(())
+            }
+            Verdict::Proceeds { stage, .. } => {
+                self.stage = stage;
+                Ok(())
+            }
+            Verdict::Faults(_) => Ok(()),
+        }
+    }
+
+    /// Does what the rules say of a frame: the end is left as it leaves it, and what is owed is put. Out of memory,
+    /// nothing is put.
+    fn carry_out_lent(
+        &mut self,
+        outbox: &mut Outbox,
+        number: u16,
+        reading: Reading<'_>,
+        verdict: Verdict,
+    ) -> Result<(), OutOfMemory>
+        requires lends { self.old.settings.lends ≡ true }
+        requires fits { FitsVerdict (connection_end self.old) number (reading_view reading) verdict }
+        requires staged { outbox.old.staged ≡ [] }
+        ensures left { OnOk result (AlikeEnds
+            (end_left (role_for self.old.settings) number (reading_view reading.entry) verdict
+            (connection_end self.old))
+            (connection_end self.new)) }
+        ensures put { OnOk result (outbox.new
+            ≡ only (after_puts (map frame_of (owed_by (leaves (phase_at self.old.stage)) number
+            (verdict_here self.old.settings (connection_end self.old) number (reading_view reading.entry) verdict)))
+            outbox.old.output)) }
+        ensures kept { OnErr result (outbox.new ≡ only outbox.old.output) }
+        ensures light { IsLight (channels_view self.old.channels number) verdict → IsOk result }
+        ensures settings { self.new.settings ≡ self.old.settings }
+    {
+        let closing = self.stage.is_closing();
+        self.apply_lent(number, reading, verdict)?;
+        let owed = verdict.owed(closing, number);
+        put_owed(self.alloc, &self.settings, owed, outbox)
+    }
+
+    /// Takes a frame that says this. What the end owes is put, and what the frame tells is answered. Out of memory,
+    /// the end fails, and nothing is put.
+    pub(crate) fn receive_lent(
+        &mut self,
+        outbox: &mut Outbox,
+        frame: FrameRef<'_>,
+        reading: Reading<'_>,
+    ) -> Result<Report, CoreFault>
+        requires lends { self.old.settings.lends ≡ true }
+        requires taking { takes_frames (phase_at self.old.stage) ≡ true }
+        requires staged { outbox.old.staged ≡ [] }
+        requires says { reading_view reading ≡ says (lent frame) }
+        ensures said { AnswersFrame
+            (answer_with result (event_of_frame (config_view self.old.settings)
+            (connection_end self.old) (lent frame.entry)))
+            (outcome_of (facts_at (config_view self.old.settings) (connection_end self.old) (lent frame.entry).channel)
+            (end_verdict (config_view self.old.settings) (connection_end self.old) (lent frame.entry))) }
+        ensures told { IfOk result (λ report. report_lent (lent frame.entry).channel (says (lent frame.entry)) report
+            ≡ lent_of (lent frame.entry).channel (says (lent frame.entry))
+            (maybe_telling (event_of_frame (config_view self.old.settings)
+            (connection_end self.old) (lent frame.entry)))) }
+        ensures end { EndsAlike result (connection_end self.old)
+            (end_after_taken (role_for self.old.settings) (config_view self.old.settings) (connection_end self.old)
+            (says (lent frame.entry)) (lent frame.entry)) (connection_end self.new) }
+        ensures output { PutsAs result outbox.old.output
+            (after_puts (end_puts (config_view self.old.settings) (connection_end self.old) (lent frame.entry))
+            outbox.old.output)
+            outbox.new }
+        // A frame that is dropped takes no memory.
+        ensures alone { IsDropped (phase_at self.old.stage) (channels_view self.old.channels (lent frame.entry).channel)
+            (lent frame.entry).channel (lent frame.entry).kind (lent frame.entry).payload → IsOk result }
+        ensures settings { self.new.settings ≡ self.old.settings }
+    {
+        let before = self.stage;
+        let verdict = self.judge(frame.channel, reading);
+        let Ok(()) = self.carry_out_lent(outbox, frame.channel, reading, verdict) else {
+            self.fail_at(before);
+            return Err(CoreFault::OutOfMemory);
+        };
+        let fault = verdict.fault();
+        self.fail_by(fault);
+        verdict.report()
+    }
+
+    /// Octets are no frame: as [`Connection::stop`], where nothing is noted.
+    pub(crate) fn stop_lent(&mut self, outbox: &mut Outbox, kind: FrameFaultKind) -> CoreFault
+        requires { outbox.old.staged ≡ [] }
+        ensures said { Reports result (Found (fault_told kind)) }
+        ensures memory { kind ≡ FrameFaultKind.OutOfMemory → is_out_of_memory result ≡ true }
+        ensures end { SameEnd (cond (is_out_of_memory result) (as_failed (connection_end self.old))
+            (stopped (role_for self.old.settings) (config_view self.old.settings) (connection_end self.old) kind))
+            (connection_end self.new) }
+        ensures output { outbox.new ≡ only (cond (is_out_of_memory result) outbox.old.output
+            (after_puts (map frame_of (owed_at_fault (config_view self.old.settings)
+            (connection_end self.old) kind)) outbox.old.output)) }
+        ensures settings { self.new.settings ≡ self.old.settings }
+    {
+        let mut account = Account::new();
+        self.stop(outbox, kind, &mut account)
+    }
+}

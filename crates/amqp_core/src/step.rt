@@ -1,0 +1,166 @@
+//! A step of an end whose events lend: what came of a piece, before the event is made.
+//!
+//! The frame lies in the piece, or in the end's own buffer. A step borrows the piece alone, so the end can be asked and
+//! written before the event is taken.
+ghost use Rattle.std.specs.Prelude.{◌≡◌, IsOk, Option};
+ghost use Rattle.amqp_frame.specs.Frame.{Frame};
+ghost use Rattle.amqp_channel.specs.PartsView.{parts_there};
+ghost use Rattle.amqp_channel.specs.ReadingView.{reading_view};
+ghost use Rattle.amqp_core.specs.StepView.{came_lent, heard_seen, quiet_there, read_at, seen_by, step_seen};
+ghost use Rattle.amqp_core.specs.EventRefView.{channel_lent, event_ref_there, notice_lent, report_lent};
+
+use crate::account::Account;
+use crate::event_ref::{
+    EventRef, lend_blocked, lend_channel_close, lend_close, lend_method, lend_part,
+};
+use crate::faults::CoreFault;
+use crate::verdict::Notice;
+use amqp_channel::{EventParts, Reading, Told};
+
+/// What a frame tells: of its channel, or of the connection.
+#[derive(Clone, Copy)]
+pub(crate) enum Report {
+    OnChannel(Told),
+    OfConnection(Notice),
+}
+
+/// Where the frame lies of which something is told.
+#[derive(Clone, Copy)]
+pub(crate) enum Lying<'a> {
+    /// In the piece, which says this.
+    Piece(Reading<'a>),
+    /// In the end's buffer.
+    Buffer,
+}
+
+/// What a frame tells, and where it lies.
+#[derive(Clone, Copy)]
+pub(crate) struct Came<'a> {
+    pub(crate) number: u16,
+    pub(crate) lying: Lying<'a>,
+    pub(crate) report: Report,
+}
+
+/// What came of a piece: how many of its octets were taken, and what the frame tells that the last of them ends.
+#[derive(Clone, Copy)]
+pub struct Step<'a> {
+    pub octets: usize,
+    pub(crate) came: Option<Came<'a>>,
+}
+
+/// The event of a frame of a channel.
+fn lend_told<'a>(number: u16, reading: Reading<'a>, told: Told) -> Option<EventRef<'a>>
+    ensures { event_ref_there result ≡ channel_lent number (reading_view reading.entry) told }
+{
+    match told {
+        Told::Method => lend_method(number, reading),
+        Told::Begun => lend_part(number, reading, false),
+        Told::Headed => lend_part(number, reading, false),
+        Told::Continued => lend_part(number, reading, false),
+        Told::Completed => lend_part(number, reading, true),
+        Told::Opened => Some(EventRef::Opened(number)),
+        Told::Flow(active) => Some(EventRef::Flow(number, active)),
+        Told::FlowOk(active) => Some(EventRef::FlowOk(number, active)),
+        Told::ClosedByPeer => lend_channel_close(number, reading),
+        Told::ClosedByUs => Some(EventRef::ChannelClosed(number, None)),
+        Told::Discarded => Some(EventRef::Discarded(number)),
+        Told::Quiet => Some(EventRef::Quiet),
+    }
+}
+
+/// The event of a frame that tells of the connection.
+fn lend_notice<'a>(number: u16, reading: Reading<'a>, notice: Notice) -> Option<EventRef<'a>>
+    ensures { event_ref_there result ≡ notice_lent number (reading_view reading.entry) notice }
+{
+    match notice {
+        Notice::Quiet => Some(EventRef::Quiet),
+        Notice::Discarded => Some(EventRef::Discarded(number)),
+        Notice::AnswerAsked => Some(EventRef::AnswerAsked),
+        Notice::LoginAsked => Some(EventRef::LoginAsked),
+        Notice::OpenAsked => Some(EventRef::OpenAsked),
+        Notice::Negotiated(agreed) => Some(EventRef::Negotiated(agreed)),
+        Notice::ClosedByPeer => lend_close(reading),
+        Notice::ClosedByUs => Some(EventRef::ConnectionClosed(None)),
+        Notice::Blocked => lend_blocked(reading),
+        Notice::Unblocked => Some(EventRef::Unblocked),
+    }
+}
+
+/// The event of a frame that says this.
+pub(crate) fn lend_report<'a>(
+    number: u16,
+    reading: Reading<'a>,
+    report: Report,
+) -> Option<EventRef<'a>>
+    ensures { event_ref_there result ≡ report_lent number (reading_view reading.entry) report }
+{
+    match report {
+        Report::OnChannel(told) => lend_told(number, reading, told),
+        Report::OfConnection(notice) => lend_notice(number, reading, notice),
+    }
+}
+
+/// What came of a frame of this channel, which lies there and has this answer.
+#[inline(always)]
+pub(crate) fn step_of<'a>(
+    octets: usize,
+    number: u16,
+    lying: Lying<'a>,
+    answer: Result<Report, CoreFault>,
+) -> Result<Step<'a>, CoreFault>
+    ensures seen { (given : Option Frame) → step_seen result given ≡ seen_by answer octets number (read_at lying.entry given) }
+    ensures ok { IsOk answer → IsOk result }
+{
+    match answer {
+        Ok(report) => Ok(Step {
+            octets,
+            came: Some(Came {
+                number,
+                lying,
+                report,
+            }),
+        }),
+        Err(fault) => Err(fault),
+    }
+}
+
+/// What came of so many octets of the protocol header, which told this event or none.
+fn quiet_step<'a>(octets: usize, parts: Option<EventParts>) -> Step<'a>
+    ensures octets { result.octets ≡ octets }
+    ensures event { (given : Option Frame) → came_lent result.came given ≡ quiet_there (parts_there parts) }
+{
+    let Some(_parts) = parts else {
+        return Step { octets, came: None };
+    };
+    Step {
+        octets,
+        came: Some(Came {
+            number: 0,
+            lying: Lying::Piece(Reading::Heartbeat { empty: true }),
+            report: Report::OfConnection(Notice::Quiet),
+        }),
+    }
+}
+
+/// What came of octets of the protocol header, with this answer and as it is noted.
+pub(crate) fn step_heard<'a>(
+    answer: Result<(), CoreFault>,
+    account: Account,
+) -> Result<Step<'a>, CoreFault>
+    ensures { (given : Option Frame)
+        → step_seen result given ≡ heard_seen answer account.octets (parts_there account.parts) }
+{
+    let Account {
+        octets,
+        took: _,
+        owed: _,
+        parts,
+    } = account;
+    match answer {
+        Ok(()) => Ok(quiet_step(octets, parts)),
+        Err(fault) => {
+            drop(parts);
+            Err(fault)
+        }
+    }
+}

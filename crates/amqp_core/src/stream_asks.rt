@@ -1,0 +1,292 @@
+//! What an application asks of an end whose events lend, and what such an end answers of itself: as
+//! [`End`](crate::End) does.
+ghost use Rattle.std.specs.Prelude.{◌≡◌, ◌≤◌, ◌<◌, true, false, length, Err, IfOk};
+ghost use Rattle.amqp_method.specs.HeaderView.{properties_view};
+ghost use Rattle.amqp_method.specs.Kinds.{has_content};
+ghost use Rattle.amqp_method.specs.MessageView.{message_view};
+ghost use Rattle.amqp_method.specs.Messages.{letter_with};
+ghost use Rattle.amqp_method.specs.MethodView.{method_view};
+ghost use Rattle.amqp_model.specs.Output.ArrangementRules.{FollowsRules};
+ghost use Rattle.amqp_model.specs.End.Answers.{channel_state, gathered, reply_due};
+ghost use Rattle.amqp_model.specs.End.Asks as asks;
+ghost use Rattle.amqp_model.specs.End.Bounds.{OthersAreFree};
+ghost use Rattle.amqp_model.specs.End.EndVerdict.{takes_octets};
+ghost use Rattle.amqp_model.specs.History.Negotiation.{frame_limit};
+ghost use Rattle.amqp_model.specs.Output.Outputs.{output_octets, waiting_on};
+ghost use Rattle.amqp_model.specs.Stream.Endpoint.{after_wrote};
+ghost use Rattle.amqp_channel.specs.EventView.{agreed_there};
+ghost use Rattle.amqp_channel.specs.Messages.{message_of};
+ghost use Rattle.amqp_channel.specs.StateView.{state_view};
+ghost use Rattle.amqp_core.specs.AskView.{ask_view, lent_view};
+ghost use Rattle.amqp_core.specs.Bounded.{IsBounded};
+ghost use Rattle.amqp_core.specs.Counted.{heartbeat_in};
+ghost use Rattle.amqp_core.specs.Counters.{counts_octets};
+ghost use Rattle.amqp_core.specs.LentLetter.{lent_letter};
+ghost use Rattle.amqp_core.specs.Stages.{phase_name};
+
+use crate::asks::{Ask, LentAsk};
+use crate::faults::AskFault;
+use crate::lent_message::LentMessage;
+use crate::roles::Role;
+use crate::stage::Phase;
+use crate::stream::StreamEnd;
+use amqp_channel::{Agreed, ChannelState};
+use amqp_method::{Kind, Message, Method, Properties};
+use amqp_model::{answers, arrangement, bounds, fitting, octets, one_end, replies, streaming};
+use amqp_value::ShortStr;
+
+impl<R: Role> StreamEnd<R> {
+    ghost use Rattle.amqp_core.specs.StreamAsks.{StreamAnswersLowest, StreamAnswersNumber, StreamAsked};
+    ghost use Rattle.amqp_core.specs.StreamQueries.{AgreedOfHistory, CameOfHistory, DueOfHistory, OutputIsInOrder, PendingOfHistory, PhaseOfHistory, StateOfHistory, WritesOn};
+    ghost use Rattle.amqp_core.specs.StreamView.{config_at, counters_of, endpoint_of, role_played, settings_at};
+
+    /// The octets to send next. They stay until [`StreamEnd::wrote`] says that they were sent.
+    pub fn output(&self) -> &[u8]
+        ensures octets { result.now ≡ output_octets (endpoint_of self.now).output }
+        // The frames that are not begun stand in it by the rules.
+        ensures rules { FollowsRules (endpoint_of self.now).output.last (endpoint_of self.now).output.row }
+        // With what was written, those of each channel are in the order put.
+        ensures order { OutputIsInOrder self.now }
+    {
+        arrangement::output_follows();
+        one_end::closes_are_put_last();
+        fitting::owed_read_back();
+        self.inner.outbox.output()
+    }
+
+    /// How many octets wait to be written on a channel: what is left of a frame that is begun, and the frames after it.
+    pub fn waiting(&self, channel: u16) -> usize
+        ensures { result ≡ waiting_on channel (endpoint_of self.now).output }
+    {
+        self.inner.outbox.waiting(channel)
+    }
+
+    /// How many octets wait to be written on all channels: as many as [`StreamEnd::output`] has.
+    pub fn waiting_in_all(&self) -> usize
+        ensures { result ≡ length (output_octets (endpoint_of self.now).output) }
+    {
+        self.inner.outbox.waiting_in_all()
+    }
+
+    /// So many octets of the output were sent.
+    pub fn wrote(&mut self, octets: usize)
+        requires { octets ≤ length (output_octets (endpoint_of self.old).output) }
+        ensures written { endpoint_of self.new ≡ after_wrote octets (endpoint_of self.old) }
+        ensures history { WritesOn self.old octets self.new }
+        ensures counters { counters_of self.new ≡ counts_octets octets (counters_of self.old) }
+        ensures settings { settings_at self.new ≡ settings_at self.old }
+    {
+        octets::octets_follow();
+        streaming::alike_endpoints_stay_alike();
+        self.inner.wrote(octets);
+        self.octets_written = self.octets_written.saturating_add(octets as u64);
+    }
+
+    /// How many frames the end took, heartbeats too: as [`End::frames_taken`](crate::End::frames_taken).
+    pub fn frames_taken(&self) -> u64
+        ensures { result ≡ (counters_of self.now).frames }
+    {
+        self.frames_taken
+    }
+
+    /// How many octets of the output were written: as [`End::octets_written`](crate::End::octets_written).
+    pub fn octets_written(&self) -> u64
+        ensures { result ≡ (counters_of self.now).octets }
+    {
+        self.octets_written
+    }
+
+    /// The heartbeat that was agreed, in seconds; 0 is none, and what stands before tune-ok (section 4.2.7).
+    pub fn heartbeat(&self) -> u16
+        ensures { result ≡ heartbeat_in (endpoint_of self.now).end.agreed }
+    {
+        self.inner.connection.stage.heartbeat()
+    }
+
+    /// How far the connection is.
+    pub fn phase(&self) -> Phase
+        ensures phase { result ≡ phase_name (endpoint_of self.now).end.phase }
+        ensures history { PhaseOfHistory self.now result }
+    {
+        self.inner.connection.stage.phase()
+    }
+
+    /// What tune-ok settled: known from the moment on that a client has put it, or that a server has taken it.
+    pub fn agreed(&self) -> Option<Agreed>
+        ensures agreed { agreed_there result ≡ (endpoint_of self.now).end.agreed }
+        ensures history { AgreedOfHistory self.now (agreed_there result) }
+    {
+        self.inner.connection.stage.agreed()
+    }
+
+    /// The state of a channel. Channel 0 and the numbers above the agreed maximum are Free.
+    pub fn channel_state(&self, channel: u16) -> ChannelState
+        ensures state { state_view result ≡ channel_state (endpoint_of self.now).end channel }
+        // So no more channels than were agreed are other than Free.
+        ensures others { OthersAreFree (endpoint_of self.now).end channel }
+        ensures history { StateOfHistory self.now channel (state_view result) }
+    {
+        bounds::answers_are_bounded();
+        one_end::answers_are_of_history();
+        answers::states_are_of_notes();
+        streaming::alike_ends_ask_alike();
+        self.inner.connection.channel_state(channel)
+    }
+
+    /// How many octets were taken of a frame that isn't whole yet, or of the protocol header: fewer than a frame may
+    /// have.
+    pub fn pending(&self) -> usize
+        ensures count { result ≡ length (endpoint_of self.now).unfinished }
+        ensures below { result < frame_limit (endpoint_of self.now).end.agreed }
+        // A closed or failed end keeps none.
+        ensures none { takes_octets (endpoint_of self.now).end.phase ≡ false → result ≡ 0 }
+        ensures history { PendingOfHistory self.now result }
+    {
+        self.inner.pending()
+    }
+
+    /// How many octets have come of the body of a content that isn't whole yet, in phase Running on an Open channel.
+    /// They were told, and are not kept.
+    pub fn came(&self, channel: u16) -> usize
+        ensures came { result ≡ gathered (endpoint_of self.now).end channel }
+        ensures most { result ≤ (config_at self.now).max_body }
+        ensures history { CameOfHistory self.now channel result }
+    {
+        bounds::answers_are_bounded();
+        one_end::answers_are_of_history();
+        one_end::record_reads();
+        answers::octets_are_of_body();
+        streaming::contents_are_streamed();
+        self.inner.connection.gathered(channel)
+    }
+
+    /// The request that is to be answered next on a channel: at a client the one that waits for its reply, at a
+    /// server the oldest that it took.
+    pub fn reply_due(&self, channel: u16) -> Option<Kind>
+        ensures request { result ≡ reply_due (endpoint_of self.now).end channel }
+        // Of each channel at most 1,024 requests are kept, and one at a client.
+        ensures most { IsBounded (role_played self.now) (config_at self.now) (endpoint_of self.now).end }
+        ensures history { DueOfHistory self.now channel result }
+    {
+        one_end::answers_are_of_history();
+        one_end::record_reads();
+        replies::unanswered_are_kept();
+        fitting::owed_read_back();
+        streaming::alike_ends_ask_alike();
+        self.inner.connection.reply_due(channel)
+    }
+
+    /// Asks something of the end.
+    fn put_ask(&mut self, ask: LentAsk<'_>) -> Result<Option<u16>, AskFault>
+        ensures asked { StreamAsked self.old (lent_view ask.entry) result self.new }
+        ensures number { StreamAnswersNumber self.old (lent_view ask.entry) result }
+    {
+        octets::octets_follow();
+        fitting::frames_fit();
+        one_end::ask_is_of_history();
+        streaming::alike_ends_ask_alike();
+        streaming::alike_endpoints_stay_alike();
+        self.inner.ask(ask)
+    }
+
+    /// Asks something of the end: it is refused with the first refusal that applies, which changes nothing, or its
+    /// frames are put. The answer is the channel that an open takes.
+    pub fn ask(&mut self, ask: &Ask) -> Result<Option<u16>, AskFault>
+        ensures asked { StreamAsked self.old (ask_view ask.now) result self.new }
+        ensures number { StreamAnswersNumber self.old (ask_view ask.now) result }
+    {
+        self.put_ask(ask.lent())
+    }
+
+    /// Opens the lowest channel that is free, which it answers. Only a client opens channels.
+    pub fn open_channel(&mut self) -> Result<u16, AskFault>
+        ensures asked { StreamAsked self.old asks.Open result self.new }
+        ensures number { StreamAnswersLowest self.old result }
+    {
+        match self.put_ask(LentAsk::Open)? {
+            Some(number) => Ok(number),
+            None => unreachable!(),
+        }
+    }
+
+    /// Sends a message whose parts are lent.
+    fn put_message(&mut self, channel: u16, message: LentMessage<'_>) -> Result<(), AskFault>
+        ensures { StreamAsked self.old (asks.Send channel (message_of (lent_letter message.entry))) result self.new }
+    {
+        self.put_ask(LentAsk::Send(channel, message))?;
+        Ok(())
+    }
+
+    /// Sends a message on a channel: a method, or a method with its content, which is cut to the agreed frame size.
+    pub fn send(&mut self, channel: u16, message: &Message) -> Result<(), AskFault>
+        ensures { StreamAsked self.old (asks.Send channel (message_of (message_view message.now))) result self.new }
+    {
+        self.put_message(channel, LentMessage::of(message))
+    }
+
+    /// Sends a method and its content on a channel, as [`StreamEnd::send`] sends the message that these make. The body is copied
+    /// once, into the output, and nothing else is.
+    ///
+    /// A method that no content follows makes no such message: it is [`AskFault::NotSendable`], whatever else is so.
+    pub fn send_content(
+        &mut self,
+        channel: u16,
+        method: &Method,
+        properties: &Properties,
+        body: &[u8],
+    ) -> Result<(), AskFault>
+        ensures asked { has_content (method_view method.now).kind ≡ true → StreamAsked self.old (asks.Send channel (message_of (letter_with (method_view method.now) (properties_view properties.now) body.now))) result self.new }
+        ensures alone { has_content (method_view method.now).kind ≡ false → (result ≡ Err AskFault.NotSendable) × (self.new ≡ self.old) }
+    {
+        if !method.has_content() {
+            return Err(AskFault::NotSendable);
+        }
+        let message = LentMessage::content(method, properties, body);
+        self.put_message(channel, message)
+    }
+
+    /// Asks the other end to send contents on a channel, or no more of them.
+    pub fn flow(&mut self, channel: u16, active: bool) -> Result<(), AskFault>
+        ensures { StreamAsked self.old (asks.Flow channel active) result self.new }
+    {
+        self.put_ask(LentAsk::Flow(channel, active))?;
+        Ok(())
+    }
+
+    /// Closes a channel, with a code and a text.
+    pub fn close_channel(
+        &mut self,
+        channel: u16,
+        code: u16,
+        text: &ShortStr,
+    ) -> Result<(), AskFault>
+        ensures { StreamAsked self.old (asks.CloseChannel channel code text.now) result self.new }
+    {
+        self.put_ask(LentAsk::CloseChannel(channel, code, text))?;
+        Ok(())
+    }
+
+    /// Closes the connection, with a code and a text.
+    pub fn close(&mut self, code: u16, text: &ShortStr) -> Result<(), AskFault>
+        ensures { StreamAsked self.old (asks.Close code text.now) result self.new }
+    {
+        self.put_ask(LentAsk::Close(code, text))?;
+        Ok(())
+    }
+
+    /// Says that the server takes no more contents, and why. Only a server says so.
+    pub fn blocked(&mut self, reason: &ShortStr) -> Result<(), AskFault>
+        ensures { StreamAsked self.old (asks.Blocked reason.now) result self.new }
+    {
+        self.put_ask(LentAsk::Blocked(reason))?;
+        Ok(())
+    }
+
+    /// Says that the server takes contents again. Only a server says so.
+    pub fn unblocked(&mut self) -> Result<(), AskFault>
+        ensures { StreamAsked self.old asks.Unblocked result self.new }
+    {
+        self.put_ask(LentAsk::Unblocked)?;
+        Ok(())
+    }
+}
