@@ -917,6 +917,69 @@ def time_outs():
             compare(f"{words} --timeout {seconds}", (b"", 2), (ran.stdout, ran.returncode))
 
 
+def tuned(octets, seconds):
+    """The octets of tune or tune-ok, with this heartbeat."""
+    return octets[:-6] + f"{seconds:04x}ce"
+
+
+SILENT = "no octet came for two heartbeats"
+
+
+def heartbeats():
+    """The heartbeat that the ends settle on is kept: one is written where nothing else is, and an end that is silent for two is given up."""
+    shaken = HEADER + START_OK + tuned(TUNE_OK, 1) + OPEN_HOST
+    for options, proposed in (([], 0), (["--heartbeat", "0"], 0), (["--heartbeat", "1"], 1), (["--heartbeat", "65535"], 65535)):
+        # a client that settles on a second, whatever was proposed, and then says nothing
+        served = Served(*options)
+        peer = served.connected()
+        name = "{}:{}".format(*peer.getsockname())
+        began, came = time.monotonic(), ""
+        peer.sendall(bytes.fromhex(shaken))
+        while piece := peer.recv(65536):
+            came += piece.hex()
+        seconds = time.monotonic() - began
+        printed, status, said, _ = served.ended()
+        what = f"a silent client of serve {options}"
+        compare(what, ([*STARTED[:4], "fault time-out"], 1, f"amqp: {name}: {SILENT}\n"), (printed, status, said))
+        compare(f"{what}, for how long", True, 1.9 < seconds < 10)
+        hello = START + tuned(TUNE, proposed) + OPEN_OK
+        compare(f"{what}, what is written", True, came in (hello + HEARTBEAT * 3, hello + HEARTBEAT * 4))
+        peer.close()
+    # a client that sends heartbeats and nothing else lives, and is sent them
+    served = Served()
+    peer = served.connected()
+    peer.sendall(bytes.fromhex(shaken))
+    for _ in range(6):
+        time.sleep(0.7)
+        peer.sendall(bytes.fromhex(HEARTBEAT))
+    came = peer.recv(65536).hex()
+    peer.sendall(bytes.fromhex(CLOSE))
+    compare("a client that only beats", ([*STARTED[:4], *["quiet"] * 6, 'connection-closed 200 "reply-success"'], 0), served.ended()[:2])
+    beats = came.removeprefix(START + TUNE + OPEN_OK)
+    compare("the heartbeats to it", True, beats == HEARTBEAT * (len(beats) // len(HEARTBEAT)) and 5 <= len(beats) // len(HEARTBEAT) <= 9)
+    peer.close()
+    # of two heartbeats the smaller, and none where either is none
+    for options, proposed, settled in (([], 5, 0), (["--heartbeat", "7"], 0, 0), (["--heartbeat", "7"], 5, 5), (["--heartbeat", "5"], 7, 5)):
+        hellos = [(HEADER, START), (START_OK, tuned(TUNE, proposed)), (tuned(TUNE_OK, settled) + OPEN_HOST, OPEN_OK)]
+        script = [*hellos, (OPEN, CHANNEL_OPENED), *closing(PUBLISH + TWO_OCTETS)]
+        server = Scripted(script, False)
+        ran = run(["publish", *options, server.address, "", "q"], b"hi")
+        what = f"publish {options} where {proposed} is proposed"
+        compare(what, ("published 2\n", "", 0), (ran.stdout.decode(), ran.stderr.decode(), ran.returncode))
+        compare(f"{what}, what is written", "".join(awaited for awaited, _ in script), server.ended())
+    # a server that says nothing once it is asked for a channel
+    script = [(HEADER, START), (START_OK, tuned(TUNE, 3)), (tuned(TUNE_OK, 1) + OPEN_HOST, OPEN_OK), (OPEN, "")]
+    server = Scripted(script, False)
+    ran = run(["publish", "--heartbeat", "1", server.address, "", "q"], b"hi")
+    compare("a silent server", ("fault time-out\n", f"amqp: {server.address}: {SILENT}\n", 1), (ran.stdout.decode(), ran.stderr.decode(), ran.returncode))
+    written = "".join(awaited for awaited, _ in script)
+    compare("a silent server, what is written", True, server.ended() in (written + HEARTBEAT * 3, written + HEARTBEAT * 4))
+    for words in (["serve", "127.0.0.1:0"], ["publish", "127.0.0.1:1", "", "q"]):
+        for seconds in ("65536", "x", "-1"):
+            ran = run([*words, "--heartbeat", seconds])
+            compare(f"{words} --heartbeat {seconds}", (b"", 2), (ran.stdout, ran.returncode))
+
+
 def failing_connections():
     shake = bytes.fromhex(HEADER)
     # a client that resets the connection while the server reads
@@ -1091,7 +1154,7 @@ def refuses(what, words, given, whole):
 
 
 # a run counts as large as this program was when it was begun, so the long scripts come after the runs whose memory is measured
-for part in (streams, payloads, large, hexadecimal, servers, running_servers, prefixes, clients, limits, documented_runs, protocol_headers, command_lines, failing_streams, loops, progress, served_clients, publishers, properties, mandatory, logins, unfit_logins, failing_connections, no_connections, hostile_peers, time_outs, large_contents, scripts, refusals):
+for part in (streams, payloads, large, hexadecimal, servers, running_servers, prefixes, clients, limits, documented_runs, protocol_headers, command_lines, failing_streams, loops, progress, served_clients, publishers, properties, mandatory, logins, unfit_logins, failing_connections, no_connections, hostile_peers, time_outs, heartbeats, large_contents, scripts, refusals):
     part()
 for difference in differences:
     print(difference)

@@ -6,6 +6,7 @@ import os
 import shlex
 import subprocess
 import sys
+import tempfile
 import threading
 
 import amqp
@@ -14,7 +15,9 @@ import pika
 import pika.spec
 
 PROGRAM = shlex.split(os.environ["AMQP"])
-PROTOCOL = os.path.join(os.path.dirname(os.path.abspath(__file__)), "..", "docs", "PROTOCOL.md")
+HERE = os.path.dirname(os.path.abspath(__file__))
+PROTOCOL = os.path.join(HERE, "..", "docs", "PROTOCOL.md")
+CLIENTS = os.path.join(HERE, "clients")
 PORT = int(sys.argv[1])
 BROKER = f"127.0.0.1:{PORT}"
 failed = 0
@@ -241,6 +244,51 @@ def with_tools():
     says("serve amqp-declare-queue", ([*shaken(), told, "fault end-of-input"], 1), (printed, status))
 
 
+def idle_pika(port, heartbeat):
+    connection = pika.BlockingConnection(pika.ConnectionParameters("127.0.0.1", port, heartbeat=heartbeat))
+    channel = connection.channel()
+    connection.sleep(60)
+    channel.basic_publish("", "q", b"hi")
+    connection.close()
+
+
+def idle_go(port, heartbeat):
+    go = {"GO111MODULE": "off", "GOPATH": "/usr/share/gocode", "GOFLAGS": ""}
+    go["GOCACHE"] = os.environ.get("GOCACHE", os.path.join(tempfile.gettempdir(), "interop-go"))
+    words = ["go", "run", os.path.join(CLIENTS, "idle.go"), str(port), str(heartbeat)]
+    subprocess.run(words, check=True, capture_output=True, timeout=300, env={**os.environ, **go})
+
+
+def idles(what, client, heartbeat, options):
+    """A client that settles on this heartbeat, and says nothing else for a minute, is neither given up nor gives up."""
+    served = Served(*options)
+    try:
+        client(served.port, heartbeat)
+    except Exception as error:
+        says(f"serve {what}, idle for a minute", "no error", repr(error))
+    printed, status, said = served.ended()
+    told = ['told 1 basic.publish exchange="" routing-key="q" mandatory=0 immediate=0', "  header size=2", "  body 6869"]
+    beats = [line for line in printed[5:] if line == "quiet"]
+    rest = [line for line in printed[5:] if not line.startswith(("quiet", "channel-closed", "connection-closed"))]
+    says(f"serve {what}, idle for a minute", (shaken(), told, 0, ""), (printed[:5], rest, status, said))
+    says(f"serve {what}, heartbeats that come", True, len(beats) >= 60 // heartbeat)
+
+
+def with_idle_clients():
+    """All at once, so that it takes one minute."""
+    runs = [
+        (" ".join([name, "with a heartbeat of", str(heartbeat), *options]), client, heartbeat, options)
+        for name, client in (("pika", idle_pika), ("amqp091-go", idle_go))
+        for heartbeat in (2, 10)
+        for options in ([], ["--heartbeat", str(heartbeat)])
+    ]
+    threads = [threading.Thread(target=idles, args=run) for run in runs]
+    for thread in threads:
+        thread.start()
+    for thread in threads:
+        thread.join()
+
+
 def codes_of_the_peers():
     """The table of reply codes in docs/PROTOCOL.md, beside pika's names of them and py-amqp's levels of errors."""
     with open(PROTOCOL, encoding="utf-8") as file:
@@ -257,6 +305,6 @@ def codes_of_the_peers():
     says("hard errors of py-amqp", closing, hard)
 
 
-for part in (codes_of_the_peers, to_the_broker, with_options, with_pika, with_py_amqp, with_tools):
+for part in (codes_of_the_peers, to_the_broker, with_options, with_pika, with_py_amqp, with_tools, with_idle_clients):
     part()
 sys.exit(1 if failed else 0)

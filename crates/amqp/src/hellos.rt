@@ -65,6 +65,8 @@ pub fn client_config_of(
         frame_max: limits.frame_max,
         channel_max: limits.channel_max,
         max_body: limits.max_body,
+        heartbeat: 0,
+        gated: false,
         hello,
     })
 }
@@ -76,6 +78,8 @@ pub fn server_config(alloc: Global, limits: Limits) -> Result<Config<Server>, Ou
         frame_max: limits.frame_max,
         channel_max: limits.channel_max,
         max_body: limits.max_body,
+        heartbeat: 0,
+        gated: false,
         hello,
     })
 }

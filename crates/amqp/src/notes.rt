@@ -43,6 +43,7 @@ impl<'a, E: Write + Drop> Notes<'a, E> {
             Stop::TimedOut => self.say(
                 "no octet came or could be written for as long as the time-out",
             ),
+            Stop::NoHeartbeat => self.say("no octet came for two heartbeats"),
             Stop::HungUp(pending) => self.say_end("a frame", pending),
             Stop::HungUpInHeader(pending) => self.say_end("the protocol header", pending),
             Stop::Core(fault) => self.say_why("what came is at fault", &fault),

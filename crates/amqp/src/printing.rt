@@ -32,6 +32,8 @@ pub enum Stop {
     NotAwaited(io::Error),
     /// No octet came or could be written for as long as the time-out.
     TimedOut,
+    /// No octet came for two heartbeats.
+    NoHeartbeat,
     /// The other end hung up, with so many octets of a frame that isn't whole.
     HungUp(usize),
     /// The other end hung up, with so many octets of a protocol header that isn't whole: at least 1.
@@ -46,6 +48,7 @@ impl Stop {
             | Stop::NotSent(_)
             | Stop::NotAwaited(_)
             | Stop::TimedOut
+            | Stop::NoHeartbeat
             | Stop::HungUp(_)
             | Stop::HungUpInHeader(_) => true,
             Stop::NotWritten(_)
@@ -146,6 +149,7 @@ fn print_stop<W: Write>(stop: Stop, output: &mut W) -> io::Result<()> {
         Stop::NotSent(_) => print_word("write", output),
         Stop::NotAwaited(_) => print_word("read", output),
         Stop::TimedOut => print_word("time-out", output),
+        Stop::NoHeartbeat => print_word("time-out", output),
         Stop::HungUp(_) => print_word("end-of-input", output),
         Stop::HungUpInHeader(_) => print_word("end-of-input", output),
     }

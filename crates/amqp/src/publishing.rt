@@ -24,10 +24,12 @@ pub struct Content {
     pub body: Vec<u8>,
 }
 
-/// Publishes one content and closes the connection. It answers whether nothing told that the server did not take the content.
+/// Publishes one content and closes the connection, with an end that wants this heartbeat. It answers whether nothing told
+/// that the server did not take the content.
 pub fn publish<N: Net + Clock, E: Write + Drop>(
     alloc: Global,
     limits: Limits,
+    heartbeat: u16,
     content: Content,
     socket: Socket,
     readiness: &mut Readiness<'_, N>,
@@ -39,7 +41,7 @@ pub fn publish<N: Net + Clock, E: Write + Drop>(
         properties,
         body,
     } = content;
-    let end = client_end_of(alloc, limits, access)?;
+    let end = client_end_of(alloc, limits, access, heartbeat)?;
     let mut session = Session::new(alloc, end, socket);
     let run = publish_in(
         alloc,

@@ -1,7 +1,7 @@
 //! The subcommand `serve`, over a socket.
 use crate::printing::Stop;
 use crate::readiness::Readiness;
-use crate::sessions::{ANSWERS, pull_ready, server_end, settle};
+use crate::sessions::{ANSWERS, pull_ready, server_end_of, settle};
 use amqp_command::Limits;
 use amqp_core::{Event, Server};
 use amqp_io::{Session, Socket};
@@ -12,15 +12,17 @@ use std::io::Write;
 use std::net::Net;
 use std::time::Clock;
 
-/// Serves one connection until it is closed: prints the events of its end, and answers what the end owes.
+/// Serves one connection until it is closed: prints the events of its end, and answers what the end owes. The end wants
+/// this heartbeat.
 pub fn serve<N: Net + Clock, W: Write>(
     alloc: Global,
     limits: Limits,
+    heartbeat: u16,
     socket: Socket,
     readiness: &mut Readiness<'_, N>,
     output: &mut W,
 ) -> Result<u8, Stop> {
-    let end = server_end(alloc, limits)?;
+    let end = server_end_of(alloc, limits, heartbeat)?;
     let mut session = Session::new(alloc, end, socket);
     let run = serve_session(&mut session, readiness, output);
     drop(session);

@@ -6,7 +6,7 @@ use crate::hellos::{Access, client_config, client_config_of, server_config};
 use crate::printing::Stop;
 use crate::readiness::Readiness;
 use amqp_command::Limits;
-use amqp_core::{Client, End, Phase, Role, Server};
+use amqp_core::{AskFault, Client, End, Phase, Role, Server};
 use amqp_io::{IoFault, Session, Socket};
 use std::alloc::Global;
 use std::net::Net;
@@ -25,15 +25,28 @@ pub fn client_end(alloc: Global, limits: Limits) -> Result<End<Client>, Stop> {
     Ok(End::new(alloc, config)?)
 }
 
-/// A client with these limits that logs in so.
-pub fn client_end_of(alloc: Global, limits: Limits, access: Access) -> Result<End<Client>, Stop> {
-    let config = client_config_of(alloc, limits, access)?;
+/// A client with these limits that logs in so, and wants this heartbeat.
+pub fn client_end_of(
+    alloc: Global,
+    limits: Limits,
+    access: Access,
+    heartbeat: u16,
+) -> Result<End<Client>, Stop> {
+    let mut config = client_config_of(alloc, limits, access)?;
+    config.heartbeat = heartbeat;
     Ok(End::new(alloc, config)?)
 }
 
 /// A server with these limits.
 pub fn server_end(alloc: Global, limits: Limits) -> Result<End<Server>, Stop> {
     let config = server_config(alloc, limits)?;
+    Ok(End::new(alloc, config)?)
+}
+
+/// A server with these limits that wants this heartbeat.
+pub fn server_end_of(alloc: Global, limits: Limits, heartbeat: u16) -> Result<End<Server>, Stop> {
+    let mut config = server_config(alloc, limits)?;
+    config.heartbeat = heartbeat;
     Ok(End::new(alloc, config)?)
 }
 
@@ -115,7 +128,7 @@ fn push_all<R: Role, N: Net + Clock>(
         if push_ready(session)? {
             readiness.moved();
         } else {
-            readiness.wait()?;
+            readiness.wait(false)?;
         }
     }
     Ok(())
@@ -146,16 +159,42 @@ pub fn settle<R: Role, N: Net + Clock>(
     }
 }
 
+/// Whether the end may put a heartbeat now. Where octets wait to be written, it would tell nothing more than these.
+fn may_beat<R: Role>(session: &Session<R, Socket>) -> bool {
+    session.end().phase() == Phase::Running && waiting(session) == 0
+}
+
+/// Puts a heartbeat, if one is due.
+fn beat<R: Role, N: Net + Clock>(
+    session: &mut Session<R, Socket>,
+    readiness: &mut Readiness<'_, N>,
+) -> Result<(), AskFault> {
+    readiness.keep(session.end().heartbeat());
+    if may_beat(session) && readiness.owes_beat() {
+        session.beat()?;
+    }
+    Ok(())
+}
+
 /// Writes what can be written at once. Where nothing can, and nothing came either, waits.
 fn exchange<R: Role, N: Net + Clock>(
     session: &mut Session<R, Socket>,
     came: bool,
     readiness: &mut Readiness<'_, N>,
 ) -> Result<(), Stop> {
+    beat(session, readiness)?;
+    let is_unread = waiting(session) > ANSWERS;
     let went = push_ready(session)?;
+    if went {
+        readiness.went();
+    }
+    // where nothing is read, what the other end takes tells that it is there
+    if came || went && is_unread {
+        readiness.came();
+    }
     if came || went {
-        readiness.moved();
         return Ok(());
     }
-    readiness.wait()
+    let beats = may_beat(session);
+    readiness.wait(beats)
 }

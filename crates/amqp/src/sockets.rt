@@ -120,7 +120,7 @@ pub fn serve_at<
     match take_connection(rt, alloc, address, output) {
         Ok((stream, client)) => {
             let mut notes = Notes::new(client.as_str(), errors);
-            serve_client(rt, alloc, stream, peer.time_out, limits, output, &mut notes)
+            serve_client(rt, alloc, stream, peer, limits, output, &mut notes)
         }
         Err(fault) => finish_unconnected(fault, output, &mut Notes::new(address, errors)),
     }
@@ -131,15 +131,22 @@ fn serve_client<R: Net + Clock, W: Write, E: Write + Drop>(
     rt: &R,
     alloc: Global,
     stream: TcpStream,
-    time_out: Option<Duration>,
+    peer: &Peer,
     limits: Limits,
     output: &mut W,
     notes: &mut Notes<'_, E>,
 ) -> u8 {
-    match Readiness::new(rt, alloc, &stream, time_out) {
+    match Readiness::new(rt, alloc, &stream, peer.time_out) {
         Ok(mut readiness) => {
             let socket = socket_over(stream);
-            let run = serve(alloc, limits, socket, &mut readiness, output);
+            let run = serve(
+                alloc,
+                limits,
+                peer.heartbeat,
+                socket,
+                &mut readiness,
+                output,
+            );
             drop(readiness);
             finish_noted(run, output, notes)
         }
@@ -285,6 +292,7 @@ fn publish_content<
                 &mut readiness,
                 content,
                 limits,
+                peer.heartbeat,
                 output,
                 notes,
             );
@@ -334,11 +342,12 @@ fn publish_over<N: Net + Clock, W: Write, E: Write + Drop>(
     readiness: &mut Readiness<'_, N>,
     content: Content,
     limits: Limits,
+    heartbeat: u16,
     output: &mut W,
     notes: &mut Notes<'_, E>,
 ) -> Result<u8, Stop> {
     let size = content.body.len();
-    let taken = publish(alloc, limits, content, socket, readiness, notes)?;
+    let taken = publish(alloc, limits, heartbeat, content, socket, readiness, notes)?;
     print_published(taken, size, output)
 }
 

@@ -1,7 +1,9 @@
 //! The subcommands with their options, and the request that words make of them.
 use crate::environment::Environment;
 use crate::help;
-use crate::options::{limits_of, time_out_of, time_out_option, with_limits};
+use crate::options::{
+    heartbeat_of, heartbeat_option, limits_of, time_out_of, time_out_option, with_limits,
+};
 use crate::publishing::{publish_command, publish_request};
 use crate::requests::{Peer, Request, Start};
 use crate::words::{text_of, word};
@@ -137,6 +139,7 @@ fn serve_command<'a>(alloc: Global) -> Result<Command<'a>, AllocError> {
         .long_about(help::SERVE_DETAILS)
         .after_long_help(help::SERVE_EXAMPLE)
         .arg(address)?;
+    let serve = serve.arg(heartbeat_option(alloc))?;
     let serve = serve.arg(time_out_option(alloc))?;
     with_limits(alloc, serve)
 }
@@ -188,5 +191,6 @@ fn peer_of(alloc: Global, matches: &ArgMatches) -> Result<Peer, AllocError> {
     Ok(Peer {
         address,
         time_out: time_out_of(matches),
+        heartbeat: heartbeat_of(matches),
     })
 }

@@ -178,13 +178,18 @@ ever. Once the client has closed the connection, the run ends with status 0.
 
 It reads nothing while more than a megabyte of its answers waits to be written. It waits for a client to connect as long
 as that takes, and, unless --timeout says otherwise, also for one that says nothing, or never reads what it is answered.
-A client that sends heartbeats now and then is not silent. A fault ends the run with status 1:
+A client that sends heartbeats now and then is not silent.
+
+Unless --heartbeat says otherwise, it proposes no heartbeat. What the client settles on is kept, also where none was
+proposed: where nothing is written for half as long, a heartbeat is, and a client from which no octet comes for twice as
+long is given up. A fault ends the run with status 1:
 
     fault listen         nothing can listen at ADDR
     fault accept         no connection can be taken
     fault read           the connection failed in a read
     fault write          the connection failed in a write; what the client had sent by then was read and printed
-    fault time-out       no octet came from the client or could be written to it for as long as --timeout says
+    fault time-out       no octet came from the client or could be written to it for as long as --timeout says, or none
+                         came for two heartbeats
     fault end-of-input   the client hung up without a close
     fault peer CODE      the client broke the protocol, and was sent a close of the connection with this code
     fault fatal          there is no answer to what the client sent
@@ -242,14 +247,17 @@ closes (by RabbitMQ's confirms). `published N` then says that the server has tak
 
 The client reads while it writes. Unless --timeout says otherwise, it waits as long as it takes for a server that says
 nothing, never reads, never answers or confirms, or wants no contents for now and never wants them again. A server that
-sends heartbeats now and then is not silent. Otherwise the run ends with a fault, with status 1:
+sends heartbeats now and then is not silent. Of the heartbeats that --heartbeat and the server want the smaller is kept, and
+none where either wants none: where nothing is written for half as long, a heartbeat is, and a server from which no octet
+comes for twice as long is given up. Otherwise the run ends with a fault, with status 1:
 
     fault short          the server closed the channel or the connection, or, with --mandatory or --confirm, it returned
                          the content, since no queue takes it, or, with --confirm, it said that it did not take it over
     fault connect        no connection to ADDR, or none within --timeout
     fault read           standard input or the file of the password can't be read, or the connection failed in a read
     fault write          the connection failed in a write
-    fault time-out       no octet came from the server or could be written to it for as long as --timeout says
+    fault time-out       no octet came from the server or could be written to it for as long as --timeout says, or none
+                         came for two heartbeats
     fault end-of-input   the server hung up without a close
     fault peer CODE      the server broke the protocol, and was sent a close of the connection with this code
     fault fatal          there is no answer to what the server sent

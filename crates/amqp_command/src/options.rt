@@ -60,6 +60,18 @@ pub fn limits_of(matches: &ArgMatches) -> Limits {
     }
 }
 
+/// The option of the heartbeat that an end wants.
+pub fn heartbeat_option<'a>(alloc: Global) -> Arg<'a> {
+    limit(alloc, "heartbeat", "SECONDS", "0")
+        .value_parser(value_parser!(u16).range(0..=65_535))
+        .help("The heartbeat that is wanted, or 0 for none: 0 to 65535")
+}
+
+/// The heartbeat that the option gives, in seconds; 0 is none.
+pub fn heartbeat_of(matches: &ArgMatches) -> u16 {
+    matches.get_one::<u16>("heartbeat").unwrap_or(0)
+}
+
 /// The option of how long a connection may be silent. It has no default.
 pub fn time_out_option<'a>(alloc: Global) -> Arg<'a> {
     Arg::new(alloc, "timeout")

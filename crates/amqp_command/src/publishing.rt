@@ -1,7 +1,9 @@
 //! The subcommand `publish`: its words and options, and what they ask for.
 use crate::environment::Environment;
 use crate::help;
-use crate::options::{limits_of, time_out_of, time_out_option, with_limits};
+use crate::options::{
+    heartbeat_of, heartbeat_option, limits_of, time_out_of, time_out_option, with_limits,
+};
 use crate::requests::{Destination, Login, Password, Peer, Publication, Request};
 use crate::servers::{Server, ServerFault, server_of};
 use crate::words::word;
@@ -45,6 +47,7 @@ pub(crate) fn publish_command<'a>(
         "confirm",
         "Wait until the server confirms that it took the content, which is mandatory then",
     ))?;
+    let publish = publish.arg(heartbeat_option(alloc))?;
     let publish = publish.arg(time_out_option(alloc))?;
     with_limits(alloc, publish)
 }
@@ -243,6 +246,7 @@ fn request_in(
     let peer = Peer {
         address,
         time_out: time_out_of(matches),
+        heartbeat: heartbeat_of(matches),
     };
     let publication = Publication {
         login,

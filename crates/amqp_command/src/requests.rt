@@ -38,6 +38,8 @@ pub struct Peer {
     pub address: String,
     /// The connection is given up where no octet comes or goes for so long. With None it may take any time.
     pub time_out: Option<Duration>,
+    /// The heartbeat that is wanted, in seconds; 0 is none.
+    pub heartbeat: u16,
 }
 
 /// What is published, and by whom.
