@@ -277,7 +277,7 @@ def faults():
 def refusals():
     specs = text_of("crates/amqp_model/specs/End/Asks.antt")
     found = [(number, name) for name, number in re.findall(r"^refusal_number (\w+) = (\d+)$", specs, re.M)]
-    compare("refusals", documented("| Number | Refusal |", 10), found, "the definition")
+    compare("refusals", documented("| Number | Refusal |", 11), found, "the definition")
     specs = text_of("crates/amqp_model/specs/End/Fitting.antt")
     found = [(number, name) for name, number in re.findall(r"^config_fault_number (\w+) = (\d+)$", specs, re.M)]
     compare("configuration faults", documented("| Number | Fault |", 3), found, "the definition")

@@ -9,7 +9,12 @@
 #include <amqp.h>
 #include <amqp_framing.h>
 
-enum { ROUNDS = 2, PIECE = 65536, STREAM = 200000000 };
+enum { PIECE = 65536 };
+
+// how many octets a stream has, and how often it is decoded: 2 MB lie in the caches, 200 MB in memory
+static size_t octets = 200000000;
+static int rounds = 2;
+static const char *place = "from memory";
 
 static const char PUBLISH[] = "\x01\x00\x01\x00\x00\x00\x1c\x00\x3c\x00\x28\x00\x00\x06" "orders" "\x0d" "order.created" "\x00\xce";
 static const char PLAIN_HEADER[] = "\x02\x00\x01\x00\x00\x00\x0e\x00\x3c\x00\x00\x00\x00\x00\x00\x00\x00\x04\x00\x00\x00\xce";
@@ -68,23 +73,30 @@ static double decode(char *stream, size_t length, size_t *frames) {
 }
 
 static void measure(const char *name, const char *unit, size_t length) {
-    size_t count = STREAM / length;
+    size_t count = octets / length;
     char *stream = malloc(count * length);
     if (stream == NULL) exit(1);
     for (size_t i = 0; i < count; i++) memcpy(stream + i * length, unit, length);
     double best = 1e9;
     size_t frames = 0;
-    for (int round = 0; round < ROUNDS; round++) {
+    for (int round = 0; round < rounds; round++) {
         double time = decode(stream, count * length, &frames);
         if (time < best) best = time;
     }
-    printf("%-44s %7.0f MB/s %8.0f thousand a second, %zu frames\n", name, (double)(count * length) / best / 1e6, (double)count / best / 1e3, frames);
+    char title[128];
+    snprintf(title, sizeof title, "%s, %s", name, place);
+    printf("%-58s %7.0f MB/s %8.0f thousand a second, %zu frames\n", title, (double)(count * length) / best / 1e6, (double)count / best / 1e3, frames);
     free(stream);
 }
 
 int main(int words, char **word) {
     const char *name = words > 1 ? word[1] : "";
     char unit[4096];
+    if (words > 2 && strcmp(word[2], "cache") == 0) {
+        octets = 2000000;
+        rounds = 50;
+        place = "in cache";
+    }
     if (strcmp(name, "content") == 0) {
         size_t at = put(unit, 0, PUBLISH, sizeof PUBLISH - 1);
         at = put(unit, at, PLAIN_HEADER, sizeof PLAIN_HEADER - 1);
@@ -98,7 +110,7 @@ int main(int words, char **word) {
     } else if (strcmp(name, "ack") == 0) {
         measure("rabbitmq-c: basic.ack", ACK, sizeof ACK - 1);
     } else {
-        fputs("content, table or ack\n", stderr);
+        fputs("content, table or ack, and cache or memory\n", stderr);
         return 2;
     }
     return 0;

@@ -48,11 +48,19 @@ CODEC = (
         (31, 0, 0, "it is written into an output with room"),
         (32, 1, 4 * ARGUMENT, "four arguments take one request; short names lie in them"),
         (33, 0, 0, "they are written into an output with room"),
-        (34, 1, ARGUMENT, "room for the argument is made, and none for a string that isn't there"),
+        (34, 0, 0, "where its string isn't there, nothing is taken"),
         (36, 0, 0, "an unknown method is refused before anything is taken"),
     )),
 )
 
+# contents that are sent by their parts, where the output has room
+CORE = (
+    ("memory::contents_take_room_alone", (
+        (50, 0, 0, "a content of no octets with a table of headers takes none"),
+        (51, 0, 0, "nor does one of 1,024 octets"),
+        (52, 0, 0, "nor does one of 50,000"),
+    )),
+)
 # part 40 is an operation with its arguments by place, and part 41 the same by name
 # by the table of methods: so many arguments, a table's first room of four pairs, a body of five octets
 TYPED = (
@@ -67,7 +75,7 @@ TYPED = (
     ("memory::closing_a_channel", ((40, 1, 4 * ARGUMENT, "the arguments"), (41, 1, 4 * ARGUMENT, "the same"))),
     ("memory::forwarding", ((40, 2, 4 * ARGUMENT + 5, "the arguments and the body"), (41, 2, 4 * ARGUMENT + 5, "the same"))),
 )
-WANTED = {"amqp_codec_tests": CODEC, "amqp_typed_tests": TYPED}
+WANTED = {"amqp_codec_tests": CODEC, "amqp_core_tests": CORE, "amqp_typed_tests": TYPED}
 
 
 def counted(test):

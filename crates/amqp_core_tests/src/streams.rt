@@ -8,6 +8,7 @@ use crate::pairs::{DEFAULT, Pair};
 use crate::scripts::AT_ONCE;
 use crate::trouble::Trouble;
 use crate::verdict_rows::{ROWS, WORDS};
+use crate::verdicts::Case;
 use amqp_core::{End, EventRef, Role, Server, Side, StreamEnd};
 use std::alloc::Global;
 use std::test::Fail;
@@ -130,16 +131,15 @@ fn check_side(
     alloc: Global,
     side: Side,
     ways: &[(&str, &str)],
-    row: &[&str],
+    case: Case<'_>,
     words: &[&str],
 ) -> Result<(), Fail> {
-    let frame = hex::decode(alloc, row[2])?;
     for (way, word) in ways.iter().copied().zip(words.iter().copied()) {
-        let came = verdict(alloc, side, way, &frame)?;
+        let came = verdict(alloc, side, way, case.frame)?;
         let text = format!(in alloc; "{came}")?;
         if text.as_str() != word {
-            let name = row[0];
-            let channel = row[1];
+            let name = case.name;
+            let channel = case.channel;
             let steps = way.0;
             return Err(Fail::new(format!(in alloc;
                 "{name} on channel {channel} after {steps}: came {text}, not {word}"
@@ -153,8 +153,14 @@ fn check_row(alloc: Global, row: &[&str]) -> Result<(), Fail> {
     if row.len() != WORDS {
         return Err("a row of other words".into());
     }
-    check_side(alloc, Side::Server, &SERVER_WAYS, row, &row[3..10])?;
-    check_side(alloc, Side::Client, &CLIENT_WAYS, row, &row[10..])
+    let frame = hex::decode(alloc, row[2])?;
+    let case = Case {
+        name: row[0],
+        channel: row[1],
+        frame: &frame,
+    };
+    check_side(alloc, Side::Server, &SERVER_WAYS, case, &row[3..10])?;
+    check_side(alloc, Side::Client, &CLIENT_WAYS, case, &row[10..])
 }
 
 #[test]

@@ -107,10 +107,10 @@ fn verdict(alloc: Global, side: Side, steps: &str, frame: &[u8]) -> Result<Came,
 
 /// A frame of the table.
 #[derive(Clone, Copy)]
-struct Case<'a> {
-    name: &'a str,
-    channel: &'a str,
-    frame: &'a [u8],
+pub(crate) struct Case<'a> {
+    pub(crate) name: &'a str,
+    pub(crate) channel: &'a str,
+    pub(crate) frame: &'a [u8],
 }
 
 /// Says which case it is of which something else came than the word of its row.
