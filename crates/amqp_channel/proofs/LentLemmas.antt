@@ -1,14 +1,14 @@
 -- Channels whose contents are lent: what a frame leaves is alike to what it leaves where contents are gathered.
-use Rattle.std.proofs.Common.{◌≡◌, ◌<◌, ◌+◌, ℕ, List, [], ◌++◌, length, replicate, true, false, refl, ap, sym, ◌∙◌}
+use Rattle.std.proofs.Common.{◌≡◌, ℕ, List, refl, ap, sym, ◌∙◌}
 use Rattle.std.proofs.lemmas.List.{length-replicate, length-append}
 use Rattle.amqp_model.specs.End.Channels.{Life, Channel, Free, Opening, Closing, Open}
-use Rattle.amqp_model.specs.Lent.Alike.{AlikeChannels, AlikeLives}
+use Rattle.amqp_model.specs.Lent.Alike.{AlikeChannels}
 use Rattle.amqp_model.specs.Lent.Streaming.{Streaming, NoContent, AwaitsHeader, AwaitsBody, gathered_as, streamed}
 use Rattle.amqp_model.specs.Wire.Gathering.{Gathering, Nothing, HeaderDue, BodyDue}
 use Rattle.amqp_model.specs.Wire.Notes.{Role, Client, Server}
 use Rattle.amqp_model.specs.Wire.Readings.{Reading, Calls, HeaderOf, BodyOf}
 use Rattle.amqp_channel.specs.LentView.{content_on, content_with, known_on, progress_with, stands_on, FitsProgress}
-use Rattle.amqp_channel.specs.VerdictView.{goes_on, told_in, with_content, FitsTold, LeavesDue}
+use Rattle.amqp_channel.specs.VerdictView.{goes_on, told_in, FitsTold, LeavesDue}
 use Rattle.amqp_channel.specs.declared.verdict.Told.{Told}
 use Rattle.amqp_channel.specs.declared.verdict.Told.TheVariants as told
 

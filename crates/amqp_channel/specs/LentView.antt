@@ -1,6 +1,6 @@
 -- What a frame leaves of an Open channel whose contents are lent: how far the content under way has come, and what
 -- stands beside it.
-use Rattle.std.specs.Prelude.{◌≡◌, ◌+◌, ◌<◌, ℕ, length}
+use Rattle.std.specs.Prelude.{◌≡◌, ◌+◌, ◌<◌, length}
 use Rattle.amqp_model.specs.End.Channels.{Life, Channel, Open}
 use Rattle.amqp_model.specs.Lent.Streaming.{Streaming, NoContent, AwaitsHeader, AwaitsBody, gathered_as}
 use Rattle.amqp_model.specs.Wire.Gathering.{Gathering, Nothing, HeaderDue}

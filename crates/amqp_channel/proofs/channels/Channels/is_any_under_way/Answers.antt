@@ -1,5 +1,4 @@
-use Rattle.std.proofs.Common.{ℕ, ◌<◌, length, arith}
-use Rattle.amqp_channel.specs.Used.{IsIdleAt}
+use Rattle.std.proofs.Common.{arith}
 use Rattle.amqp_channel.proofs.UnderWayLemmas.{idle_channels, idle_none_lent, one_more_idle}
 use Rattle.amqp_channel.proofs.channels.Channels.is_any_under_way.Goals as goal
 

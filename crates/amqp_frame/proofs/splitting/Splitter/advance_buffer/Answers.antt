@@ -1,5 +1,4 @@
 use Rattle.std.proofs.Common.{◌≡◌, [], length, arith, ap, ◌∙◌, refl}
-use Rattle.std.proofs.lemmas.List.{nil_from_length}
 use Rattle.std.proofs.lemmas.Grind.{common_steps}
 use Rattle.amqp_frame.specs.Frame.{lent}
 use Rattle.amqp_frame.specs.Judging.{pending_of}
