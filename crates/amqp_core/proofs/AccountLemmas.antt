@@ -58,7 +58,7 @@ abbrev pub is_begun : Judgement → Bool
 is_begun Begun = true
 is_begun judgement = false
 
-abbrev is_wrong : Judgement → Bool
+abbrev pub is_wrong : Judgement → Bool
 is_wrong (Wrong kind) = true
 is_wrong judgement = false
 
@@ -214,7 +214,7 @@ account_of_opening role config old piece fed octets came awaits octets_are waits
   differs = λ e. differs;
 }
 
-abbrev is_some : {A : Type 0} → Option A → Bool
+abbrev pub is_some : {A : Type 0} → Option A → Bool
 is_some (Some x) = true
 is_some None = false
 

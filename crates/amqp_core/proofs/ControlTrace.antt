@@ -1,15 +1,12 @@
 -- A heartbeat, or a decision in the handshake, of an end that is kept with its history.
 use Rattle.std.specs.Coded.{le_prop}
-use Rattle.std.proofs.Common.{◌≡◌, ◌≤◌, ◌+◌, ◌==◌, ◌++◌, cond, false, ℕ, List, [], ◌∷◌, length, map, Result, Ok, Err, OnOk, OnErr, IfErr, refl, ap, sym, ◌∙◌, subst, arith}
+use Rattle.std.proofs.Common.{◌≡◌, ◌≤◌, ◌+◌, ◌==◌, ◌++◌, cond, ℕ, List, [], ◌∷◌, length, map, Result, Ok, Err, OnOk, OnErr, IfErr, refl, ap, sym, ◌∙◌, arith}
 use Rattle.std.proofs.Math.Logic.{∥∥₁_elim, ∥∥₁_map, ∥∥₁_prop}
-use Rattle.amqp_model.specs.End.Asks.{AskVerdict, Puts}
-use Rattle.amqp_model.specs.End.Channels.{End}
+use Rattle.amqp_model.specs.End.Asks.{AskVerdict}
 use Rattle.amqp_model.specs.Laws.ControlLaws.{ControlPutsOne, ControlSaysNothing, ControlledFits, PutsOneOnZero}
-use Rattle.amqp_model.specs.End.Controls.{Control, control_verdict}
-use Rattle.amqp_model.specs.End.EndVerdict.{takes_octets}
+use Rattle.amqp_model.specs.End.Controls.{Control}
 use Rattle.amqp_model.specs.Stream.Endpoint.{Endpoint, after_answer}
 use Rattle.amqp_model.specs.End.Fitting.{ConfigWrites}
-use Rattle.amqp_model.specs.Laws.FittingLaws.{AllWithin}
 use Rattle.amqp_model.specs.Wire.Frame.{Frame}
 use Rattle.amqp_model.specs.History.Histories.{History}
 use Rattle.amqp_model.specs.End.LawfulHistories.{then_put}
@@ -18,7 +15,6 @@ use Rattle.amqp_model.specs.Wire.Notes.{Role}
 use Rattle.amqp_model.specs.Laws.OctetLaws.{EndpointStandsFor}
 use Rattle.amqp_model.specs.Output.Outputs.{after_puts, output_octets}
 use Rattle.amqp_model.specs.Wire.Readings.{kind_of, reading}
-use Rattle.amqp_model.specs.Pair.Sent.{said, told}
 use Rattle.amqp_model.specs.Stream.Traces.{IsPut, Noted, Other, PutsTellNothing, TracePuts, noted, trace, word_of}
 use Rattle.amqp_core.specs.AskNoting.{GrowsByFrames}
 use Rattle.amqp_core.specs.Controlled.{frames_by}

@@ -1,8 +1,7 @@
 -- What the account of a piece says of frames is what is counted.
-use Rattle.std.proofs.Common.{◌≡◌, ap, sym, ◌∙◌, true, ℕ, List, Some}
+use Rattle.std.proofs.Common.{◌≡◌, ap, ◌∙◌, ℕ, List}
 use Rattle.amqp_model.specs.History.Negotiation.{Config}
 use Rattle.amqp_model.specs.Stream.Endpoint.{Endpoint, Feeding}
-use Rattle.amqp_model.specs.Stream.Traces.{IsTaken, noted}
 use Rattle.amqp_model.specs.Wire.Notes.{Role}
 use Rattle.amqp_core.specs.AccountView.{Came, IsAccount}
 use Rattle.amqp_core.specs.Counters.{Counters, CountsFrame, counted_with}

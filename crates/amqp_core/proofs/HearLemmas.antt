@@ -40,6 +40,10 @@ awaits_octets Server Failed e = absurd (false≢true e)
 pub heard_is : (heard : ℕ) (pending : List ℕ) → pending ≡ [] → unfinished_of heard pending ≡ take heard PROTOCOL_HEADER
 heard_is heard pending none = ap (unfinished_of heard) none ∙ append-nil (take heard PROTOCOL_HEADER)
 
+pub heard_length : (heard : ℕ) (pending : List ℕ) → pending ≡ [] → heard < 8 → length (unfinished_of heard pending) ≡ heard
+heard_length heard pending none within =
+    ap (λ (xs : List ℕ). length xs) (heard_is heard pending none) ∙ length-take-le heard PROTOCOL_HEADER (omega (arith, within))
+
 some_left : (count : ℕ) → count < 8 → drop count PROTOCOL_HEADER ≢ []
 some_left count h e =
     let many : 8 - count ≡ 0 = sym (length-drop count PROTOCOL_HEADER) ∙ ap (λ (xs : List ℕ). length xs) e in omega (arith, h, many)
@@ -87,7 +91,7 @@ differs_so : (role : Role) (config : Config role) (end : End) (heard count : ℕ
     → after_feed role config old piece ≡ with_taken (suc count) (after_opening role config old (unfinished_of heard pending ++ take (suc count) piece) Differs)
 differs_so role config end heard count pending piece output law awaits none heard_within within room same differs =
     let is : unfinished_of heard pending ++ take count piece ≡ take (heard + count) PROTOCOL_HEADER = ap (λ (xs : List ℕ). xs ++ take count piece) (heard_is heard pending none) ∙ same in
-    let many : length (unfinished_of heard pending) ≡ heard = ap (λ (xs : List ℕ). length xs) (heard_is heard pending none) ∙ length-take-le heard PROTOCOL_HEADER (omega (arith, heard_within)) in
+    let many = heard_length heard pending none heard_within in
     let there : slice_index piece count ≢ slice_index (opening_read role) (length (unfinished_of heard pending) + count) =
     λ e. differs (e ∙ (ap (λ (xs : List ℕ). slice_index xs (length (unfinished_of heard pending) + count)) (opening_is role end.phase awaits) ∙ ap (λ n. slice_index PROTOCOL_HEADER (n + count)) many)) in
     law awaits within (begun role end.phase (heard + count) (unfinished_of heard pending ++ take count piece) awaits room is) there

@@ -1,5 +1,5 @@
 -- A frame that is taken by an end whose events lend: what is told of it by its verdict, and what it leaves.
-use Rattle.std.proofs.Common.{◌≡◌, ◌||◌, Bool, true, false, cond, ℕ, List, Option, Some, None, Result, Ok, Err, IfOk, refl, ap, sym, ◌∙◌, subst}
+use Rattle.std.proofs.Common.{◌≡◌, ◌||◌, true, cond, ℕ, List, Option, Some, None, Result, Ok, Err, IfOk, refl, ap, sym, ◌∙◌, subst}
 use Rattle.amqp_frame.specs.declared.frames.FrameKind.{FrameKind}
 use Rattle.amqp_method.specs.declared.kinds.Kind.TheVariants as kinds
 use Rattle.amqp_model.specs.End.Channels.{End}
@@ -7,14 +7,14 @@ use Rattle.amqp_model.specs.End.EndVerdict.{facts_at}
 use Rattle.amqp_model.specs.End.Events as events
 use Rattle.amqp_model.specs.End.Events.{FrameVerdict, reason_in}
 use Rattle.amqp_model.specs.End.FrameVerdict.{event_told as told_of_verdict}
-use Rattle.amqp_model.specs.End.Machine.{as_failed, end_after_taken, taken_verdict}
+use Rattle.amqp_model.specs.End.Machine.{end_after_taken, taken_verdict}
 use Rattle.amqp_model.specs.History.Negotiation.{Config}
 use Rattle.amqp_model.specs.Laws.OctetLaws.{event_of_frame}
-use Rattle.amqp_model.specs.Lent.Alike.{AlikeEnds, LentEvent, Other, lent, maybe_telling, part_lent}
+use Rattle.amqp_model.specs.Lent.Alike.{AlikeEnds, Other, lent, maybe_telling, part_lent}
 use Rattle.amqp_model.specs.Wire.Contents.{Content}
 use Rattle.amqp_model.specs.Wire.Methods.{Method, MethodKind, octets_at, same_kind}
 use Rattle.amqp_model.specs.Wire.Notes.{Role}
-use Rattle.amqp_model.specs.Wire.Readings.{Reading, Calls, UnknownMethod, MalformedMethod, HeaderOf, MalformedHeader, BodyOf, Beat, reading as says}
+use Rattle.amqp_model.specs.Wire.Readings.{Reading, Calls, reading as says}
 use Rattle.amqp_channel.specs.VerdictView.{IsWhole, event_told, whole_now}
 use Rattle.amqp_channel.specs.declared.verdict.Reply.{Reply}
 use Rattle.amqp_channel.specs.declared.verdict.Told.{Told}
@@ -24,16 +24,15 @@ use Rattle.amqp_core.specs.ConnectionView.{frame_at}
 use Rattle.amqp_core.specs.EventRefView.{channel_close_lent, channel_lent, close_lent, blocked_lent, notice_lent}
 use Rattle.amqp_core.specs.Lending.{AlikeLeft}
 use Rattle.amqp_core.specs.Outcomes.{SameEnd}
-use Rattle.amqp_core.specs.OwedView.{owed_view}
 use Rattle.amqp_core.specs.Settings.{config_view, role_for}
-use Rattle.amqp_core.specs.VerdictView.{end_left, ended_if, event_by, fault_by, noticed, verdict_here, verdict_view, FitsNotice, FitsVerdict, FrameRules}
+use Rattle.amqp_core.specs.VerdictView.{end_left, ended_if, event_by, fault_by, verdict_here, FitsVerdict, FrameRules}
 use Rattle.amqp_core.specs.declared.owed.Owed.{Owed}
 use Rattle.amqp_core.specs.declared.settings.Settings.{Settings}
 use Rattle.amqp_core.specs.declared.stage.Stage.{Stage}
 use Rattle.amqp_core.specs.declared.verdict.Notice.{Notice}
 use Rattle.amqp_core.specs.declared.verdict.Notice.TheVariants as notice
 use Rattle.amqp_core.specs.declared.verdict.Verdict.{Verdict}
-use Rattle.amqp_core.specs.declared.verdict.Verdict.TheVariants.{OnChannel, Proceeds, Faults}
+use Rattle.amqp_core.specs.declared.verdict.Verdict.TheVariants.{OnChannel, Proceeds}
 use Rattle.amqp_core.proofs.ReceiveLemmas.{left_is}
 use Rattle.amqp_core.proofs.StreamLemmas.{alike_left, left_onwards, same_left}
 

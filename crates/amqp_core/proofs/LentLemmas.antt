@@ -1,8 +1,7 @@
 -- Events that lend: the arguments of a close, and what is told of a frame by its verdict.
-use Rattle.std.proofs.Common.{◌≡◌, ℕ, List, [], ◌∷◌, map, Option, Some, None, refl}
+use Rattle.std.proofs.Common.{◌≡◌, List, [], ◌∷◌, map, None}
 use Rattle.amqp_method.specs.Arguments.{Argument, kind_of, short, short_string, Call, call, Fits}
 use Rattle.amqp_method.specs.Places.{argument_at, found, short_of, short_string_of}
-use Rattle.amqp_method.specs.declared.fields.FieldKind.{FieldKind}
 use Rattle.amqp_method.specs.declared.fields.FieldKind.TheVariants.{Short, ShortStr}
 use Rattle.amqp_method.specs.declared.kinds.Kind.TheVariants as kinds
 use Rattle.amqp_model.specs.Wire.Methods.{MethodKind}
@@ -19,18 +18,23 @@ is_text arg e none = cc
 pub record OfClose (args : List Argument) : Type 0 where
   pub code : found short_of (argument_at 0 args) ≡ None → ⊥
   pub text : found short_string_of (argument_at 1 args) ≡ None → ⊥
+  pub class_id : found short_of (argument_at 2 args) ≡ None → ⊥
+  pub method_id : found short_of (argument_at 3 args) ≡ None → ⊥
 
 by_kinds : (args : List Argument) → map kind_of args ≡ Short ∷ ShortStr ∷ Short ∷ Short ∷ [] → OfClose args
 by_kinds [] e = cc
 by_kinds (code ∷ []) e = cc
-by_kinds (code ∷ text ∷ args) e = record { code = is_short code cc; text = is_text text cc }
+by_kinds (code ∷ text ∷ []) e = cc
+by_kinds (code ∷ text ∷ class_id ∷ []) e = cc
+by_kinds (code ∷ text ∷ class_id ∷ method_id ∷ args) e =
+    record { code = is_short code cc; text = is_text text cc; class_id = is_short class_id cc; method_id = is_short method_id cc }
 
 by_kind : (kind : MethodKind) (args : List Argument) → IsClose kind → Fits (call kind args) → OfClose args
 by_kind kinds.ChannelClose args h fits = by_kinds args fits
 by_kind kinds.ConnectionClose args h fits = by_kinds args fits
 by_kind kind args h fits = absurd h
 
--- the arguments of a close begin with its code and its text
+-- the arguments of a close are its code, its text, and the class and the method that it is about
 pub of_close : (method : Call) → IsClose method.kind → Fits method → OfClose method.args
 of_close method h fits = by_kind method.kind method.args h fits
 

@@ -35,6 +35,7 @@ pub mod RefusalLemmas
 pub mod PieceLemmas
 pub mod AskLemmas
 pub mod AccountLemmas
+pub mod BlameLemmas
 pub mod StreamLemmas
 pub mod GrowthLemmas
 pub mod LifeCountLemmas
@@ -51,6 +52,8 @@ pub mod FeedFaultLemmas
 pub mod OfHistoryLemmas
 pub mod OutputLemmas
 pub mod CounterLemmas
+pub mod HeardLemmas
+pub mod HearingLemmas
 pub mod LendLemmas
 pub mod StreamHistoryLemmas
 pub mod TurningLemmas

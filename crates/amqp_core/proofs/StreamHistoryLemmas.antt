@@ -1,37 +1,39 @@
 -- What a piece, an ask and a write make of each history that a lending end stands for, and what such an end answers of
 -- itself: by the end that gathers, to which it is alike.
-use Rattle.std.proofs.Common.{◌≡◌, ◌≤◌, ◌<◌, Bool, true, false, cond, ℕ, List, ◌++◌, length, take, get_or, All, Result, Ok, Err, OnOk, refl, ap, sym, ◌∙◌, subst}
+use Rattle.std.proofs.Common.{◌≡◌, ◌≤◌, ◌<◌, Bool, true, false, ℕ, List, ◌++◌, length, take, get_or, Result, Ok, Err, OnOk, refl, ap, sym, ◌∙◌, subst}
 use Rattle.std.proofs.Math.Logic.{∥∥₁_map}
 use Rattle.amqp_model.specs.End.Answers.{gathered, kept_by, kept_in}
-use Rattle.amqp_model.specs.End.Asks.{Ask, Puts, ask_verdict, frames_asked, is_made, refused_or_put}
+use Rattle.amqp_model.specs.End.Asks.{Ask, Puts, ask_verdict, frames_asked, refused_or_put}
 use Rattle.amqp_model.specs.End.Channels as channels
 use Rattle.amqp_model.specs.End.Channels.{Agreed, Channel, End, Phase, Handshake, Running, Closed, Failed, Free, Opening, Closing}
+use Rattle.amqp_model.specs.End.Controls.{Control}
 use Rattle.amqp_model.specs.End.EndVerdict.{takes_octets}
 use Rattle.amqp_model.specs.End.Fitting.{ConfigWrites, IfAgreedFits}
-use Rattle.amqp_model.specs.End.LawfulHistories.{end_of, then_put}
 use Rattle.amqp_model.specs.History.Histories.{History}
 use Rattle.amqp_model.specs.History.Negotiation.{Config}
+use Rattle.amqp_model.specs.Laws.ControlLaws.{ControlAcceptedFollows, ControlOfHistory, ControllingLeavesAlike, ControlsAlike}
 use Rattle.amqp_model.specs.Laws.EndLaws.{AskOfHistory, FailedIsRead}
-use Rattle.amqp_model.specs.Laws.FittingLaws.{AskedFit}
-use Rattle.amqp_model.specs.Laws.OctetLaws.{AcceptedFollows, EndpointStandsFor, FeedFollows, IsOctet, WroteFollows}
+use Rattle.amqp_model.specs.Laws.FittingLaws.{AllReadsBack, AskedFit}
+use Rattle.amqp_model.specs.Laws.OctetLaws.{AcceptedFollows, EndpointStandsFor, FeedFollows, WroteFollows}
 use Rattle.amqp_model.specs.Laws.StreamingLaws.{AskingLeavesAlike, AsksAlike, CameIsKept, FeedsAlike, StreamStandsFor, WritingLeavesAlike}
 use Rattle.amqp_model.specs.Lent.Alike.{AlikeChannels, AlikeEndpoints, AlikeEnds}
 use Rattle.amqp_model.specs.Lent.Streaming.{came}
 use Rattle.amqp_model.specs.Output.Outputs.{output_octets}
-use Rattle.amqp_model.specs.Stream.Endpoint.{Endpoint, after_ask, after_feed, after_wrote}
+use Rattle.amqp_model.specs.Stream.Endpoint.{Endpoint, after_ask, after_control, after_feed, after_wrote}
 use Rattle.amqp_model.specs.Stream.RunningOut.{RunsOut}
 use Rattle.amqp_model.specs.Wire.Notes.{Role}
 use Rattle.amqp_core.specs.Answering.{ran_out}
 use Rattle.amqp_core.specs.Asking.{AcceptsAsk}
+use Rattle.amqp_core.specs.Controlled.{frames_by}
+use Rattle.amqp_core.specs.Controlling.{AcceptsControl, verdict_at}
 use Rattle.amqp_core.specs.Feeding.{SameEndpoint, ran_out_of}
-use Rattle.amqp_core.specs.Following.{GoesOn}
 use Rattle.amqp_core.specs.Lending.{AlikeEndpoint, IsLent, LentSeen}
-use Rattle.amqp_core.specs.StreamHistory.{StreamAskGoesOn, StreamAskIsOfHistory, StreamGoesOn, StreamWroteGoesOn, gathered_then}
+use Rattle.amqp_core.specs.StreamHistory.{StreamAskGoesOn, StreamAskIsOfHistory, StreamControlGoesOn, StreamControlIsOfHistory, StreamGoesOn, StreamWroteGoesOn, gathered_then}
 use Rattle.amqp_core.specs.declared.faults.CoreFault.{CoreFault}
 use Rattle.amqp_core.proofs.AskedLemmas.{agreed_fits}
 use Rattle.amqp_core.proofs.FeedLemmas.{are_octets}
 use Rattle.amqp_core.proofs.FollowLemmas.{by_memory}
-use Rattle.amqp_core.proofs.StreamLemmas.{alike_endpoint, alike_left, channel_itself, endpoint_onwards}
+use Rattle.amqp_core.proofs.StreamLemmas.{alike_endpoint, endpoint_onwards}
 
 -- Asks.
 
@@ -55,6 +57,26 @@ stream_ask_goes_on role config ask old new accepts fits asked law asks asking = 
 pub stream_ask_is_of_history : (role : Role) (config : Config role) (ask : Ask) (old : Endpoint) → ((end : End) (history : History) → AskOfHistory role config false end history ask) → AsksAlike → StreamAskIsOfHistory role config ask old
 stream_ask_is_of_history role config ask old counted asks = λ history fed written s.
     sym (counted s.gathers.end history s.stands.stands) ∙ asks role s.gathers.end old.end ask s.alike.end
+
+-- Heartbeats and decisions.
+
+pub stream_control_goes_on : (role : Role) (config : Config role) (control : Control) (old new : Endpoint) → AcceptsControl role config control old new
+    → ∥ ConfigWrites config ∥₁ → AllReadsBack role config
+    → ((endpoint : Endpoint) (history : History) (fed written : List ℕ) → ControlAcceptedFollows role config endpoint history fed written control (frames_by (verdict_at role config control old)))
+    → ControlsAlike → ControllingLeavesAlike → StreamControlGoesOn role config control old new
+stream_control_goes_on role config control old new accepts writes back law same leaves = λ history fed written s.
+    ∥∥₁_map writes
+    (λ (w : ConfigWrites config).
+    record {
+      gathers = after_control role config s.gathers control;
+      stands = law s.gathers history fed written s.stands w (back w) accepts.reads_back (same role config s.gathers.end old.end control s.alike.end ∙ accepts.puts);
+      alike = subst (λ (e : Endpoint). AlikeEndpoints (after_control role config s.gathers control) e) (sym accepts.left) (leaves role config s.gathers old control s.alike);
+    })
+
+pub stream_control_is_of_history : (role : Role) (config : Config role) (control : Control) (old : Endpoint)
+    → ((end : End) (history : History) → ControlOfHistory role config false end history control) → ControlsAlike → StreamControlIsOfHistory role config control old
+stream_control_is_of_history role config control old counted same = λ history fed written s.
+    sym (counted s.gathers.end history s.stands.stands) ∙ same role config s.gathers.end old.end control s.alike.end
 
 -- Writes.
 

@@ -3,11 +3,11 @@
 --
 -- In the place of what is left stands an end with the channels of the definitions, which is alike to it: so what is known of
 -- an end that gathers serves here too.
-use Rattle.std.proofs.Common.{◌≡◌, ◌≢◌, ◌<◌, ◌≤◌, Bool, true, false, cond, ℕ, List, [], ◌++◌, length, take, Option, Some, None, Result, Ok, Err, IfOk, IsOk, refl, ap, sym, ◌∙◌, subst, arith}
+use Rattle.std.proofs.Common.{◌≡◌, ◌≢◌, ◌<◌, ◌≤◌, true, cond, ℕ, List, [], ◌++◌, length, take, Option, Some, None, Result, Ok, Err, IfOk, IsOk, refl, ap, sym, ◌∙◌, subst}
 use Rattle.std.proofs.Math.Logic.{∥∥₁_map}
 use Rattle.std.proofs.lemmas.Bool.{true≢false, false≢true}
 use Rattle.amqp_frame.specs.Frame.{lent as lent_frame}
-use Rattle.amqp_frame.specs.Splitter.{Completes, OfGiven, Waits, after_advance, after_taking}
+use Rattle.amqp_frame.specs.Splitter.{Completes, OfGiven, after_advance, after_taking}
 use Rattle.amqp_frame.specs.Stream.{Stream}
 use Rattle.amqp_frame.specs.declared.faults.FrameFault.{FrameFault}
 use Rattle.amqp_frame.specs.declared.splitting.Advanced.{Advanced}
@@ -17,7 +17,7 @@ use Rattle.amqp_frame.specs.declared.splitting.Place.TheVariants as places
 use Rattle.amqp_model.specs.End.Bounds.{ChannelIsWithin, FrameStaysWithin, KeepsPart, most_requests}
 use Rattle.amqp_model.specs.End.Channels as channels
 use Rattle.amqp_model.specs.End.Channels.{Channel, End, Free, Opening, Closing, Failed, Life}
-use Rattle.amqp_model.specs.End.EndVerdict.{end_puts, end_verdict, facts_at, takes_frames, takes_octets}
+use Rattle.amqp_model.specs.End.EndVerdict.{end_puts, end_verdict, facts_at, takes_octets}
 use Rattle.amqp_model.specs.End.Events.{AlreadyClosed, AlreadyFailed, Event, Quiet}
 use Rattle.amqp_model.specs.End.Fitting.{IfAgreedFits}
 use Rattle.amqp_model.specs.End.Machine.{as_failed, end_after_taken}
@@ -33,14 +33,13 @@ use Rattle.amqp_model.specs.Wire.Frame.{Frame}
 use Rattle.amqp_model.specs.Wire.Gathering.{Gathering, Nothing, HeaderDue, BodyDue}
 use Rattle.amqp_model.specs.Wire.Notes.{Role}
 use Rattle.amqp_model.specs.Wire.Readings.{Reading, reading}
-use Rattle.amqp_model.specs.Stream.Octets.{opening_read}
 use Rattle.amqp_frame.specs.Splitting.{IsRest}
 use Rattle.amqp_outbox.specs.OutboxView.{Outgoing}
-use Rattle.amqp_core.specs.Answering.{answer_with, AnswersFrame, PutsAs, Reports, Tells, ran_out}
+use Rattle.amqp_core.specs.Answering.{answer_with, AnswersFrame, PutsAs, Tells, ran_out}
 use Rattle.amqp_core.specs.ConnectionView.{connection_end}
 use Rattle.amqp_core.specs.Bounded.{IsBounded}
 use Rattle.amqp_core.specs.EndpointView.{FieldsFit, IsSound, endpoint_view, is_opened, role_at, unfinished_of}
-use Rattle.amqp_core.specs.Feeding.{IsFed, SameEndpoint, ran_out_of, taken_with}
+use Rattle.amqp_core.specs.Feeding.{IsFed, SameEndpoint, taken_with}
 use Rattle.amqp_core.specs.Lending.{AlikeEndpoint, AlikeLeft, AnswersLent, EndsAlike, IsLent, LendsOf, LentSeen}
 use Rattle.amqp_core.specs.Outcomes.{SameEnd}
 use Rattle.amqp_core.specs.Settings.{config_view}

@@ -42,6 +42,21 @@ use Rattle.amqp_core.proofs.FollowTrace.{ListsGrow, TraceLaws, follow-trace, sto
 use Rattle.amqp_core.proofs.OfHistoryLemmas.{ReadsEach}
 use Rattle.amqp_core.proofs.StandingLemmas.{failed_takes, stands-out, stands-wrote}
 
+-- the same end, with the same lists
+pub same-kept : (one other : Kept) → other.endpoint ≡ one.endpoint → other.notes ≡ one.notes → other.told ≡ one.told → other.said ≡ one.said → other.fed ≡ one.fed → other.written ≡ one.written → other ≡ one
+same-kept one other endpoint notes told said fed written = λ i. record { endpoint = endpoint i; notes = notes i; told = told i; said = said i; fed = fed i; written = written i }
+
+-- lists that were the same before the octets were fed
+pub fed-grows : (out_of_memory : Bool) (piece : List ℕ) (fed : Feeding) (old ready new : Kept) → SameLists old ready → FedGrows out_of_memory piece fed ready new → FedGrows out_of_memory piece fed old new
+fed-grows true piece fed old ready new same lists = record {
+  notes = same.notes ∙ lists.notes;
+  told = same.told ∙ lists.told;
+  said = same.said ∙ lists.said;
+  fed = same.fed ∙ lists.fed;
+  written = same.written ∙ lists.written;
+}
+fed-grows false piece fed old ready new same grows = (grows.0 ∙ ap (λ l. l ++ take fed.taken piece) (sym same.fed), grows.1 ∙ sym same.written)
+
 closed_takes : (phase : Phase) → phase ≡ Closed → takes_octets phase ≡ true → ⊥
 closed_takes phase e t = false≢true (sym (ap takes_octets e) ∙ t)
 

@@ -9,7 +9,7 @@ use Rattle.amqp_model.specs.History.Negotiation.{Config}
 use Rattle.amqp_model.specs.Laws.OctetLaws.{EndpointStandsFor}
 use Rattle.amqp_model.specs.Laws.StreamingLaws.{StreamStandsFor}
 use Rattle.amqp_model.specs.Lent.Alike.{AlikeChannels, AlikeEndpoints}
-use Rattle.amqp_model.specs.Lent.Streaming.{Streaming, NoContent, AwaitsHeader, AwaitsBody, streamed}
+use Rattle.amqp_model.specs.Lent.Streaming.{Streaming, NoContent, streamed}
 use Rattle.amqp_model.specs.Stream.Endpoint as model
 use Rattle.amqp_model.specs.Stream.Pieces.{HoldsUnfinished}
 use Rattle.amqp_model.specs.Wire.Gathering.{Gathering, Nothing, HeaderDue, BodyDue}
@@ -17,7 +17,7 @@ use Rattle.amqp_model.specs.Wire.Notes.{Role}
 use Rattle.amqp_channel.specs.LentView.{content_on}
 use Rattle.amqp_core.specs.Bounded.{IsBounded}
 use Rattle.amqp_core.specs.ConnectionView.{connection_end}
-use Rattle.amqp_core.specs.EndpointView.{FieldsFit, IsSound, endpoint_view, role_at, unfinished_of}
+use Rattle.amqp_core.specs.EndpointView.{FieldsFit, IsSound, unfinished_of}
 use Rattle.amqp_core.specs.Settings.{config_view, role_for}
 use Rattle.amqp_core.specs.declared.endpoint.Endpoint.{Endpoint}
 use Rattle.amqp_core.specs.declared.settings.Settings.{Settings}

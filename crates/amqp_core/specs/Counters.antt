@@ -1,7 +1,8 @@
 -- What an end counts since it began, so that an application can tell whether anything came or went between two of its
--- looks: the frames that it took, and the octets of its output that were written. AMQP 0-9-1 specification, section
+-- looks: the frames that it took, the octets of its output that were written, and the octets that it took, with what was
+-- wrong with them. AMQP 0-9-1 specification, section
 -- 4.2.7. That it counts, and up to which number, is this profile's.
-use Rattle.std.specs.Prelude.{◌≡◌, ◌+◌, ◌-◌, ◌^◌, min, true, ℕ, List, Option, Some, None, Result, Ok, Err}
+use Rattle.std.specs.Prelude.{◌≡◌, true, ℕ, List, Option, Some, None, Result, Ok, Err}
 use Rattle.amqp_frame.specs.declared.faults.FrameFaultKind.{FrameFaultKind}
 use Rattle.amqp_model.specs.End.EndVerdict.{takes_frames}
 use Rattle.amqp_model.specs.End.Events.{Quiet, WrongProtocolHeader}
@@ -11,6 +12,7 @@ use Rattle.amqp_model.specs.Stream.Endpoint.{Endpoint, Feeding, Finished, Found,
 use Rattle.amqp_model.specs.Stream.Traces.{Noted}
 use Rattle.amqp_model.specs.Wire.Frame.{Frame}
 use Rattle.amqp_model.specs.Wire.Notes.{Role}
+use Rattle.amqp_core.specs.Blamed.{Tally, counted, no_octets}
 use Rattle.amqp_core.specs.declared.faults.CoreFault.{CoreFault}
 use Rattle.amqp_core.specs.declared.step.Came.{Came}
 use Rattle.amqp_core.specs.declared.step.Step.{Step}
@@ -18,14 +20,11 @@ use Rattle.amqp_core.specs.declared.step.Step.{Step}
 pub record Counters : Type 0 where
   pub frames : ℕ
   pub octets : ℕ
+  pub tally : Tally
 
 -- a new end has counted nothing
 abbrev pub nothing_counted : Counters
-nothing_counted = record { frames = 0; octets = 0 }
-
--- so many more, up to the greatest number of 64 bits
-abbrev pub counted : (before more : ℕ) → ℕ
-counted before more = min (before + more) (2 ^ 64 - 1)
+nothing_counted = record { frames = 0; octets = 0; tally = no_octets }
 
 -- one more where a frame was taken
 abbrev pub counted_with : Option Noted → (before : ℕ) → ℕ
@@ -55,4 +54,4 @@ pub record CountsFrame (role : Role) (config : Config role) (old : Endpoint) (pi
 
 -- so many octets of the output were written
 abbrev pub counts_octets : (octets : ℕ) → Counters → Counters
-counts_octets octets before = record { frames = before.frames; octets = counted before.octets octets }
+counts_octets octets before = record before { octets = counted before.octets octets }

@@ -3,7 +3,7 @@ use Rattle.std.specs.Prelude.{◌≡◌, Option, Result, IfOk, IfErr, OnOk, ℕ,
 use Rattle.amqp_model.specs.End.Asks.{Ask, lowest_free}
 use Rattle.amqp_core.specs.Asked.{number_taken}
 use Rattle.amqp_core.specs.Asking.{AcceptsAsk, RefusesAsk}
-use Rattle.amqp_core.specs.EndView.{config_at, counters_of, endpoint_of, role_played, settings_at}
+use Rattle.amqp_core.specs.EndView.{config_at, counters_of, endpoint_of, heard_in, role_played, settings_at}
 use Rattle.amqp_core.specs.declared.end.End.{End}
 use Rattle.amqp_core.specs.declared.faults.AskFault.{AskFault}
 use Rattle.amqp_core.specs.declared.roles.Role.{Ghosts}
@@ -14,9 +14,10 @@ pub record Asked {A R H : Type 0} {G : Ghosts R H} (old : End R H G) (ask : Ask)
   pub accepted : OnOk result (AcceptsAsk (role_played old) (config_at old) ask (endpoint_of old) (endpoint_of new))
   -- Refused: the fault is that of the first refusal that applies, or out of memory; the end stays as it is.
   pub refused : IfErr result (λ fault. RefusesAsk (role_played old) ask fault (endpoint_of old) (endpoint_of new))
-  -- Its settings stay, and so does what it counts.
+  -- Its settings stay, and so does what it counts and what it heard.
   pub settings : settings_at new ≡ settings_at old
   pub counters : counters_of new ≡ counters_of old
+  pub heard : heard_in new ≡ heard_in old
 
 -- The channel that is answered is the one that an open takes.
 abbrev pub AnswersNumber : {R H : Type 0} {G : Ghosts R H} → (old : End R H G) → Ask → Result (Option ℕ) AskFault → Type 0

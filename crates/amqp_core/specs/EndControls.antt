@@ -2,7 +2,7 @@
 use Rattle.std.specs.Prelude.{◌≡◌, Result, IfErr, OnOk}
 use Rattle.amqp_model.specs.End.Controls.{Control}
 use Rattle.amqp_core.specs.Controlling.{AcceptsControl, RefusesControl}
-use Rattle.amqp_core.specs.EndView.{config_at, counters_of, endpoint_of, role_played, settings_at}
+use Rattle.amqp_core.specs.EndView.{config_at, counters_of, endpoint_of, heard_in, role_played, settings_at}
 use Rattle.amqp_core.specs.declared.end.End.{End}
 use Rattle.amqp_core.specs.declared.faults.AskFault.{AskFault}
 use Rattle.amqp_core.specs.declared.roles.Role.{Ghosts}
@@ -13,6 +13,7 @@ pub record Controlled {A R H : Type 0} {G : Ghosts R H} (old : End R H G) (contr
   pub accepted : OnOk result (AcceptsControl (role_played old) (config_at old) control (endpoint_of old) (endpoint_of new))
   -- Refused: the fault is the refusal that applies, or out of memory; the end stays as it is.
   pub refused : IfErr result (λ fault. RefusesControl (role_played old) (config_at old) control fault (endpoint_of old) (endpoint_of new))
-  -- Its settings stay, and so does what it counts.
+  -- Its settings stay, and so does what it counts and what it heard.
   pub settings : settings_at new ≡ settings_at old
   pub counters : counters_of new ≡ counters_of old
+  pub heard : heard_in new ≡ heard_in old

@@ -2,8 +2,10 @@
 use Rattle.amqp_model.specs.Stream.Endpoint.{Endpoint}
 use Rattle.amqp_model.specs.History.Negotiation.{Config}
 use Rattle.amqp_model.specs.Wire.Notes.{Role}
+use Rattle.amqp_core.specs.Blamed.{tally_view}
 use Rattle.amqp_core.specs.Counters.{Counters}
 use Rattle.amqp_core.specs.EndpointView.{endpoint_view}
+use Rattle.amqp_core.specs.HeardView.{Said, heard_view}
 use Rattle.amqp_core.specs.Settings.{config_view, role_for}
 use Rattle.amqp_core.specs.declared.end.End.{End}
 use Rattle.amqp_core.specs.declared.roles.Role.{Ghosts}
@@ -25,4 +27,8 @@ endpoint_of end = endpoint_view end.inner
 
 -- what it counted since it began
 abbrev pub counters_of : {R H : Type 0} {G : Ghosts R H} → End R H G → Counters
-counters_of end = record { frames = end.frames_taken; octets = end.octets_written }
+counters_of end = record { frames = end.frames_taken; octets = end.octets_written; tally = tally_view end.inner.tally }
+
+-- what it keeps of the other end's words
+abbrev pub heard_in : {R H : Type 0} {G : Ghosts R H} → End R H G → Said
+heard_in end = heard_view end.heard

@@ -9,11 +9,8 @@ use Rattle.amqp_model.specs.Lent.Alike.{LentEvent, WithoutContent, Begins, Heads
 use Rattle.amqp_model.specs.Wire.Methods.{Method, octets_at, same_kind}
 use Rattle.amqp_model.specs.Wire.Readings.{Reading, Calls}
 use Rattle.amqp_channel.specs.EventView.{agreed_view}
-use Rattle.amqp_channel.specs.ReadingView.{reading_view}
-use Rattle.amqp_channel.specs.VerdictView.{event_told}
 use Rattle.amqp_channel.specs.declared.verdict.Told.{Told}
 use Rattle.amqp_channel.specs.declared.verdict.Told.TheVariants as told
-use Rattle.amqp_core.specs.VerdictView.{noticed}
 use Rattle.amqp_core.specs.declared.event_ref.EventRef.{EventRef}
 use Rattle.amqp_core.specs.declared.event_ref.EventRef.TheVariants as code
 use Rattle.amqp_core.specs.declared.event_ref.ReasonRef.{ReasonRef}

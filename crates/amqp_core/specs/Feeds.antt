@@ -1,16 +1,19 @@
 -- What a feed of an end does. Read before: what a piece comes to (`Feeding`), and what an end stands for (`Following`).
-use Rattle.std.specs.Prelude.{◌≡◌, true, ℕ, List, Result, IsOk}
+use Rattle.std.specs.Prelude.{◌≡◌, true, false, ℕ, List, Result, IsOk}
 use Rattle.amqp_model.specs.Stream.Endpoint as model
 use Rattle.amqp_model.specs.Stream.Endpoint.{after_feed}
 use Rattle.amqp_model.specs.End.EndVerdict.{takes_octets}
 use Rattle.amqp_model.specs.History.Histories.{History}
 use Rattle.amqp_model.specs.Laws.OctetLaws.{EndpointStandsFor}
 use Rattle.amqp_core.specs.Answering.{ran_out}
+use Rattle.amqp_core.specs.Blamed.{Blames}
 use Rattle.amqp_core.specs.Dropping.{DropsInPlace}
-use Rattle.amqp_core.specs.EndView.{config_at, endpoint_of, role_played, settings_at}
+use Rattle.amqp_core.specs.EndView.{counters_of, config_at, endpoint_of, role_played, settings_at, heard_in}
+use Rattle.amqp_core.specs.EndHeard.{HearingGoesOn}
 use Rattle.amqp_core.specs.FeedFaults.{FeedFaults}
 use Rattle.amqp_core.specs.Feeding.{IsFed, seen}
 use Rattle.amqp_core.specs.Following.{GoesOn}
+use Rattle.amqp_core.specs.Hearing.{Hears}
 use Rattle.amqp_core.specs.Queries.{VerdictsOfHistory}
 use Rattle.amqp_core.specs.declared.end.End.{End}
 use Rattle.amqp_core.specs.declared.faults.CoreFault.{CoreFault}
@@ -41,5 +44,16 @@ pub record Feeds {R H : Type 0} {G : Ghosts R H} (old : End R H G) (piece : List
   pub faults : FeedFaults result (endpoint_of old) (endpoint_of new)
   -- What the end does with a frame is what each of these histories gives.
   pub verdicts : VerdictsOfHistory old
+  -- The octets taken are counted, and a fault of theirs is blamed.
+  pub blames : Blames (role_played old) result (endpoint_of old) piece (fed_to old piece) (counters_of old).tally (counters_of new).tally
+  -- What the handshake awaits is heard, and what a close is about of which is told; nothing else is.
+  pub heard :
+      Hears (role_played old) (config_at old) result (endpoint_of old) piece (fed_to old piece) (heard_in old)
+      (heard_in new)
+  -- Of each history of which it kept what was heard in the handshake, it does so still.
+  pub hearing :
+      takes_octets (endpoint_of old).end.phase ≡ true → ran_out result ≡ false
+      → HearingGoesOn (role_played old) (config_at old) (endpoint_of old) piece (endpoint_of new) (heard_in old).methods
+      (heard_in new).methods
   -- Its settings stay.
   pub settings : settings_at new ≡ settings_at old

@@ -1,5 +1,5 @@
 -- What the code keeps of an end's history, in the words of the model, and the room that it has for more.
-use Rattle.std.specs.Prelude.{◌+◌, ◌≤◌, ℕ, List, map, vec_len, vec_capacity}
+use Rattle.std.specs.Prelude.{◌≡◌, ◌+◌, ◌≤◌, ℕ, List, map, vec_len, vec_capacity}
 use Rattle.std.specs.HashMap.{spare}
 use Rattle.amqp_model.specs.Pair.Sent.{Telling}
 use Rattle.amqp_model.specs.Stream.Traces.{Noted}
@@ -23,3 +23,13 @@ pub record HasRoom (ledger : Ledger) (notes octets : ℕ) : Type 0 where
   pub told_fits : vec_len ledger.told + 1 ≤ vec_capacity ledger.told
   pub said_fits : vec_len ledger.said + 1 ≤ vec_capacity ledger.said
   pub fed_fits : vec_len ledger.fed + octets ≤ vec_capacity ledger.fed
+
+-- Room is given back, but for so many octets to write, and nothing else changes.
+pub record GivesBack (to_write : ℕ) (old new : Ledger) : Type 0 where
+  pub room : vec_len new.written + to_write ≤ vec_capacity new.written
+  pub notes : notes_in new ≡ notes_in old
+  pub told : told_in new ≡ told_in old
+  pub said : said_in new ≡ said_in old
+  pub fed : new.fed.items ≡ old.fed.items
+  pub written : new.written.items ≡ old.written.items
+  pub side : new.side ≡ old.side

@@ -1,18 +1,20 @@
 -- What a feed of an end does whose events lend. Read before: what a piece comes to (`Lending`), and what such an end
 -- stands for (`StreamHistory`).
-use Rattle.std.specs.Prelude.{◌≡◌, true, ℕ, List, Result, IsOk, IfErr}
-use Rattle.amqp_model.specs.End.Channels as channels
+use Rattle.std.specs.Prelude.{◌≡◌, true, false, ℕ, List, Result, IsOk}
 use Rattle.amqp_model.specs.End.EndVerdict.{takes_octets}
 use Rattle.amqp_model.specs.History.Histories.{History}
 use Rattle.amqp_model.specs.Laws.StreamingLaws.{StreamStandsFor}
 use Rattle.amqp_model.specs.Stream.Endpoint as model
 use Rattle.amqp_model.specs.Stream.Endpoint.{after_feed}
 use Rattle.amqp_core.specs.Answering.{ran_out}
+use Rattle.amqp_core.specs.Blamed.{Blames}
 use Rattle.amqp_core.specs.Dropping.{DropsInPlace}
 use Rattle.amqp_core.specs.FeedFaults.{FeedFaults}
+use Rattle.amqp_core.specs.Hearing.{Hears}
 use Rattle.amqp_core.specs.Lending.{IsLent, LentSeen}
+use Rattle.amqp_core.specs.StreamHeard.{StreamHearingGoesOn}
 use Rattle.amqp_core.specs.StreamHistory.{StreamGoesOn}
-use Rattle.amqp_core.specs.StreamView.{config_at, endpoint_of, role_played, settings_at}
+use Rattle.amqp_core.specs.StreamView.{config_at, counters_of, endpoint_of, role_played, settings_at, heard_in}
 use Rattle.amqp_core.specs.declared.faults.CoreFault.{CoreFault}
 use Rattle.amqp_core.specs.declared.roles.Role.{Ghosts}
 use Rattle.amqp_core.specs.declared.stream.StreamEnd.{StreamEnd}
@@ -44,5 +46,17 @@ pub record Lends {R H : Type 0} {G : Ghosts R H} (old : StreamEnd R H G) (piece 
   pub memory : ran_out result ≡ true → takes_octets (endpoint_of old).end.phase ≡ true
   -- After a fault the end has failed. One that is closed, or had failed before, takes nothing and stays as it is.
   pub faults : FeedFaults result (endpoint_of old) (endpoint_of new)
+  -- The octets taken are counted, and a fault of theirs is blamed.
+  pub blames : Blames (role_played old) result (endpoint_of old) piece (lent_to old piece) (counters_of old).tally
+      (counters_of new).tally
+  -- What the handshake awaits is heard, and what a close is about of which is told; nothing else is.
+  pub heard :
+      Hears (role_played old) (config_at old) result (endpoint_of old) piece (lent_to old piece) (heard_in old)
+      (heard_in new)
+  -- Of each history of which it kept what was heard in the handshake, it does so still.
+  pub hearing :
+      takes_octets (endpoint_of old).end.phase ≡ true → ran_out result ≡ false
+      → StreamHearingGoesOn (role_played old) (config_at old) (endpoint_of old) piece (endpoint_of new)
+      (heard_in old).methods (heard_in new).methods
   -- Its settings stay.
   pub settings : settings_at new ≡ settings_at old

@@ -24,9 +24,15 @@ pub mod Gathers
 pub mod VerdictView
 pub mod EventRefView
 pub mod EventRefTexts
+pub mod EventRefOwned
 pub mod Outcomes
 pub mod Laws
 pub mod Answering
+pub mod Blamed
+pub mod Causes
+pub mod HeardView
+pub mod Hearing
+pub mod EndHeard
 pub mod Bounded
 pub mod EndpointView
 pub mod Kept
@@ -54,6 +60,7 @@ pub mod Feeds
 pub mod EndAsks
 pub mod StreamView
 pub mod StreamHistory
+pub mod StreamHeard
 pub mod Lends
 pub mod StreamAsks
 pub mod StreamControls

@@ -5,7 +5,7 @@ use Rattle.amqp_model.specs.End.Asks.{Ask, lowest_free}
 use Rattle.amqp_core.specs.Asked.{number_taken}
 use Rattle.amqp_core.specs.Asking.{AcceptsAsk, RefusesAsk}
 use Rattle.amqp_core.specs.StreamHistory.{StreamAskGoesOn, StreamAskIsOfHistory}
-use Rattle.amqp_core.specs.StreamView.{config_at, endpoint_of, role_played, settings_at}
+use Rattle.amqp_core.specs.StreamView.{config_at, counters_of, endpoint_of, role_played, settings_at, heard_in}
 use Rattle.amqp_core.specs.declared.faults.AskFault.{AskFault}
 use Rattle.amqp_core.specs.declared.roles.Role.{Ghosts}
 use Rattle.amqp_core.specs.declared.stream.StreamEnd.{StreamEnd}
@@ -21,8 +21,10 @@ pub record StreamAsked {A R H : Type 0} {G : Ghosts R H} (old : StreamEnd R H G)
   pub history : OnOk result (StreamAskGoesOn (role_played old) (config_at old) ask (endpoint_of old) (endpoint_of new))
   -- What comes of the ask is what each of these histories gives, memory aside.
   pub of_history : StreamAskIsOfHistory (role_played old) (config_at old) ask (endpoint_of old)
-  -- Its settings stay.
+  -- Its settings stay, and so does what it counts and what it heard.
   pub settings : settings_at new ≡ settings_at old
+  pub counters : counters_of new ≡ counters_of old
+  pub heard : heard_in new ≡ heard_in old
 
 -- The channel that is answered is the one that an open takes.
 abbrev pub StreamAnswersNumber : {R H : Type 0} {G : Ghosts R H} → (old : StreamEnd R H G) → Ask

@@ -2,6 +2,7 @@
 -- contents, to which it is alike, stands for the history (`StreamStandsFor`), and it goes on as that end does.
 use Rattle.std.specs.Prelude.{◌≡◌, cond, Bool, ℕ, List, ◌++◌, take}
 use Rattle.amqp_model.specs.End.Asks.{Ask, ask_verdict, frames_asked}
+use Rattle.amqp_model.specs.End.Controls.{Control, control_verdict}
 use Rattle.amqp_model.specs.End.LawfulHistories.{end_of, then_put}
 use Rattle.amqp_model.specs.History.Histories.{History}
 use Rattle.amqp_model.specs.History.Negotiation.{Config}
@@ -11,6 +12,8 @@ use Rattle.amqp_model.specs.Lent.Alike.{AlikeEndpoints}
 use Rattle.amqp_model.specs.Output.Outputs.{output_octets}
 use Rattle.amqp_model.specs.Stream.Endpoint.{Endpoint, after_feed}
 use Rattle.amqp_model.specs.Wire.Notes.{Role}
+use Rattle.amqp_core.specs.Controlled.{frames_by}
+use Rattle.amqp_core.specs.Controlling.{verdict_at}
 use Rattle.amqp_core.specs.Feeding.{ran_out_of}
 use Rattle.amqp_core.specs.Following.{GoesOn}
 use Rattle.amqp_core.specs.Lending.{AlikeEndpoint}
@@ -48,6 +51,20 @@ StreamAskIsOfHistory role config ask old =
     (history : History) (fed written : List ℕ)
     → StreamStandsFor role config old history fed written
     → ask_verdict role (end_of config history) ask ≡ ask_verdict role old.end ask
+
+-- after a heartbeat or a decision that is accepted
+abbrev pub StreamControlGoesOn : (role : Role) → Config role → Control → (old new : Endpoint) → Type 0
+StreamControlGoesOn role config control old new =
+    (history : History) (fed written : List ℕ)
+    → StreamStandsFor role config old history fed written
+    → ∥ StreamStandsFor role config new (then_put (frames_by (verdict_at role config control old)) history) fed written ∥₁
+
+-- what comes of it is what each history gives
+abbrev pub StreamControlIsOfHistory : (role : Role) → Config role → Control → Endpoint → Type 0
+StreamControlIsOfHistory role config control old =
+    (history : History) (fed written : List ℕ)
+    → StreamStandsFor role config old history fed written
+    → control_verdict role config (end_of config history) control ≡ verdict_at role config control old
 
 -- after so many octets of the output were written
 abbrev pub StreamWroteGoesOn : (role : Role) → Config role → (octets : ℕ) → (old new : Endpoint) → Type 0

@@ -5,9 +5,11 @@ use Rattle.amqp_frame.specs.Frame as frames
 use Rattle.amqp_model.specs.Stream.Endpoint.{Endpoint}
 use Rattle.amqp_model.specs.History.Negotiation.{Config}
 use Rattle.amqp_model.specs.Wire.Notes.{Role}
+use Rattle.amqp_core.specs.Blamed.{tally_view}
 use Rattle.amqp_core.specs.Counters.{Counters}
 use Rattle.amqp_core.specs.EndpointView.{endpoint_view}
 use Rattle.amqp_core.specs.EventRefView.{event_ref_there}
+use Rattle.amqp_core.specs.HeardView.{Said, heard_view}
 use Rattle.amqp_core.specs.Lending.{LentSeen}
 use Rattle.amqp_core.specs.Settings.{config_view, role_for}
 use Rattle.amqp_core.specs.declared.faults.CoreFault.{CoreFault}
@@ -32,7 +34,11 @@ endpoint_of end = endpoint_view end.inner
 
 -- what it has counted
 abbrev pub counters_of : {R H : Type 0} {G : Ghosts R H} → StreamEnd R H G → Counters
-counters_of end = record { frames = end.frames_taken; octets = end.octets_written }
+counters_of end = record { frames = end.frames_taken; octets = end.octets_written; tally = tally_view end.inner.tally }
+
+-- what it keeps of the other end's words
+abbrev pub heard_in : {R H : Type 0} {G : Ghosts R H} → StreamEnd R H G → Said
+heard_in end = heard_view end.heard
 
 -- the frame that the last call gave by way of the buffer
 abbrev pub given_in : {R H : Type 0} {G : Ghosts R H} → StreamEnd R H G → Option frames.Frame

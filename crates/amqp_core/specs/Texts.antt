@@ -1,12 +1,16 @@
 -- The texts of phases, notes and asks, each in the words of the program's scripts.
-use Rattle.std.specs.Prelude.{ℕ, List, ◌++◌, codes}
+use Rattle.std.specs.Prelude.{ℕ, List, ◌++◌, Option, Some, None, codes}
 use Rattle.std.specs.Fmt.{decimal}
 use Rattle.amqp_value.specs.Text.{quoted}
+use Rattle.amqp_method.specs.Kinds.{kind_with}
 use Rattle.amqp_method.specs.MessageView.{message_view}
+use Rattle.amqp_method.specs.Methods.{row}
 use Rattle.amqp_method.specs.Texts.{text_of_message}
+use Rattle.amqp_method.specs.declared.kinds.Kind.{Kind}
 use Rattle.amqp_channel.specs.EventTexts.{channel_text, flow_text}
 use Rattle.amqp_core.specs.declared.asks.Ask.{Ask}
 use Rattle.amqp_core.specs.declared.asks.Ask.TheVariants as ask
+use Rattle.amqp_core.specs.declared.heard.Cause.{Cause}
 use Rattle.amqp_core.specs.declared.notes.Direction.{Direction}
 use Rattle.amqp_core.specs.declared.notes.Direction.TheVariants.{Put, Took}
 use Rattle.amqp_core.specs.declared.notes.Note.{Note}
@@ -51,3 +55,11 @@ ask_text (ask.CloseChannel channel code text) = channel_text (codes "close-chann
 ask_text (ask.Close code text) = codes "close " ++ closing_text code text
 ask_text (ask.Blocked reason) = codes "blocked " ++ quoted reason
 ask_text ask.Unblocked = codes "unblocked"
+
+-- the method that is named, or the two numbers where there is none
+abbrev named_or : Option Kind → (class_id method_id : ℕ) → List ℕ
+named_or (Some kind) class_id method_id = (row kind).name
+named_or None class_id method_id = codes "class " ++ (decimal class_id ++ (codes " method " ++ decimal method_id))
+
+abbrev pub cause_text : Cause → List ℕ
+cause_text cause = named_or (kind_with cause.class_id cause.method_id) cause.class_id cause.method_id

@@ -5,7 +5,7 @@ use Rattle.amqp_model.specs.End.LawfulHistories.{then_put}
 use Rattle.amqp_model.specs.History.Histories.{History}
 use Rattle.amqp_core.specs.Asking.{AcceptsAsk, RefusesAsk}
 use Rattle.amqp_core.specs.Tracing.{IsTraceOf, SameLists}
-use Rattle.amqp_core.specs.TracedView.{config_at, role_played, settings_at, traced_of}
+use Rattle.amqp_core.specs.TracedView.{config_at, heard_in, role_played, settings_at, traced_of}
 use Rattle.amqp_core.specs.declared.faults.AskFault.{AskFault}
 use Rattle.amqp_core.specs.declared.roles.Role.{Ghosts}
 use Rattle.amqp_core.specs.declared.traced.Traced.{Traced}
@@ -23,7 +23,8 @@ pub record Asked {A R H : Type 0} {G : Ghosts R H} (old : Traced R H G) (ask : A
       → ∥ IsTraceOf (role_played old) (config_at old) (traced_of new) (then_put (frames_asked (traced_of old).endpoint.end ask) history) ∥₁)
   -- Refused, the lists stay as they are.
   pub same : OnErr result (SameLists (traced_of old) (traced_of new))
-  -- The octets fed and written stay, and so do its settings.
+  -- The octets fed and written stay, and so do its settings and what it heard.
   pub fed : (traced_of new).fed ≡ (traced_of old).fed
   pub written : (traced_of new).written ≡ (traced_of old).written
   pub settings : settings_at new ≡ settings_at old
+  pub heard : heard_in new ≡ heard_in old

@@ -5,7 +5,7 @@ use Rattle.amqp_model.specs.History.Histories.{History}
 use Rattle.amqp_model.specs.End.LawfulHistories.{then_put}
 use Rattle.amqp_core.specs.Controlled.{frames_by}
 use Rattle.amqp_core.specs.Controlling.{AcceptsControl, RefusesControl, verdict_at}
-use Rattle.amqp_core.specs.TracedView.{config_at, role_played, settings_at, traced_of}
+use Rattle.amqp_core.specs.TracedView.{config_at, heard_in, role_played, settings_at, traced_of}
 use Rattle.amqp_core.specs.Tracing.{IsTraceOf, SameLists}
 use Rattle.amqp_core.specs.declared.faults.AskFault.{AskFault}
 use Rattle.amqp_core.specs.declared.roles.Role.{Ghosts}
@@ -26,3 +26,4 @@ pub record ControlledTrace {A R H : Type 0} {G : Ghosts R H} (old : Traced R H G
   pub fed : (traced_of new).fed ≡ (traced_of old).fed
   pub written : (traced_of new).written ≡ (traced_of old).written
   pub settings : settings_at new ≡ settings_at old
+  pub heard : heard_in new ≡ heard_in old

@@ -2,6 +2,7 @@
 use Rattle.amqp_model.specs.History.Negotiation.{Config}
 use Rattle.amqp_model.specs.Wire.Notes.{Role}
 use Rattle.amqp_core.specs.EndView as ends
+use Rattle.amqp_core.specs.HeardView.{Said}
 use Rattle.amqp_core.specs.TracedFields.{kept_of}
 use Rattle.amqp_core.specs.Tracing.{Kept}
 use Rattle.amqp_core.specs.declared.roles.Role.{Ghosts}
@@ -17,6 +18,10 @@ role_played traced = ends.role_played traced.end
 
 abbrev pub config_at : {R H : Type 0} {G : Ghosts R H} → (traced : Traced R H G) → Config (role_played traced)
 config_at traced = ends.config_at traced.end
+
+-- what the end keeps of the other end's words
+abbrev pub heard_in : {R H : Type 0} {G : Ghosts R H} → Traced R H G → Said
+heard_in traced = ends.heard_in traced.end
 
 -- the end, its lists, and the octets that it was fed and wrote
 abbrev pub traced_of : {R H : Type 0} {G : Ghosts R H} → Traced R H G → Kept

@@ -5,18 +5,23 @@ ghost use Rattle.amqp_model.specs.Stream.Endpoint.{after_feed, awaits_opening};
 ghost use Rattle.amqp_model.specs.Stream.Pieces.{reads_frames};
 ghost use Rattle.amqp_model.specs.End.EndVerdict.{takes_octets};
 ghost use Rattle.amqp_core.specs.Answering.{ran_out};
+ghost use Rattle.amqp_core.specs.Blamed.{tally_view, Blames};
 ghost use Rattle.amqp_core.specs.Dropping.{DropsInPlace};
+ghost use Rattle.amqp_core.specs.Hearing.{Hears};
+ghost use Rattle.amqp_core.specs.HeardView.{heard_view};
 ghost use Rattle.amqp_core.specs.Settings.{config_view};
 ghost use Rattle.amqp_core.specs.Stages.{phase_at};
 ghost use Rattle.amqp_core.specs.Lending.{IsLent};
 ghost use Rattle.amqp_core.specs.StepView.{step_seen};
 
 use crate::account::Account;
+use crate::blame::Rule;
 use crate::endpoint::{Endpoint, tune};
 use crate::faults::CoreFault;
+use crate::heard::Heard;
 use crate::step::{Lying, Step, step_heard, step_of};
 use amqp_channel::Reading;
-use amqp_frame::{FrameRef, Place, Splitter, one_frame_at_start};
+use amqp_frame::{FrameRef, Place, Splitter, faults_are_judged, one_frame_at_start};
 use amqp_model::{bounds, fitting, octets, pieces};
 
 /// The frame that was given by way of the buffer.
@@ -46,6 +51,9 @@ impl Endpoint {
             (endpoint_view self.new) }
         ensures sound { IsSound self.new }
         ensures settings { self.new.connection.settings ≡ self.old.connection.settings }
+        ensures tally { Blames (role_at self.old) result (endpoint_view self.old) piece.now
+            (after_feed (role_at self.old) (config_view self.old.connection.settings) (endpoint_view self.old) piece.now)
+            (tally_view self.old.tally) (tally_view self.new.tally) }
     {
         let mut account = Account::new();
         let answer = self.hear(piece, &mut account);
@@ -54,7 +62,7 @@ impl Endpoint {
 
     /// Octets of frames.
     #[inline(always)]
-    fn read_lent<'a>(&mut self, piece: &'a [u8]) -> Result<Step<'a>, CoreFault>
+    fn read_lent<'a>(&mut self, piece: &'a [u8], heard: &mut Heard) -> Result<Step<'a>, CoreFault>
         requires sound { IsSound self.old }
         requires lends { self.old.connection.settings.lends ≡ true }
         requires reads { reads_frames (role_at self.old) (phase_at self.old.connection.stage) ≡ true }
@@ -66,8 +74,14 @@ impl Endpoint {
             (endpoint_view self.new) }
         // A frame that is dropped takes no memory, where it lies whole in the piece.
         ensures in_place { DropsInPlace (role_at self.old) (endpoint_view self.old) piece.now → IsOk result }
+        ensures heard { Hears (role_at self.old) (config_view self.old.connection.settings) result
+            (endpoint_view self.old) piece.now (after_feed (role_at self.old) (config_view self.old.connection.settings)
+            (endpoint_view self.old) piece.now) (heard_view heard.old) (heard_view heard.new) }
         ensures sound { IsSound self.new }
         ensures settings { self.new.connection.settings ≡ self.old.connection.settings }
+        ensures tally { Blames (role_at self.old) result (endpoint_view self.old) piece.now
+            (after_feed (role_at self.old) (config_view self.old.connection.settings) (endpoint_view self.old) piece.now)
+            (tally_view self.old.tally) (tally_view self.new.tally) }
     {
         pieces::pieces_are_split();
         pieces::unfinished_is_held();
@@ -75,13 +89,20 @@ impl Endpoint {
         bounds::ends_are_bounded();
         one_frame_at_start();
         octets::judged_is_said();
+        faults_are_judged();
+        let pending = self.splitter.pending();
         let advanced = match self.splitter.advance(piece) {
             Ok(advanced) => advanced,
             Err(fault) => {
-                return Err(self.connection.stop_lent(&mut self.outbox, fault.kind));
+                let answer = self.connection.stop_lent(&mut self.outbox, fault.kind);
+                let octets = self.splitter.taken_to_fault();
+                self.tally
+                    .blame_octets(pending, octets, Rule::Framing(fault.kind), answer);
+                return Err(answer);
             }
         };
         let octets = advanced.taken;
+        self.tally.count(octets);
         let Some(place) = advanced.place else {
             return Ok(Step { octets, came: None });
         };
@@ -90,7 +111,7 @@ impl Endpoint {
                 let reading = Reading::of(frame);
                 let answer = self
                     .connection
-                    .receive_lent(&mut self.outbox, frame, reading);
+                    .receive_lent(&mut self.outbox, frame, reading, &mut self.tally, heard);
                 tune(&mut self.splitter, self.connection.stage);
                 step_of(octets, frame.channel, Lying::Piece(reading), answer)
             }
@@ -100,7 +121,7 @@ impl Endpoint {
                 let reading = Reading::of(frame);
                 let answer = self
                     .connection
-                    .receive_lent(&mut self.outbox, frame, reading);
+                    .receive_lent(&mut self.outbox, frame, reading, &mut self.tally, heard);
                 tune(&mut self.splitter, self.connection.stage);
                 step_of(octets, number, Lying::Buffer, answer)
             }
@@ -108,7 +129,11 @@ impl Endpoint {
     }
 
     /// Takes octets up to the end of the next frame, or of the protocol header at a server that awaits it.
-    pub(crate) fn advance<'a>(&mut self, piece: &'a [u8]) -> Result<Step<'a>, CoreFault>
+    pub(crate) fn advance<'a>(
+        &mut self,
+        piece: &'a [u8],
+        heard: &mut Heard,
+    ) -> Result<Step<'a>, CoreFault>
         requires sound { IsSound self.old }
         requires lends { self.old.connection.settings.lends ≡ true }
         ensures lent { IsLent (role_at self.old) (config_view self.old.connection.settings)
@@ -125,8 +150,14 @@ impl Endpoint {
             ≡ endpoint_view self.old }
         ensures within { IfOk result (λ step. step.octets ≤ length piece.now) }
         ensures progress { IfOk result (λ step. piece.now ≢ [] → 0 < step.octets) }
+        ensures heard { Hears (role_at self.old) (config_view self.old.connection.settings) result
+            (endpoint_view self.old) piece.now (after_feed (role_at self.old) (config_view self.old.connection.settings)
+            (endpoint_view self.old) piece.now) (heard_view heard.old) (heard_view heard.new) }
         ensures sound { IsSound self.new }
         ensures settings { self.new.connection.settings ≡ self.old.connection.settings }
+        ensures tally { Blames (role_at self.old) result (endpoint_view self.old) piece.now
+            (after_feed (role_at self.old) (config_view self.old.connection.settings) (endpoint_view self.old) piece.now)
+            (tally_view self.old.tally) (tally_view self.new.tally) }
     {
         octets::cut_changes_nothing();
         if self.connection.stage.is_closed() {
@@ -138,6 +169,6 @@ impl Endpoint {
         if self.awaits_header() {
             return self.hear_lent(piece);
         }
-        self.read_lent(piece)
+        self.read_lent(piece, heard)
     }
 }

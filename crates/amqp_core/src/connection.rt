@@ -2,7 +2,9 @@
 ghost use Rattle.amqp_core.specs.FreeBefore.{FreeBefore};
 ghost use Rattle.amqp_core.specs.Gathers.{Gathers};
 
+mod blaming;
 mod handshake;
+mod hear;
 mod lend;
 mod receive;
 mod reply;

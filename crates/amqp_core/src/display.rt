@@ -5,9 +5,10 @@ ghost use Rattle.amqp_value.specs.Text.{quoted};
 ghost use Rattle.amqp_method.specs.MessageView.{message_view};
 ghost use Rattle.amqp_method.specs.Texts.{bit_text, text_of_message};
 ghost use Rattle.amqp_channel.specs.EventTexts.{channel_text, flow_text};
-ghost use Rattle.amqp_core.specs.Texts.{phase_text, direction_text, word_text, note_text, closing_text, ask_text};
+ghost use Rattle.amqp_core.specs.Texts.{phase_text, direction_text, word_text, note_text, closing_text, ask_text, cause_text};
 
 use crate::asks::Ask;
+use crate::heard::Cause;
 use crate::notes::{Direction, Note, Word};
 use crate::stage::Phase;
 use amqp_method::Message;
@@ -26,6 +27,20 @@ impl fmt::Display for Phase {
             Phase::Closed => "closed",
             Phase::Failed => "failed",
         })
+    }
+}
+
+/// Prints the method by name, as `basic.publish`, or `class 60 method 41` where there is none.
+impl fmt::Display for Cause {
+    ghost output = { λ cause. Some (cause_text cause) };
+
+    fn fmt<W: fmt::Write>(&self, f: &mut fmt::Formatter<W>) -> fmt::Result {
+        let class_id = self.class_id;
+        let method_id = self.method_id;
+        match self.kind() {
+            Some(kind) => f.write_str(kind.name()),
+            None => write!(f, "class {class_id} method {method_id}"),
+        }
     }
 }
 

@@ -1,4 +1,5 @@
 //! One end of a connection, a client or a server.
+ghost use Rattle.std.specs.Option.{option_copied};
 ghost use Rattle.std.specs.Prelude.{ℕ, List, ◌≡◌, ◌≢◌, ◌<◌, ◌≤◌, true, false, [], length, IsOk, IfOk, IfErr, OnOk, MatchOption, Some, None, Err};
 ghost use Rattle.amqp_method.specs.HeaderView.{properties_view};
 ghost use Rattle.amqp_method.specs.Kinds.{has_content};
@@ -14,6 +15,7 @@ ghost use Rattle.amqp_model.specs.End.Controls as controls;
 ghost use Rattle.amqp_model.specs.End.EndVerdict.{takes_octets};
 ghost use Rattle.amqp_model.specs.Stream.Endpoint.{after_feed, after_wrote, new_endpoint};
 ghost use Rattle.amqp_model.specs.End.Fitting.{config_fault};
+ghost use Rattle.amqp_model.specs.End.Heard.{nothing_heard};
 ghost use Rattle.amqp_model.specs.History.Histories.{History};
 ghost use Rattle.amqp_model.specs.History.Negotiation as negotiation;
 ghost use Rattle.amqp_model.specs.History.Negotiation.{frame_limit};
@@ -42,6 +44,9 @@ ghost use Rattle.amqp_channel.specs.StateView.{state_view};
 ghost use Rattle.amqp_core.specs.Kept.{IsKept, agreed_prop};
 ghost use Rattle.amqp_core.specs.Faults.{config_fault_view};
 ghost use Rattle.amqp_core.specs.Dropping.{DropsInPlace};
+ghost use Rattle.amqp_core.specs.EndHeard.{IsLastHeard};
+ghost use Rattle.amqp_core.specs.Hearing.{Hears};
+ghost use Rattle.amqp_core.specs.HeardView.{cause_there, kept_of_kind, method_there, nothing_said};
 ghost use Rattle.amqp_core.specs.Feeding.{event_in, seen, IsFed, IsMessage, SameButChannels};
 ghost use Rattle.amqp_core.specs.Following.{GoesOn};
 ghost use Rattle.amqp_core.specs.Settings.{config_view, role_for};
@@ -50,10 +55,12 @@ ghost use Rattle.amqp_core.specs.Stages.{phase_name};
 use crate::account::Account;
 use crate::allowing::Place;
 use crate::asks::{Ask, LentAsk};
+use crate::blame::Blame;
 use crate::config::Config;
 use crate::controls::LentControl;
 use crate::endpoint::Endpoint;
 use crate::faults::{AskFault, ConfigFault, CoreFault};
+use crate::heard::{Cause, Heard};
 use crate::lent_message::LentMessage;
 use crate::notes::Note;
 use crate::roles::Role;
@@ -61,7 +68,7 @@ use crate::stage::Phase;
 use crate::taken::Taken;
 use amqp_channel::{Agreed, ChannelState, Side};
 use amqp_method::{Kind, Message, Method, Properties};
-use amqp_model::{answers, arrangement, bounds, fitting, octets, one_end, replies, traces};
+use amqp_model::{answers, arrangement, bounds, fitting, heard, octets, one_end, replies, traces};
 use amqp_value::ShortStr;
 use std::alloc::Global;
 use std::marker::PhantomData;
@@ -91,6 +98,7 @@ pub struct End<R: Role> {
     /// how many frames were taken, and how many octets of the output were written, up to the greatest number
     pub(crate) frames_taken: u64,
     pub(crate) octets_written: u64,
+    pub(crate) heard: Heard,
     pub ghost kept: { IsKept inner } by { Prim.hlevel (props, agreed_prop) },
     pub ghost plays: { role_at inner ≡ R.role },
     pub ghost gathers: { inner.connection.settings.lends ≡ false },
@@ -109,10 +117,11 @@ fn counted(before: u64, took: Option<Note>) -> u64
 impl<R: Role> End<R> {
     ghost use Rattle.amqp_core.specs.AccountView.{IsAccount, came_by, taken_by};
     ghost use Rattle.amqp_core.specs.Beginning.{BeginsHistory};
+    ghost use Rattle.amqp_core.specs.Blamed.{blame_view, Blames};
     ghost use Rattle.amqp_core.specs.Counters.{CountsFrame};
     ghost use Rattle.amqp_core.specs.EndControls.{Controlled};
     ghost use Rattle.amqp_core.specs.EndAsks.{AnswersLowest, AnswersNumber, Asked};
-    ghost use Rattle.amqp_core.specs.EndView.{config_at, counters_of, endpoint_of, role_played, settings_at};
+    ghost use Rattle.amqp_core.specs.EndView.{config_at, counters_of, endpoint_of, heard_in, role_played, settings_at};
     ghost use Rattle.amqp_core.specs.Feeds.{Feeds, fed_to};
     ghost use Rattle.amqp_core.specs.FeedFaults.{FeedFaults};
     ghost use Rattle.amqp_core.specs.Feeding.{SameEndpoint, ran_out_of};
@@ -128,6 +137,7 @@ impl<R: Role> End<R> {
         // It stands for the empty history, and what it writes of itself reads back.
         ensures history { IfOk result (λ end. BeginsHistory end) }
         ensures counters { IfOk result (λ end. counters_of end ≡ nothing_counted) }
+        ensures heard { IfOk result (λ end. heard_in end ≡ nothing_said) }
         ensures fault { IfErr result (λ fault. config_fault_view fault ≡ config_fault (role_for (settings_of R.hello_of config)) (config_view (settings_of R.hello_of config))) }
     {
         octets::octets_follow();
@@ -143,6 +153,7 @@ impl<R: Role> End<R> {
             role: PhantomData,
             frames_taken: 0,
             octets_written: 0,
+            heard: Heard::nothing(),
         })
     }
 
@@ -162,6 +173,7 @@ impl<R: Role> End<R> {
     {
         octets::cut_changes_nothing();
         one_end::record_reads();
+        heard::heard_is_kept();
         let mut account = Account::new();
         let answer = self.advance(piece, &mut account);
         account.taken(answer)
@@ -181,14 +193,19 @@ impl<R: Role> End<R> {
         // A message that is told leaves all but its channel as it was.
         ensures message { OnOk result (IsMessage (parts_there account.new.parts) → SameButChannels (endpoint_of self.old) (endpoint_of self.new)) }
         ensures grows { GrowsLittle (endpoint_of self.old).output (endpoint_of self.new).output }
+        ensures heard { Hears (role_played self.old) (config_at self.old) result (endpoint_of self.old) piece.now
+            (fed_to self.old piece.now) (heard_in self.old) (heard_in self.new) }
         ensures frames { (counters_of self.new).frames ≡ counted_with (note_there account.new.took) (counters_of self.old).frames }
         ensures octets { (counters_of self.new).octets ≡ (counters_of self.old).octets }
+        ensures tally { Blames (role_played self.old) result (endpoint_of self.old) piece.now
+            (after_feed (role_played self.old) (config_at self.old) (endpoint_of self.old) piece.now)
+            (counters_of self.old).tally (counters_of self.new).tally }
         ensures settings { settings_at self.new ≡ settings_at self.old }
     {
         octets::octets_follow();
         one_end::failed_follows();
         traces::memory_runs_out();
-        let answer = self.inner.feed(piece, account);
+        let answer = self.inner.feed(piece, account, &mut self.heard);
         self.frames_taken = counted(self.frames_taken, account.took);
         answer
     }
@@ -198,6 +215,7 @@ impl<R: Role> End<R> {
         requires { takes_octets (endpoint_of self.old).end.phase ≡ true }
         ensures left { SameEndpoint (ran_out_of (endpoint_of self.old)) (endpoint_of self.new) }
         ensures settings { settings_at self.new ≡ settings_at self.old }
+        ensures heard { heard_in self.new ≡ heard_in self.old }
     {
         self.inner.run_out();
     }
@@ -261,6 +279,7 @@ impl<R: Role> End<R> {
         ensures written { endpoint_of self.new ≡ after_wrote octets (endpoint_of self.old) }
         ensures history { WritesOn self.old octets self.new }
         ensures counters { counters_of self.new ≡ counts_octets octets (counters_of self.old) }
+        ensures heard { heard_in self.new ≡ heard_in self.old }
         ensures settings { settings_at self.new ≡ settings_at self.old }
     {
         octets::octets_follow();
@@ -294,6 +313,37 @@ impl<R: Role> End<R> {
         self.inner.connection.stage.heartbeat()
     }
 
+    /// What the other end said in the handshake, as it was taken: a client hears start and tune, a server start-ok,
+    /// tune-ok and open, each from the moment on that it goes on with it. Who logs in, to which virtual host, and what
+    /// the other end can do stands there.
+    ///
+    /// Of other kinds it is None, and so it is after [`End::forget_heard`].
+    pub fn heard(&self, kind: Kind) -> Option<&Method>
+        ensures kept { method_there (option_copied result) ≡ kept_of_kind kind (heard_in self.now).methods }
+        // By each history of which this is what was heard, it is the last method of this kind.
+        ensures history { IsLastHeard (role_played self.now) (config_at self.now) (heard_in self.now).methods kind
+            (method_there (option_copied result)) }
+    {
+        self.heard.of(kind)
+    }
+
+    /// Forgets what the other end said in the handshake, its credentials among it.
+    pub fn forget_heard(&mut self)
+        ensures heard { heard_in self.new ≡ record (heard_in self.old) { methods = nothing_heard } }
+        ensures same { endpoint_of self.new ≡ endpoint_of self.old }
+        ensures settings { settings_at self.new ≡ settings_at self.old }
+        ensures counters { counters_of self.new ≡ counters_of self.old }
+    {
+        self.heard.forget();
+    }
+
+    /// What the last close of the other end was about, of a channel or of the connection, that an event told of.
+    pub fn closed_for(&self) -> Option<Cause>
+        ensures { cause_there result ≡ (heard_in self.now).cause }
+    {
+        self.heard.closed_for
+    }
+
     /// How many frames the end took, heartbeats too, whatever came of them. Where it is the same at two looks no frame
     /// came between them. It stays at the greatest number of 64 bits.
     pub fn frames_taken(&self) -> u64
@@ -308,6 +358,23 @@ impl<R: Role> End<R> {
         ensures { result ≡ (counters_of self.now).octets }
     {
         self.octets_written
+    }
+
+    /// How many octets the end took in all, also those with which it found fault. It stays at the greatest number of 64
+    /// bits.
+    pub fn octets_taken(&self) -> u64
+        ensures { result ≡ (counters_of self.now).tally.taken }
+    {
+        self.inner.tally.octets
+    }
+
+    /// What was wrong, where the end found fault with octets that it took. There is none before, nor where memory was
+    /// refused.
+    pub fn blame(&self) -> Option<&Blame>
+        ensures { MatchOption result ((counters_of self.now).tally.blame ≡ None)
+            (λ blame. (counters_of self.now).tally.blame ≡ Some (blame_view blame.now)) }
+    {
+        self.inner.tally.blame.as_ref()
     }
 
     /// The state of a channel. Channel 0 and the numbers above the agreed maximum are Free.

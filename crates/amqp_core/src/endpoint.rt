@@ -15,6 +15,7 @@ ghost use Rattle.amqp_model.specs.Stream.Pieces.{reads_frames};
 ghost use Rattle.amqp_outbox.specs.OutboxView.{begins_with};
 ghost use Rattle.amqp_channel.specs.Roles.{role_of};
 ghost use Rattle.amqp_core.specs.AccountView.{IsFresh};
+ghost use Rattle.amqp_core.specs.Blamed.{Blames};
 ghost use Rattle.amqp_core.specs.AskNoting.{IsChannelOf, IsSizeOf};
 ghost use Rattle.amqp_core.specs.AskView.{lent_view};
 ghost use Rattle.amqp_core.specs.Asked.{number_taken};
@@ -24,6 +25,8 @@ ghost use Rattle.amqp_core.specs.ControlView.{control_view};
 ghost use Rattle.amqp_core.specs.Controlled.{refusal_by};
 ghost use Rattle.amqp_core.specs.Controlling.{AcceptsControl, RefusesControl, verdict_at};
 ghost use Rattle.amqp_core.specs.Dropping.{DropsInPlace};
+ghost use Rattle.amqp_core.specs.Hearing.{Hears};
+ghost use Rattle.amqp_core.specs.HeardView.{heard_view};
 ghost use Rattle.amqp_channel.specs.PartsView.{parts_there};
 ghost use Rattle.amqp_core.specs.Feeding.{event_in, ran_out_of, IsFed, IsMessage, SameButChannels, SameEndpoint};
 ghost use Rattle.amqp_core.specs.Settings.{config_view, role_for};
@@ -32,13 +35,16 @@ ghost use Rattle.amqp_core.specs.Stages.{agreed_at, phase_at};
 use crate::account::Account;
 use crate::allowing::Place;
 use crate::asks::LentAsk;
+use crate::blame::Rule;
 use crate::connection::Connection;
 use crate::controls::LentControl;
 use crate::faults::{AskFault, CoreFault, OutOfMemory};
+use crate::heard::Heard;
 use crate::opening::going_on;
 use crate::owed::Owed;
 use crate::settings::Settings;
 use crate::stage::Stage;
+use crate::tally::Tally;
 use amqp_channel::{EventParts, Side};
 use amqp_frame::{PROTOCOL_HEADER, Splitter, faults_are_judged, one_frame_at_start};
 use amqp_model::{bounds, controls, fitting, octets, one_end, pieces};
@@ -52,6 +58,7 @@ pub(crate) struct Endpoint {
     /// how many octets of the protocol header a server has heard that awaits it
     pub(crate) heard: usize,
     pub(crate) outbox: Outbox,
+    pub(crate) tally: Tally,
 }
 
 /// Written out, so that no crate above proves again of each part that it can be dropped.
@@ -62,6 +69,7 @@ impl Drop for Endpoint {
             splitter: _,
             heard: _,
             outbox: _,
+            tally: _,
         } = self;
     }
 }
@@ -101,6 +109,7 @@ fn begun(alloc: Global, side: Side) -> Result<Outbox, OutOfMemory>
 
 impl Endpoint {
     ghost use Rattle.amqp_core.specs.AccountView.{IsAccount, came_by, taken_by};
+    ghost use Rattle.amqp_core.specs.Blamed.{no_octets, tally_view};
     ghost use Rattle.amqp_core.specs.EndpointView.{endpoint_view, role_at, IsSound};
     ghost use Rattle.amqp_core.specs.Growth.{GrowsLittle};
 
@@ -117,6 +126,9 @@ impl Endpoint {
         ensures grows { GrowsLittle (endpoint_view self.old).output (endpoint_view self.new).output }
         ensures sound { IsSound self.new }
         ensures settings { self.new.connection.settings ≡ self.old.connection.settings }
+        ensures tally { Blames (role_at self.old) result (endpoint_view self.old) piece.now
+            (after_feed (role_at self.old) (config_view self.old.connection.settings) (endpoint_view self.old) piece.now)
+            (tally_view self.old.tally) (tally_view self.new.tally) }
     {
         pieces::pieces_are_compared();
         pieces::unfinished_is_held();
@@ -129,24 +141,34 @@ impl Endpoint {
             };
             account.owed = Owed::Start;
             EventParts::Quiet.put_in(&mut account.parts);
+            self.tally.count(same);
             return Ok(());
         }
         if same == piece.len() {
             self.heard += same;
+            self.tally.count(same);
             return Ok(());
         }
         account.octets = same + 1;
+        let heard = self.heard;
         self.heard = 0;
         self.connection.fail();
         let Ok(()) = self.outbox.begin_with(&PROTOCOL_HEADER) else {
             return Err(CoreFault::OutOfMemory);
         };
+        self.tally
+            .blame_octets(heard, same + 1, Rule::ProtocolHeader, CoreFault::Fatal);
         Err(CoreFault::Fatal)
     }
 
     /// Octets of frames. It stands where it is called, which spares each frame the way there.
     #[inline(always)]
-    fn read(&mut self, piece: &[u8], account: &mut Account) -> Result<(), CoreFault>
+    fn read(
+        &mut self,
+        piece: &[u8],
+        account: &mut Account,
+        heard: &mut Heard,
+    ) -> Result<(), CoreFault>
         requires sound { IsSound self.old }
         requires gathers { self.old.connection.settings.lends ≡ false }
         requires fresh { IsFresh account.old }
@@ -157,9 +179,15 @@ impl Endpoint {
         ensures account { ran_out result ≡ false → IsAccount (role_at self.old) (config_view self.old.connection.settings) (endpoint_view self.old) piece.now (after_feed (role_at self.old) (config_view self.old.connection.settings) (endpoint_view self.old) piece.now) account.new.octets (came_by self.old.connection.settings account.new (event_in (taken_by result account.new))) }
         // A message that is told leaves all but its channel as it was.
         ensures message { OnOk result (IsMessage (parts_there account.new.parts) → SameButChannels (endpoint_view self.old) (endpoint_view self.new)) }
+        ensures heard { Hears (role_at self.old) (config_view self.old.connection.settings) result
+            (endpoint_view self.old) piece.now (after_feed (role_at self.old) (config_view self.old.connection.settings)
+            (endpoint_view self.old) piece.now) (heard_view heard.old) (heard_view heard.new) }
         ensures grows { GrowsLittle (endpoint_view self.old).output (endpoint_view self.new).output }
         ensures sound { IsSound self.new }
         ensures settings { self.new.connection.settings ≡ self.old.connection.settings }
+        ensures tally { Blames (role_at self.old) result (endpoint_view self.old) piece.now
+            (after_feed (role_at self.old) (config_view self.old.connection.settings) (endpoint_view self.old) piece.now)
+            (tally_view self.old.tally) (tally_view self.new.tally) }
     {
         pieces::pieces_are_split();
         pieces::unfinished_is_held();
@@ -169,18 +197,26 @@ impl Endpoint {
         octets::judged_is_said();
         faults_are_judged();
         fitting::frames_are_within();
+        let pending = self.splitter.pending();
         let fed = match self.splitter.feed_ref(piece) {
             Ok(fed) => fed,
             Err(fault) => {
-                account.octets = self.splitter.taken_to_fault();
-                return Err(self.connection.stop(&mut self.outbox, fault.kind, account));
+                let octets = self.splitter.taken_to_fault();
+                account.octets = octets;
+                let answer = self.connection.stop(&mut self.outbox, fault.kind, account);
+                self.tally
+                    .blame_octets(pending, octets, Rule::Framing(fault.kind), answer);
+                return Err(answer);
             }
         };
         account.octets = fed.taken;
+        self.tally.count(fed.taken);
         let Some(frame) = fed.frame else {
             return Ok(());
         };
-        let answer = self.connection.receive(&mut self.outbox, frame, account);
+        let answer = self
+            .connection
+            .receive(&mut self.outbox, frame, account, &mut self.tally, heard);
         tune(&mut self.splitter, self.connection.stage);
         answer
     }
@@ -191,6 +227,7 @@ impl Endpoint {
         ensures view { IfOk result (λ end. endpoint_view end ≡ new_endpoint (role_for settings)) }
         ensures sound { IfOk result IsSound }
         ensures settings { IfOk result (λ end. end.connection.settings ≡ settings) }
+        ensures tally { IfOk result (λ end. tally_view end.tally ≡ no_octets) }
     {
         pieces::unfinished_is_held();
         bounds::ends_are_bounded();
@@ -200,11 +237,17 @@ impl Endpoint {
             splitter: Splitter::new(alloc, FRAME_MIN),
             heard: 0,
             outbox,
+            tally: Tally::new(),
         })
     }
 
     /// Takes octets up to the end of the next frame, or of the protocol header at a server that awaits it.
-    pub(crate) fn feed(&mut self, piece: &[u8], account: &mut Account) -> Result<(), CoreFault>
+    pub(crate) fn feed(
+        &mut self,
+        piece: &[u8],
+        account: &mut Account,
+        heard: &mut Heard,
+    ) -> Result<(), CoreFault>
         requires sound { IsSound self.old }
         requires gathers { self.old.connection.settings.lends ≡ false }
         requires fresh { IsFresh account.old }
@@ -217,9 +260,15 @@ impl Endpoint {
         ensures account { takes_octets (phase_at self.old.connection.stage) ≡ true → ran_out result ≡ false → IsAccount (role_at self.old) (config_view self.old.connection.settings) (endpoint_view self.old) piece.now (after_feed (role_at self.old) (config_view self.old.connection.settings) (endpoint_view self.old) piece.now) account.new.octets (came_by self.old.connection.settings account.new (event_in (taken_by result account.new))) }
         // A message that is told leaves all but its channel as it was.
         ensures message { OnOk result (IsMessage (parts_there account.new.parts) → SameButChannels (endpoint_view self.old) (endpoint_view self.new)) }
+        ensures heard { Hears (role_at self.old) (config_view self.old.connection.settings) result
+            (endpoint_view self.old) piece.now (after_feed (role_at self.old) (config_view self.old.connection.settings)
+            (endpoint_view self.old) piece.now) (heard_view heard.old) (heard_view heard.new) }
         ensures grows { GrowsLittle (endpoint_view self.old).output (endpoint_view self.new).output }
         ensures sound { IsSound self.new }
         ensures settings { self.new.connection.settings ≡ self.old.connection.settings }
+        ensures tally { Blames (role_at self.old) result (endpoint_view self.old) piece.now
+            (after_feed (role_at self.old) (config_view self.old.connection.settings) (endpoint_view self.old) piece.now)
+            (tally_view self.old.tally) (tally_view self.new.tally) }
     {
         octets::cut_changes_nothing();
         if self.connection.stage.is_closed() {
@@ -231,7 +280,7 @@ impl Endpoint {
         if self.awaits_header() {
             return self.hear(piece, account);
         }
-        self.read(piece, account)
+        self.read(piece, account, heard)
     }
 
     /// Out of memory: the end has failed, and keeps no unfinished octets.
@@ -240,6 +289,7 @@ impl Endpoint {
         ensures left { SameEndpoint (ran_out_of (endpoint_view self.old)) (endpoint_view self.new) }
         ensures sound { IsSound self.new }
         ensures settings { self.new.connection.settings ≡ self.old.connection.settings }
+        ensures tally { tally_view self.new.tally ≡ tally_view self.old.tally }
     {
         self.connection.fail();
         self.heard = 0;
@@ -275,6 +325,7 @@ impl Endpoint {
         ensures written { endpoint_view self.new ≡ after_wrote octets (endpoint_view self.old) }
         ensures sound { IsSound self.new }
         ensures settings { self.new.connection.settings ≡ self.old.connection.settings }
+        ensures tally { tally_view self.new.tally ≡ tally_view self.old.tally }
     {
         pieces::unfinished_is_held();
         self.outbox.wrote(octets);
@@ -319,6 +370,7 @@ impl Endpoint {
         ensures refused { IfErr result (λ fault. RefusesControl (role_at self.old) (config_view self.old.connection.settings) (control_view control.entry) fault (endpoint_view self.old) (endpoint_view self.new)) }
         ensures sound { IsSound self.new }
         ensures settings { self.new.connection.settings ≡ self.old.connection.settings }
+        ensures tally { tally_view self.new.tally ≡ tally_view self.old.tally }
     {
         controls::controls_follow();
         controls::controls_follow_octets();
@@ -337,6 +389,7 @@ impl Endpoint {
         ensures refused { IfErr result (λ fault. RefusesAsk (role_at self.old) (lent_view ask.entry) fault (endpoint_view self.old) (endpoint_view self.new)) }
         ensures sound { IsSound self.new }
         ensures settings { self.new.connection.settings ≡ self.old.connection.settings }
+        ensures tally { tally_view self.new.tally ≡ tally_view self.old.tally }
     {
         pieces::unfinished_is_held();
         fitting::agreed_is_within();

@@ -29,6 +29,9 @@ use std::alloc::Global;
 /// How many channels a call notes something of, at most.
 const MOST_CHANNELS: usize = 3;
 
+/// As long as so many octets at most are written and to be written, room that isn't used is given back.
+const FEW_OCTETS: usize = 4096;
+
 /// What is kept beside an end.
 pub(crate) struct Ledger {
     side: Side,
@@ -92,7 +95,7 @@ fn word_of_reply(reply: Reply) -> Word
 }
 
 impl Ledger {
-    ghost use Rattle.amqp_core.specs.LedgerView.{HasRoom, notes_in, said_in, told_in};
+    ghost use Rattle.amqp_core.specs.LedgerView.{GivesBack, HasRoom, notes_in, said_in, told_in};
 
     pub(crate) fn new(alloc: Global, side: Side) -> Ledger
         ensures notes { notes_in result ≡ [] }
@@ -138,6 +141,25 @@ impl Ledger {
         self.fed.reserve(fed)?;
         self.written.reserve(written)?;
         Ok(())
+    }
+
+    /// Gives back room that isn't used, but for so many octets to write. Where much was written nothing is given back, so that
+    /// what is kept grows by doubling.
+    pub(crate) fn give_back(&mut self, to_write: usize)
+        requires { vec_len self.old.written + to_write ≤ vec_capacity self.old.written }
+        ensures { GivesBack to_write self.old self.new }
+    {
+        let wanted = self.written.len() + to_write;
+        if wanted > FEW_OCTETS {
+            return;
+        }
+        self.written.shrink_to(wanted);
+        if self.told.is_empty() {
+            self.told.shrink_to(0);
+        }
+        if self.said.is_empty() {
+            self.said.shrink_to(0);
+        }
     }
 
     /// A frame is noted.

@@ -6,6 +6,8 @@ ghost use Rattle.std.specs.Prelude.{◌≡◌, IsOk, Option};
 ghost use Rattle.amqp_frame.specs.Frame.{Frame};
 ghost use Rattle.amqp_channel.specs.PartsView.{parts_there};
 ghost use Rattle.amqp_channel.specs.ReadingView.{reading_view};
+ghost use Rattle.amqp_core.specs.Answering.{ran_out};
+ghost use Rattle.amqp_core.specs.Blamed.{code_found};
 ghost use Rattle.amqp_core.specs.StepView.{came_lent, heard_seen, quiet_there, read_at, seen_by, step_seen};
 ghost use Rattle.amqp_core.specs.EventRefView.{channel_lent, event_ref_there, notice_lent, report_lent};
 
@@ -110,6 +112,8 @@ pub(crate) fn step_of<'a>(
 ) -> Result<Step<'a>, CoreFault>
     ensures seen { (given : Option Frame) → step_seen result given ≡ seen_by answer octets number (read_at lying.entry given) }
     ensures ok { IsOk answer → IsOk result }
+    ensures code { code_found result ≡ code_found answer }
+    ensures memory { ran_out result ≡ ran_out answer }
 {
     match answer {
         Ok(report) => Ok(Step {
@@ -147,8 +151,10 @@ pub(crate) fn step_heard<'a>(
     answer: Result<(), CoreFault>,
     account: Account,
 ) -> Result<Step<'a>, CoreFault>
-    ensures { (given : Option Frame)
+    ensures seen { (given : Option Frame)
         → step_seen result given ≡ heard_seen answer account.octets (parts_there account.parts) }
+    ensures code { code_found result ≡ code_found answer }
+    ensures memory { ran_out result ≡ ran_out answer }
 {
     let Account {
         octets,

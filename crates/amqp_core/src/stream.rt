@@ -29,6 +29,7 @@ use crate::asks::{Ask, LentAsk};
 use crate::endpoint::Endpoint;
 use crate::event_ref::EventRef;
 use crate::faults::{AskFault, CoreFault};
+use crate::heard::Heard;
 use crate::roles::Role;
 use crate::stage::Phase;
 use crate::step::{Lying, Step, lend_report};
@@ -36,7 +37,7 @@ use crate::taken::TakenRef;
 use amqp_channel::{Agreed, ChannelState, Reading};
 use amqp_method::{Kind, Message};
 use amqp_model::{
-    answers, arrangement, bounds, fitting, octets, one_end, replies, streaming, traces,
+    answers, arrangement, bounds, fitting, heard, octets, one_end, replies, streaming, traces,
 };
 use amqp_value::ShortStr;
 use std::marker::PhantomData;
@@ -66,6 +67,7 @@ pub struct StreamEnd<R: Role> {
     /// how many frames were taken, and how many octets of the output were written, up to the greatest number
     pub(crate) frames_taken: u64,
     pub(crate) octets_written: u64,
+    pub(crate) heard: Heard,
     pub ghost kept: { IsKept inner } by { Prim.hlevel (props, agreed_prop) },
     pub ghost plays: { role_at inner ≡ R.role },
     pub ghost lends: { inner.connection.settings.lends ≡ true },
@@ -119,7 +121,8 @@ impl<R: Role> StreamEnd<R> {
         traces::memory_runs_out();
         one_end::failed_follows();
         streaming::alike_endpoints_stay_alike();
-        let answer = self.inner.advance(piece);
+        heard::heard_is_kept();
+        let answer = self.inner.advance(piece, &mut self.heard);
         self.frames_taken = counted(self.frames_taken, &answer);
         answer
     }

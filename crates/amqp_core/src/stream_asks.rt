@@ -1,6 +1,7 @@
 //! What an application asks of an end whose events lend, and what such an end answers of itself: as
 //! [`End`](crate::End) does.
-ghost use Rattle.std.specs.Prelude.{◌≡◌, ◌≤◌, ◌<◌, true, false, length, Err, IfOk};
+ghost use Rattle.std.specs.Prelude.{◌≡◌, ◌≤◌, ◌<◌, true, false, length, None, Some, Err, IfOk, MatchOption};
+ghost use Rattle.std.specs.Option.{option_copied};
 ghost use Rattle.amqp_method.specs.HeaderView.{properties_view};
 ghost use Rattle.amqp_method.specs.Kinds.{has_content};
 ghost use Rattle.amqp_method.specs.MessageView.{message_view};
@@ -11,6 +12,7 @@ ghost use Rattle.amqp_model.specs.End.Answers.{channel_state, gathered, reply_du
 ghost use Rattle.amqp_model.specs.End.Asks as asks;
 ghost use Rattle.amqp_model.specs.End.Bounds.{OthersAreFree};
 ghost use Rattle.amqp_model.specs.End.EndVerdict.{takes_octets};
+ghost use Rattle.amqp_model.specs.End.Heard.{nothing_heard};
 ghost use Rattle.amqp_model.specs.History.Negotiation.{frame_limit};
 ghost use Rattle.amqp_model.specs.Output.Outputs.{output_octets, waiting_on};
 ghost use Rattle.amqp_model.specs.Stream.Endpoint.{after_wrote};
@@ -21,11 +23,15 @@ ghost use Rattle.amqp_core.specs.AskView.{ask_view, lent_view};
 ghost use Rattle.amqp_core.specs.Bounded.{IsBounded};
 ghost use Rattle.amqp_core.specs.Counted.{heartbeat_in};
 ghost use Rattle.amqp_core.specs.Counters.{counts_octets};
+ghost use Rattle.amqp_core.specs.EndHeard.{IsLastHeard};
+ghost use Rattle.amqp_core.specs.HeardView.{cause_there, kept_of_kind, method_there};
 ghost use Rattle.amqp_core.specs.LentLetter.{lent_letter};
 ghost use Rattle.amqp_core.specs.Stages.{phase_name};
 
 use crate::asks::{Ask, LentAsk};
+use crate::blame::Blame;
 use crate::faults::AskFault;
+use crate::heard::Cause;
 use crate::lent_message::LentMessage;
 use crate::roles::Role;
 use crate::stage::Phase;
@@ -36,9 +42,10 @@ use amqp_model::{answers, arrangement, bounds, fitting, octets, one_end, replies
 use amqp_value::ShortStr;
 
 impl<R: Role> StreamEnd<R> {
+    ghost use Rattle.amqp_core.specs.Blamed.{blame_view};
     ghost use Rattle.amqp_core.specs.StreamAsks.{StreamAnswersLowest, StreamAnswersNumber, StreamAsked};
     ghost use Rattle.amqp_core.specs.StreamQueries.{AgreedOfHistory, CameOfHistory, DueOfHistory, OutputIsInOrder, PendingOfHistory, PhaseOfHistory, StateOfHistory, WritesOn};
-    ghost use Rattle.amqp_core.specs.StreamView.{config_at, counters_of, endpoint_of, role_played, settings_at};
+    ghost use Rattle.amqp_core.specs.StreamView.{config_at, counters_of, endpoint_of, heard_in, role_played, settings_at};
 
     /// The octets to send next. They stay until [`StreamEnd::wrote`] says that they were sent.
     pub fn output(&self) -> &[u8]
@@ -74,12 +81,40 @@ impl<R: Role> StreamEnd<R> {
         ensures written { endpoint_of self.new ≡ after_wrote octets (endpoint_of self.old) }
         ensures history { WritesOn self.old octets self.new }
         ensures counters { counters_of self.new ≡ counts_octets octets (counters_of self.old) }
+        ensures heard { heard_in self.new ≡ heard_in self.old }
         ensures settings { settings_at self.new ≡ settings_at self.old }
     {
         octets::octets_follow();
         streaming::alike_endpoints_stay_alike();
         self.inner.wrote(octets);
         self.octets_written = self.octets_written.saturating_add(octets as u64);
+    }
+
+    /// What the other end said in the handshake: as [`End::heard`](crate::End::heard).
+    pub fn heard(&self, kind: Kind) -> Option<&Method>
+        ensures kept { method_there (option_copied result) ≡ kept_of_kind kind (heard_in self.now).methods }
+        // By each history of which this is what was heard, it is the last method of this kind.
+        ensures history { IsLastHeard (role_played self.now) (config_at self.now) (heard_in self.now).methods kind
+            (method_there (option_copied result)) }
+    {
+        self.heard.of(kind)
+    }
+
+    /// Forgets what the other end said in the handshake, its credentials among it.
+    pub fn forget_heard(&mut self)
+        ensures heard { heard_in self.new ≡ record (heard_in self.old) { methods = nothing_heard } }
+        ensures same { endpoint_of self.new ≡ endpoint_of self.old }
+        ensures settings { settings_at self.new ≡ settings_at self.old }
+        ensures counters { counters_of self.new ≡ counters_of self.old }
+    {
+        self.heard.forget();
+    }
+
+    /// What the last close of the other end was about, of a channel or of the connection, that an event told of.
+    pub fn closed_for(&self) -> Option<Cause>
+        ensures { cause_there result ≡ (heard_in self.now).cause }
+    {
+        self.heard.closed_for
     }
 
     /// How many frames the end took, heartbeats too: as [`End::frames_taken`](crate::End::frames_taken).
@@ -94,6 +129,21 @@ impl<R: Role> StreamEnd<R> {
         ensures { result ≡ (counters_of self.now).octets }
     {
         self.octets_written
+    }
+
+    /// How many octets the end took in all: as [`End::octets_taken`](crate::End::octets_taken).
+    pub fn octets_taken(&self) -> u64
+        ensures { result ≡ (counters_of self.now).tally.taken }
+    {
+        self.inner.tally.octets
+    }
+
+    /// What was wrong: as [`End::blame`](crate::End::blame).
+    pub fn blame(&self) -> Option<&Blame>
+        ensures { MatchOption result ((counters_of self.now).tally.blame ≡ None)
+            (λ blame. (counters_of self.now).tally.blame ≡ Some (blame_view blame.now)) }
+    {
+        self.inner.tally.blame.as_ref()
     }
 
     /// The heartbeat that was agreed, in seconds; 0 is none, and what stands before tune-ok (section 4.2.7).

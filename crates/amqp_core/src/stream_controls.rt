@@ -6,6 +6,7 @@ use crate::controls::LentControl;
 use crate::faults::AskFault;
 use crate::roles::Role;
 use crate::stream::StreamEnd;
+use amqp_model::{controls as control_laws, fitting};
 use amqp_value::ShortStr;
 
 impl<R: Role> StreamEnd<R> {
@@ -15,6 +16,9 @@ impl<R: Role> StreamEnd<R> {
     fn control(&mut self, control: LentControl<'_>) -> Result<(), AskFault>
         ensures { StreamControlled self.old (control_view control.entry) result self.new }
     {
+        control_laws::controls_follow();
+        control_laws::controls_follow_octets();
+        fitting::owed_read_back();
         self.inner.control(control)
     }
 

@@ -1,5 +1,6 @@
 //! An end of a connection that is kept with its history.
-ghost use Rattle.std.specs.Prelude.{◌≡◌, ◌≢◌, ◌+◌, ◌<◌, ◌≤◌, ℕ, List, [], true, false, ◌++◌, length, map, take as first, vec_len, vec_capacity, Err, IfOk, IfErr, OnOk, OnErr};
+ghost use Rattle.std.specs.Prelude.{◌≡◌, ◌≢◌, ◌+◌, ◌<◌, ◌≤◌, ℕ, List, [], true, false, ◌++◌, length, map, take as first, vec_len, vec_capacity, Err, IfOk, IfErr, OnOk, OnErr, MatchOption, None, Some};
+ghost use Rattle.std.specs.Option.{option_copied};
 ghost use Rattle.amqp_model.specs.Output.ArrangementRules.{FollowsRules};
 ghost use Rattle.amqp_model.specs.End.Answers.{channel_state, gathered, reply_due};
 ghost use Rattle.amqp_method.specs.HeaderView.{properties_view};
@@ -13,6 +14,7 @@ ghost use Rattle.amqp_model.specs.End.Bounds.{OthersAreFree};
 ghost use Rattle.amqp_model.specs.End.Controls.{Admit, AnswerStart, Beat, Refuse};
 ghost use Rattle.amqp_model.specs.End.EndVerdict.{takes_octets};
 ghost use Rattle.amqp_model.specs.End.Fitting.{ConfigWrites};
+ghost use Rattle.amqp_model.specs.End.Heard.{nothing_heard};
 ghost use Rattle.amqp_model.specs.History.Histories.{History};
 ghost use Rattle.amqp_model.specs.History.Negotiation.{frame_limit};
 ghost use Rattle.amqp_model.specs.End.LawfulHistories.{then_put};
@@ -25,11 +27,15 @@ ghost use Rattle.amqp_core.specs.Answering.{ran_out};
 ghost use Rattle.amqp_core.specs.AskView.{ask_view, lent_view};
 ghost use Rattle.amqp_core.specs.Asked.{number_taken};
 ghost use Rattle.amqp_core.specs.Asking.{AcceptsAsk, RefusesAsk};
+ghost use Rattle.amqp_core.specs.Blamed.{blame_view};
 ghost use Rattle.amqp_core.specs.Bounded.{IsBounded};
 ghost use Rattle.amqp_core.specs.ControlView.{control_view};
 ghost use Rattle.amqp_core.specs.Counted.{heartbeat_in};
 ghost use Rattle.amqp_core.specs.EndView as ends;
 ghost use Rattle.amqp_core.specs.Feeding.{seen, IsFed};
+ghost use Rattle.amqp_core.specs.Hearing.{Hears};
+ghost use Rattle.amqp_core.specs.EndHeard.{IsLastHeard};
+ghost use Rattle.amqp_core.specs.HeardView.{cause_there, kept_of_kind, method_there};
 ghost use Rattle.amqp_core.specs.LedgerView.{HasRoom};
 ghost use Rattle.amqp_core.specs.NoteView.{note_view, telling_view};
 ghost use Rattle.amqp_core.specs.Stages.{phase_name};
@@ -37,9 +43,11 @@ ghost use Rattle.amqp_core.specs.TracedFields.{kept_of};
 ghost use Rattle.amqp_core.specs.Tracing.{IsTraceOf, FedGrows, SameLists, TraceGoesOn};
 
 use crate::asks::{Ask, LentAsk};
+use crate::blame::Blame;
 use crate::controls::LentControl;
 use crate::end::End;
 use crate::faults::{AskFault, CoreFault, OutOfMemory};
+use crate::heard::Cause;
 use crate::ledger::Ledger;
 use crate::lent_message::LentMessage;
 use crate::notes::Note;
@@ -81,7 +89,7 @@ impl<R: Role> Traced<R> {
     ghost use Rattle.amqp_core.specs.TracedAsks.{Asked};
     ghost use Rattle.amqp_core.specs.TracedControls.{ControlledTrace};
     ghost use Rattle.amqp_core.specs.TracedQueries.{AgreedOfHistory, DueOfHistory, GatheredOfHistory, HeartbeatOfHistory, OutputOfHistory, PendingOfHistory, PhaseOfHistory, StateOfHistory, VerdictsOfHistory};
-    ghost use Rattle.amqp_core.specs.TracedView.{config_at, role_played, settings_at, traced_of};
+    ghost use Rattle.amqp_core.specs.TracedView.{config_at, heard_in, role_played, settings_at, traced_of};
 
     /// An end with its history, as it begins.
     pub fn new(end: End<R>) -> Result<Traced<R>, OutOfMemory>
@@ -92,10 +100,13 @@ impl<R: Role> Traced<R> {
         ensures written { IfOk result (λ traced. (traced_of traced).written ≡ []) }
         ensures writes { IfOk result (λ traced. ∥ ConfigWrites (config_at traced) ∥₁) }
         ensures settings { IfOk result (λ traced. settings_at traced ≡ ends.settings_at end) }
+        ensures heard { IfOk result (λ traced. heard_in traced ≡ ends.heard_in end) }
     {
         octets::octets_follow();
         let mut ledger = Ledger::new(end.allocator(), end.side());
-        ledger.reserve(0, 0, end.output().len())?;
+        let to_write = end.output().len();
+        ledger.reserve(0, 0, to_write)?;
+        ledger.give_back(to_write);
         Ok(Traced { end, ledger })
     }
 
@@ -114,6 +125,9 @@ impl<R: Role> Traced<R> {
         // What the end does with a frame is what its history gives.
         ensures verdicts { VerdictsOfHistory self.old }
         ensures settings { settings_at self.new ≡ settings_at self.old }
+        ensures heard { Hears (role_played self.old) (config_at self.old) result (traced_of self.old).endpoint piece.now
+            (after_feed (role_played self.old) (config_at self.old) (traced_of self.old).endpoint piece.now)
+            (heard_in self.old) (heard_in self.new) }
     {
         octets::cut_changes_nothing();
         one_end::record_reads();
@@ -133,7 +147,9 @@ impl<R: Role> Traced<R> {
             self.end.run_out();
             return Err(CoreFault::OutOfMemory);
         }
-        take(&mut self.end, &mut self.ledger, piece)
+        let answer = take(&mut self.end, &mut self.ledger, piece);
+        self.ledger.give_back(self.end.output().len());
+        answer
     }
 
     /// Does what an application asks, as [`End::ask`] does. Out of memory, nothing has changed.
@@ -147,6 +163,7 @@ impl<R: Role> Traced<R> {
         ensures fed { (traced_of self.new).fed ≡ (traced_of self.old).fed }
         ensures written { (traced_of self.new).written ≡ (traced_of self.old).written }
         ensures settings { settings_at self.new ≡ settings_at self.old }
+        ensures heard { heard_in self.new ≡ heard_in self.old }
     {
         self.ask_lent(ask.lent())
     }
@@ -181,6 +198,7 @@ impl<R: Role> Traced<R> {
         ensures fed { (traced_of self.new).fed ≡ (traced_of self.old).fed }
         ensures written { (traced_of self.new).written ≡ (traced_of self.old).written }
         ensures settings { settings_at self.new ≡ settings_at self.old }
+        ensures heard { heard_in self.new ≡ heard_in self.old }
     {
         let place = self.end.allow(ask)?;
         let Ok(item) = room_for_ask(&self.end, &mut self.ledger, ask, place) else {
@@ -267,6 +285,7 @@ impl<R: Role> Traced<R> {
         ensures fed { (traced_of self.new).fed ≡ (traced_of self.old).fed }
         ensures history { (history : History) → IsTraceOf (role_played self.old) (config_at self.old) (traced_of self.old) history → IsTraceOf (role_played self.new) (config_at self.new) (traced_of self.new) history }
         ensures settings { settings_at self.new ≡ settings_at self.old }
+        ensures heard { heard_in self.new ≡ heard_in self.old }
     {
         octets::octets_follow();
         traces::memory_runs_out();
@@ -297,6 +316,47 @@ impl<R: Role> Traced<R> {
         ensures history { HeartbeatOfHistory self.now result }
     {
         self.end.heartbeat()
+    }
+
+    /// How many octets the end took in all: as [`End::octets_taken`].
+    pub fn octets_taken(&self) -> u64
+        ensures { result ≡ (ends.counters_of self.now.end).tally.taken }
+    {
+        self.end.octets_taken()
+    }
+
+    /// What was wrong: as [`End::blame`].
+    pub fn blame(&self) -> Option<&Blame>
+        ensures { MatchOption result ((ends.counters_of self.now.end).tally.blame ≡ None)
+            (λ blame. (ends.counters_of self.now.end).tally.blame ≡ Some (blame_view blame.now)) }
+    {
+        self.end.blame()
+    }
+
+    /// What the other end said in the handshake, as [`End::heard`] lends it.
+    pub fn heard(&self, kind: Kind) -> Option<&Method>
+        ensures kept { method_there (option_copied result) ≡ kept_of_kind kind (heard_in self.now).methods }
+        // By each history of which this is what was heard, it is the last method of this kind.
+        ensures history { IsLastHeard (role_played self.now) (config_at self.now) (heard_in self.now).methods kind
+            (method_there (option_copied result)) }
+    {
+        self.end.heard(kind)
+    }
+
+    /// Forgets what the other end said in the handshake, its credentials among it. The octets that it was fed stay.
+    pub fn forget_heard(&mut self)
+        ensures heard { heard_in self.new ≡ record (heard_in self.old) { methods = nothing_heard } }
+        ensures same { traced_of self.new ≡ traced_of self.old }
+        ensures settings { settings_at self.new ≡ settings_at self.old }
+    {
+        self.end.forget_heard();
+    }
+
+    /// What the last close of the other end was about that an event told of, as [`End::closed_for`].
+    pub fn closed_for(&self) -> Option<Cause>
+        ensures { cause_there result ≡ (heard_in self.now).cause }
+    {
+        self.end.closed_for()
     }
 
     /// The state of a channel. Channel 0 and the numbers above the agreed maximum are Free.

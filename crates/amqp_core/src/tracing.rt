@@ -17,9 +17,10 @@ ghost use Rattle.amqp_core.specs.ControlView.{control_view};
 ghost use Rattle.amqp_core.specs.Controlled.{frames_by};
 ghost use Rattle.amqp_core.specs.Controlling.{AcceptsControl, RefusesControl, verdict_at};
 ghost use Rattle.amqp_core.specs.Asking.{AcceptsAsk, RefusesAsk};
-ghost use Rattle.amqp_core.specs.EndView.{config_at, endpoint_of, role_played, settings_at};
+ghost use Rattle.amqp_core.specs.EndView.{config_at, endpoint_of, heard_in, role_played, settings_at};
 ghost use Rattle.amqp_core.specs.Growth.{GrowsLittle};
 ghost use Rattle.amqp_core.specs.Feeding.{event_in, seen, taken_with, IsFed, IsMessage};
+ghost use Rattle.amqp_core.specs.Hearing.{Hears};
 ghost use Rattle.amqp_core.specs.LedgerView.{HasRoom};
 ghost use Rattle.amqp_core.specs.NoteView.{item_there};
 ghost use Rattle.amqp_core.specs.TracedFields.{kept_of};
@@ -102,6 +103,9 @@ pub(crate) fn take<R: Role>(
     ensures within { IfOk result (λ taken. taken.octets ≤ length piece.now) }
     ensures progress { IfOk result (λ taken. piece.now ≢ [] → 0 < taken.octets) }
     ensures grows { GrowsLittle (endpoint_of end.old).output (endpoint_of end.new).output }
+    ensures heard { Hears (role_played end.old) (config_at end.old) result (endpoint_of end.old) piece.now
+        (after_feed (role_played end.old) (config_at end.old) (endpoint_of end.old) piece.now) (heard_in end.old)
+        (heard_in end.new) }
     ensures written { ledger.new.written ≡ ledger.old.written }
     ensures settings { settings_at end.new ≡ settings_at end.old }
     ensures side { ledger.new.side ≡ ledger.old.side }
@@ -185,6 +189,7 @@ pub(crate) fn put<R: Role>(
     ensures fed { ledger.new.fed ≡ ledger.old.fed }
     ensures written { ledger.new.written ≡ ledger.old.written }
     ensures settings { settings_at end.new ≡ settings_at end.old }
+    ensures heard { heard_in end.new ≡ heard_in end.old }
     ensures side { ledger.new.side ≡ ledger.old.side }
 {
     one_end::ask_is_of_history();
@@ -222,6 +227,7 @@ pub(crate) fn put_control<R: Role>(
     ensures fed { ledger.new.fed ≡ ledger.old.fed }
     ensures written { ledger.new.written ≡ ledger.old.written }
     ensures settings { settings_at end.new ≡ settings_at end.old }
+    ensures heard { heard_in end.new ≡ heard_in end.old }
     ensures side { ledger.new.side ≡ ledger.old.side }
 {
     controls::controls_follow();

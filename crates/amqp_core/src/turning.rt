@@ -15,6 +15,7 @@ use crate::stream::StreamEnd;
 impl Endpoint {
     ghost use Rattle.std.specs.Prelude.{cond};
     ghost use Rattle.amqp_channel.specs.ChannelsView.{NoneUnderWay};
+    ghost use Rattle.amqp_core.specs.Blamed.{tally_view};
     ghost use Rattle.amqp_core.specs.EndpointView.{endpoint_view, IsSound};
 
     /// From here on the end lends what it takes.
@@ -23,6 +24,7 @@ impl Endpoint {
         ensures view { endpoint_view self.new ≡ endpoint_view self.old }
         ensures settings { self.new.connection.settings ≡ record self.old.connection.settings { lends = true } }
         ensures sound { IsSound self.new }
+        ensures tally { tally_view self.new.tally ≡ tally_view self.old.tally }
     {
         self.connection.lend();
     }
@@ -35,6 +37,7 @@ impl Endpoint {
             ≡ cond result (record self.old.connection.settings { lends = false }) self.old.connection.settings }
         ensures none { result ≡ true → NoneUnderWay self.old.connection.channels }
         ensures sound { IsSound self.new }
+        ensures tally { tally_view self.new.tally ≡ tally_view self.old.tally }
     {
         self.connection.gather()
     }
@@ -53,6 +56,7 @@ impl<R: Role> End<R> {
             role: self.role,
             frames_taken: self.frames_taken,
             octets_written: self.octets_written,
+            heard: self.heard,
         }
     }
 }
@@ -63,17 +67,20 @@ impl<R: Role> StreamEnd<R> {
     pub fn into_end(self) -> Result<End<R>, StreamEnd<R>>
         ensures ok { IfOk result (λ end. TurnsBack self end) }
         ensures err { IfErr result (λ end. streams.endpoint_of end ≡ streams.endpoint_of self) }
+        ensures heard { IfErr result (λ end. streams.heard_in end ≡ streams.heard_in self) }
     {
         let mut inner = self.inner;
         let role = self.role;
         let frames_taken = self.frames_taken;
         let octets_written = self.octets_written;
+        let heard = self.heard;
         if inner.gather() {
             return Ok(End {
                 inner,
                 role,
                 frames_taken,
                 octets_written,
+                heard,
             });
         }
         Err(StreamEnd {
@@ -81,6 +88,7 @@ impl<R: Role> StreamEnd<R> {
             role,
             frames_taken,
             octets_written,
+            heard,
         })
     }
 }

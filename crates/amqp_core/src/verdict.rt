@@ -1,5 +1,5 @@
 //! What the rules say of a frame that an end takes.
-ghost use Rattle.std.specs.Prelude.{◌≡◌, false};
+ghost use Rattle.std.specs.Prelude.{◌≡◌, false, Some};
 ghost use Rattle.amqp_model.specs.Stream.Endpoint.{Found};
 
 use crate::faults::CoreFault;
@@ -54,12 +54,14 @@ pub(crate) enum Verdict {
 
 impl Fault {
     ghost use Rattle.amqp_core.specs.Answering.{Reports, is_out_of_memory};
+    ghost use Rattle.amqp_core.specs.Blamed.{code_of, code_told};
     ghost use Rattle.amqp_core.specs.ConnectionView.{fault_of};
 
     /// The fault, as the application sees it.
     pub(crate) fn reported(self) -> CoreFault
         ensures says { Reports result (Found (fault_of self)) }
         ensures fault { is_out_of_memory result ≡ false }
+        ensures code { code_told result ≡ Some (code_of (fault_of self)) }
     {
         match self {
             Fault::Peer(code) => CoreFault::Peer(code),

@@ -1,5 +1,5 @@
 //! What comes of a step.
-use amqp_core::{Agreed, AskFault, ChannelState, CoreFault, Phase};
+use amqp_core::{Agreed, AskFault, Cause, ChannelState, CoreFault, Phase};
 use amqp_method::Kind;
 use std::fmt;
 
@@ -22,6 +22,7 @@ pub(crate) enum Came {
     State(ChannelState),
     Agreed(Option<Agreed>),
     Due(Option<Kind>),
+    ClosedFor(Option<Cause>),
     Count(usize),
     Number(u64),
     /// The end has other octets to write.
@@ -71,7 +72,8 @@ impl fmt::Display for Came {
             Came::State(state) => write!(f, "{state:?}"),
             Came::Agreed(Some(agreed)) => write_agreed(f, agreed),
             Came::Due(Some(kind)) => f.write_str(kind.name()),
-            Came::Agreed(None) | Came::Due(None) => f.write_str("none"),
+            Came::ClosedFor(Some(cause)) => write!(f, "{cause}"),
+            Came::Agreed(None) | Came::Due(None) | Came::ClosedFor(None) => f.write_str("none"),
             Came::Count(count) => write!(f, "{count}"),
             Came::Number(number) => write!(f, "{number}"),
             Came::OtherOctets => f.write_str("other octets"),

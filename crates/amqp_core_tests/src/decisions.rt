@@ -1,9 +1,11 @@
 //! What an application does with the connection itself, in words: heartbeats, and what it decides in the handshake.
 use crate::asks::text;
 use crate::came::Came;
+use crate::octets::octets_of;
 use crate::trouble::Trouble;
 use crate::words::{number, word};
 use amqp_core::{AskFault, End, Role};
+use amqp_method::read_method;
 use std::alloc::Global;
 
 /// What comes of what is put, or refused.
@@ -39,4 +41,18 @@ pub(crate) fn answers<R: Role>(
     drop(mechanism);
     drop(locale);
     Ok(came_of(answer))
+}
+
+/// Whether the end heard the method of these octets in the handshake, and kept it.
+pub(crate) fn heard<R: Role>(alloc: Global, end: &End<R>, words: &[&str]) -> Result<bool, Trouble> {
+    let octets = octets_of(alloc, words)?;
+    let Ok(method) = read_method(alloc, &octets) else {
+        return Err(Trouble::NotReadable);
+    };
+    let is_heard = match end.heard(method.kind()) {
+        Some(kept) => *kept == method,
+        None => false,
+    };
+    drop(method);
+    Ok(is_heard)
 }

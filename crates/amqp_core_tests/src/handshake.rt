@@ -57,6 +57,53 @@ static SCRIPT_WITHOUT_BEATS: &str = "there is no heartbeat where an end wants no
      client heartbeat -> 0
      server heartbeat -> 0";
 
+static SCRIPT_OF_HEARD: &str = "what is said in the handshake is heard, and forgotten
+     client heard 000a 000a 00 09 00000000 00000005 'PLAIN 00000005 'en_US -> other octets
+     both open 1
+     client heard 000a 000a 00 09 00000000 00000005 'PLAIN 00000005 'en_US
+     client heard 000a 000a 00 08 00000000 00000005 'PLAIN 00000005 'en_US -> other octets
+     client heard 000a 001e 07ff 00020000 0000
+     client heard 000a 0029 00 -> other octets
+     client heard 000a 001f 07ff 00020000 0000 -> other octets
+     server heard 000a 000b 00000000 05 'PLAIN 0000000c 00 'guest 00 'guest 05 'en_US
+     server heard 000a 001f 07ff 00020000 0000
+     server heard 000a 0028 01 '/ 00 00
+     server heard 0014 000a 00 -> other octets
+     server forgets
+     server heard 000a 000b 00000000 05 'PLAIN 0000000c 00 'guest 00 'guest 05 'en_US -> other octets
+     server heard 000a 0028 01 '/ 00 00 -> other octets
+     client heard 000a 001e 07ff 00020000 0000
+     client takes connection.close/0 -> events 1
+     client heard 000a 001e 07ff 00020000 0000";
+
+/// A tune whose frame size is too small is not gone on with.
+static SCRIPT_OF_UNHEARD: &str = "what is at fault is not heard
+     client carries all
+     server carries all
+     client takes 01 0000 0000000c 000a 001e 07ff 00000fff 0000 ce -> 501
+     client heard 000a 000a 00 09 00000000 00000005 'PLAIN 00000005 'en_US
+     client heard 000a 001e 07ff 00000fff 0000 -> other octets";
+
+/// Channel 1 is closed for basic.publish, channel 2 for queue.declare, and the connection for no method. A heartbeat
+/// comes between. A close that crosses this end's own is told of by no event.
+static SCRIPT_OF_CAUSES: &str = "it is known what the other end closed for
+     both open 4
+     client closed-for -> none
+     client takes 01 0001 00000014 0014 0028 0194 09 'NOT_FOUND 003c 0028 ce -> events 1
+     client closed-for -> basic.publish
+     client takes 08 0000 00000000 ce -> events 1
+     client closed-for -> basic.publish
+     client takes 01 0002 0000000e 0014 0028 0196 03 'bye 0032 000a ce -> events 1
+     client closed-for -> queue.declare
+     client asks close-channel 3 -> put
+     client takes 01 0003 0000000e 0014 0028 00c8 03 'bye 003c 0028 ce -> events 1
+     client closed-for -> queue.declare
+     client takes 01 0004 0000000e 0014 0028 00c8 03 'bye 003c 0029 ce -> events 1
+     client closed-for -> class 60 method 41
+     client takes 01 0000 0000000e 000a 0032 0140 03 'bye 0000 0000 ce -> events 1
+     client closed-for -> class 0 method 0
+     server closed-for -> none";
+
 /// The protocol header has 8 octets, and the frame of start 36.
 static SCRIPT_OF_COUNTS: &str = "what comes and goes is counted
      client took -> 0
@@ -114,7 +161,21 @@ static SCRIPTS_OF_A_GATED_CLIENT: [&str; 3] = [
      server phase -> Running",
 ];
 
-static SCRIPTS_OF_A_GATED_SERVER: [&str; 5] = [
+static SCRIPTS_OF_A_GATED_SERVER: [&str; 6] = [
+    "a gated server has heard what it holds
+     client carries all
+     server carries all
+     client carries all
+     server shows nothing
+     server heard 000a 000b 00000000 05 'PLAIN 0000000c 00 'guest 00 'guest 05 'en_US
+     server forgets
+     server heard 000a 000b 00000000 05 'PLAIN 0000000c 00 'guest 00 'guest 05 'en_US -> other octets
+     server admits -> put
+     server carries all
+     client carries all
+     server shows nothing
+     server heard 000a 001f 07ff 00020000 0000
+     server heard 000a 0028 01 '/ 00 00",
     "a gated server holds a login
      client carries all
      server carries all
@@ -207,6 +268,17 @@ fn heartbeats_are_settled(rt: HostRuntime) -> Result<(), Fail> {
 #[test]
 fn frames_and_octets_are_counted(rt: HostRuntime) -> Result<(), Fail> {
     run(rt.alloc(), DEFAULT, SCRIPT_OF_COUNTS)
+}
+
+#[test]
+fn the_handshake_is_heard(rt: HostRuntime) -> Result<(), Fail> {
+    run(rt.alloc(), DEFAULT, SCRIPT_OF_HEARD)?;
+    run(rt.alloc(), DEFAULT, SCRIPT_OF_UNHEARD)
+}
+
+#[test]
+fn closes_tell_their_causes(rt: HostRuntime) -> Result<(), Fail> {
+    run(rt.alloc(), DEFAULT, SCRIPT_OF_CAUSES)
 }
 
 #[test]

@@ -8,6 +8,8 @@
 #[cfg(test)]
 mod asks;
 #[cfg(test)]
+mod blames;
+#[cfg(test)]
 mod came;
 #[cfg(test)]
 mod closes;
@@ -33,6 +35,8 @@ mod memory;
 mod messages;
 #[cfg(test)]
 mod octets;
+#[cfg(test)]
+mod owning;
 #[cfg(test)]
 mod pairs;
 #[cfg(test)]

@@ -27,9 +27,12 @@
 //!     END took -> COUNT                   so many frames were taken
 //!     END wrote -> COUNT                  so many octets of the output were written
 //!     END waits NUMBER -> COUNT           so many octets wait on a channel, or, for `all`, on all of them
+//!     END heard OCTETS                    it heard this method in the handshake, and kept it
+//!     END forgets                         it forgets what it heard
+//!     END closed-for -> METHOD            what the last close of the other end was about, or none
 use crate::asks::{Asking, ask, ask_end};
 use crate::came::Came;
-use crate::decisions::{answers, came_of, refuses};
+use crate::decisions::{answers, came_of, heard, refuses};
 use crate::octets::octets_of;
 use crate::pairs::{Pair, Setting};
 use crate::pieces::{carry, deliver, lose, take};
@@ -90,9 +93,12 @@ enum Verb {
     Took,
     Wrote,
     Waits,
+    Heard,
+    Forgets,
+    ClosedFor,
 }
 
-static VERBS: [(&str, Verb); 21] = [
+static VERBS: [(&str, Verb); 24] = [
     ("asks", Verb::Asks),
     ("beats", Verb::Beats),
     ("admits", Verb::Admits),
@@ -114,6 +120,9 @@ static VERBS: [(&str, Verb); 21] = [
     ("took", Verb::Took),
     ("wrote", Verb::Wrote),
     ("waits", Verb::Waits),
+    ("heard", Verb::Heard),
+    ("forgets", Verb::Forgets),
+    ("closed-for", Verb::ClosedFor),
 ];
 
 fn verb_by(word: &str) -> Result<Verb, Trouble> {
@@ -154,6 +163,7 @@ fn seen<R: Role>(end: &End<R>, verb: Verb, words: &[&str]) -> Result<Came, Troub
         Verb::Took => Ok(Came::Number(end.frames_taken())),
         Verb::Wrote => Ok(Came::Number(end.octets_written())),
         Verb::Waits => Ok(Came::Count(waits(end, words)?)),
+        Verb::ClosedFor => Ok(Came::ClosedFor(end.closed_for())),
         _ => Err(Trouble::UnknownWord),
     }
 }
@@ -229,6 +239,11 @@ fn act<M: Role, O: Role>(
         Verb::Admits => Ok(came_of(mine.admit())),
         Verb::Refuses => refuses(alloc, mine, rest),
         Verb::Answers => answers(alloc, mine, rest),
+        Verb::Heard => Ok(as_said(heard(alloc, mine, rest)?)),
+        Verb::Forgets => {
+            mine.forget_heard();
+            Ok(Came::AsSaid)
+        }
         Verb::Takes => takes(alloc, way, mine, rest),
         Verb::Carries => carries(way, mine, other, rest),
         Verb::Delivers => delivers(alloc, mine, other, rest),

@@ -9,7 +9,8 @@ use crate::scripts::AT_ONCE;
 use crate::trouble::Trouble;
 use crate::verdict_rows::{ROWS, WORDS};
 use crate::verdicts::Case;
-use amqp_core::{End, EventRef, Role, Server, Side, StreamEnd};
+use amqp_core::{Cause, End, EventRef, Role, Server, Side, StreamEnd};
+use amqp_method::Kind;
 use std::alloc::Global;
 use std::test::Fail;
 
@@ -270,6 +271,72 @@ fn open_server(alloc: Global) -> Result<StreamEnd<Server>, Fail> {
     }
 }
 
+/// What a lending server has heard: open in the handshake, before it lent and after it forgot, and what the other end
+/// closed a channel for.
+#[derive(Clone, Copy, PartialEq, Eq, Debug)]
+struct Hears {
+    open: bool,
+    after: bool,
+    closed_for: Option<Cause>,
+}
+
+/// Channel 1 is closed for basic.publish.
+const HEARS: Hears = Hears {
+    open: true,
+    after: false,
+    closed_for: Some(Cause {
+        class_id: 60,
+        method_id: 40,
+    }),
+};
+
+/// channel.close with 404, about class 60 and method 40.
+static CLOSE: &str = "01 0001 00000014 0014 0028 0194 09 'NOT_FOUND 003c 0028 ce";
+
+#[test]
+fn lending_ends_hear(rt: HostRuntime) -> Result<(), Fail> {
+    let alloc = rt.alloc();
+    let words: Vec<&str> = CLOSE.split_whitespace().collect(alloc)?;
+    let octets = octets_of(alloc, &words)?;
+    let mut server = open_server(alloc)?;
+    let open = server.heard(Kind::ConnectionOpen).is_some();
+    server.forget_heard();
+    let after = server.heard(Kind::ConnectionOpen).is_some();
+    let _ = feed(&mut server, &octets);
+    let closed_for = server.closed_for();
+    drop(server);
+    let hears = Hears {
+        open,
+        after,
+        closed_for,
+    };
+    if hears == HEARS {
+        return Ok(());
+    }
+    Err(Fail::new(format!(in alloc; "it hears {hears:?}")?))
+}
+
+/// Whether a lending server hears start-ok, which it awaits.
+#[test]
+fn lending_ends_hear_the_handshake(rt: HostRuntime) -> Result<(), Fail> {
+    let alloc = rt.alloc();
+    let octets = octets_of(alloc, &["connection.start-ok/0"])?;
+    let mut pair = Pair::new(alloc, DEFAULT)?;
+    let followed = pair.follow(alloc, AT_ONCE, "the way to a state", "client carries 8");
+    let Pair { client, server } = pair;
+    drop(client);
+    let mut server = server.into_stream();
+    let before = server.heard(Kind::ConnectionStartOk).is_some();
+    let _ = feed(&mut server, &octets);
+    let after = server.heard(Kind::ConnectionStartOk).is_some();
+    drop(server);
+    followed?;
+    if after && !before {
+        return Ok(());
+    }
+    Err("start-ok is not heard where it comes".into())
+}
+
 fn check_parts(alloc: Global, octets: &[u8], part: usize) -> Result<(), Fail> {
     let mut server = open_server(alloc)?;
     let mut lines = String::new(alloc);
@@ -304,7 +371,6 @@ fn tell_words(
     tell_all(alloc, end, &octets, octets.len(), lines)
 }
 
-/// An end that lends turns back only where no content is under way.
 /// How many octets of the content under way have come: after its first part, where the end was asked to turn back within the
 /// content, and after its last part; and whether the end turned back then.
 #[derive(Clone, Copy, PartialEq, Eq, Debug)]

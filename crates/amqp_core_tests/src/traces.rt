@@ -4,8 +4,9 @@ use crate::octets::octets_of;
 use crate::pairs::{client_hello, server_hello};
 use crate::trouble::Trouble;
 use amqp_core::{
-    Client, Config, CoreFault, Direction, End, Item, Note, Role, Server, Telling, Traced,
+    Cause, Client, Config, CoreFault, Direction, End, Item, Note, Role, Server, Telling, Traced,
 };
+use amqp_method::Kind;
 use std::alloc::Global;
 use std::process::Abort;
 use std::test::Fail;
@@ -217,6 +218,22 @@ fn assert_carried<W: Role, R: Role>(
     Ok(())
 }
 
+/// What the client closed its channel for: no method.
+const NONE: Cause = Cause {
+    class_id: 0,
+    method_id: 0,
+};
+
+/// Each end has heard the other's part of the handshake, and a server that is made to forget it has no more of it.
+fn assert_heard(rt: &impl Abort, client: &Traced<Client>, server: &mut Traced<Server>) {
+    assert!(rt; client.heard(Kind::ConnectionTune).is_some());
+    assert!(rt; client.closed_for() == None);
+    assert!(rt; server.heard(Kind::ConnectionTuneOk).is_some());
+    server.forget_heard();
+    assert!(rt; server.heard(Kind::ConnectionTuneOk).is_none());
+    assert!(rt; server.closed_for() == Some(NONE));
+}
+
 fn trace_both(
     rt: &impl Abort,
     alloc: Global,
@@ -229,7 +246,9 @@ fn trace_both(
     assert_lists(rt, alloc, client, CLIENT_NOTES, SERVER_SAID, CLIENT_SAID)?;
     assert_lists(rt, alloc, server, SERVER_NOTES, CLIENT_SAID, SERVER_SAID)?;
     assert_carried(rt, client, server)?;
-    assert_carried(rt, server, client)
+    assert_carried(rt, server, client)?;
+    assert_heard(rt, client, server);
+    Ok(())
 }
 
 #[test]

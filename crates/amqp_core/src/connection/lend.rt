@@ -10,8 +10,10 @@ ghost use Rattle.amqp_model.specs.Lent.Alike.{lent as lent_of, maybe_telling, Al
 ghost use Rattle.amqp_model.specs.Wire.Contents as contents;
 ghost use Rattle.amqp_model.specs.Wire.Readings as readings;
 ghost use Rattle.amqp_core.specs.Answering.{answer_with, is_out_of_memory, ran_out, stopped, AnswersFrame, Reports};
-ghost use Rattle.amqp_core.specs.Dropping.{IsDropped};
+ghost use Rattle.amqp_core.specs.Blamed.{blames_frame, code_by, code_found, tally_view};
+ghost use Rattle.amqp_core.specs.Dropping.{IsDropped, DropsReading};
 ghost use Rattle.amqp_core.specs.EventRefView.{report_lent};
+ghost use Rattle.amqp_core.specs.HeardView.{goes_by, heard_view, said_after, said_by};
 ghost use Rattle.amqp_core.specs.Lending.{AlikeLeft};
 ghost use Rattle.amqp_core.specs.Outcomes.{SameEnd, owed_by};
 ghost use Rattle.amqp_model.specs.Stream.Endpoint.{Found, fault_told, owed_at_fault};
@@ -24,7 +26,9 @@ use crate::account::Account;
 use crate::connection::Connection;
 use crate::connection::reply::put_owed;
 use crate::faults::{CoreFault, OutOfMemory};
+use crate::heard::Heard;
 use crate::step::Report;
+use crate::tally::Tally;
 use crate::verdict::Verdict;
 use amqp_channel::{Reading, Told, Verdict as ChannelVerdict};
 use amqp_frame::{FrameFaultKind, FrameRef};
@@ -45,6 +49,9 @@ impl Verdict {
             (verdict_here settings end number reading self)))) }
         ensures memory { ran_out result ≡ false }
         ensures light { (channel : Channel) → IsLight channel self → IsOk result }
+        ensures code { (settings : Settings) (number : ℕ) (reading : readings.Reading) (whole : Option contents.Content)
+            → code_found result ≡ code_by (fault_by (verdict_view settings number reading whole self)) }
+        ensures goes { goes_by self ≡ true → IsOk result }
     {
         match self {
             Verdict::OnChannel(ChannelVerdict::Proceeds(told, _)) => Ok(Report::OnChannel(told)),
@@ -132,14 +139,15 @@ impl Connection {
         }
     }
 
-    /// Does what the rules say of a frame: the end is left as it leaves it, and what is owed is put. Out of memory,
-    /// nothing is put.
+    /// Does what the rules say of a frame: the end is left as it leaves it, what is owed is put, and what may be asked
+    /// for later is kept. Out of memory, nothing is put.
     fn carry_out_lent(
         &mut self,
         outbox: &mut Outbox,
         number: u16,
         reading: Reading<'_>,
         verdict: Verdict,
+        heard: &mut Heard,
     ) -> Result<(), OutOfMemory>
         requires lends { self.old.settings.lends ≡ true }
         requires fits { FitsVerdict (connection_end self.old) number (reading_view reading) verdict }
@@ -153,10 +161,14 @@ impl Connection {
             (verdict_here self.old.settings (connection_end self.old) number (reading_view reading.entry) verdict)))
             outbox.old.output)) }
         ensures kept { OnErr result (outbox.new ≡ only outbox.old.output) }
-        ensures light { IsLight (channels_view self.old.channels number) verdict → IsOk result }
+        ensures heard { OnOk result (heard_view heard.new
+            ≡ said_by (phase_at self.old.stage) number (reading_view reading.entry) verdict (heard_view heard.old)) }
+        ensures light { DropsReading (phase_at self.old.stage) (channels_view self.old.channels number) number
+            (reading_view reading.entry) → IsLight (channels_view self.old.channels number) verdict → IsOk result }
         ensures settings { self.new.settings ≡ self.old.settings }
     {
         let closing = self.stage.is_closing();
+        self.keep_said(number, reading, verdict, heard)?;
         self.apply_lent(number, reading, verdict)?;
         let owed = verdict.owed(closing, number);
         put_owed(self.alloc, &self.settings, owed, outbox)
@@ -169,6 +181,8 @@ impl Connection {
         outbox: &mut Outbox,
         frame: FrameRef<'_>,
         reading: Reading<'_>,
+        tally: &mut Tally,
+        heard: &mut Heard,
     ) -> Result<Report, CoreFault>
         requires lends { self.old.settings.lends ≡ true }
         requires taking { takes_frames (phase_at self.old.stage) ≡ true }
@@ -193,16 +207,21 @@ impl Connection {
         // A frame that is dropped takes no memory.
         ensures alone { IsDropped (phase_at self.old.stage) (channels_view self.old.channels (lent frame.entry).channel)
             (lent frame.entry).channel (lent frame.entry).kind (lent frame.entry).payload → IsOk result }
+        ensures heard { ran_out result ≡ false → heard_view heard.new ≡ said_after (config_view self.old.settings)
+            (connection_end self.old) (lent frame.entry) (heard_view heard.old) }
+        ensures at_fault { ran_out result ≡ false → OnErr result (heard_view heard.new ≡ heard_view heard.old) }
         ensures settings { self.new.settings ≡ self.old.settings }
+        ensures tally { tally_view tally.new
+            ≡ blames_frame (code_found result) (lent frame.entry) (tally_view tally.old) }
     {
         let before = self.stage;
         let verdict = self.judge(frame.channel, reading);
-        let Ok(()) = self.carry_out_lent(outbox, frame.channel, reading, verdict) else {
+        let Ok(()) = self.carry_out_lent(outbox, frame.channel, reading, verdict, heard) else {
             self.fail_at(before);
             return Err(CoreFault::OutOfMemory);
         };
         let fault = verdict.fault();
-        self.fail_by(fault);
+        self.fail_by(fault, frame, tally);
         verdict.report()
     }
 

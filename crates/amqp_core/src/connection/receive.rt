@@ -19,8 +19,10 @@ ghost use Rattle.amqp_channel.specs.VerdictView.{verdict_view as channel_verdict
 ghost use Rattle.amqp_channel.specs.declared.channels.Channels.{Channels};
 ghost use Rattle.amqp_model.specs.End.Events as events;
 ghost use Rattle.amqp_core.specs.Answering.{answer_with, ran_out, AnswersFrame};
+ghost use Rattle.amqp_core.specs.Blamed.{code_by, code_found};
 ghost use Rattle.amqp_core.specs.Dropping.{DropsReading, IsDropped};
 ghost use Rattle.amqp_core.specs.Handshakes.{answered_in, awaits_at, is_in_handshake};
+ghost use Rattle.amqp_core.specs.HeardView.{goes_by, heard_view, said_after, said_by};
 ghost use Rattle.amqp_core.specs.Settings.{role_for, side_in};
 ghost use Rattle.amqp_core.specs.Stages.{leaves, phase_at};
 ghost use Rattle.amqp_core.specs.Outcomes.{owed_by};
@@ -35,10 +37,12 @@ use crate::connection::handshake::{
 };
 use crate::connection::reply::{owed_at, put_owed};
 use crate::faults::{CoreFault, OutOfMemory};
+use crate::heard::Heard;
 use crate::notes::Note;
 use crate::owed::Owed;
 use crate::settings::Settings;
 use crate::stage::Stage;
+use crate::tally::Tally;
 use crate::verdict::{Fault, Notice, Verdict};
 use amqp_channel::words::{lent_number_at, same};
 use amqp_channel::{
@@ -447,6 +451,7 @@ impl Verdict {
         ensures fault { (settings : Settings) (number : ℕ) (reading : readings.Reading) (whole : Option contents.Content)
             → fault_there result ≡ fault_by (verdict_view settings number reading whole self) }
         ensures light { (channel : Channel) → IsLight channel self → result ≡ None }
+        ensures goes { goes_by self ≡ true → result ≡ None }
     {
         match self {
             Verdict::OnChannel(ChannelVerdict::Proceeds(_, _)) => None,
@@ -534,6 +539,7 @@ fn report(fault: Option<Fault>) -> Result<(), CoreFault>
         → AnswersFrame (answer_with result event) (outcome_with event (fault_there fault)) }
     ensures memory { ran_out result ≡ false }
     ensures ok { fault ≡ None → IsOk result }
+    ensures code { code_found result ≡ code_by (fault_there fault) }
 {
     match fault {
         None => Ok(()),
@@ -556,6 +562,7 @@ impl Connection {
     ghost use Rattle.amqp_model.specs.Wire.Readings.{reading as says};
     ghost use Rattle.amqp_outbox.specs.OutboxView.{only};
     ghost use Rattle.amqp_core.specs.Answering.{EndsAs, PutsAs};
+    ghost use Rattle.amqp_core.specs.Blamed.{blames_frame, tally_view};
     ghost use Rattle.amqp_core.specs.Settings.{config_view};
     ghost use Rattle.amqp_core.specs.VerdictView.{content_of, end_left, ended_if, verdict_here, FitsVerdict};
 
@@ -639,8 +646,8 @@ impl Connection {
         }
     }
 
-    /// Does what the rules say of a frame: the end is left as it leaves it, its event is told, and what is owed is
-    /// put. Out of memory, nothing is put.
+    /// Does what the rules say of a frame: the end is left as it leaves it, its event is told, what is owed is put, and
+    /// what may be asked for later is kept. Out of memory, nothing is put.
     fn carry_out(
         &mut self,
         outbox: &mut Outbox,
@@ -648,6 +655,7 @@ impl Connection {
         reading: Reading<'_>,
         verdict: Verdict,
         account: &mut Account,
+        heard: &mut Heard,
     ) -> Result<(), OutOfMemory>
         requires gathers { self.old.settings.lends ≡ false }
         requires fits { FitsVerdict (connection_end self.old) number (reading_view reading) verdict }
@@ -664,10 +672,14 @@ impl Connection {
             (verdict_here self.old.settings (connection_end self.old) number (reading_view reading.entry) verdict)) }
         ensures octets { account.new.octets ≡ account.old.octets }
         ensures took { account.new.took ≡ account.old.took }
-        ensures light { IsLight (channels_view self.old.channels number) verdict → IsOk result }
+        ensures heard { OnOk result (heard_view heard.new
+            ≡ said_by (phase_at self.old.stage) number (reading_view reading.entry) verdict (heard_view heard.old)) }
+        ensures light { DropsReading (phase_at self.old.stage) (channels_view self.old.channels number) number
+            (reading_view reading.entry) → IsLight (channels_view self.old.channels number) verdict → IsOk result }
         ensures settings { self.new.settings ≡ self.old.settings }
     {
         let closing = self.stage.is_closing();
+        self.keep_said(number, reading, verdict, heard)?;
         let content = self.apply(number, reading, verdict)?;
         tell_event(
             self.alloc,
@@ -690,6 +702,8 @@ impl Connection {
         outbox: &mut Outbox,
         frame: FrameRef<'_>,
         account: &mut Account,
+        tally: &mut Tally,
+        heard: &mut Heard,
     ) -> Result<(), CoreFault>
         requires gathers { self.old.settings.lends ≡ false }
         requires taking { takes_frames (phase_at self.old.stage) ≡ true }
@@ -716,27 +730,35 @@ impl Connection {
         ensures owed { ran_out result ≡ false → owed_view self.old.settings account.new.owed ≡ methods_put
             (facts_at (config_view self.old.settings) (connection_end self.old) (lent frame.entry).channel)
             (end_verdict (config_view self.old.settings) (connection_end self.old) (lent frame.entry)) }
+        ensures heard { ran_out result ≡ false → heard_view heard.new ≡ said_after (config_view self.old.settings)
+            (connection_end self.old) (lent frame.entry) (heard_view heard.old) }
+        ensures at_fault { ran_out result ≡ false → OnErr result (heard_view heard.new ≡ heard_view heard.old) }
         ensures settings { self.new.settings ≡ self.old.settings }
+        ensures tally { tally_view tally.new
+            ≡ blames_frame (code_found result) (lent frame.entry) (tally_view tally.old) }
     {
         let before = self.stage;
         let reading = Reading::of(frame);
         let verdict = self.judge(frame.channel, reading);
         account.took = Some(Note::taken(frame.channel, reading));
-        let Ok(()) = self.carry_out(outbox, frame.channel, reading, verdict, account) else {
+        let Ok(()) = self.carry_out(outbox, frame.channel, reading, verdict, account, heard) else {
             self.fail_at(before);
             return Err(CoreFault::OutOfMemory);
         };
         let fault = verdict.fault();
-        self.fail_by(fault);
+        self.fail_by(fault, frame, tally);
         report(fault)
     }
 
-    /// An end that has found fault fails.
-    pub(crate) fn fail_by(&mut self, fault: Option<Fault>)
+    /// An end that has found fault with a frame fails, and the frame is blamed.
+    pub(crate) fn fail_by(&mut self, fault: Option<Fault>, frame: FrameRef<'_>, tally: &mut Tally)
         ensures end { connection_end self.new ≡ ended_if (fault_there fault) (connection_end self.old) }
         ensures settings { self.new.settings ≡ self.old.settings }
+        ensures tally { tally_view tally.new
+            ≡ blames_frame (code_by (fault_there fault)) (lent frame.entry) (tally_view tally.old) }
     {
-        if let Some(_) = fault {
+        if let Some(fault) = fault {
+            self.blame_frame(fault, frame, tally);
             self.fail();
         }
     }

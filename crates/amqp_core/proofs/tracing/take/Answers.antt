@@ -1,6 +1,7 @@
 -- The lists go on with what came of the piece, or, out of memory, stay as they are.
 use Rattle.std.proofs.Common.{◌≡◌, ◌≢◌, ◌<◌, ◌≤◌, ◌++◌, [], take, length, Bool, true, false, suc, Result, IfOk, refl, ap, sym, ◌∙◌, subst, arith}
 use Rattle.std.proofs.lemmas.List.{length-take-le}
+use Rattle.std.proofs.lemmas.Bool.{true≢false}
 use Rattle.amqp_model.specs.Stream.Endpoint.{after_feed}
 use Rattle.amqp_model.specs.End.EndVerdict.{takes_octets}
 use Rattle.amqp_model.specs.History.Histories.{entries_on}
@@ -19,6 +20,7 @@ use Rattle.amqp_core.specs.AccountView.{note_there, IsAccount}
 use Rattle.amqp_core.specs.NoteView.{item_there}
 use Rattle.amqp_core.proofs.FeedFaultLemmas.{count_seen, ran_seen}
 use Rattle.amqp_core.proofs.FeedLemmas.{of_ok, ran_with}
+use Rattle.amqp_core.proofs.HeardLemmas.{taken_heard}
 use Rattle.amqp_core.proofs.TracedLemmas.{lists-grow, out-kept, trace-laws, traced-ran-out, traced-took}
 use Rattle.amqp_core.proofs.tracing.take.Goals as goal
 
@@ -154,3 +156,21 @@ slice_bounds-enter-end g c =
     let account = c.advance-answer.ensures.account c.requires.takes went in
     let within = c.cut_changes_nothing.ensures.within (role_played end) (config_at end) (endpoint_of end) c.args.piece.now in
     sym (length-take-le c.advance-answer.new.account.octets c.args.piece.now (subst (λ n. n ≤ length c.args.piece.now) (sym account.octets_are) within))
+
+-- what is heard is what the end hears
+pub returns-then-is_out_of_memory-clause-heard : goal.returns-then-is_out_of_memory-clause-heard
+returns-then-is_out_of_memory-clause-heard g c =
+    let end = c.args.end.now in
+    let account = c.advance-answer.new.account in
+    taken_heard c.taken.result c.advance-answer.result account.octets (parts_there account.parts) c.taken.ensures (role_played end) (config_at end) (endpoint_of end)
+    c.args.piece.now _ _ _ c.advance-answer.ensures.heard
+
+pub returns-in_default-clause-heard : goal.returns-in_default-clause-heard
+returns-in_default-clause-heard g c = record { hears = tt; at_fault = λ ran. absurd (true≢false ran) }
+
+pub returns-clause-heard : goal.returns-clause-heard
+returns-clause-heard g c =
+    let end = c.args.end.now in
+    let account = c.advance-answer.new.account in
+    taken_heard c.taken-2.result c.advance-answer.result account.octets (parts_there account.parts) c.taken-2.ensures (role_played end) (config_at end) (endpoint_of end)
+    c.args.piece.now _ _ _ c.advance-answer.ensures.heard

@@ -1,7 +1,6 @@
-use Rattle.std.proofs.Common.{◌≡◌, true, false, sym, ap, ◌∙◌, inl, inr}
+use Rattle.std.proofs.Common.{sym, ap, ◌∙◌, inl, inr}
 use Rattle.amqp_model.specs.Wire.Notes.{is_client}
 use Rattle.amqp_channel.specs.Roles.{role_of}
-use Rattle.amqp_core.specs.Settings.{role_for}
 use Rattle.amqp_core.proofs.connection.Connection.allow_client.Goals as goal
 
 pub returns-then-is_client-clause-none : goal.returns-then-is_client-clause-none

@@ -14,12 +14,15 @@ use Rattle.amqp_channel.specs.PartsView.{parts_there}
 use Rattle.amqp_channel.specs.ReadingView.{reading_view}
 use Rattle.amqp_channel.specs.VerdictView.{whole_now}
 use Rattle.amqp_core.specs.Answering.{answer_with, AnswersFrame}
+use Rattle.amqp_core.specs.Blamed.{blames_frame, tally_view}
 use Rattle.amqp_core.specs.ConnectionView.{connection_end}
 use Rattle.amqp_core.specs.Dropping.{DropsReading}
+use Rattle.amqp_core.specs.HeardView.{heard_view}
 use Rattle.amqp_core.specs.Outcomes.{SameEnd}
 use Rattle.amqp_core.specs.Settings.{config_view, role_for}
 use Rattle.amqp_core.specs.Stages.{phase_at}
 use Rattle.amqp_core.specs.VerdictView.{fault_there}
+use Rattle.amqp_core.proofs.HeardLemmas.{fault_unheard, said_is as heard_is}
 use Rattle.amqp_core.proofs.ReceiveLemmas.{drops_reading, left_is, message_stays, owes_is, put_is, said_is, where_ok}
 use Rattle.amqp_core.proofs.connection.Connection.receive.Goals as goal
 
@@ -67,10 +70,9 @@ returns-in_default-clause-alone c =
     let number = c.args.frame.channel in
     let channel = channels_view c.args.self.now.channels number in
     λ dropped.
-    let light = c.judge-verdict.ensures.light
-    (subst (λ (r : Reading). DropsReading phase channel number r) (sym c.of-reading.ensures)
-    (drops_reading phase channel number c.args.frame.kind c.args.frame.payload.now dropped)) in
-    absurd (false≢true (c.in_default.ensures.light light))
+    let drops = subst (λ (r : Reading). DropsReading phase channel number r) (sym c.of-reading.ensures)
+    (drops_reading phase channel number c.args.frame.kind c.args.frame.payload.now dropped) in
+    absurd (false≢true (c.in_default.ensures.light drops (c.judge-verdict.ensures.light drops)))
 
 pub returns-clause-alone : goal.returns-clause-alone
 returns-clause-alone c =
@@ -101,3 +103,19 @@ returns-clause-message c =
     c.judge-verdict.ensures.rules.fits c.in-Ok.ensures.event c.in-Ok.ensures.left
     (c.fault-fault.ensures.fault old.settings number reading (whole_now (channels_view old.channels number) reading))
     c.fail_by.ensures.end c.in-Ok.ensures.put refl)
+
+pub returns-clause-tally : goal.returns-clause-tally
+returns-clause-tally c =
+    c.fail_by.ensures.tally ∙ ap (λ k. blames_frame k (lent c.args.frame) (tally_view c.args.tally.now)) (sym c.report.ensures.code)
+
+pub returns-clause-heard : goal.returns-clause-heard
+returns-clause-heard c = λ ran.
+    let old = c.args.self.now in
+    c.in-Ok.ensures.heard
+    ∙ heard_is old.settings (connection_end old) c.args.frame.channel c.args.frame.kind c.args.frame.payload.now (reading_view c.of-reading.result)
+    c.judge-verdict.result (heard_view c.args.heard.now) c.judge-verdict.ensures.rules c.of-reading.ensures
+
+pub returns-clause-at_fault : goal.returns-clause-at_fault
+returns-clause-at_fault c = λ ran.
+    fault_unheard c.report.result (phase_at c.args.self.now.stage) c.args.frame.channel (reading_view c.of-reading.result) c.judge-verdict.result
+    (heard_view c.args.heard.now) _ (λ goes. c.report.ensures.ok (c.fault-fault.ensures.goes goes)) c.in-Ok.ensures.heard

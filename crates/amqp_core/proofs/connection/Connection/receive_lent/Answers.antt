@@ -16,13 +16,16 @@ use Rattle.amqp_channel.specs.ChannelsView.{channels_view}
 use Rattle.amqp_channel.specs.ReadingView.{reading_view}
 use Rattle.amqp_channel.specs.VerdictView.{whole_now}
 use Rattle.amqp_core.specs.Answering.{answer_with, AnswersFrame}
+use Rattle.amqp_core.specs.Blamed.{blames_frame, code_by, code_found, tally_view}
 use Rattle.amqp_core.specs.ConnectionView.{connection_end}
 use Rattle.amqp_core.specs.Dropping.{DropsReading}
 use Rattle.amqp_core.specs.EventRefView.{report_lent}
+use Rattle.amqp_core.specs.HeardView.{heard_view}
 use Rattle.amqp_core.specs.Lending.{AlikeLeft}
 use Rattle.amqp_core.specs.Settings.{config_view, role_for}
 use Rattle.amqp_core.specs.Stages.{phase_at}
 use Rattle.amqp_core.specs.VerdictView.{event_by, fault_by, fault_there, outcome_with, verdict_here}
+use Rattle.amqp_core.proofs.HeardLemmas.{fault_unheard, said_is as heard_is}
 use Rattle.amqp_core.proofs.LendLemmas.{event_is, if_ok_map, left_alike}
 use Rattle.amqp_core.proofs.ReceiveLemmas.{drops_reading, put_is, said_is}
 use Rattle.amqp_core.proofs.StreamLemmas.{same_left}
@@ -92,10 +95,9 @@ returns-in_default-clause-alone c =
     let number = c.args.frame.channel in
     let channel = channels_view c.args.self.now.channels number in
     λ dropped.
-    let light = c.judge-verdict.ensures.light
-    (subst (λ (r : Reading). DropsReading phase channel number r) (sym c.requires.says)
-    (drops_reading phase channel number c.args.frame.kind c.args.frame.payload.now dropped)) in
-    absurd (false≢true (c.in_default.ensures.light light))
+    let drops = subst (λ (r : Reading). DropsReading phase channel number r) (sym c.requires.says)
+    (drops_reading phase channel number c.args.frame.kind c.args.frame.payload.now dropped) in
+    absurd (false≢true (c.in_default.ensures.light drops (c.judge-verdict.ensures.light drops)))
 
 pub returns-clause-alone : goal.returns-clause-alone
 returns-clause-alone c =
@@ -107,3 +109,25 @@ returns-clause-alone c =
     (subst (λ (r : Reading). DropsReading phase channel number r) (sym c.requires.says)
     (drops_reading phase channel number c.args.frame.kind c.args.frame.payload.now dropped)) in
     c.report.ensures.light channel light
+
+pub returns-clause-tally : goal.returns-clause-tally
+returns-clause-tally c =
+    let old = c.args.self.now in
+    let reading = reading_view c.args.reading in
+    let number = c.args.frame.channel in
+    let whole = whole_now (channels_view old.channels number) reading in
+    let codes : code_by (fault_there c.fault-fault.result) ≡ code_found c.report.result =
+    ap code_by (c.fault-fault.ensures.fault old.settings number reading whole) ∙ sym (c.report.ensures.code old.settings number reading whole) in
+    c.fail_by.ensures.tally ∙ ap (λ k. blames_frame k (lent c.args.frame) (tally_view c.args.tally.now)) codes
+
+pub returns-clause-heard : goal.returns-clause-heard
+returns-clause-heard c = λ ran.
+    let old = c.args.self.now in
+    c.in-Ok.ensures.heard
+    ∙ heard_is old.settings (connection_end old) c.args.frame.channel c.args.frame.kind c.args.frame.payload.now (reading_view c.args.reading)
+    c.judge-verdict.result (heard_view c.args.heard.now) c.judge-verdict.ensures.rules c.requires.says
+
+pub returns-clause-at_fault : goal.returns-clause-at_fault
+returns-clause-at_fault c = λ ran.
+    fault_unheard c.report.result (phase_at c.args.self.now.stage) c.args.frame.channel (reading_view c.args.reading) c.judge-verdict.result
+    (heard_view c.args.heard.now) _ c.report.ensures.goes c.in-Ok.ensures.heard

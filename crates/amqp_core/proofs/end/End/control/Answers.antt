@@ -2,6 +2,7 @@
 use Rattle.std.proofs.Common.{refl, ap, ◌∙◌}
 use Rattle.amqp_core.specs.Settings.{role_for}
 use Rattle.amqp_core.specs.declared.settings.Settings.{Settings}
+use Rattle.amqp_core.specs.Blamed.{Tally}
 use Rattle.amqp_core.proofs.KeptLemmas.{kept_sound, sound_kept}
 use Rattle.amqp_core.proofs.end.End.control.Goals as goal
 
@@ -20,5 +21,6 @@ returns g c = record {
   accepted = c.control.ensures.accepted;
   refused = c.control.ensures.refused;
   settings = c.control.ensures.settings;
-  counters = refl;
+  counters = ap (λ (t : Tally). record { frames = c.args.self.now.frames_taken; octets = c.args.self.now.octets_written; tally = t }) c.control.ensures.tally;
+  heard = refl;
 }

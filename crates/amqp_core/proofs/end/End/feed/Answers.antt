@@ -1,16 +1,20 @@
 -- What came of the piece is answered.
 use Rattle.std.proofs.Common.{◌≡◌, ◌≢◌, ◌<◌, ◌≤◌, Bool, [], length, suc, Result, IfOk, IsOk, ap, sym, ◌∙◌, subst}
+use Rattle.std.proofs.Math.Logic.{∥∥₁_map}
 use Rattle.amqp_model.specs.History.Histories.{entries_on}
 use Rattle.amqp_channel.specs.PartsView.{parts_there}
 use Rattle.amqp_core.specs.Answering.{ran_out}
-use Rattle.amqp_core.specs.EndView.{config_at, endpoint_of, role_played}
+use Rattle.amqp_core.specs.EndView.{config_at, endpoint_of, heard_in, role_played}
 use Rattle.amqp_core.specs.Feeding.{IsFed, Seen, seen}
 use Rattle.amqp_core.specs.Feeds.{fed_to}
 use Rattle.amqp_core.specs.Following.{GoesOn}
 use Rattle.amqp_core.specs.declared.faults.CoreFault.{CoreFault}
+use Rattle.amqp_core.proofs.BlameLemmas.{blames_as, code_taken}
 use Rattle.amqp_core.proofs.CounterLemmas.{frame_counted}
 use Rattle.amqp_core.proofs.FeedFaultLemmas.{count_seen, feed_faults, ok_seen, ran_seen}
 use Rattle.amqp_core.proofs.FeedLemmas.{ok_with, ran_with}
+use Rattle.amqp_core.proofs.HeardLemmas.{taken_heard}
+use Rattle.amqp_core.proofs.HearingLemmas.{by_taken, hears_on}
 use Rattle.amqp_core.proofs.OfHistoryLemmas.{verdicts_are}
 use Rattle.amqp_core.proofs.end.End.feed.Goals as goal
 
@@ -27,6 +31,7 @@ returns-clause-feeds g c =
     sym (ran_seen result) ∙ (ap ran_out c.taken.ensures ∙ ran_with c.advance-answer.result account.octets (parts_there account.parts)) in
     let fed : IsFed (seen result) (endpoint_of old) (fed_to old piece) (endpoint_of new) =
     subst (λ (r : Result Seen CoreFault). IsFed r (endpoint_of old) (fed_to old piece) (endpoint_of new)) (sym c.taken.ensures) c.advance-answer.ensures.fed in
+    let heard = taken_heard result c.advance-answer.result account.octets (parts_there account.parts) c.taken.ensures role config (endpoint_of old) piece (fed_to old piece) (heard_in old) (heard_in new) c.advance-answer.ensures.heard in
     record {
       fed = fed;
       in_place = λ drops. ok_seen result (subst (λ (r : Result Seen CoreFault). IsOk r) (sym c.taken.ensures)
@@ -41,6 +46,14 @@ returns-clause-feeds g c =
       verdicts = λ history octets written stands.
           let kept = (endpoint_of old).end in
           verdicts_are role config kept history (λ n. c.record_reads.ensures.channel role (kept.channels (suc n)) (entries_on (suc n) history)) stands.stands;
+      blames = blames_as role c.advance-answer.result result (endpoint_of old) piece _ _ _ (code_taken c.advance-answer.result result account.octets (parts_there account.parts) c.taken.ensures) ran c.advance-answer.ensures.tally;
+      heard = heard;
+      hearing = λ takes out history octets written stands kept.
+          ∥∥₁_map (subst (λ (b : Bool). ∥ GoesOn role config b (endpoint_of old) history octets written piece (fed_to old piece) (endpoint_of new) ∥₁) (sym ran ∙ out)
+          (c.advance-answer.ensures.history history octets written stands))
+          (λ follows. hears_on role config (endpoint_of old) history octets written piece (record (fed_to old piece) { endpoint = endpoint_of new }) _ _
+          c.heard_is_kept.ensures.follows c.heard_is_kept.ensures.stays takes stands kept
+          (by_taken role config result (endpoint_of old) piece (fed_to old piece) (endpoint_of new) (heard_in old) (heard_in new) out fed.answer heard) follows);
       settings = c.advance-answer.ensures.settings;
     }
 

@@ -1,9 +1,10 @@
 -- What it keeps stays, so it stands for the same histories.
-use Rattle.std.proofs.Common.{ap, ◌∙◌}
+use Rattle.std.proofs.Common.{ap, ◌∙◌, refl}
 use Rattle.amqp_core.specs.EndView.{config_at, endpoint_of, role_played}
 use Rattle.amqp_core.specs.EndpointView.{endpoint_view}
 use Rattle.amqp_core.specs.Settings.{role_for}
 use Rattle.amqp_core.specs.declared.settings.Settings.{Settings}
+use Rattle.amqp_core.specs.Blamed.{Tally}
 use Rattle.amqp_core.proofs.KeptLemmas.{kept_sound, sound_kept}
 use Rattle.amqp_core.proofs.TurningLemmas.{turns_lending}
 use Rattle.amqp_core.proofs.end.End.into_stream.Goals as goal
@@ -23,6 +24,8 @@ returns g c =
     let end = c.args.self in
     record {
       endpoint = c.lend.ensures.view;
+      counters = ap (λ (t : Tally). record { frames = end.frames_taken; octets = end.octets_written; tally = t }) c.lend.ensures.tally;
       settings = c.lend.ensures.settings;
+      heard = refl;
       history = λ history fed written stands. turns_lending (role_played end) (config_at end) (endpoint_of end) (endpoint_view c.lend.new.self) history fed written c.lend.ensures.view stands;
     }

@@ -8,6 +8,7 @@ use Rattle.amqp_core.specs.EndView.{config_at, endpoint_of, role_played}
 use Rattle.amqp_core.specs.EndpointView.{endpoint_view}
 use Rattle.amqp_core.specs.Settings.{role_for}
 use Rattle.amqp_core.specs.declared.settings.Settings.{Settings}
+use Rattle.amqp_core.specs.Blamed.{Tally}
 use Rattle.amqp_core.proofs.KeptLemmas.{kept_sound, sound_kept}
 use Rattle.amqp_core.proofs.end.End.send_content.Goals as goal
 
@@ -30,5 +31,6 @@ returns-clause-asked g c = λ content.
           c.content-message.ensures c.in_ok-ask.ensures.accepted;
       refused = tt;
       settings = c.in_ok-ask.ensures.settings;
-      counters = refl;
+      counters = ap (λ (t : Tally). record { frames = c.args.self.now.frames_taken; octets = c.args.self.now.octets_written; tally = t }) c.ask.ensures.tally;
+      heard = refl;
     }

@@ -1,14 +1,13 @@
 -- An end that is closed, or has failed, takes nothing. A piece that has octets loses one.
-use Rattle.std.proofs.Common.{◌≡◌, ◌≢◌, ◌≤◌, true, false, length, refl, sym, ap, ◌∙◌}
-use Rattle.std.proofs.lemmas.Bool.{true≢false}
+use Rattle.std.proofs.Common.{◌≢◌, ◌≤◌, length, refl, sym, ap, ◌∙◌}
+use Rattle.std.proofs.lemmas.Bool.{false≢true, true≢false}
 use Rattle.amqp_model.specs.End.Channels.{Failed}
 use Rattle.amqp_model.specs.End.EndVerdict.{takes_octets}
-use Rattle.amqp_model.specs.Stream.Endpoint.{after_feed}
 use Rattle.amqp_core.specs.ConnectionView.{connection_end}
 use Rattle.amqp_core.specs.EndpointView.{endpoint_view, role_at}
 use Rattle.amqp_core.specs.Settings.{config_view}
-use Rattle.amqp_core.specs.StepView.{step_seen}
-use Rattle.amqp_core.proofs.HearLemmas.{awaits_octets}
+use Rattle.amqp_core.proofs.HeardLemmas.{fault_heard, opening_heard}
+use Rattle.amqp_core.proofs.BlameLemmas.{blames_nothing}
 use Rattle.amqp_core.proofs.StreamLemmas.{closed_lent, failed_lent, lent_some, lent_within, step_count, step_some}
 use Rattle.amqp_core.proofs.endpoint.Endpoint.advance.Goals as goal
 
@@ -65,3 +64,30 @@ returns-clause-progress c =
     step_some c.read_lent.result c.read_lent.new.self.splitter.given c.args.piece.now
     (lent_some (role_at old) (config_view old.connection.settings) _ (endpoint_view old) c.args.piece.now _ _ c.read_lent.ensures.lent
     (c.cut_changes_nothing.ensures.progress (role_at old) (config_view old.connection.settings) (endpoint_view old) c.args.piece.now (c.if-is_closed.ensures.not refl) running))
+
+-- What is counted and blamed.
+
+pub returns-then-is_closed-clause-tally : goal.returns-then-is_closed-clause-tally
+returns-then-is_closed-clause-tally c =
+    let old = c.args.self.now in
+    blames_nothing (role_at old) _ (endpoint_view old) c.args.piece.now _ _ refl (λ takes ran. false≢true (sym (ap takes_octets (c.if-is_closed.ensures.closed refl)) ∙ takes))
+
+pub returns-then-is_failed-clause-tally : goal.returns-then-is_failed-clause-tally
+returns-then-is_failed-clause-tally c =
+    let old = c.args.self.now in
+    blames_nothing (role_at old) _ (endpoint_view old) c.args.piece.now _ _ refl (λ takes ran. false≢true (sym (ap takes_octets (c.if-is_failed.ensures.failed refl)) ∙ takes))
+
+pub returns-then-is_closed-clause-heard : goal.returns-then-is_closed-clause-heard
+returns-then-is_closed-clause-heard c =
+    let old = c.args.self.now in
+    fault_heard (role_at old) (config_view old.connection.settings) _ (endpoint_view old) c.args.piece.now _ _
+
+pub returns-then-is_failed-clause-heard : goal.returns-then-is_failed-clause-heard
+returns-then-is_failed-clause-heard c =
+    let old = c.args.self.now in
+    fault_heard (role_at old) (config_view old.connection.settings) _ (endpoint_view old) c.args.piece.now _ _
+
+pub returns-then-awaits_header-clause-heard : goal.returns-then-awaits_header-clause-heard
+returns-then-awaits_header-clause-heard c =
+    let old = c.args.self.now in
+    opening_heard (role_at old) (config_view old.connection.settings) _ (endpoint_view old) c.args.piece.now _ _ (sym c.awaits_header.ensures ∙ c.if-awaits_header.true)

@@ -19,7 +19,7 @@ pub returns-in-Ok-clause-sound : goal.returns-in-Ok-clause-sound
 returns-in-Ok-clause-sound c =
     let old = c.args.self.now in
     let asked = lent_view c.args.ask in
-    accepted_sound asked old (record { connection = c.ask.new.self; splitter = old.splitter; heard = old.heard; outbox = c.ask.new.outbox }) c.requires c.ask.ensures.settings refl refl c.in-Ok.ensures.accepted
+    accepted_sound asked old (record { connection = c.ask.new.self; splitter = old.splitter; heard = old.heard; outbox = c.ask.new.outbox; tally = old.tally }) c.requires c.ask.ensures.settings refl refl c.in-Ok.ensures.accepted
     (c.unfinished_is_held.ensures.ask (role_at old) (config_view old.connection.settings) (endpoint_view old) asked)
     (c.agreed_is_within.ensures.ask (role_at old) (config_view old.connection.settings) (connection_end old.connection) asked (frames_asked (connection_end old.connection) asked))
     (returns-in-Ok-clause-accepted c)
@@ -33,4 +33,4 @@ returns-in-Err-clause-refused c =
 pub returns-in-Err-clause-sound : goal.returns-in-Err-clause-sound
 returns-in-Err-clause-sound c =
     let old = c.args.self.now in
-    refused_sound (lent_view c.args.ask) c.in-Err.fault old (record { connection = c.ask.new.self; splitter = old.splitter; heard = old.heard; outbox = c.ask.new.outbox }) c.requires c.ask.ensures.settings refl refl c.in-Err.ensures.refused (returns-in-Err-clause-refused c)
+    refused_sound (lent_view c.args.ask) c.in-Err.fault old (record { connection = c.ask.new.self; splitter = old.splitter; heard = old.heard; outbox = c.ask.new.outbox; tally = old.tally }) c.requires c.ask.ensures.settings refl refl c.in-Err.ensures.refused (returns-in-Err-clause-refused c)

@@ -23,7 +23,7 @@ returns-in-Ok-clause-accepted c =
 pub returns-in-Ok-clause-sound : goal.returns-in-Ok-clause-sound
 returns-in-Ok-clause-sound c =
     let old = c.args.self.now in
-    accepted_sound (control_view c.args.control) old (record { connection = c.control.new.self; splitter = old.splitter; heard = old.heard; outbox = c.control.new.outbox })
+    accepted_sound (control_view c.args.control) old (record { connection = c.control.new.self; splitter = old.splitter; heard = old.heard; outbox = c.control.new.outbox; tally = old.tally })
     c.requires c.control.ensures.settings refl refl c.in-Ok.ensures.accepted
 
 pub returns-in-Err-clause-refused : goal.returns-in-Err-clause-refused
@@ -37,5 +37,5 @@ pub returns-in-Err-clause-sound : goal.returns-in-Err-clause-sound
 returns-in-Err-clause-sound c =
     let old = c.args.self.now in
     refused_sound (control_view c.args.control) c.in-Err.fault old
-    (record { connection = c.control.new.self; splitter = old.splitter; heard = old.heard; outbox = c.control.new.outbox })
+    (record { connection = c.control.new.self; splitter = old.splitter; heard = old.heard; outbox = c.control.new.outbox; tally = old.tally })
     c.requires c.control.ensures.settings refl refl c.in-Err.ensures.refused (returns-in-Err-clause-refused c)

@@ -10,4 +10,4 @@ returns-clause-view c = λ i. record { end = c.gather.ensures.end i; unfinished 
 pub returns-clause-sound : goal.returns-clause-sound
 returns-clause-sound c =
     let old = c.args.self.now in
-    turned_by c.gather.result old (record { connection = c.gather.new.self; splitter = old.splitter; heard = old.heard; outbox = old.outbox }) c.requires c.gather.ensures.settings c.gather.ensures.end refl refl refl
+    turned_by c.gather.result old (record { connection = c.gather.new.self; splitter = old.splitter; heard = old.heard; outbox = old.outbox; tally = old.tally }) c.requires c.gather.ensures.settings c.gather.ensures.end refl refl refl

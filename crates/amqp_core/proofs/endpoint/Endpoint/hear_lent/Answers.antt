@@ -6,6 +6,7 @@ use Rattle.amqp_core.specs.EndpointView.{endpoint_view, role_at}
 use Rattle.amqp_core.specs.Lending.{IsLent, LentSeen}
 use Rattle.amqp_core.specs.Settings.{config_view}
 use Rattle.amqp_core.specs.declared.faults.CoreFault.{CoreFault}
+use Rattle.amqp_core.proofs.BlameLemmas.{blames_as}
 use Rattle.amqp_core.proofs.StreamLemmas.{heard_lent}
 use Rattle.amqp_core.proofs.endpoint.Endpoint.hear_lent.Goals as goal
 
@@ -18,5 +19,10 @@ returns-clause-lent c =
     let fed = after_feed role config (endpoint_view old) piece in
     let account = c.hear-answer.new.account in
     let new = endpoint_view c.hear-answer.new.self in
-    subst (λ (r : Result LentSeen CoreFault). IsLent role config r (endpoint_view old) piece fed new) (sym (c.step_heard.ensures c.hear-answer.new.self.splitter.given))
+    subst (λ (r : Result LentSeen CoreFault). IsLent role config r (endpoint_view old) piece fed new) (sym (c.step_heard.ensures.seen c.hear-answer.new.self.splitter.given))
     (heard_lent role config c.hear-answer.result account.octets (parts_there account.parts) (endpoint_view old) piece fed new c.requires.awaits c.hear-answer.ensures.fed)
+
+pub returns-clause-tally : goal.returns-clause-tally
+returns-clause-tally c =
+    let old = c.args.self.now in
+    blames_as (role_at old) c.hear-answer.result c.step_heard.result (endpoint_view old) c.args.piece.now _ _ _ c.step_heard.ensures.code c.step_heard.ensures.memory c.hear-answer.ensures.tally

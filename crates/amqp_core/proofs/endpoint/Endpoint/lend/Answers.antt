@@ -10,4 +10,4 @@ returns-clause-view c = λ i. record { end = c.lend.ensures.end i; unfinished = 
 pub returns-clause-sound : goal.returns-clause-sound
 returns-clause-sound c =
     let old = c.args.self.now in
-    turned_sound true old (record { connection = c.lend.new.self; splitter = old.splitter; heard = old.heard; outbox = old.outbox }) c.requires c.lend.ensures.settings c.lend.ensures.end refl refl refl
+    turned_sound true old (record { connection = c.lend.new.self; splitter = old.splitter; heard = old.heard; outbox = old.outbox; tally = old.tally }) c.requires c.lend.ensures.settings c.lend.ensures.end refl refl refl

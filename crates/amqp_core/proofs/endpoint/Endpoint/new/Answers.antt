@@ -21,7 +21,7 @@ returns-clause-view c =
 
 pub returns-clause-sound : goal.returns-clause-sound
 returns-clause-sound c =
-    sound_with c.args.settings (record { connection = c.new.result; splitter = c.new-2.result; heard = 0; outbox = c.in_ok-outbox.outbox }) c.new.ensures.settings ∣ c.requires ∣₁ (ap (λ (o : Outgoing). o.staged) c.in_ok-outbox.ensures)
+    sound_with c.args.settings (record { connection = c.new.result; splitter = c.new-2.result; heard = 0; outbox = c.in_ok-outbox.outbox; tally = c.new-3.result }) c.new.ensures.settings ∣ c.requires ∣₁ (ap (λ (o : Outgoing). o.staged) c.in_ok-outbox.ensures)
     (fields_begin (role_for c.args.settings) (connection_end c.new.result) c.new-2.result c.new.ensures.end c.new-2.ensures.pending c.new-2.ensures.fault c.new-2.ensures.limit)
     (subst (λ (e : model.Endpoint). HoldsUnfinished (role_for c.args.settings) e) (sym (returns-clause-view c)) (c.unfinished_is_held.ensures.new (role_for c.args.settings)))
     (λ takes. ∣ subst (λ (e : End). EndIsWithin (role_for c.args.settings) (config_view c.args.settings) e) (sym c.new.ensures.end) (c.ends_are_bounded.ensures.new (role_for c.args.settings) (config_view c.args.settings)) ∣₁)

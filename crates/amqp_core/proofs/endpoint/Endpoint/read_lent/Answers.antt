@@ -1,30 +1,30 @@
 -- Each answer of the splitter is a law on pieces. What is left of a frame is alike to what the definitions leave.
-use Rattle.std.proofs.Common.{ℕ, ◌≡◌, ◌≢◌, Option, Some, None, Ok, Err, Result, [], ◌++◌, refl, take, IfOk, IfSome, IfNone, IsOk, sym, ap, ◌∙◌, subst, arith}
+use Rattle.std.proofs.Common.{ℕ, List, length, false, ◌<◌, ◌^◌, ◌≡◌, Some, None, Ok, Err, Result, [], ◌++◌, refl, take, IfSome, IfNone, IsOk, sym, ap, ◌∙◌, subst, arith}
 use Rattle.std.proofs.Math.Seq.{take-length}
 use Rattle.std.proofs.lemmas.Bool.{false≢true}
 use Rattle.amqp_frame.specs.Frame.{lent}
-use Rattle.amqp_frame.specs.Splitter.{Completes, OfGiven, Waits}
+use Rattle.amqp_frame.specs.Splitter.{Completes, OfGiven, Waits, after_advance}
 use Rattle.amqp_frame.specs.Stream.{Stream}
-use Rattle.amqp_model.specs.Laws.OctetLaws.{event_of_frame}
-use Rattle.amqp_model.specs.Lent.Alike.{LentEvent, lent as lent_of, maybe_telling}
-use Rattle.amqp_model.specs.Stream.Endpoint.{Endpoint, after_feed}
-use Rattle.amqp_model.specs.Wire.Readings.{Reading, reading}
+use Rattle.amqp_model.specs.Stream.Endpoint.{Endpoint, after_feed, owed_at_fault}
+use Rattle.amqp_model.specs.Wire.Readings.{reading}
 use Rattle.amqp_channel.specs.ReadingView.{reading_view}
 use Rattle.amqp_outbox.specs.OutboxView.{Outgoing}
+use Rattle.amqp_core.specs.AccountView.{puts_alone}
 use Rattle.amqp_core.specs.Answering.{is_out_of_memory, ran_out}
 use Rattle.amqp_core.specs.ConnectionView.{connection_end}
 use Rattle.amqp_core.specs.EndpointView.{endpoint_view, role_at, unfinished_of}
-use Rattle.amqp_core.specs.EventRefView.{report_lent}
 use Rattle.amqp_core.specs.Lending.{IsLent, LendsOf, LentSeen}
 use Rattle.amqp_core.specs.Settings.{config_view}
 use Rattle.amqp_core.specs.StepView.{told_of, read_in}
 use Rattle.amqp_core.specs.declared.faults.CoreFault.{CoreFault}
 use Rattle.amqp_core.specs.declared.step.Report.{Report}
-use Rattle.amqp_core.proofs.AccountLemmas.{rest_of, whole_of}
+use Rattle.amqp_core.proofs.AccountLemmas.{account_of_stop, rest_of, whole_of}
+use Rattle.amqp_core.proofs.BlameLemmas.{blames_as, blames_of_fault, blames_of_frame, blames_of_rest, framing_broken}
 use Rattle.amqp_core.proofs.BoundLemmas.{bounded_failed}
 use Rattle.amqp_core.proofs.DropLemmas.{frame_there, given_dropped, none_pending}
-use Rattle.amqp_core.proofs.FeedLemmas.{fault_fed, fed_by, fed_holds, fields_failed, first_fault, frame_leaves, none_unfinished, of_ok, reads, rest_fed, sound_with, stop_leaves, takes, unfinished_is}
-use Rattle.amqp_core.proofs.StreamLemmas.{after_place, after_waiting, after_wrong, endpoint_itself, fields_waiting, frame_lent, frame_sound, frame_stands, given_place, if_told, lent_by, lends_of_frame, lends_of_rest, lent_of_fed, none_given, piece_place, seen_with, standing_in, stands_in, left_by_frame}
+use Rattle.amqp_core.proofs.FeedLemmas.{fault_fed, fed_by, fed_holds, fields_failed, first_fault, frame_leaves, none_unfinished, reads, rest_fed, sound_with, stop_leaves, takes, unfinished_is}
+use Rattle.amqp_core.proofs.HeardLemmas.{fault_heard, frame_heard, rest_heard, step_heard}
+use Rattle.amqp_core.proofs.StreamLemmas.{after_place, after_waiting, after_wrong, endpoint_itself, fields_waiting, frame_lent, frame_sound, frame_stands, given_place, if_told, lent_by, lends_of_frame, lends_of_rest, lent_of_fed, none_given, piece_place, standing_in, stands_in, left_by_frame}
 use Rattle.amqp_core.proofs.endpoint.Endpoint.read_lent.Goals as goal
 
 -- The splitter reports a fault.
@@ -38,10 +38,10 @@ returns-in-Err-clause-lent c =
     let none : old.heard ≡ 0 = c.requires.sound.fields.opened r.opened in
     let by = fed_by role (connection_end old.connection) old.heard old.splitter old.outbox.output c.args.piece.now c.requires.reads c.requires.sound.fields c.requires.sound.holds (λ i. omega (arith, c.type_inv.piece i)) in
     let pending = after_wrong old.splitter c.args.piece.now c.advance.result c.in-Err.fault c.advance.new.self c.advance.ensures.after c.in-Err.is in
-    lent_of_fed {A = Report} role config (Err c.stop_lent.result) 0 None None (endpoint_view old) c.args.piece.now (after_feed role config (endpoint_view old) c.args.piece.now) _ _
-    (fault_fed role config (endpoint_view old) old.splitter c.args.piece.now c.in-Err.fault.kind c.in-Err.fault.at c.stop_lent.result (connection_end c.stop_lent.new.self) (unfinished_of old.heard c.advance.new.self.pending) c.stop_lent.new.outbox
+    lent_of_fed {A = Report} role config (Err c.stop_lent-answer.result) 0 None None (endpoint_view old) c.args.piece.now (after_feed role config (endpoint_view old) c.args.piece.now) _ _
+    (fault_fed role config (endpoint_view old) old.splitter c.args.piece.now c.in-Err.fault.kind c.in-Err.fault.at c.stop_lent-answer.result (connection_end c.stop_lent-answer.new.self) (unfinished_of old.heard c.advance.new.self.pending) c.stop_lent-answer.new.outbox
     (c.pieces_are_split.ensures.fault role config (endpoint_view old) old.splitter c.args.piece.now c.in-Err.fault.kind c.in-Err.fault.at) by
-    (first_fault old.splitter c.args.piece.now c.in-Err.fault (c.requires.sound.fields.ready r.octets).running c.in-Err.ensures.fault) c.stop_lent.ensures.memory c.stop_lent.ensures.said c.stop_lent.ensures.end (none_unfinished old.heard c.advance.new.self.pending none pending) c.stop_lent.ensures.output)
+    (first_fault old.splitter c.args.piece.now c.in-Err.fault (c.requires.sound.fields.ready r.octets).running c.in-Err.ensures.fault) c.stop_lent-answer.ensures.memory c.stop_lent-answer.ensures.said c.stop_lent-answer.ensures.end (none_unfinished old.heard c.advance.new.self.pending none pending) c.stop_lent-answer.ensures.output)
     (endpoint_itself _) tt
 
 pub returns-in-Err-clause-sound : goal.returns-in-Err-clause-sound
@@ -53,14 +53,14 @@ returns-in-Err-clause-sound c =
     let none : old.heard ≡ 0 = c.requires.sound.fields.opened r.opened in
     let by = fed_by role (connection_end old.connection) old.heard old.splitter old.outbox.output c.args.piece.now c.requires.reads c.requires.sound.fields c.requires.sound.holds (λ i. omega (arith, c.type_inv.piece i)) in
     let pending = after_wrong old.splitter c.args.piece.now c.advance.result c.in-Err.fault c.advance.new.self c.advance.ensures.after c.in-Err.is in
-    let fed = fault_fed role config (endpoint_view old) old.splitter c.args.piece.now c.in-Err.fault.kind c.in-Err.fault.at c.stop_lent.result (connection_end c.stop_lent.new.self) (unfinished_of old.heard c.advance.new.self.pending) c.stop_lent.new.outbox
+    let fed = fault_fed role config (endpoint_view old) old.splitter c.args.piece.now c.in-Err.fault.kind c.in-Err.fault.at c.stop_lent-answer.result (connection_end c.stop_lent-answer.new.self) (unfinished_of old.heard c.advance.new.self.pending) c.stop_lent-answer.new.outbox
     (c.pieces_are_split.ensures.fault role config (endpoint_view old) old.splitter c.args.piece.now c.in-Err.fault.kind c.in-Err.fault.at) by
-    (first_fault old.splitter c.args.piece.now c.in-Err.fault (c.requires.sound.fields.ready r.octets).running c.in-Err.ensures.fault) c.stop_lent.ensures.memory c.stop_lent.ensures.said c.stop_lent.ensures.end (none_unfinished old.heard c.advance.new.self.pending none pending) c.stop_lent.ensures.output in
-    let left = stop_leaves role config (connection_end old.connection) (connection_end c.stop_lent.new.self) c.in-Err.fault.kind (is_out_of_memory c.stop_lent.result) c.stop_lent.ensures.end c.requires.sound.fields.agreed in
-    sound_with old.connection.settings (record { connection = c.stop_lent.new.self; splitter = c.advance.new.self; heard = old.heard; outbox = c.stop_lent.new.outbox }) c.stop_lent.ensures.settings c.requires.sound.writes (ap (λ (o : Outgoing). o.staged) c.stop_lent.ensures.output)
-    (fields_failed role (connection_end c.stop_lent.new.self) old.heard c.advance.new.self left.0 left.1 none pending)
+    (first_fault old.splitter c.args.piece.now c.in-Err.fault (c.requires.sound.fields.ready r.octets).running c.in-Err.ensures.fault) c.stop_lent-answer.ensures.memory c.stop_lent-answer.ensures.said c.stop_lent-answer.ensures.end (none_unfinished old.heard c.advance.new.self.pending none pending) c.stop_lent-answer.ensures.output in
+    let left = stop_leaves role config (connection_end old.connection) (connection_end c.stop_lent-answer.new.self) c.in-Err.fault.kind (is_out_of_memory c.stop_lent-answer.result) c.stop_lent-answer.ensures.end c.requires.sound.fields.agreed in
+    sound_with old.connection.settings (record { connection = c.stop_lent-answer.new.self; splitter = c.advance.new.self; heard = old.heard; outbox = c.stop_lent-answer.new.outbox; tally = c.blame_octets.new.self }) c.stop_lent-answer.ensures.settings c.requires.sound.writes (ap (λ (o : Outgoing). o.staged) c.stop_lent-answer.ensures.output)
+    (fields_failed role (connection_end c.stop_lent-answer.new.self) old.heard c.advance.new.self left.0 left.1 none pending)
     (fed_holds role config (endpoint_view old) _ old.splitter c.args.piece.now _ (c.unfinished_is_held.ensures.feed role config (endpoint_view old) c.args.piece.now) by fed)
-    (bounded_failed role config (connection_end c.stop_lent.new.self) left.0)
+    (bounded_failed role config (connection_end c.stop_lent-answer.new.self) left.0)
 
 pub returns-in-Err-clause-in_place : goal.returns-in-Err-clause-in_place
 returns-in-Err-clause-in_place c = λ drops.
@@ -156,7 +156,7 @@ returns-in-Piece-clause-sound c =
     let completes : Completes old.splitter (take octets piece) frame = piece_place c.in-Some.place c.advance.new.self.given c.in-Piece.frame (Completes old.splitter (take octets piece)) c.in-Piece.is (subst (λ o. IfSome o (λ p. OfGiven p c.advance.new.self.given (Completes old.splitter (take octets piece)))) c.in-Some.is c.in-Ok.ensures.frame) in
     let pending : c.tune.new.splitter.pending ≡ [] = ap (λ (s : Stream). s.pending) c.tune.ensures ∙ ap (λ (s : Stream). s.pending) after in
     let law = c.pieces_are_split.ensures.frame role config (endpoint_view old) old.splitter piece octets frame in
-    frame_sound old (record { connection = c.receive_lent-answer.new.self; splitter = c.tune.new.splitter; heard = old.heard; outbox = c.receive_lent-answer.new.outbox }) piece octets frame said c.advance.new.self
+    frame_sound old (record { connection = c.receive_lent-answer.new.self; splitter = c.tune.new.splitter; heard = old.heard; outbox = c.receive_lent-answer.new.outbox; tally = c.receive_lent-answer.new.tally }) piece octets frame said c.advance.new.self
     c.requires.sound c.requires.reads c.receive_lent-answer.ensures.settings refl
     (c.agreed_is_within.ensures.frame role config (connection_end old.connection) frame) (c.unfinished_is_held.ensures.feed role config (endpoint_view old) piece) (c.ends_are_bounded.ensures.frame role config (connection_end old.connection) frame)
     by (ap (λ (s : Stream). s.pending) after) (ap (λ (s : Stream). s.fault) after) c.tune.ensures c.receive_lent-answer.ensures.end c.receive_lent-answer.ensures.output
@@ -265,7 +265,7 @@ returns-in-Buffer-clause-sound c =
     let completes : Completes old.splitter (take octets piece) frame = given_place c.in-Some.place c.advance.new.self.given (lent c.buffered_frame-frame.result) (Completes old.splitter (take octets piece)) c.in-Buffer.is c.buffered_frame-frame.ensures (subst (λ o. IfSome o (λ p. OfGiven p c.advance.new.self.given (Completes old.splitter (take octets piece)))) c.in-Some.is c.in-Ok.ensures.frame) in
     let pending : c.tune-in-Buffer.new.splitter.pending ≡ [] = ap (λ (s : Stream). s.pending) c.tune-in-Buffer.ensures ∙ ap (λ (s : Stream). s.pending) after in
     let law = c.pieces_are_split.ensures.frame role config (endpoint_view old) old.splitter piece octets frame in
-    frame_sound old (record { connection = c.receive_lent-answer-in-Buffer.new.self; splitter = c.tune-in-Buffer.new.splitter; heard = old.heard; outbox = c.receive_lent-answer-in-Buffer.new.outbox }) piece octets frame said c.advance.new.self
+    frame_sound old (record { connection = c.receive_lent-answer-in-Buffer.new.self; splitter = c.tune-in-Buffer.new.splitter; heard = old.heard; outbox = c.receive_lent-answer-in-Buffer.new.outbox; tally = c.receive_lent-answer-in-Buffer.new.tally }) piece octets frame said c.advance.new.self
     c.requires.sound c.requires.reads c.receive_lent-answer-in-Buffer.ensures.settings refl
     (c.agreed_is_within.ensures.frame role config (connection_end old.connection) frame) (c.unfinished_is_held.ensures.feed role config (endpoint_view old) piece) (c.ends_are_bounded.ensures.frame role config (connection_end old.connection) frame)
     by (ap (λ (s : Stream). s.pending) after) (ap (λ (s : Stream). s.fault) after) c.tune-in-Buffer.ensures c.receive_lent-answer-in-Buffer.ensures.end c.receive_lent-answer-in-Buffer.ensures.output
@@ -334,3 +334,124 @@ buffered_frame-frame-requires c =
     λ none. none_given c.in-Some.place (Completes old.splitter (take octets piece)) c.in-Buffer.is
     (subst (λ g. OfGiven c.in-Some.place g (Completes old.splitter (take octets piece))) none
     (subst (λ o. IfSome o (λ p. OfGiven p c.advance.new.self.given (Completes old.splitter (take octets piece)))) c.in-Some.is c.in-Ok.ensures.frame))
+
+-- What is counted and blamed.
+
+pub returns-in_default-clause-tally : goal.returns-in_default-clause-tally
+returns-in_default-clause-tally c =
+    let old = c.args.self.now in
+    let role = role_at old in
+    let piece = c.args.piece.now in
+    let octets = c.in-Ok.advanced.taken in
+    let by = fed_by role (connection_end old.connection) old.heard old.splitter old.outbox.output piece c.requires.reads c.requires.sound.fields c.requires.sound.holds (λ i. omega (arith, c.type_inv.piece i)) in
+    let waits : Waits old.splitter piece octets = subst (λ o. IfNone o (Waits old.splitter piece octets)) c.in_default.is c.in-Ok.ensures.rest in
+    blames_of_rest role _ (endpoint_view old) piece _ octets _ _ c.judged_is_said.ensures.one c.requires.reads
+    (c.pieces_are_split.ensures.rest role (config_view old.connection.settings) (endpoint_view old) old.splitter piece octets by waits) waits.all
+    (rest_of old.splitter (endpoint_view old) piece octets by.splits waits) refl c.count.ensures
+
+pub returns-in-Piece-clause-tally : goal.returns-in-Piece-clause-tally
+returns-in-Piece-clause-tally c =
+    let old = c.args.self.now in
+    let role = role_at old in
+    let config = config_view old.connection.settings in
+    let piece = c.args.piece.now in
+    let octets = c.in-Ok.advanced.taken in
+    let frame = lent c.in-Piece.frame in
+    let by = fed_by role (connection_end old.connection) old.heard old.splitter old.outbox.output piece c.requires.reads c.requires.sound.fields c.requires.sound.holds (λ i. omega (arith, c.type_inv.piece i)) in
+    let completes : Completes old.splitter (take octets piece) frame = piece_place c.in-Some.place c.advance.new.self.given c.in-Piece.frame (Completes old.splitter (take octets piece)) c.in-Piece.is (subst (λ o. IfSome o (λ p. OfGiven p c.advance.new.self.given (Completes old.splitter (take octets piece)))) c.in-Some.is c.in-Ok.ensures.frame) in
+    blames_as role c.receive_lent-answer.result c.step_of.result (endpoint_view old) piece _ _ _ c.step_of.ensures.code c.step_of.ensures.memory
+    (blames_of_frame role config c.receive_lent-answer.result (endpoint_view old) piece _ octets frame _ _ _ c.judged_is_said.ensures.one c.requires.reads
+    (c.pieces_are_split.ensures.frame role config (endpoint_view old) old.splitter piece octets frame by c.in-Ok.ensures.within completes)
+    (whole_of old.splitter (endpoint_view old) (take octets piece) frame by.splits completes) c.count.ensures c.receive_lent-answer.ensures.tally)
+
+pub returns-in-Buffer-clause-tally : goal.returns-in-Buffer-clause-tally
+returns-in-Buffer-clause-tally c =
+    let old = c.args.self.now in
+    let role = role_at old in
+    let config = config_view old.connection.settings in
+    let piece = c.args.piece.now in
+    let octets = c.in-Ok.advanced.taken in
+    let frame = lent c.buffered_frame-frame.result in
+    let by = fed_by role (connection_end old.connection) old.heard old.splitter old.outbox.output piece c.requires.reads c.requires.sound.fields c.requires.sound.holds (λ i. omega (arith, c.type_inv.piece i)) in
+    let completes : Completes old.splitter (take octets piece) frame = given_place c.in-Some.place c.advance.new.self.given (lent c.buffered_frame-frame.result) (Completes old.splitter (take octets piece)) c.in-Buffer.is c.buffered_frame-frame.ensures (subst (λ o. IfSome o (λ p. OfGiven p c.advance.new.self.given (Completes old.splitter (take octets piece)))) c.in-Some.is c.in-Ok.ensures.frame) in
+    blames_as role c.receive_lent-answer-in-Buffer.result c.step_of-in-Buffer.result (endpoint_view old) piece _ _ _ c.step_of-in-Buffer.ensures.code c.step_of-in-Buffer.ensures.memory
+    (blames_of_frame role config c.receive_lent-answer-in-Buffer.result (endpoint_view old) piece _ octets frame _ _ _ c.judged_is_said.ensures.one c.requires.reads
+    (c.pieces_are_split.ensures.frame role config (endpoint_view old) old.splitter piece octets frame by c.in-Ok.ensures.within completes)
+    (whole_of old.splitter (endpoint_view old) (take octets piece) frame by.splits completes) c.count.ensures c.receive_lent-answer-in-Buffer.ensures.tally)
+
+pub blame_octets-requires : goal.blame_octets-requires
+blame_octets-requires c = framing_broken c.in-Err.fault.kind c.stop_lent-answer.result c.stop_lent-answer.ensures.said
+
+pub returns-in-Err-clause-tally : goal.returns-in-Err-clause-tally
+returns-in-Err-clause-tally c =
+    let old = c.args.self.now in
+    let role = role_at old in
+    let config = config_view old.connection.settings in
+    let piece = c.args.piece.now in
+    let kind = c.in-Err.fault.kind in
+    let r = reads role (connection_end old.connection).phase c.requires.reads in
+    let none : old.heard ≡ 0 = c.requires.sound.fields.opened r.opened in
+    let by = fed_by role (connection_end old.connection) old.heard old.splitter old.outbox.output piece c.requires.reads c.requires.sound.fields c.requires.sound.holds (λ i. omega (arith, c.type_inv.piece i)) in
+    let short : c.taken_to_fault-octets.result < 2 ^ 64 = omega (arith, c.taken_to_fault-octets.type_inv) in
+    let after = ap (λ (s : Stream). s.taken_to_fault) (c.advance.ensures.after ∙ ap (after_advance old.splitter piece) c.in-Err.is) in
+    let owed = puts_alone (owed_at_fault config (connection_end old.connection) kind) in
+    let account = λ (ran : is_out_of_memory c.stop_lent-answer.result ≡ false).
+    account_of_stop role config (endpoint_view old) old.splitter piece kind c.in-Err.fault.at c.taken_to_fault-octets.result owed c.judged_is_said.ensures.one
+    (c.pieces_are_split.ensures.fault role config (endpoint_view old) (record old.splitter { taken = 0 }) piece) c.faults_are_judged.ensures.judged by short
+    (λ e. false≢true (sym ran ∙ c.stop_lent-answer.ensures.memory e))
+    (first_fault old.splitter piece c.in-Err.fault (c.requires.sound.fields.ready r.octets).running c.in-Err.ensures.fault) (c.taken_to_fault-octets.ensures ∙ after) refl in
+    blames_of_fault role config c.stop_lent-answer.result (endpoint_view old) piece _ _ c.pending-pending.result owed _ _ c.requires.reads account refl
+    (c.pending-pending.ensures.value ∙ ap (λ (xs : List ℕ). length xs) (sym (unfinished_is old.heard old.splitter.pending none))) c.blame_octets.ensures
+
+-- What is heard.
+
+pub returns-in-Err-clause-heard : goal.returns-in-Err-clause-heard
+returns-in-Err-clause-heard c =
+    let old = c.args.self.now in
+    fault_heard (role_at old) (config_view old.connection.settings) c.stop_lent-answer.result (endpoint_view old) c.args.piece.now _ _
+
+pub returns-in_default-clause-heard : goal.returns-in_default-clause-heard
+returns-in_default-clause-heard c =
+    let old = c.args.self.now in
+    let role = role_at old in
+    let config = config_view old.connection.settings in
+    let piece = c.args.piece.now in
+    let octets = c.in-Ok.advanced.taken in
+    let by = fed_by role (connection_end old.connection) old.heard old.splitter old.outbox.output piece c.requires.reads c.requires.sound.fields c.requires.sound.holds (λ i. omega (arith, c.type_inv.piece i)) in
+    let waits : Waits old.splitter piece octets = subst (λ o. IfNone o (Waits old.splitter piece octets)) c.in_default.is c.in-Ok.ensures.rest in
+    rest_heard role config _ (endpoint_view old) piece _ octets _ c.judged_is_said.ensures.one c.requires.reads
+    (c.pieces_are_split.ensures.rest role config (endpoint_view old) old.splitter piece octets by waits)
+    (ap (λ xs. (endpoint_view old).unfinished ++ xs) (sym (ap (λ n. take n piece) waits.all ∙ take-length piece)))
+    (rest_of old.splitter (endpoint_view old) piece octets by.splits waits)
+
+pub returns-in-Piece-clause-heard : goal.returns-in-Piece-clause-heard
+returns-in-Piece-clause-heard c =
+    let old = c.args.self.now in
+    let role = role_at old in
+    let config = config_view old.connection.settings in
+    let piece = c.args.piece.now in
+    let octets = c.in-Ok.advanced.taken in
+    let frame = lent c.in-Piece.frame in
+    let by = fed_by role (connection_end old.connection) old.heard old.splitter old.outbox.output piece c.requires.reads c.requires.sound.fields c.requires.sound.holds (λ i. omega (arith, c.type_inv.piece i)) in
+    let completes : Completes old.splitter (take octets piece) frame = piece_place c.in-Some.place c.advance.new.self.given c.in-Piece.frame (Completes old.splitter (take octets piece)) c.in-Piece.is (subst (λ o. IfSome o (λ p. OfGiven p c.advance.new.self.given (Completes old.splitter (take octets piece)))) c.in-Some.is c.in-Ok.ensures.frame) in
+    step_heard None c.receive_lent-answer.result c.step_of.result _ _ _ (c.step_of.ensures.seen None) role config (endpoint_view old) piece _ _ _
+    (frame_heard role config c.receive_lent-answer.result (endpoint_view old) piece _ octets frame _ _ c.judged_is_said.ensures.one c.requires.reads
+    (c.pieces_are_split.ensures.frame role config (endpoint_view old) old.splitter piece octets frame by c.in-Ok.ensures.within completes)
+    (whole_of old.splitter (endpoint_view old) (take octets piece) frame by.splits completes)
+    c.receive_lent-answer.ensures.heard c.receive_lent-answer.ensures.at_fault)
+
+pub returns-in-Buffer-clause-heard : goal.returns-in-Buffer-clause-heard
+returns-in-Buffer-clause-heard c =
+    let old = c.args.self.now in
+    let role = role_at old in
+    let config = config_view old.connection.settings in
+    let piece = c.args.piece.now in
+    let octets = c.in-Ok.advanced.taken in
+    let frame = lent c.buffered_frame-frame.result in
+    let by = fed_by role (connection_end old.connection) old.heard old.splitter old.outbox.output piece c.requires.reads c.requires.sound.fields c.requires.sound.holds (λ i. omega (arith, c.type_inv.piece i)) in
+    let completes : Completes old.splitter (take octets piece) frame = given_place c.in-Some.place c.advance.new.self.given (lent c.buffered_frame-frame.result) (Completes old.splitter (take octets piece)) c.in-Buffer.is c.buffered_frame-frame.ensures (subst (λ o. IfSome o (λ p. OfGiven p c.advance.new.self.given (Completes old.splitter (take octets piece)))) c.in-Some.is c.in-Ok.ensures.frame) in
+    step_heard None c.receive_lent-answer-in-Buffer.result c.step_of-in-Buffer.result _ _ _ (c.step_of-in-Buffer.ensures.seen None) role config (endpoint_view old) piece _ _ _
+    (frame_heard role config c.receive_lent-answer-in-Buffer.result (endpoint_view old) piece _ octets frame _ _ c.judged_is_said.ensures.one c.requires.reads
+    (c.pieces_are_split.ensures.frame role config (endpoint_view old) old.splitter piece octets frame by c.in-Ok.ensures.within completes)
+    (whole_of old.splitter (endpoint_view old) (take octets piece) frame by.splits completes)
+    c.receive_lent-answer-in-Buffer.ensures.heard c.receive_lent-answer-in-Buffer.ensures.at_fault)

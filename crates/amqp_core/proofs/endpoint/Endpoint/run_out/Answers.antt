@@ -21,7 +21,7 @@ pub returns-clause-sound : goal.returns-clause-sound
 returns-clause-sound c =
     let old = c.args.self.now in
     let failed = sym (ap (λ (e : End). e.phase) c.fail.ensures.end) in
-    sound_with old.connection.settings (record { connection = c.fail.new.self; splitter = c.new.result; heard = 0; outbox = old.outbox }) c.fail.ensures.settings c.requires.sound.writes c.requires.sound.staged
+    sound_with old.connection.settings (record { connection = c.fail.new.self; splitter = c.new.result; heard = 0; outbox = old.outbox; tally = old.tally }) c.fail.ensures.settings c.requires.sound.writes c.requires.sound.staged
     (fields_failed (role_at old) (connection_end c.fail.new.self) 0 c.new.result failed (subst IfAgreedFits (sym (ap (λ (e : End). e.agreed) c.fail.ensures.end)) c.requires.sound.fields.agreed) refl c.new.ensures.pending)
-    (holds_failed (role_at old) (endpoint_view (record { connection = c.fail.new.self; splitter = c.new.result; heard = 0; outbox = old.outbox })) failed)
+    (holds_failed (role_at old) (endpoint_view (record { connection = c.fail.new.self; splitter = c.new.result; heard = 0; outbox = old.outbox; tally = old.tally })) failed)
     (bounded_failed (role_at old) (config_view old.connection.settings) (connection_end c.fail.new.self) failed)

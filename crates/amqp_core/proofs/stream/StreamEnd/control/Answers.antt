@@ -1,8 +1,16 @@
--- What holds of the end holds of its endpoint.
-use Rattle.std.proofs.Common.{refl, ap, ◌∙◌}
+-- What holds of the end holds of its endpoint, and the histories go on by the end that gathers.
+use Rattle.std.proofs.Common.{refl, ap, ◌∙◌, false}
+use Rattle.amqp_core.specs.ControlView.{control_view}
+use Rattle.amqp_core.specs.Controlled.{frames_by}
+use Rattle.amqp_core.specs.Controlling.{AcceptsControl, verdict_at}
+use Rattle.amqp_core.specs.EndpointView.{endpoint_view}
 use Rattle.amqp_core.specs.Settings.{role_for}
+use Rattle.amqp_core.specs.StreamHistory.{StreamControlGoesOn}
+use Rattle.amqp_core.specs.StreamView.{config_at, endpoint_of, role_played}
 use Rattle.amqp_core.specs.declared.settings.Settings.{Settings}
+use Rattle.amqp_core.specs.Blamed.{Tally}
 use Rattle.amqp_core.proofs.KeptLemmas.{kept_sound, sound_kept}
+use Rattle.amqp_core.proofs.StreamHistoryLemmas.{ok_map, stream_control_goes_on, stream_control_is_of_history}
 use Rattle.amqp_core.proofs.stream.StreamEnd.control.Goals as goal
 
 pub control-requires : goal.control-requires
@@ -16,9 +24,24 @@ invariant_of-self g c = record {
 }
 
 pub returns : goal.returns
-returns g c = record {
-  accepted = c.control.ensures.accepted;
-  refused = c.control.ensures.refused;
-  settings = c.control.ensures.settings;
-  counters = refl;
-}
+returns g c =
+    let old = c.args.self.now in
+    let role = role_played old in
+    let config = config_at old in
+    let asked = control_view c.args.control in
+    let new = endpoint_view c.control.new.self in
+    let frames = frames_by (verdict_at role config asked (endpoint_of old)) in
+    record {
+      accepted = c.control.ensures.accepted;
+      refused = c.control.ensures.refused;
+      history = ok_map c.control.result (AcceptsControl role config asked (endpoint_of old) new) (StreamControlGoesOn role config asked (endpoint_of old) new)
+          (λ accepts. stream_control_goes_on role config asked (endpoint_of old) new accepts (kept_sound old.inner old.kept).writes
+          (c.owed_read_back.ensures.all role config)
+          (λ endpoint history fed written. c.controls_follow_octets.ensures.accepted role config endpoint history fed written asked frames)
+          c.controls_follow_octets.ensures.answer c.controls_follow_octets.ensures.alike) c.control.ensures.accepted;
+      of_history = stream_control_is_of_history role config asked (endpoint_of old)
+          (λ end history. c.controls_follow.ensures.history role config false end history asked) c.controls_follow_octets.ensures.answer;
+      settings = c.control.ensures.settings;
+      counters = ap (λ (t : Tally). record { frames = c.args.self.now.frames_taken; octets = c.args.self.now.octets_written; tally = t }) c.control.ensures.tally;
+      heard = refl;
+    }

@@ -4,6 +4,7 @@ use Rattle.amqp_core.specs.EndpointView.{endpoint_view}
 use Rattle.amqp_core.specs.Settings.{role_for}
 use Rattle.amqp_core.specs.StreamView.{config_at, endpoint_of, role_played}
 use Rattle.amqp_core.specs.declared.settings.Settings.{Settings}
+use Rattle.amqp_core.specs.Blamed.{Tally}
 use Rattle.amqp_core.proofs.KeptLemmas.{kept_sound, sound_kept}
 use Rattle.amqp_core.proofs.TurningLemmas.{turns_back}
 use Rattle.amqp_core.proofs.stream.StreamEnd.into_end.Goals as goal
@@ -30,6 +31,8 @@ returns-then-gather-clause-ok g c =
     let end = c.args.self in
     record {
       endpoint = c.if-gather.ensures.view;
+      counters = ap (λ (t : Tally). record { frames = end.frames_taken; octets = end.octets_written; tally = t }) c.if-gather.ensures.tally;
+      heard = refl;
       history = λ history fed written s.
           turns_back (role_played end) (config_at end) (endpoint_of end) (endpoint_view c.gather.new.self) history fed written c.if-gather.ensures.view (c.if-gather.ensures.none refl) s;
     }

@@ -1,5 +1,5 @@
 -- What holds of the end holds of its endpoint, and the histories go on by the end that gathers.
-use Rattle.std.proofs.Common.{ap, ◌∙◌, false, OnOk}
+use Rattle.std.proofs.Common.{ap, ◌∙◌, false, refl}
 use Rattle.amqp_model.specs.End.Asks.{frames_asked}
 use Rattle.amqp_core.specs.AskView.{lent_view}
 use Rattle.amqp_core.specs.Asking.{AcceptsAsk}
@@ -8,6 +8,7 @@ use Rattle.amqp_core.specs.Settings.{role_for}
 use Rattle.amqp_core.specs.StreamHistory.{StreamAskGoesOn}
 use Rattle.amqp_core.specs.StreamView.{config_at, endpoint_of, role_played}
 use Rattle.amqp_core.specs.declared.settings.Settings.{Settings}
+use Rattle.amqp_core.specs.Blamed.{Tally}
 use Rattle.amqp_core.proofs.KeptLemmas.{kept_sound, sound_kept}
 use Rattle.amqp_core.proofs.StreamHistoryLemmas.{ok_map, stream_ask_goes_on, stream_ask_is_of_history}
 use Rattle.amqp_core.proofs.stream.StreamEnd.put_ask.Goals as goal
@@ -40,4 +41,6 @@ returns-clause-asked g c =
       of_history = stream_ask_is_of_history role config asked (endpoint_of old)
           (λ end history. c.ask_is_of_history.ensures role config false end history asked) c.alike_ends_ask_alike.ensures.answer;
       settings = c.ask.ensures.settings;
+      counters = ap (λ (t : Tally). record { frames = old.frames_taken; octets = old.octets_written; tally = t }) c.ask.ensures.tally;
+      heard = refl;
     }

@@ -27,6 +27,7 @@ returns-in_err-allow_control g c =
       fed = refl;
       written = refl;
       settings = refl;
+      heard = refl;
     })
 
 -- there was no room
@@ -46,6 +47,7 @@ returns-in_default g c =
       fed = sym c.make_room.ensures.same.fed;
       written = sym c.make_room.ensures.same.written;
       settings = refl;
+      heard = refl;
     }
 
 pub returns : goal.returns
@@ -67,6 +69,7 @@ returns g c =
       fed = (λ i. (c.put_control.ensures.fed i).items) ∙ sym c.make_room.ensures.same.fed;
       written = (λ i. (c.put_control.ensures.written i).items) ∙ sym c.make_room.ensures.same.written;
       settings = c.put_control.ensures.settings;
+      heard = c.put_control.ensures.heard;
     }
 
 pub invariant_of-self : goal.invariant_of-self

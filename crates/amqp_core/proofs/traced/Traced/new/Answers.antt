@@ -9,22 +9,26 @@ use Rattle.amqp_core.proofs.traced.Traced.new.Goals as goal
 pub invariant_of-result : goal.invariant_of-result
 invariant_of-result g c =
     let end = c.args.end in
-    let ledger = c.reserve.new.self in
-    let written = ap length c.output.ensures.octets in
+    let ledger = c.give_back.new.self in
+    let back = c.give_back.ensures in
+    let written = ap length c.output-to_write.ensures.octets in
     record {
-      plays = ap role_of (c.reserve.ensures.side ∙ c.new-ledger.ensures.side) ∙ c.side.ensures;
-      room = omega (arith, c.in_ok-reserve.ensures.written, written);
+      plays = ap role_of (back.side ∙ (c.reserve.ensures.side ∙ c.new-ledger.ensures.side)) ∙ c.side.ensures;
+      room = omega (arith, back.room, written);
       traces = ∣ (
         [],
         traced-new (role_played end) (config_at end) (kept_of end ledger) (c.octets_follow.ensures.new (role_played end) (config_at end)) c.requires
-            (c.reserve.ensures.notes_same ∙ c.new-ledger.ensures.notes) (c.reserve.ensures.told_same ∙ c.new-ledger.ensures.told) (c.reserve.ensures.said_same ∙ c.new-ledger.ensures.said)
-            (c.reserve.ensures.fed_same ∙ c.new-ledger.ensures.fed) (c.reserve.ensures.written_same ∙ c.new-ledger.ensures.written),
+            (back.notes ∙ (c.reserve.ensures.notes_same ∙ c.new-ledger.ensures.notes)) (back.told ∙ (c.reserve.ensures.told_same ∙ c.new-ledger.ensures.told))
+            (back.said ∙ (c.reserve.ensures.said_same ∙ c.new-ledger.ensures.said)) (back.fed ∙ (c.reserve.ensures.fed_same ∙ c.new-ledger.ensures.fed))
+            (back.written ∙ (c.reserve.ensures.written_same ∙ c.new-ledger.ensures.written)),
       ) ∣₁;
     }
 
 pub returns-clause-trace : goal.returns-clause-trace
 returns-clause-trace g c =
     let end = c.args.end in
-    traced-new (role_played end) (config_at end) (kept_of end c.reserve.new.self) (c.octets_follow.ensures.new (role_played end) (config_at end)) c.requires
-    (c.reserve.ensures.notes_same ∙ c.new-ledger.ensures.notes) (c.reserve.ensures.told_same ∙ c.new-ledger.ensures.told) (c.reserve.ensures.said_same ∙ c.new-ledger.ensures.said)
-    (c.reserve.ensures.fed_same ∙ c.new-ledger.ensures.fed) (c.reserve.ensures.written_same ∙ c.new-ledger.ensures.written)
+    let back = c.give_back.ensures in
+    traced-new (role_played end) (config_at end) (kept_of end c.give_back.new.self) (c.octets_follow.ensures.new (role_played end) (config_at end)) c.requires
+    (back.notes ∙ (c.reserve.ensures.notes_same ∙ c.new-ledger.ensures.notes)) (back.told ∙ (c.reserve.ensures.told_same ∙ c.new-ledger.ensures.told))
+    (back.said ∙ (c.reserve.ensures.said_same ∙ c.new-ledger.ensures.said)) (back.fed ∙ (c.reserve.ensures.fed_same ∙ c.new-ledger.ensures.fed))
+    (back.written ∙ (c.reserve.ensures.written_same ∙ c.new-ledger.ensures.written))

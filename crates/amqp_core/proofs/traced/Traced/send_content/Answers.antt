@@ -1,5 +1,6 @@
 -- What holds of the ask that is lent holds of the message, and what holds of the message that is lent holds of its parts.
-use Rattle.std.proofs.Common.{Ok, subst}
+use Rattle.std.proofs.Common.{Ok, Err, subst}
+use Rattle.std.proofs.lemmas.Result.{err_from_is_err_and}
 use Rattle.amqp_method.specs.Messages.{Letter}
 use Rattle.amqp_model.specs.End.Asks.{Send}
 use Rattle.amqp_channel.specs.Messages.{message_of}
@@ -19,5 +20,24 @@ returns-clause-asked g c = λ content.
       fed = c.in_ok-ask_lent.ensures.fed;
       written = c.in_ok-ask_lent.ensures.written;
       settings = c.in_ok-ask_lent.ensures.settings;
+      heard = c.in_ok-ask_lent.ensures.heard;
     } in
     subst (λ (l : Letter). Asked old (Send c.args.channel (message_of l)) (Ok tt) new) c.content-message.ensures asked
+
+pub returns-in_err-ask_lent-clause-asked : goal.returns-in_err-ask_lent-clause-asked
+returns-in_err-ask_lent-clause-asked g c = λ content.
+    let p = err_from_is_err_and c.from_residual.result c.from_residual.ensures.1 in
+    let old = c.args.self.now in
+    let new = c.ask_lent.new.self in
+    let asked : Asked {A = Unit {0}} old (Send c.args.channel (message_of (lent_letter c.content-message.result))) (Err c.in_err-ask_lent.field-0.0) new = record {
+      accepted = tt;
+      refused = c.in_err-ask_lent.ensures.refused;
+      history = tt;
+      same = c.in_err-ask_lent.ensures.same;
+      fed = c.in_err-ask_lent.ensures.fed;
+      written = c.in_err-ask_lent.ensures.written;
+      settings = c.in_err-ask_lent.ensures.settings;
+      heard = c.in_err-ask_lent.ensures.heard;
+    } in
+    let answered : Asked {A = Unit {0}} old (Send c.args.channel (message_of (lent_letter c.content-message.result))) c.from_residual.result new = rw (p.1, p.2) asked in
+    subst (λ (l : Letter). Asked {A = Unit {0}} old (Send c.args.channel (message_of l)) c.from_residual.result new) c.content-message.ensures answered

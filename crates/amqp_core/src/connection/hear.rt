@@ -1,0 +1,144 @@
+//! What is kept of a frame for later: the method that the handshake awaited, and what a close of the other end is about.
+ghost use Rattle.std.specs.Prelude.{◌≡◌, true, None, Option, OnErr, OnOk};
+ghost use Rattle.amqp_channel.specs.ReadingView.{reading_view};
+ghost use Rattle.amqp_model.specs.End.Channels.{Channel, Phase};
+ghost use Rattle.amqp_model.specs.End.Heard.{heard_after};
+ghost use Rattle.amqp_core.specs.Dropping.{DropsReading};
+ghost use Rattle.amqp_core.specs.HeardView.{cause_here, cause_there, closes_by, goes_by, heard_here, heard_view, methods_view, notice_closes, said_by, told_closes};
+ghost use Rattle.amqp_core.specs.Stages.{phase_at};
+ghost use Rattle.amqp_core.specs.VerdictView.{FitsEventOf};
+
+use crate::connection::Connection;
+use crate::faults::OutOfMemory;
+use crate::heard::{Cause, Heard};
+use crate::verdict::{Notice, Verdict};
+use amqp_channel::{Reading, Told, Verdict as ChannelVerdict};
+
+/// Whether this tells of a close of the other end, of a channel.
+fn is_close_told(told: Told) -> bool
+    ensures { result ≡ told_closes told }
+{
+    match told {
+        Told::ClosedByPeer => true,
+        Told::Method
+        | Told::Begun
+        | Told::Headed
+        | Told::Continued
+        | Told::Completed
+        | Told::Opened
+        | Told::Flow(_)
+        | Told::FlowOk(_)
+        | Told::ClosedByUs
+        | Told::Discarded
+        | Told::Quiet => false,
+    }
+}
+
+/// Whether this tells of a close of the other end, of the connection.
+fn is_close_noticed(notice: Notice) -> bool
+    ensures { result ≡ notice_closes notice }
+{
+    match notice {
+        Notice::ClosedByPeer => true,
+        Notice::Quiet
+        | Notice::Discarded
+        | Notice::AnswerAsked
+        | Notice::LoginAsked
+        | Notice::OpenAsked
+        | Notice::Negotiated(_)
+        | Notice::ClosedByUs
+        | Notice::Blocked
+        | Notice::Unblocked => false,
+    }
+}
+
+impl Verdict {
+    /// Whether the end goes on with the frame.
+    pub(crate) fn goes_on(self) -> bool
+        ensures { result ≡ goes_by self }
+    {
+        match self {
+            Verdict::OnChannel(ChannelVerdict::Proceeds(_, _)) => true,
+            Verdict::OnChannel(ChannelVerdict::RefusesContent) => true,
+            Verdict::OnChannel(ChannelVerdict::Faults(_)) => false,
+            Verdict::Proceeds { .. } => true,
+            Verdict::Faults(_) => false,
+        }
+    }
+
+    /// Whether the frame is a close of the other end, of which is told.
+    fn closes(self) -> bool
+        ensures { result ≡ closes_by self }
+    {
+        match self {
+            Verdict::OnChannel(ChannelVerdict::Proceeds(told, _)) => is_close_told(told),
+            Verdict::OnChannel(ChannelVerdict::RefusesContent) => false,
+            Verdict::OnChannel(ChannelVerdict::Faults(_)) => false,
+            Verdict::Proceeds { notice, .. } => is_close_noticed(notice),
+            Verdict::Faults(_) => false,
+        }
+    }
+}
+
+/// What a close of this verdict is about, if the frame is one.
+#[tactic(auto, using(crate::proofs::HeardLemmas::is_close))]
+fn cause_of(reading: Reading<'_>, verdict: Verdict) -> Option<Cause>
+    requires { FitsEventOf (reading_view reading) verdict }
+    ensures { cause_there result ≡ cause_here (reading_view reading.entry) (closes_by verdict) }
+{
+    if !verdict.closes() {
+        return None;
+    }
+    let Reading::Method(method) = reading else {
+        return None;
+    };
+    Some(Cause::of(method))
+}
+
+impl Connection {
+    /// The method that the handshake awaits, if the frame is it and the end goes on with it, is kept.
+    fn keep_awaited(
+        &self,
+        number: u16,
+        reading: Reading<'_>,
+        verdict: Verdict,
+        heard: &mut Heard,
+    ) -> Result<(), OutOfMemory>
+        ensures methods { OnOk result (methods_view heard.new ≡ heard_after
+            (heard_here (phase_at self.now.stage) number (reading_view reading.entry) (goes_by verdict))
+            (methods_view heard.old)) }
+        ensures cause { heard.new.closed_for ≡ heard.old.closed_for }
+        ensures light { OnErr result ((phase : Phase) (channel : Channel)
+            → DropsReading phase channel number (reading_view reading.entry) → ⊥) }
+    {
+        let Reading::Method(method) = reading else {
+            return Ok(());
+        };
+        if self.stage.awaits(method.kind()) && number == 0 && verdict.goes_on() {
+            let method = method.to_owned(self.alloc)?;
+            heard.keep(self.stage, method);
+        }
+        Ok(())
+    }
+
+    /// Keeps of a frame with this verdict what an application may ask for later. Most frames leave it as it is.
+    pub(crate) fn keep_said(
+        &self,
+        number: u16,
+        reading: Reading<'_>,
+        verdict: Verdict,
+        heard: &mut Heard,
+    ) -> Result<(), OutOfMemory>
+        requires fits { FitsEventOf (reading_view reading) verdict }
+        ensures heard { OnOk result (heard_view heard.new
+            ≡ said_by (phase_at self.now.stage) number (reading_view reading.entry) verdict (heard_view heard.old)) }
+        ensures light { OnErr result ((phase : Phase) (channel : Channel)
+            → DropsReading phase channel number (reading_view reading.entry) → ⊥) }
+    {
+        self.keep_awaited(number, reading, verdict, heard)?;
+        if let Some(cause) = cause_of(reading, verdict) {
+            heard.closed_for = Some(cause);
+        }
+        Ok(())
+    }
+}

@@ -1,0 +1,145 @@
+//! What an end keeps of what the other end said: the methods of the handshake, and what its last close was about.
+ghost use Rattle.std.specs.Prelude.{◌≡◌, true, Some, None, option_copied};
+ghost use Rattle.amqp_method.specs.Kinds.{kind_with};
+ghost use Rattle.amqp_method.specs.MethodRefView.{lent_call};
+ghost use Rattle.amqp_method.specs.MethodView.{method_view};
+ghost use Rattle.amqp_model.specs.End.Heard.{heard_after, nothing_heard};
+ghost use Rattle.amqp_channel.specs.Reasons.{IsClose};
+ghost use Rattle.amqp_core.specs.Causes.{cause_in};
+ghost use Rattle.amqp_core.specs.Handshakes.{awaits_at};
+
+use crate::stage::Stage;
+use amqp_method::{Kind, Method, MethodRef};
+
+/// What a close is about: the class and the method of the frame for which the other end closed. Both are 0 where it
+/// names none.
+#[derive(Clone, Copy, PartialEq, Eq, Debug)]
+pub struct Cause {
+    pub class_id: u16,
+    pub method_id: u16,
+}
+
+impl Cause {
+    ghost use Rattle.amqp_core.specs.HeardView.{cause_view};
+
+    /// The method that these numbers name, if there is one.
+    pub fn kind(self) -> Option<Kind>
+        ensures { result ≡ kind_with self.class_id self.method_id }
+    {
+        Kind::from_ids(self.class_id, self.method_id)
+    }
+
+    /// What a close that lies in its payload is about.
+    #[tactic(auto, using(crate::proofs::LentLemmas::of_close))]
+    pub(crate) fn of(method: MethodRef<'_>) -> Cause
+        requires { IsClose (lent_call method).kind }
+        ensures { cause_view result ≡ cause_in (lent_call method.entry) }
+    {
+        // The arguments are of the kinds of their fields, so the third and the fourth are numbers of 16 bits.
+        let _args = method.args();
+        let Some(class_id) = method.short_at(2) else {
+            unreachable!()
+        };
+        let Some(method_id) = method.short_at(3) else {
+            unreachable!()
+        };
+        Cause {
+            class_id,
+            method_id,
+        }
+    }
+}
+
+/// The last method of each kind that the end heard in the handshake, and what the last close was about that it told of.
+pub(crate) struct Heard {
+    pub(crate) start: Option<Method>,
+    pub(crate) start_ok: Option<Method>,
+    pub(crate) tune: Option<Method>,
+    pub(crate) tune_ok: Option<Method>,
+    pub(crate) open: Option<Method>,
+    pub(crate) closed_for: Option<Cause>,
+}
+
+/// Written out, so that no crate above proves again of each part that it can be dropped.
+impl Drop for Heard {
+    fn drop(self) {
+        let Heard {
+            start: _,
+            start_ok: _,
+            tune: _,
+            tune_ok: _,
+            open: _,
+            closed_for: _,
+        } = self;
+    }
+}
+
+impl Heard {
+    ghost use Rattle.amqp_core.specs.HeardView.{heard_view, kept_of_kind, method_there, methods_view, nothing_said};
+
+    /// Nothing was heard yet.
+    pub(crate) fn nothing() -> Heard
+        ensures { heard_view result ≡ nothing_said }
+    {
+        Heard {
+            start: None,
+            start_ok: None,
+            tune: None,
+            tune_ok: None,
+            open: None,
+            closed_for: None,
+        }
+    }
+
+    /// Keeps the method that a stage of the handshake awaited, in the place of the one of its kind.
+    #[inline(never)]
+    #[tactic(auto, using(crate::proofs::HeardLemmas::kept_in_step))]
+    pub(crate) fn keep(&mut self, stage: Stage, method: Method)
+        requires { awaits_at stage (method_view method).kind ≡ true }
+        ensures methods { methods_view self.new ≡ heard_after (Some (method_view method)) (methods_view self.old) }
+        ensures cause { self.new.closed_for ≡ self.old.closed_for }
+    {
+        match stage {
+            Stage::AwaitsStart => self.start = Some(method),
+            Stage::AwaitsStartOk => self.start_ok = Some(method),
+            Stage::AwaitsTune => self.tune = Some(method),
+            Stage::AwaitsTuneOk => self.tune_ok = Some(method),
+            Stage::AwaitsOpen(_) => self.open = Some(method),
+            Stage::AwaitsOpenOk(_) => drop(method),
+            Stage::AwaitsProtocolHeader => unreachable!(),
+            Stage::HoldsStart => unreachable!(),
+            Stage::HoldsLogin => unreachable!(),
+            Stage::HoldsOpen(_) => unreachable!(),
+            Stage::Running(_) => unreachable!(),
+            Stage::Closing(_) => unreachable!(),
+            Stage::Closed(_) => unreachable!(),
+            Stage::Failed(_) => unreachable!(),
+        }
+    }
+
+    /// What is kept of this kind.
+    pub(crate) fn of(&self, kind: Kind) -> Option<&Method>
+        ensures { method_there (option_copied result) ≡ kept_of_kind kind (methods_view self.now) }
+    {
+        match kind {
+            Kind::ConnectionStart => self.start.as_ref(),
+            Kind::ConnectionStartOk => self.start_ok.as_ref(),
+            Kind::ConnectionTune => self.tune.as_ref(),
+            Kind::ConnectionTuneOk => self.tune_ok.as_ref(),
+            Kind::ConnectionOpen => self.open.as_ref(),
+            _ => None,
+        }
+    }
+
+    /// Forgets the methods of the handshake.
+    pub(crate) fn forget(&mut self)
+        ensures methods { methods_view self.new ≡ nothing_heard }
+        ensures cause { self.new.closed_for ≡ self.old.closed_for }
+    {
+        self.start = None;
+        self.start_ok = None;
+        self.tune = None;
+        self.tune_ok = None;
+        self.open = None;
+    }
+}
