@@ -12,3 +12,5 @@ pub mod Intakes
 pub mod Sessions
 pub mod SessionView
 pub mod SessionAsks
+pub mod SessionCalls
+pub mod StreamSessions

@@ -1,7 +1,6 @@
 //! One end of a connection, over a stream.
-ghost use Rattle.std.specs.Prelude.{◌≡◌, ◌⊎◌, ◌<◌, ℕ, min, true, false, [], ◌++◌, length, option_to_list, Result, Ok, Err, Some, None, IfOk, IfErr, OnOk};
+ghost use Rattle.std.specs.Prelude.{◌≡◌, ◌<◌, true, false, ◌++◌, length, option_to_list, Err};
 ghost use Rattle.std.specs.VecDeque.{deque_len, deque_capacity};
-ghost use Rattle.amqp_model.specs.Output.Outputs.{output_octets};
 ghost use Rattle.amqp_method.specs.HeaderView.{properties_view};
 ghost use Rattle.amqp_method.specs.Kinds.{has_content};
 ghost use Rattle.amqp_method.specs.Messages.{letter_with};
@@ -12,10 +11,9 @@ ghost use Rattle.amqp_model.specs.End.Controls as controls;
 ghost use Rattle.amqp_channel.specs.Messages.{message_of};
 ghost use Rattle.amqp_core.specs.AskView.{ask_view};
 ghost use Rattle.amqp_core.specs.EndAsks.{AnswersLowest, AnswersNumber};
-ghost use Rattle.amqp_core.specs.EndView.{endpoint_of};
 ghost use Rattle.amqp_io.specs.SessionAsks.{Asked, Controlled};
-ghost use Rattle.amqp_io.specs.Sessions.{FeedsThose, Pulls, Pushes, Turns};
-ghost use Rattle.amqp_io.specs.Streams.{Marks};
+ghost use Rattle.amqp_io.specs.SessionCalls.{Began, Handed, Pulled, Pushed, Turned};
+ghost use Rattle.amqp_io.specs.Sessions.{FeedsThose};
 
 use crate::faults::IoFault;
 use crate::reading::Arrival;
@@ -73,11 +71,7 @@ impl<R: Role, S: Stream> Session<R, S> {
 
     /// An end over a stream. Nothing is read or written yet.
     pub fn new(alloc: Global, end: End<R>, stream: S) -> Session<R, S>
-        ensures end { end_of result ≡ end }
-        ensures stream { stream_of result ≡ stream }
-        ensures unfed { unfed_in result ≡ [] }
-        ensures events { events_in result ≡ [] }
-        ensures room { room_in result ≡ 4096 }
+        ensures { Began 4096 end stream result }
     {
         Session {
             end,
@@ -91,11 +85,7 @@ impl<R: Role, S: Stream> Session<R, S> {
     /// is long, as `vec![in alloc; 0; 65_536]?`, whatever stands in it. Few large reads cost less than many small ones.
     pub fn with_room(alloc: Global, end: End<R>, stream: S, room: Vec<u8>) -> Session<R, S>
         requires { 0 < length room.items }
-        ensures end { end_of result ≡ end }
-        ensures stream { stream_of result ≡ stream }
-        ensures unfed { unfed_in result ≡ [] }
-        ensures events { events_in result ≡ [] }
-        ensures room { room_in result ≡ length room.items }
+        ensures { Began (length room.items) end stream result }
     {
         Session {
             end,
@@ -268,12 +258,7 @@ impl<R: Role, S: Stream> Session<R, S> {
 
     /// The oldest of the events that were not handed out yet.
     pub fn next_event(&mut self) -> Option<Event>
-        ensures first { events_in self.old ≡ option_to_list result ++ events_in self.new }
-        ensures none { result ≡ None → events_in self.old ≡ [] }
-        ensures end { end_of self.new ≡ end_of self.old }
-        ensures stream { stream_of self.new ≡ stream_of self.old }
-        ensures unfed { unfed_in self.new ≡ unfed_in self.old }
-        ensures room { room_in self.new ≡ room_in self.old }
+        ensures { Handed self.old result self.new }
     {
         self.events.pop_front()
     }
@@ -281,15 +266,7 @@ impl<R: Role, S: Stream> Session<R, S> {
     /// Writes octets of the output, at most so many, in as many writes as it takes. It answers how many: as many as the limit
     /// allows and there are. Where there is nothing to write, no write is called.
     pub fn push(&mut self, limit: usize) -> Result<usize, IoFault>
-        ensures pushed { Pushes limit result (endpoint_of (end_of self.old)) (endpoint_of (end_of self.new)) (S.taken (stream_of self.old)) (S.taken (stream_of self.new)) }
-        ensures untouched { min limit (length (output_octets (endpoint_of (end_of self.old)).output)) ≡ 0 → stream_of self.new ≡ stream_of self.old }
-        ensures to_give { S.to_give (stream_of self.new) ≡ S.to_give (stream_of self.old) }
-        ensures failure { Marks (result ≡ Err IoFault.Write) (S.failures (stream_of self.old)) (S.failures (stream_of self.new)) }
-        ensures no_end { S.ends (stream_of self.new) ≡ S.ends (stream_of self.old) }
-        ensures settings { settings_in self.new ≡ settings_in self.old }
-        ensures unfed { unfed_in self.new ≡ unfed_in self.old }
-        ensures events { events_in self.new ≡ events_in self.old }
-        ensures room { room_in self.new ≡ room_in self.old }
+        ensures { Pushed S.Stream limit self.old result self.new }
     {
         let output = self.end.output();
         let count = limit.min(output.len());
@@ -332,12 +309,7 @@ impl<R: Role, S: Stream> Session<R, S> {
     /// Replies wait in the end's output, which has no limit: do not pull while `session.end().output()` is longer than a bound
     /// of your own.
     pub fn pull(&mut self) -> Result<usize, IoFault>
-        ensures pulled { Pulls (room_in self.old) (role_in self.old) (config_in self.old) result (intake_of self.old) (intake_of self.new) (S.to_give (stream_of self.old)) (S.to_give (stream_of self.new)) }
-        ensures taken { S.taken (stream_of self.new) ≡ S.taken (stream_of self.old) }
-        ensures failure { Marks (result ≡ Err IoFault.Read) (S.failures (stream_of self.old)) (S.failures (stream_of self.new)) }
-        ensures end { Marks (result ≡ Err IoFault.EndOfInput) (S.ends (stream_of self.old)) (S.ends (stream_of self.new)) }
-        ensures settings { settings_in self.new ≡ settings_in self.old }
-        ensures room { room_in self.new ≡ room_in self.old }
+        ensures { Pulled S.Stream self.old result self.new }
     {
         self.feed_all()?;
         let count = match self.unfed.refill(&mut self.stream) {
@@ -352,11 +324,7 @@ impl<R: Role, S: Stream> Session<R, S> {
     /// Pulls, and then, if that answers Ok, pushes the whole output. A client speaks first, so it pushes before its first
     /// turn: else both sides wait.
     pub fn turn(&mut self) -> Result<(), IoFault>
-        ensures turned { Turns (room_in self.old) (role_in self.old) (config_in self.old) result (intake_of self.old) (intake_of self.new) (S.to_give (stream_of self.old)) (S.to_give (stream_of self.new)) (S.taken (stream_of self.old)) (S.taken (stream_of self.new)) }
-        ensures failure { Marks ((result ≡ Err IoFault.Read) ⊎ (result ≡ Err IoFault.Write)) (S.failures (stream_of self.old)) (S.failures (stream_of self.new)) }
-        ensures end { Marks (result ≡ Err IoFault.EndOfInput) (S.ends (stream_of self.old)) (S.ends (stream_of self.new)) }
-        ensures settings { settings_in self.new ≡ settings_in self.old }
-        ensures room { room_in self.new ≡ room_in self.old }
+        ensures { Turned S.Stream self.old result self.new }
     {
         self.pull()?;
         let all = self.end.output().len();

@@ -28,6 +28,8 @@ mod sockets;
 #[cfg(test)]
 mod steps;
 #[cfg(test)]
+mod streaming;
+#[cfg(test)]
 mod streams;
 #[cfg(test)]
 mod turns;

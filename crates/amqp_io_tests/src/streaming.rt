@@ -1,0 +1,113 @@
+//! Sessions whose end lends: bodies that are longer than the room for a read.
+ghost use Rattle.std.specs.Prelude.{◌<◌, ◌≤◌, length, IfOk};
+
+use crate::ends::server;
+use crate::scripts::script_of;
+use amqp_core::{EventRef, Phase, Server, StreamEnd};
+use amqp_io::{IoFault, Script, StreamSession};
+use std::alloc::Global;
+use std::process::Abort;
+use std::test::Fail;
+
+/// What a client writes up to the open of its first channel, and then basic.publish with empty texts, a header that announces
+/// ten octets, and two body frames with `abcd` and `efghij`: 101, 17, 22, 12 and 14 octets.
+const CONTENT: &str = "header start-ok tune-ok open open-channel
+    01000100000009003c00280000000000ce
+    0200010000000e003c0000000000000000000a0000ce
+    0300010000000461626364ce
+    0300010000000665666768696ace";
+
+/// What a session brought.
+#[derive(Drop)]
+struct Heard {
+    /// the octets of the body, part by part
+    body: Vec<u8>,
+    /// how many contents were whole
+    contents: usize,
+}
+
+/// Feeds octets of a piece, and keeps the octets of the body. It answers how many were taken.
+fn hear_some(end: &mut StreamEnd<Server>, piece: &[u8], heard: &mut Heard) -> Result<usize, Fail>
+    requires { 0 < length piece.now }
+    ensures within { IfOk result (λ octets. octets ≤ length piece.now) }
+    ensures some { IfOk result (λ octets. 0 < octets) }
+{
+    let taken = end.feed_ref(piece)?;
+    if let Some(EventRef::Part(_, octets, whole)) = taken.event {
+        heard.body.extend_from_slice(octets)?;
+        heard.contents = heard.contents.saturating_add(usize::from(whole));
+    }
+    Ok(taken.octets)
+}
+
+fn hear(end: &mut StreamEnd<Server>, piece: &[u8], heard: &mut Heard) -> Result<(), Fail> {
+    let mut rest = piece;
+    for _ in 0..200 {
+        if rest.is_empty() {
+            break;
+        }
+        let octets = hear_some(end, rest, heard)?;
+        rest = &rest[octets..];
+    }
+    Ok(())
+}
+
+/// Pulls until the input ends, and writes what is put.
+fn pull_all(
+    session: &mut StreamSession<Server, Script>,
+    room: &mut [u8],
+    heard: &mut Heard,
+) -> Result<(), Fail> {
+    for _ in 0..200 {
+        if room.is_empty() {
+            break;
+        }
+        match session.pull(room) {
+            Ok(piece) => hear(&mut session.end, piece, heard)?,
+            Err(IoFault::EndOfInput) => break,
+            Err(fault) => return Err(fault.into()),
+        }
+        session.push(usize::MAX)?;
+    }
+    Ok(())
+}
+
+fn assert_heard(
+    rt: &impl Abort,
+    session: &mut StreamSession<Server, Script>,
+    room: &mut [u8],
+    heard: &mut Heard,
+) -> Result<(), Fail> {
+    pull_all(session, room, heard)?;
+    assert!(rt; heard.contents == 1);
+    assert!(rt; heard.body.as_slice() == b"abcdefghij".as_slice());
+    assert!(rt; session.end.phase() == Phase::Running);
+    assert!(rt; session.end.output().is_empty());
+    assert!(rt; session.stream.unread().is_empty());
+    Ok(())
+}
+
+/// A session that reads so many octets at once.
+fn assert_room(rt: &impl Abort, alloc: Global, room: usize) -> Result<(), Fail> {
+    let stream = script_of(alloc, CONTENT, "")?;
+    let end = server(alloc)?.into_stream();
+    let mut room = vec![in alloc; 0x5a; room]?;
+    let mut session = StreamSession { end, stream };
+    let mut heard = Heard {
+        body: Vec::new(alloc),
+        contents: 0,
+    };
+    let assertion = assert_heard(rt, &mut session, &mut room, &mut heard);
+    drop(session);
+    drop(heard);
+    assertion
+}
+
+#[test]
+fn bodies_stream_through_any_room(rt: HostRuntime) -> Result<(), Fail> {
+    let alloc = rt.alloc();
+    assert_room(&rt, alloc, 1)?;
+    assert_room(&rt, alloc, 7)?;
+    assert_room(&rt, alloc, 100)?;
+    assert_room(&rt, alloc, 65_536)
+}
