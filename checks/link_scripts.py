@@ -49,6 +49,8 @@ def whole_runs():
     yield from shared_writers()
     yield from lone_channels()
     yield from handshakes()
+    yield from decisions()
+    yield from beats()
     yield from refusals()
     yield from spellings()
     yield from orders()
@@ -113,6 +115,45 @@ def handshakes():
     yield "a shake to a client that was dropped", [], ["begin", "drop 1 client", "shake 1", "carry 1 to-server 1"], ["line 3: refused 2", "line 4: refused 4"]
 
 
+def decisions():
+    """A tune is of 20 octets, a close with a text of two of 21, its answer of 12, and an answer to start with the mechanism
+    EXTERNAL and no response of 35."""
+    gated = ["--gated", "server"]
+    admitted = ["begin", "shake 1", "ask 1 server admit", "shake 1", "ask 1 client open", "ask 1 server admit", "shake 1", "ask 1 client open", "carry 1 to-server all"]
+    yield "a server that admits", gated, admitted, ["line 5: refused 3.1", *life("1.1.1")]
+    held = ["begin", "shake 1", "carry 1 to-client 1", "ask 1 client admit", "ask 1 server admit", "ask 1 server refuse 403 no", "carry 1 to-client 20", "carry 1 to-server 36", "carry 1 to-client 1"]
+    yield "a server that holds a login, and then an open", gated, held, ["line 3: refused 4", "line 4: refused 3.12", "line 6: refused 3.12", "line 9: refused 4"]
+    end = ["ask 1 server refuse 403 no", "ask 1 server admit", "ask 1 server beat", "carry 1 to-client 22", "carry 1 to-client 21", "carry 1 to-server 13", "carry 1 to-server 12", "ask 1 client open", "ask 1 client beat"]
+    refused = [(1, "3.12"), (2, "3.1"), (3, "4"), (5, "4"), (7, "3.1"), (8, "3.1")]
+    for what, start in (("a login", []), ("an open", ["ask 1 server admit", "shake 1"])):
+        script = ["begin", "shake 1", *start, *end]
+        yield f"a server that refuses {what}", gated, script, [f"line {line + len(start) + 3}: refused {number}" for line, number in refused]
+    answered = ["begin", "shake 1", "carry 1 to-server 1", "ask 1 client admit", "ask 1 client refuse 403 no", "ask 1 server answer-start PLAIN - en_US", "ask 1 client answer-start PLAIN 006775657374006775657374 en_US", "carry 1 to-server 45", "carry 1 to-server 44", "shake 1", "ask 1 client open", "shake 1"]
+    yield "a client that answers start", ["--gated", "client"], answered, ["line 3: refused 4", *[f"line {line}: refused 3.12" for line in (4, 5, 6)], "line 8: refused 4", *life("1.1.1")]
+    both = ["begin", "shake 1", "ask 1 client answer-start EXTERNAL - en_US", "carry 1 to-server 36", "carry 1 to-server 35", *["ask 1 server admit", "shake 1"] * 2, "ask 1 client open", "shake 1"]
+    yield "both sides decide", ["--gated", "both"], both, ["line 4: refused 4", *life("1.1.1")]
+    # of 4096 octets the frame may be, and no longer
+    long = ["begin", "shake 1", *[f"ask 1 client answer-start EXTERNAL {'00' * octets} en_US" for octets in (4062, 4061)], "carry 1 to-server 4096", "carry 1 to-server 1"]
+    yield "the longest answer to start", ["--gated", "client"], long, ["line 3: refused 3.6", "line 6: refused 4"]
+    early = ["begin", *[f"ask 1 {ask}" for ask in ("server admit", "server refuse 403 no", "client answer-start PLAIN - en_US")], "shake 1", "ask 1 client open"]
+    for options in ([], ["--gated", "both"]):
+        yield f"decisions before they are awaited {options}", options, early, [*[f"line {line}: refused 3.12" for line in (2, 3, 4)], *(["line 6: refused 3.1"] if options else life("1.1.1"))]
+    yield "decisions of no side", gated, ["begin", "ask 2 server admit", "drop 1 server", "ask 1 server admit", "ask 1 server refuse 403 no"], ["line 2: refused 1", "line 4: refused 2", "line 5: refused 2"]
+
+
+def beats():
+    """A heartbeat is of 8 octets. It passes the frames of channels that are not begun: of a content the header, of 22 octets."""
+    for side, way in (("client", "to-server"), ("server", "to-client")):
+        script = [*OPENING, f"ask 1 {side} beat", f"carry 1 {way} 9", f"carry 1 {way} 8", f"carry 1 {way} 1"]
+        yield f"a {side} that beats", [], script, ["line 7: refused 4", "line 9: refused 4", *life("1.1.1")]
+    yield "heartbeats in the handshake", [], ["begin", "ask 1 client beat", "ask 1 server beat"], ["line 2: refused 3.1", "line 3: refused 3.1"]
+    inside = [*OPENING, f"ask 1 client {PUBLISHED}", "carry 1 to-server 21", "ask 1 client beat"]
+    yield "a heartbeat inside a content", [], [*inside, "carry 1 to-server 36"], life("1.1.1", (1, 0))
+    yield "a heartbeat inside a content that comes", [], [*inside, "carry 1 to-server 37"], life("1.1.1", (1, 1))
+    yield "a heartbeat before a content", [], [*OPENING, f"ask 1 client {PUBLISHED}", "ask 1 client beat", "carry 1 to-server 57"], life("1.1.1", (1, 0))
+    yield "heartbeats that cross a close", [], [*OPENING, "ask 1 server beat", "ask 1 client close 200 bye", "ask 1 client beat", "carry 1 to-client all", "carry 1 to-server all", "ask 1 server beat"], ["line 8: refused 3.1", "line 11: refused 3.1", *life("1.1.1")]
+
+
 def refusals():
     absent = ["shake 2", "ask 2 client open", "carry 2 to-server all", "carry 2 to-client 5", "drop 2 client", "carry 18446744073709551615 to-server 0"]
     yield "connections that have not begun", [], ["begin", *absent], [f"line {line}: refused 1" for line in range(2, 8)]
@@ -172,6 +213,8 @@ def no_steps():
         *("flow", "flow 1", "flow 1 01", "flow 1 00", "flow 1 2", "flow 1 -0", "flow 1 true", "flow 1 0 0", "flow 65536 0", "flow -1 0"),
         *("close", "close 200", "close 65536 bye", "close -1 bye", "close 200 good bye", f"close 200 {'x' * 256}", "close bye 200"),
         *("close-channel 1", "close-channel 1 200", "close-channel 65536 200 bye", "close-channel 1 65536 bye", "close-channel 1 200 good bye", f"close-channel 1 200 {'x' * 256}"),
+        *("beat 1", "admit 1", "refuse", "refuse 403", "refuse no 403", "refuse 65536 no", "refuse 403 no way", f"refuse 403 {'x' * 256}", "answer-start", "answer-start PLAIN", "answer-start PLAIN -"),
+        *(f"answer-start {words}" for words in ("PLAIN - en_US 1", "PLAIN 0 en_US", "PLAIN zz en_US", f"{'x' * 256} - en_US", f"PLAIN - {'x' * 256}", "- PLAIN en_US")),
         *("blocked", "blocked too low", f"blocked {'x' * 256}", "unblocked now"),
         *("send", "send 1", f"send {SELECT}", f"send 65536 {SELECT}", f"send 1 {SELECT} -", "send 1 -", "send 1 0", "send 1 00", "send 1 zz", f"send 1 {SELECT}00", f"send 1 {SELECT[:-2]}", "send 1 005a0028", "send 1 ffff0001", "send 1 0x005a000a"),
         *(f"send 1 {method}" for method in (PUBLISH, DELIVER, GET_OK)),
@@ -249,6 +292,9 @@ def refused_runs():
         "90 octets of two channels",
         "a server that blocks",
         "the longest texts",
+        "both sides decide",
+        "a server that refuses an open",
+        "heartbeats that cross a close",
     }
     runs = [row for row in whole_runs() if row[0] in chosen]
     if len(runs) != len(chosen):

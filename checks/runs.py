@@ -42,10 +42,12 @@ def shows(what, given, printed, status, options=()):
     compare(what, ("".join(f"{line}\n" for line in printed), "", status), (ran.stdout.decode(), ran.stderr.decode(), ran.returncode))
 
 
-def checks(what, words, given, printed, status):
-    """`check` with these words prints these lines for the input, nothing on standard error, and ends with the status."""
+def checks(what, words, given, printed, status, blamed=None):
+    """`check` with these words prints these lines for the input, says on standard error what was wrong, or nothing, and ends with
+    the status."""
     ran = run(["check", *words], given.encode())
-    compare(what, ("".join(f"{line}\n" for line in printed), "", status), (ran.stdout.decode(), ran.stderr.decode(), ran.returncode))
+    said = "" if blamed is None else f"amqp: {blamed}\n"
+    compare(what, ("".join(f"{line}\n" for line in printed), said, status), (ran.stdout.decode(), ran.stderr.decode(), ran.returncode))
 
 
 def frame(kind, channel, payload):
@@ -186,14 +188,14 @@ TOO_LARGE = ["discarded 1", "> 0100010000001c00140028013711636f6e74656e742d746f6
 def servers():
     checks("nothing at a server", ["server"], "", [], 0)
     checks("a prefix of the protocol header", ["server"], "414d", ["rest 2"], 1)
-    checks("another protocol header", ["server"], "414d515000000800", ["fault fatal", f"> {HEADER}"], 1)
-    checks("a frame too long by one", ["server"], HEADER + "01000000000ff9", ["quiet", f"> {START}", "fault peer 501", "> 01000000000016000a003201f50b6672616d652d6572726f7200000000ce"], 1)
+    checks("another protocol header", ["server"], "414d515000000800", ["fault fatal", f"> {HEADER}"], 1, "octet 0: octets other than this version's protocol header")
+    checks("a frame too long by one", ["server"], HEADER + "01000000000ff9", ["quiet", f"> {START}", "fault peer 501", "> 01000000000016000a003201f50b6672616d652d6572726f7200000000ce"], 1, "octet 8: octets of a frame longer than the limit (501)")
     checks("the longest frame of a handshake, begun", ["server"], HEADER + "01000000000ff8", ["quiet", f"> {START}", "rest 7"], 1)
     checks("a whole handshake", ["server"], HANDSHAKE, SHAKEN, 0)
     checks("a content", ["server"], HANDSHAKE + "".join(CONTENT), [*SHAKEN, "quiet", *OPENED_SECOND, *TOLD], 0)
     checks("a content refused", ["server", "--max-body", "1"], HANDSHAKE + "".join(CONTENT), [*SHAKEN, "quiet", *TOO_LARGE, *OPENED_SECOND, "discarded 1"], 0)
-    checks("no channel agreed", ["server"], HEADER + START_OK + frame(1, 0, "000a001f0000000200000000"), ["quiet", f"> {START}", "quiet", f"> {TUNE}", "fault fatal"], 1)
-    checks("a type that is none in place of a frame", ["server"], HEADER + "04", ["quiet", f"> {START}", "fault fatal"], 1)
+    checks("no channel agreed", ["server"], HEADER + START_OK + frame(1, 0, "000a001f0000000200000000"), ["quiet", f"> {START}", "quiet", f"> {TUNE}", "fault fatal"], 1, "octet 52, channel 0: connection.tune-ok beyond the limits of tune")
+    checks("a type that is none in place of a frame", ["server"], HEADER + "04", ["quiet", f"> {START}", "fault fatal"], 1, "octet 8: octets of no frame type")
     checks("a content refused, and its channel closed", ["server", "--max-body", "1"], HANDSHAKE + "".join(CONTENT) + CLOSE_OK, [*SHAKEN, "quiet", *TOO_LARGE, *OPENED_SECOND, "discarded 1", "channel-closed 1 by-us"], 0)
     checks("no digit", ["server"], HANDSHAKE + "\n0g", ["line 2: not hex"], 1)
     close = frame(1, 0, "000a003200c80362796500000000")
@@ -227,27 +229,30 @@ NOT_IMPLEMENTED = closed_with(540, "not-implemented")
 def running_servers():
     header = frame(2, 1, "003c000000000000000000020000")
     select = frame(1, 1, "005a000a")
-    for what, frames, printed, status in (
-        ("a header without its method", [header], UNEXPECTED_FRAME, 1),
-        ("a content on a channel that isn't open", [frame(1, 2, "003c0028000000017100")], CHANNEL_ERROR, 1),
-        ("an open channel opened", [OPEN], CHANNEL_ERROR, 1),
-        ("a channel above the greatest", [frame(1, 2048, "0014000a00")], CHANNEL_ERROR, 1),
-        ("an answer that a server gives", [frame(1, 1, "0014000b00000000")], COMMAND_INVALID, 1),
-        ("an answer to no close", [CLOSE_OK], COMMAND_INVALID, 1),
-        ("a heartbeat on a channel", [frame(8, 1, "")], FRAME_ERROR, 1),
-        ("an octet too many in a method", [TRAILING], SYNTAX_ERROR, 1),
-        ("a method where a header is due", [PUBLISH, PUBLISH], UNEXPECTED_FRAME, 1),
-        ("a body longer than its header says", [PUBLISH, header, frame(3, 1, "686921")], FRAME_ERROR, 1),
-        ("a method that isn't there", [frame(1, 0, "000a0046")], NOT_IMPLEMENTED, 1),
+    for what, frames, printed, status, *blamed in (
+        ("a header without its method", [header], UNEXPECTED_FRAME, 1, "a header while no content is begun (505)"),
+        ("a content on a channel that isn't open", [frame(1, 2, "003c0028000000017100")], CHANNEL_ERROR, 1, "basic.publish on a channel that is not open (504)"),
+        ("an open channel opened", [OPEN], CHANNEL_ERROR, 1, "channel.open on a channel that is open (504)"),
+        ("a channel above the greatest", [frame(1, 2048, "0014000a00")], CHANNEL_ERROR, 1, "channel.open on a channel above the agreed maximum (504)"),
+        ("an answer that a server gives", [frame(1, 1, "0014000b00000000")], COMMAND_INVALID, 1, "channel.open-ok that this side doesn't take (503)"),
+        ("an answer to no close", [CLOSE_OK], COMMAND_INVALID, 1, "channel.close-ok that answers nothing that was asked (503)"),
+        ("a heartbeat on a channel", [frame(8, 1, "")], FRAME_ERROR, 1, "a heartbeat on a channel (501)"),
+        ("an octet too many in a method", [TRAILING], SYNTAX_ERROR, 1, "channel.open that can't be read: octets after the last field at octet 5 of the payload (502)"),
+        ("a method where a header is due", [PUBLISH, PUBLISH], UNEXPECTED_FRAME, 1, "basic.publish while a header is due (505)"),
+        ("a body longer than its header says", [PUBLISH, header, frame(3, 1, "686921")], FRAME_ERROR, 1, "a body longer than announced (501)"),
+        ("a method that isn't there", [frame(1, 0, "000a0046")], NOT_IMPLEMENTED, 1, "a method that there isn't (540)"),
         ("a close in a content", [PUBLISH, frame(1, 1, "0014002800c80362796500000000")], ['channel-closed 1 200 "bye"', f"> {CLOSE_OK}"], 0),
         ("a flow", [frame(1, 1, "0014001400")], ["flow 1 0", f"> {frame(1, 1, '0014001500')}"], 0),
         ("a flow that goes on", [frame(1, 1, "0014001401")], ["flow 1 1", f"> {frame(1, 1, '0014001501')}"], 0),
         ("a content without a body", [PUBLISH, frame(2, 1, "003c" + "00" * 12)], [TOLD[0], "  header size=0", "  body -"], 0),
         ("a header with properties", [PUBLISH, frame(2, 1, "003c0000000000000000000290000a746578742f706c61696e02"), frame(3, 1, "6869")], [TOLD[0], '  header size=2 content-type="text/plain" delivery-mode=2', "  body 6869"], 0),
         ("as many requests as are kept", [select] * 1024, ["told 1 tx.select"] * 1024, 0),
-        ("a request more than are kept", [select] * 1025, ["told 1 tx.select"] * 1024 + RESOURCE_ERROR, 1),
+        ("a request more than are kept", [select] * 1025, ["told 1 tx.select"] * 1024 + RESOURCE_ERROR, 1, "tx.select beyond 1024 requests that wait (506)"),
     ):
-        checks(what, ["server"], HANDSHAKE + "".join(frames), [*SHAKEN, *printed], status)
+        # the last frame is at fault
+        place = len(HANDSHAKE + "".join(frames[:-1])) // 2
+        wrong = f"octet {place}, channel {int(frames[-1][2:6], 16)}: {blamed[0]}" if blamed else None
+        checks(what, ["server"], HANDSHAKE + "".join(frames), [*SHAKEN, *printed], status, wrong)
 
 
 def prefixes():
@@ -386,6 +391,8 @@ def command_lines():
         compare(f"check {arguments}", (b"", 2, True), (ran.stdout, ran.returncode, ran.stderr.startswith(b"error: invalid value")))
         ran = run(["link", *arguments[1:]]) if arguments[1:] else ran
         compare(f"link {arguments[1:]}", (b"", 2, True), (ran.stdout, ran.returncode, ran.stderr.startswith(b"error: invalid value")))
+    ran = run(["link", "--gated", "none"])
+    compare("link --gated none", (b"", 2, True), (ran.stdout, ran.returncode, ran.stderr.startswith(b"error: invalid value")))
 
 
 def failing_streams():

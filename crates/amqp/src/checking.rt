@@ -12,66 +12,81 @@ use std::alloc::Global;
 use std::io::{Read, Write};
 
 /// Reads hexadecimal to its end: the octets that the other end of a client or of a server writes. Feeds them to an end of that
-/// side, prints its events and what it has to write, and answers the exit status.
-pub fn check_side<I: Read, W: Write>(
+/// side, prints its events and what it has to write, and answers the exit status. What was wrong with octets at fault is
+/// said beside, in one line of `errors`.
+pub fn check_side<I: Read, W: Write, E: Write>(
     alloc: Global,
     side: Side,
     limits: Limits,
     input: &mut I,
     output: &mut W,
+    errors: &mut E,
 ) -> u8 {
     let run = match read_octets(alloc, input) {
-        Ok(octets) => check_octets(alloc, side, limits, octets, output),
+        Ok(octets) => check_octets(alloc, side, limits, octets, output, errors),
         Err(fault) => Err(Stop::from(fault)),
     };
     finish(run, output)
 }
 
-fn check_octets<W: Write>(
+fn check_octets<W: Write, E: Write>(
     alloc: Global,
     side: Side,
     limits: Limits,
     octets: Vec<u8>,
     output: &mut W,
+    errors: &mut E,
 ) -> Result<u8, Stop> {
     let run = match side {
-        Side::Client => check_client(alloc, limits, &octets, output),
-        Side::Server => check_server(alloc, limits, &octets, output),
+        Side::Client => check_client(alloc, limits, &octets, output, errors),
+        Side::Server => check_server(alloc, limits, &octets, output, errors),
     };
     drop(octets);
     run
 }
 
-fn check_client<W: Write>(
+fn check_client<W: Write, E: Write>(
     alloc: Global,
     limits: Limits,
     octets: &[u8],
     output: &mut W,
+    errors: &mut E,
 ) -> Result<u8, Stop> {
     let end = client_end(alloc, limits)?;
-    check_owned(alloc, end, octets, output)
+    check_owned(alloc, end, octets, output, errors)
 }
 
-fn check_server<W: Write>(
+fn check_server<W: Write, E: Write>(
     alloc: Global,
     limits: Limits,
     octets: &[u8],
     output: &mut W,
+    errors: &mut E,
 ) -> Result<u8, Stop> {
     let end = server_end(alloc, limits)?;
-    check_owned(alloc, end, octets, output)
+    check_owned(alloc, end, octets, output, errors)
 }
 
 /// Checks the octets with an end, and lets it go.
-fn check_owned<R: Role, W: Write>(
+fn check_owned<R: Role, W: Write, E: Write>(
     alloc: Global,
     mut end: End<R>,
     octets: &[u8],
     output: &mut W,
+    errors: &mut E,
 ) -> Result<u8, Stop> {
     let run = check(alloc, &mut end, octets, output);
+    say_blame(&end, errors);
     drop(end);
     run
+}
+
+/// Says what was wrong, if anything was. A line that can't be written is dropped: the printed lines and the exit status
+/// say enough.
+fn say_blame<R: Role, E: Write>(end: &End<R>, errors: &mut E) {
+    if let Some(blame) = end.blame() {
+        let _ = writeln!(errors, "amqp: {blame}");
+    }
 }
 
 /// Feeds all octets to the end, and prints what comes of them.

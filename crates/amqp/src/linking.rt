@@ -3,18 +3,24 @@ use crate::hellos::{client_config, server_config};
 use crate::input::read_all;
 use crate::printing::{Stop, finish};
 use crate::scripts::{Count, Line, LineFault, line_of};
-use amqp_command::Limits;
+use amqp_command::{Gates, Limits};
 use amqp_core::{Ask, Side};
-use amqp_link::{Direction, Life, Link, LinkFault, Step};
+use amqp_link::{Control, Direction, Life, Link, LinkFault, Step};
 use amqp_text::statuses::{DONE, FAULT};
 use std::alloc::Global;
 use std::io::{Read, Write};
 
-/// Reads a script to its end and does what its lines say. Prints the refusals, and then a line for each life and direction, and
-/// answers the exit status.
-pub fn link<I: Read, W: Write>(alloc: Global, limits: Limits, input: &mut I, output: &mut W) -> u8 {
+/// Reads a script to its end and does what its lines say, with ends of which these are gated. Prints the refusals, and then
+/// a line for each life and direction, and answers the exit status.
+pub fn link<I: Read, W: Write>(
+    alloc: Global,
+    limits: Limits,
+    gates: Gates,
+    input: &mut I,
+    output: &mut W,
+) -> u8 {
     let run = match read_all(alloc, input) {
-        Ok(script) => run_script(alloc, limits, script, output),
+        Ok(script) => run_script(alloc, limits, gates, script, output),
         Err(fault) => Err(Stop::from(fault)),
     };
     finish(run, output)
@@ -23,18 +29,23 @@ pub fn link<I: Read, W: Write>(alloc: Global, limits: Limits, input: &mut I, out
 fn run_script<W: Write>(
     alloc: Global,
     limits: Limits,
+    gates: Gates,
     script: Vec<u8>,
     output: &mut W,
 ) -> Result<u8, Stop> {
-    let run = run_with_link(alloc, limits, &script, output);
+    let run = run_with_link(alloc, limits, gates, &script, output);
     drop(script);
     run
 }
 
-fn link_of(alloc: Global, limits: Limits) -> Result<Link, Stop> {
-    let client = client_config(alloc, limits)?;
+fn link_of(alloc: Global, limits: Limits, gates: Gates) -> Result<Link, Stop> {
+    let mut client = client_config(alloc, limits)?;
+    client.gated = gates.client;
     match server_config(alloc, limits) {
-        Ok(server) => Ok(Link::new(alloc, client, server)?),
+        Ok(mut server) => {
+            server.gated = gates.server;
+            Ok(Link::new(alloc, client, server)?)
+        }
         Err(fault) => {
             drop(client);
             Err(Stop::from(fault))
@@ -45,10 +56,11 @@ fn link_of(alloc: Global, limits: Limits) -> Result<Link, Stop> {
 fn run_with_link<W: Write>(
     alloc: Global,
     limits: Limits,
+    gates: Gates,
     script: &[u8],
     output: &mut W,
 ) -> Result<u8, Stop> {
-    let mut link = link_of(alloc, limits)?;
+    let mut link = link_of(alloc, limits, gates)?;
     let run = run_lines(alloc, &mut link, script, output);
     drop(link);
     run
@@ -116,13 +128,27 @@ fn act(link: &mut Link, line: Line) -> Result<(), LinkFault> {
         Line::Begin => link.step(&Step::Begin),
         Line::Shake(connection) => shake(link, connection),
         Line::Ask(connection, side, ask) => ask_side(link, connection, side, ask),
+        Line::Control(connection, side, control) => control_side(link, connection, side, control),
         Line::Carry(connection, direction, count) => carry(link, connection, direction, count),
         Line::Drop(connection, side) => link.step(&Step::Drop(connection, side)),
     }
 }
 
 fn ask_side(link: &mut Link, connection: usize, side: Side, ask: Ask) -> Result<(), LinkFault> {
-    let step = Step::Ask(connection, side, ask);
+    do_step(link, Step::Ask(connection, side, ask))
+}
+
+fn control_side(
+    link: &mut Link,
+    connection: usize,
+    side: Side,
+    control: Control,
+) -> Result<(), LinkFault> {
+    do_step(link, Step::Control(connection, side, control))
+}
+
+/// Does a step, and lets it go.
+fn do_step(link: &mut Link, step: Step) -> Result<(), LinkFault> {
     let done = link.step(&step);
     drop(step);
     done

@@ -69,9 +69,18 @@ fn run<W: Write>(rt: &HostRuntime, alloc: Global, request: Request, output: &mut
     match request {
         Request::Show(start) => showing::show(alloc, start, &mut rt.reader(), output),
         Request::Check(side, limits) => {
-            checking::check_side(alloc, side, limits, &mut rt.reader(), output)
+            checking::check_side(
+                alloc,
+                side,
+                limits,
+                &mut rt.reader(),
+                output,
+                &mut rt.stderr(),
+            )
         }
-        Request::Link(limits) => linking::link(alloc, limits, &mut rt.reader(), output),
+        Request::Link(limits, gates) => {
+            linking::link(alloc, limits, gates, &mut rt.reader(), output)
+        }
         Request::Serve(peer, limits) => {
             sockets::serve_at(rt, alloc, &peer, limits, output, rt.stderr())
         }

@@ -1,6 +1,6 @@
 //! The lines of a script for `link`.
 use amqp_core::{Ask, Side};
-use amqp_link::Direction;
+use amqp_link::{Control, Direction};
 use amqp_method::{
     Header, Message, Method, MethodFault, MethodFaultKind, OutOfMemory, read_header, read_method,
 };
@@ -26,6 +26,7 @@ pub enum Line {
     /// All octets are carried six times, in turn, those to the server first.
     Shake(usize),
     Ask(usize, Side, Ask),
+    Control(usize, Side, Control),
     Carry(usize, Direction, Count),
     Drop(usize, Side),
 }
@@ -132,7 +133,7 @@ fn octets_of(alloc: Global, word: &[u8]) -> Result<Vec<u8>, LineFault> {
     }
 }
 
-/// A body: `-` for none.
+/// A body, or a response: `-` for none.
 fn body_of(alloc: Global, word: &[u8]) -> Result<Vec<u8>, LineFault> {
     match word {
         b"-" => Ok(Vec::new(alloc)),
@@ -278,18 +279,67 @@ fn ask_of(alloc: Global, name: &str, rest: &[&[u8]]) -> Result<Ask, LineFault> {
     }
 }
 
-fn ask_in(alloc: Global, words: &[&[u8]]) -> Result<Ask, LineFault> {
-    let (name, rest) = split_first(words)?;
-    ask_of(alloc, name_of(name), rest)
+fn refuse(alloc: Global, words: &[&[u8]]) -> Result<Control, LineFault> {
+    let (code, reason) = pair(words)?;
+    let code = number_of(code)?;
+    let text = text_of(alloc, reason)?;
+    Ok(Control::Refuse(code, text))
+}
+
+/// The answer to start that three words are: its mechanism, its response and its locale.
+fn answer_in(alloc: Global, words: [&[u8]; 3]) -> Result<Control, LineFault> {
+    let mechanism = text_of(alloc, words[0])?;
+    let response = body_of(alloc, words[1])?;
+    let locale = text_of(alloc, words[2])?;
+    Ok(Control::AnswerStart(mechanism, response, locale))
+}
+
+fn answer_start(alloc: Global, words: &[&[u8]]) -> Result<Control, LineFault> {
+    match words {
+        [mechanism, response, locale] => answer_in(alloc, [*mechanism, *response, *locale]),
+        _ => Err(LineFault::NotStep),
+    }
+}
+
+/// The heartbeat or the decision that is named so, with the words after it.
+fn control_of(alloc: Global, name: &str, rest: &[&[u8]]) -> Result<Control, LineFault> {
+    match name {
+        "beat" if rest.is_empty() => Ok(Control::Beat),
+        "admit" if rest.is_empty() => Ok(Control::Admit),
+        "refuse" => refuse(alloc, rest),
+        "answer-start" => answer_start(alloc, rest),
+        _ => Err(LineFault::NotStep),
+    }
+}
+
+/// Whether the name is that of a heartbeat or of a decision.
+fn is_control(name: &str) -> bool {
+    matches!(name, "beat" | "admit" | "refuse" | "answer-start")
+}
+
+/// What is asked of a side by a name, with the words after it.
+fn asked_of(
+    alloc: Global,
+    connection: usize,
+    side: Side,
+    name: &str,
+    rest: &[&[u8]],
+) -> Result<Line, LineFault> {
+    if is_control(name) {
+        let control = control_of(alloc, name, rest)?;
+        return Ok(Line::Control(connection, side, control));
+    }
+    let ask = ask_of(alloc, name, rest)?;
+    Ok(Line::Ask(connection, side, ask))
 }
 
 fn ask_line(alloc: Global, words: &[&[u8]]) -> Result<Line, LineFault> {
     let (place, rest) = split_first(words)?;
     let (who, rest) = split_first(rest)?;
+    let (name, rest) = split_first(rest)?;
     let connection = connection_of(place)?;
     let side = side_of(who)?;
-    let ask = ask_in(alloc, rest)?;
-    Ok(Line::Ask(connection, side, ask))
+    asked_of(alloc, connection, side, name_of(name), rest)
 }
 
 fn carry_line(words: &[&[u8]]) -> Result<Line, LineFault> {

@@ -2,7 +2,8 @@
 use crate::environment::Environment;
 use crate::help;
 use crate::options::{
-    heartbeat_of, heartbeat_option, limits_of, time_out_of, time_out_option, with_limits,
+    gated_option, gates_of, heartbeat_of, heartbeat_option, limits_of, time_out_of,
+    time_out_option, with_limits,
 };
 use crate::publishing::{publish_command, publish_request};
 use crate::requests::{Peer, Request, Start};
@@ -52,7 +53,7 @@ fn request_in(
         return Ok(Request::Check(side_of(check), limits_of(check)));
     }
     if let Some(link) = matches.subcommand_matches("link") {
-        return Ok(Request::Link(limits_of(link)));
+        return Ok(Request::Link(limits_of(link), gates_of(link)));
     }
     if let Some(serve) = matches.subcommand_matches("serve") {
         return Ok(Request::Serve(peer_of(alloc, serve)?, limits_of(serve)));
@@ -128,7 +129,8 @@ fn link_command<'a>(alloc: Global) -> Result<Command<'a>, AllocError> {
     let link = Command::new(alloc, "link")
         .about(help::LINK_ABOUT)
         .long_about(help::LINK_DETAILS)
-        .after_long_help(help::LINK_EXAMPLE);
+        .after_long_help(help::LINK_EXAMPLE)
+        .arg(gated_option(alloc))?;
     with_limits(alloc, link)
 }
 

@@ -117,6 +117,13 @@ ASK is one of these, with methods, headers and bodies as hexadecimal, and TEXT o
     close CODE TEXT                          closes the connection
     blocked TEXT                             the server says that it takes no contents now, and why
     unblocked                                the server says that it takes contents again
+    beat                                     puts a heartbeat
+    admit                                    a gated server admits the login, and then the open, that it holds
+    refuse CODE TEXT                         it refuses either, with a close of the connection
+    answer-start MECHANISM HEX LOCALE        a gated client answers start; HEX is the response, `-` an empty one
+
+A side that --gated names doesn't answer start, or start-ok and open, by itself: the handshake goes no further until
+the script has it decide. Heartbeats and decisions are no messages, so the lines at the end don't count them.
 
 Spaces part the words, and numbers are decimal. Empty lines and lines that begin with `#` say nothing, but count. A step that is
 refused prints `line K: refused ..`, and the script goes on:
@@ -133,6 +140,7 @@ refused prints `line K: refused ..`, and the script goes on:
     refused 3.8    no channel is free
     refused 3.10   a request waits for its reply
     refused 3.11   no request waits for this reply
+    refused 3.12   nothing waits for such a decision
     refused 4      fewer octets wait
 
 Any other line prints `line K: not a step`, and the run ends with status 1. After the last line it prints two lines for each

@@ -12,5 +12,5 @@ mod words;
 
 pub use crate::arguments::request_of;
 pub use crate::environment::Environment;
-pub use crate::options::Limits;
+pub use crate::options::{Gates, Limits};
 pub use crate::requests::{Destination, Login, Password, Peer, Publication, Request, Start};

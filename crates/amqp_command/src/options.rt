@@ -23,6 +23,35 @@ impl Limits {
     };
 }
 
+/// Which ends of a link are gated: they wait in the handshake until the script decides.
+#[derive(Clone, Copy)]
+pub struct Gates {
+    pub client: bool,
+    pub server: bool,
+}
+
+static GATED: [&str; 3] = ["client", "server", "both"];
+
+/// The option of the ends that are gated. It has no default.
+pub fn gated_option<'a>(alloc: Global) -> Arg<'a> {
+    Arg::new(alloc, "gated")
+        .long("gated")
+        .value_name("SIDE")
+        .action(ArgAction::Set)
+        .value_parser(GATED.as_slice())
+        .help("The sides that wait in the handshake until the script decides [default: none]")
+}
+
+/// The ends that the option names.
+pub fn gates_of(matches: &ArgMatches) -> Gates {
+    let named = matches.get_str("gated");
+    let both = named == Some("both");
+    Gates {
+        client: both || named == Some("client"),
+        server: both || named == Some("server"),
+    }
+}
+
 /// The command with an option for each limit.
 pub fn with_limits<'a>(alloc: Global, command: Command<'a>) -> Result<Command<'a>, AllocError> {
     let frame_max = limit(alloc, "frame-max", "OCTETS", "131072")

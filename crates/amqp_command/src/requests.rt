@@ -1,5 +1,5 @@
 //! What a command line asks for.
-use crate::options::Limits;
+use crate::options::{Gates, Limits};
 use amqp_channel::Side;
 use amqp_method::Properties;
 use amqp_text::Load;
@@ -14,7 +14,7 @@ pub enum Request {
     /// Check what the other end of this side writes.
     Check(Side, Limits),
     /// Do what a script says with pairs of ends.
-    Link(Limits),
+    Link(Limits, Gates),
     /// Serve one connection of this peer.
     Serve(Peer, Limits),
     /// Publish to this peer.

@@ -1,11 +1,12 @@
 -- Two sides that are joined stay so, whatever is done with them.
-use Rattle.std.proofs.Common.{◌≡◌, ◌≢◌, ◌≤◌, ◌<◌, ◌+◌, true, false, ℕ, List, [], ◌++◌, All, length, take, drop, Ok, Err, inl, inr, sym, ap, ◌∙◌, subst, arith, length-append}
+use Rattle.std.proofs.Common.{◌≡◌, ◌≢◌, ◌≤◌, ◌<◌, ◌+◌, true, false, ℕ, List, [], ◌++◌, All, length, take, drop, Option, Ok, Err, inl, inr, sym, ap, ◌∙◌, subst, arith, length-append}
 use Rattle.std.proofs.Math.Logic.{∥∥₁_elim, ∥∥₁_map, ∥∥₁_map₂, ∥∥₁_prop}
 use Rattle.std.proofs.lemmas.Bool.{true≢false}
 use Rattle.std.proofs.lemmas.List.{length-take-le, take-append-drop, take-append-le}
 use Rattle.amqp_model.specs.Laws.ArrangementLaws.{OutputAfterWrite, WriteLeaves, WrittenThenLeft}
-use Rattle.amqp_model.specs.End.Asks.{Ask, frames_asked, refused_or_put}
+use Rattle.amqp_model.specs.End.Asks.{Ask, Refusal, frames_asked, refused_or_put}
 use Rattle.amqp_model.specs.End.Channels.{End, Failed}
+use Rattle.amqp_model.specs.End.Controls.{Control}
 use Rattle.amqp_model.specs.Output.Departures.{IsOutputOf, PutAs}
 use Rattle.amqp_model.specs.Pair.EndsTogether.{AskedStaysPair}
 use Rattle.amqp_model.specs.Stream.Endpoint.{Endpoint, Feeding, Found, Outcome, after_feed, after_wrote, new_endpoint}
@@ -16,12 +17,15 @@ use Rattle.amqp_model.specs.History.Histories.{History}
 use Rattle.amqp_model.specs.End.LawfulHistories.{then_put}
 use Rattle.amqp_model.specs.History.Negotiation.{Config}
 use Rattle.amqp_model.specs.Wire.Notes.{Role, Client, Server, other_end}
+use Rattle.amqp_model.specs.Laws.ControlLaws.{ControlledStaysPair}
 use Rattle.amqp_model.specs.Laws.OctetLaws.{EndpointStandsFor, IsOctet, NewStands, WroteFollows}
 use Rattle.amqp_model.specs.Stream.Octets.{frames_put, opening_read, opening_written}
 use Rattle.amqp_model.specs.Pair.OctetsInFlight.{IsFedNext}
 use Rattle.amqp_model.specs.Output.Outputs.{output_octets}
 use Rattle.amqp_model.specs.Pair.Pairs.{NewEndsPair, config_of}
 use Rattle.amqp_core.specs.Answering.{Reports, is_out_of_memory}
+use Rattle.amqp_core.specs.Controlled.{frames_by, refusal_by}
+use Rattle.amqp_core.specs.Controlling.{verdict_at}
 use Rattle.amqp_core.specs.Feeding.{IsFed}
 use Rattle.amqp_core.specs.Tracing.{IsTraceOf, Kept, SameLists, TraceGrows}
 use Rattle.amqp_core.specs.declared.taken.Taken.{Taken}
@@ -29,7 +33,7 @@ use Rattle.amqp_core.specs.declared.faults.CoreFault.{CoreFault}
 use Rattle.amqp_core.specs.declared.faults.CoreFault.TheVariants as core
 use Rattle.amqp_link.specs.JoinLaws.{JoinLaws, Laws}
 use Rattle.amqp_link.specs.Joined.{AreJoined, IsJoinedTo, StandsAt}
-use Rattle.amqp_link.specs.SeatSteps.{AcceptsBy, Answer, FedBy, HandsOver, IsNew, SideAccepts, SideAsked, SideDropped, SideDrops, SideFed, WroteBy, feeding_of, piece_of, to_write}
+use Rattle.amqp_link.specs.SeatSteps.{AcceptsBy, AcceptsControlBy, Answer, FedBy, HandsOver, IsNew, SideAccepts, SideAcceptsControl, SideAnswers, SideAsked, SideControlled, SideDropped, SideDrops, SideFed, WroteBy, feeding_of, piece_of, refusal_at, to_write, verdict_by}
 use Rattle.amqp_link.specs.Seats.{Seated}
 use Rattle.amqp_link.specs.declared.faults.LinkFault.TheVariants as faults
 
@@ -268,7 +272,7 @@ turned role mine theirs j = turned-as role j.client_config j.server_config mine 
 pub turned-there : (role : Role) (mine theirs : Seated) → ∥ IsJoinedTo role mine theirs ∥₁ → ∥ IsJoinedTo (other_end role) theirs mine ∥₁
 turned-there role mine theirs there = ∥∥₁_map there (λ j. turned role mine theirs j)
 
--- An ask, and a drop.
+-- An ask.
 
 joined-accepts : (role : Role) (client_config : Config Client) (server_config : Config Server) (ask : Ask) (mine theirs new : Seated)
     → ((mine theirs : History) (end : End) (frames : List Frame) → AskedStaysPair role client_config server_config mine theirs end ask frames)
@@ -311,16 +315,78 @@ accepted role ask mine theirs new law j accepts =
 same : (role : Role) (mine theirs new : Seated) → IsJoinedTo role mine theirs → new ≡ mine → ∥ IsJoinedTo role new theirs ∥₁
 same role mine theirs new j e = ∣ subst (λ s. IsJoinedTo role s theirs) (sym e) j ∣₁
 
-asked-as : (role : Role) (ask : Ask) (mine theirs new : Seated) (result : Answer) → AskLaw → IsJoinedTo role mine theirs → SideAsked ask mine result new → ∥ IsJoinedTo role new theirs ∥₁
-asked-as role ask mine theirs new (Ok done) law j asked = accepted role ask mine theirs new law j asked
-asked-as role ask mine theirs new (Err faults.Dropped) law j asked = same role mine theirs new j asked.1
-asked-as role ask mine theirs new (Err (faults.Ask fault)) law j asked = same role mine theirs new j asked.3
-asked-as role ask mine theirs new (Err faults.OutOfMemory) law j asked = same role mine theirs new j asked.2
-asked-as role ask mine theirs new (Err faults.NoSuchConnection) law j asked = absurd asked
-asked-as role ask mine theirs new (Err faults.NotSoMany) law j asked = absurd asked
+-- by the answer
+answered : (role : Role) (refused : Option Refusal) (Accepts : Type 0) (mine theirs new : Seated) (result : Answer) → (Accepts → ∥ IsJoinedTo role new theirs ∥₁) → IsJoinedTo role mine theirs
+    → SideAnswers refused Accepts mine result new → ∥ IsJoinedTo role new theirs ∥₁
+answered role refused Accepts mine theirs new (Ok done) goes j is = goes is
+answered role refused Accepts mine theirs new (Err faults.Dropped) goes j is = same role mine theirs new j is.1
+answered role refused Accepts mine theirs new (Err (faults.Ask fault)) goes j is = same role mine theirs new j is.3
+answered role refused Accepts mine theirs new (Err faults.OutOfMemory) goes j is = same role mine theirs new j is.2
+answered role refused Accepts mine theirs new (Err faults.NoSuchConnection) goes j is = absurd is
+answered role refused Accepts mine theirs new (Err faults.NotSoMany) goes j is = absurd is
 
 pub asked : (role : Role) (ask : Ask) (mine theirs new : Seated) (result : Answer) → AskLaw → ∥ IsJoinedTo role mine theirs ∥₁ → SideAsked ask mine result new → ∥ IsJoinedTo role new theirs ∥₁
-asked role ask mine theirs new result law joined is = ∥∥₁_elim joined ∥∥₁_prop (λ j. asked-as role ask mine theirs new result law j is)
+asked role ask mine theirs new result law joined is =
+    ∥∥₁_elim joined ∥∥₁_prop (λ j. answered role (refusal_at mine ask) (SideAccepts ask mine new) mine theirs new result (λ a. accepted role ask mine theirs new law j a) j is)
+
+-- A heartbeat, and what is decided in the handshake.
+
+joined-controls : (role : Role) (client_config : Config Client) (server_config : Config Server) (control : Control) (mine theirs new : Seated)
+    → ((mine theirs : History) (end : End) (frames : List Frame) → ControlledStaysPair role client_config server_config mine theirs end control frames)
+    → (j : AreJoined role client_config server_config mine theirs) → AcceptsControlBy (role, config_of role client_config server_config) control mine new
+    → ∥ AreJoined role client_config server_config new theirs ∥₁
+joined-controls role client_config server_config control mine theirs new stays j accepts =
+    ∥∥₁_map₂ (accepts.accepts.follows j.my_history mine.kept.fed mine.kept.written stood) (accepts.history j.my_history j.mine_stands.trace) then
+  where
+    config : Config role
+    config = config_of role client_config server_config
+
+    frames : List Frame
+    frames = frames_by (verdict_at role config control mine.kept.endpoint)
+
+    after : History
+    after = then_put frames j.my_history
+
+    stood : EndpointStandsFor role config mine.kept.endpoint j.my_history mine.kept.fed mine.kept.written
+    stood = j.mine_stands.stands accepts.was_there
+
+    then : EndpointStandsFor role config new.kept.endpoint after mine.kept.fed mine.kept.written → IsTraceOf role config new.kept after → AreJoined role client_config server_config new theirs
+    then follows trace =
+        let stands : EndpointStandsFor role config new.kept.endpoint after new.kept.fed new.kept.written =
+        subst (λ f. EndpointStandsFor role config new.kept.endpoint after f new.kept.written) (sym accepts.fed)
+        (subst (λ w. EndpointStandsFor role config new.kept.endpoint after mine.kept.fed w) (sym accepts.written) follows) in
+        record {
+          my_history = after;
+          their_history = j.their_history;
+          pair = stays j.my_history j.their_history mine.kept.endpoint.end frames j.pair stood.stands accepts.accepts.reads_back accepts.accepts.puts;
+          mine_stands = record { lawful = stands.lawful; trace = trace; output = stands.out; stands = λ e. stands };
+          theirs_stands = j.theirs_stands;
+          to_mine = accepts.fed ∙ j.to_mine;
+          to_theirs = j.to_theirs ∙ sym accepts.written;
+        }
+
+abbrev pub ControlLaw : Type 0
+ControlLaw = (role : Role) (client_config : Config Client) (server_config : Config Server) (mine theirs : History) (end : End) (control : Control) (frames : List Frame)
+    → ControlledStaysPair role client_config server_config mine theirs end control frames
+
+control-accepted : (role : Role) (control : Control) (mine theirs new : Seated) → ControlLaw → IsJoinedTo role mine theirs → SideAcceptsControl control mine new → ∥ IsJoinedTo role new theirs ∥₁
+control-accepted role control mine theirs new law j accepts =
+    let cc = j.client_config in
+    let sc = j.server_config in
+    ∥∥₁_map (joined-controls role cc sc control mine theirs new (λ m t e f. law role cc sc m t e control f) j.joined (subst (λ s. AcceptsControlBy s control mine new) j.mine_is accepts))
+    (λ joined. record {
+      client_config = cc;
+      server_config = sc;
+      mine_is = accepts.set_up_same ∙ j.mine_is;
+      theirs_is = j.theirs_is;
+      joined = joined;
+    })
+
+pub controlled : (role : Role) (control : Control) (mine theirs new : Seated) (result : Answer) → ControlLaw → ∥ IsJoinedTo role mine theirs ∥₁ → SideControlled control mine result new → ∥ IsJoinedTo role new theirs ∥₁
+controlled role control mine theirs new result law joined is =
+    ∥∥₁_elim joined ∥∥₁_prop (λ j. answered role (refusal_by (verdict_by mine.set_up mine control)) (SideAcceptsControl control mine new) mine theirs new result (λ a. control-accepted role control mine theirs new law j a) j is)
+
+-- A drop.
 
 drops : (role : Role) (mine theirs new : Seated) → IsJoinedTo role mine theirs → SideDrops mine new → IsJoinedTo role new theirs
 drops role mine theirs new j is = record {

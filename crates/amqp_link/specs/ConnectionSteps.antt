@@ -1,10 +1,11 @@
 -- What is done with a connection.
 use Rattle.std.specs.Prelude.{◌≡◌, ℕ}
 use Rattle.amqp_model.specs.End.Asks.{Ask}
+use Rattle.amqp_model.specs.End.Controls.{Control}
 use Rattle.amqp_model.specs.History.Negotiation.{Config}
 use Rattle.amqp_model.specs.Wire.Notes.{Role, Client, Server}
 use Rattle.amqp_link.specs.Seats.{Joint, Seated}
-use Rattle.amqp_link.specs.SeatSteps.{Answer, IsNew, SideAsked, SideDropped, SidesCarry}
+use Rattle.amqp_link.specs.SeatSteps.{Answer, IsNew, SideAsked, SideControlled, SideDropped, SidesCarry}
 use Rattle.amqp_link.specs.declared.steps.Direction.{Direction}
 use Rattle.amqp_link.specs.declared.steps.Direction.TheVariants as directions
 
@@ -30,6 +31,11 @@ pub record IsNewConnection (client_set_up server_set_up : (role : Role) × Confi
 abbrev pub ConnectionAsked : Role → Ask → (old : Joint) → Answer → (new : Joint) → Type 0
 ConnectionAsked Client ask old result new = SideAsked ask old.client result new.client × (new.server ≡ old.server)
 ConnectionAsked Server ask old result new = SideAsked ask old.server result new.server × (new.client ≡ old.client)
+
+-- one side beats or decides, and the other stays as it is
+abbrev pub ConnectionControlled : Role → Control → (old : Joint) → Answer → (new : Joint) → Type 0
+ConnectionControlled Client control old result new = SideControlled control old.client result new.client × (new.server ≡ old.server)
+ConnectionControlled Server control old result new = SideControlled control old.server result new.server × (new.client ≡ old.client)
 
 -- one side is dropped, and the other stays as it is
 abbrev pub ConnectionDrops : Role → (old : Joint) → Answer → (new : Joint) → Type 0

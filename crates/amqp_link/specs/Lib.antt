@@ -1,5 +1,7 @@
 pub mod ConnectionSteps
 pub mod ConnectionView
+pub mod ControlTexts
+pub mod ControlView
 pub mod Encoded
 pub mod FaultView
 pub mod Headline

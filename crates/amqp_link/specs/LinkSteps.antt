@@ -9,7 +9,8 @@ use Rattle.amqp_core.specs.AskView.{ask_view}
 use Rattle.amqp_core.specs.Faults.{config_fault_view}
 use Rattle.amqp_core.specs.Roles.{role_of}
 use Rattle.amqp_core.specs.declared.faults.ConfigFault.{ConfigFault}
-use Rattle.amqp_link.specs.ConnectionSteps.{ConnectionAsked, ConnectionCarries, ConnectionDrops, IsNewConnection}
+use Rattle.amqp_link.specs.ConnectionSteps.{ConnectionAsked, ConnectionCarries, ConnectionControlled, ConnectionDrops, IsNewConnection}
+use Rattle.amqp_link.specs.ControlView.{control_view}
 use Rattle.amqp_link.specs.SeatSteps.{Answer}
 use Rattle.amqp_link.specs.Seats.{Joint}
 use Rattle.amqp_link.specs.declared.faults.LinkFault.{LinkFault}
@@ -56,6 +57,7 @@ pub data DoneAt (does : Joint → Answer → Joint → Type 0) (index : ℕ) (ol
 abbrev pub Steps : (old : Linked) → Step → Answer → (new : Linked) → Type 0
 Steps old steps.Begin answer new = Begins old answer new
 Steps old (steps.Ask index side ask) answer new = DoneAt (ConnectionAsked (role_of side) (ask_view ask)) index old answer new
+Steps old (steps.Control index side control) answer new = DoneAt (ConnectionControlled (role_of side) (control_view control)) index old answer new
 Steps old (steps.Carry index direction octets) answer new = DoneAt (ConnectionCarries direction octets) index old answer new
 Steps old (steps.Drop index side) answer new = DoneAt (ConnectionDrops (role_of side)) index old answer new
 

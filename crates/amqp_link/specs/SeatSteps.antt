@@ -1,6 +1,7 @@
 -- What is done with one side of a connection, and with both where octets are carried.
 use Rattle.std.specs.Prelude.{◌≡◌, ◌≢◌, ◌<◌, ◌≤◌, ◌+◌, ◌-◌, true, false, ℕ, List, [], ◌++◌, length, take, Option, None, Result, Ok, Err}
-use Rattle.amqp_model.specs.End.Asks.{Ask, Refusal, frames_asked, refusal}
+use Rattle.amqp_model.specs.End.Asks.{Ask, AskVerdict, Refusal, frames_asked, refusal}
+use Rattle.amqp_model.specs.End.Controls.{Control}
 use Rattle.amqp_model.specs.Stream.Endpoint.{Feeding, after_feed, after_wrote, new_endpoint}
 use Rattle.amqp_model.specs.History.Histories.{History}
 use Rattle.amqp_model.specs.End.LawfulHistories.{then_put}
@@ -9,6 +10,8 @@ use Rattle.amqp_model.specs.Wire.Notes.{Role}
 use Rattle.amqp_model.specs.Output.Outputs.{output_octets}
 use Rattle.amqp_core.specs.Answering.{ran_out}
 use Rattle.amqp_core.specs.Asking.{AcceptsAsk}
+use Rattle.amqp_core.specs.Controlled.{frames_by, refusal_by}
+use Rattle.amqp_core.specs.Controlling.{AcceptsControl, verdict_at}
 use Rattle.amqp_core.specs.Faults.{refusal_view}
 use Rattle.amqp_core.specs.Feeding.{IsFed, seen}
 use Rattle.amqp_core.specs.Tracing.{FedGrows, IsTraceOf, TraceGoesOn}
@@ -37,6 +40,19 @@ pub record IsNew (set_up : (role : Role) × Config role) (seated : Seated) : Typ
   pub written : seated.kept.written ≡ []
   pub there : seated.dropped ≡ false
 
+-- What an application does.
+
+-- What comes of it, by the answer: the end accepts it; or the side was dropped, or its end has this refusal, or else memory
+-- was refused, and nothing has changed.
+abbrev pub SideAnswers : (refused : Option Refusal) → (Accepts : Type 0) → (old : Seated) → Answer → (new : Seated) → Type 0
+SideAnswers refused Accepts old (Ok done) new = Accepts
+SideAnswers refused Accepts old (Err faults.Dropped) new = (old.dropped ≡ true) × (new ≡ old)
+SideAnswers refused Accepts old (Err (faults.Ask fault)) new =
+    (old.dropped ≡ false) × (refused ≡ refusal_view fault) × (refusal_view fault ≢ None) × (new ≡ old)
+SideAnswers refused Accepts old (Err faults.OutOfMemory) new = (old.dropped ≡ false) × (refused ≡ None) × (new ≡ old)
+SideAnswers refused Accepts old (Err faults.NoSuchConnection) new = ⊥
+SideAnswers refused Accepts old (Err faults.NotSoMany) new = ⊥
+
 -- Asks.
 
 -- which refusal of its end an ask meets, if it meets one
@@ -58,16 +74,35 @@ pub record AcceptsBy (set_up : (role : Role) × Config role) (ask : Ask) (old ne
 abbrev pub SideAccepts : Ask → (old new : Seated) → Type 0
 SideAccepts ask old new = AcceptsBy old.set_up ask old new
 
--- What an ask makes of a side, by the answer. Where it isn't accepted, the side was dropped, or its end has a refusal, or else
--- memory was refused; and nothing has changed.
+-- what an ask makes of a side
 abbrev pub SideAsked : Ask → (old : Seated) → Answer → (new : Seated) → Type 0
-SideAsked ask old (Ok done) new = SideAccepts ask old new
-SideAsked ask old (Err faults.Dropped) new = (old.dropped ≡ true) × (new ≡ old)
-SideAsked ask old (Err (faults.Ask fault)) new =
-    (old.dropped ≡ false) × (refusal_at old ask ≡ refusal_view fault) × (refusal_view fault ≢ None) × (new ≡ old)
-SideAsked ask old (Err faults.OutOfMemory) new = (old.dropped ≡ false) × (refusal_at old ask ≡ None) × (new ≡ old)
-SideAsked ask old (Err faults.NoSuchConnection) new = ⊥
-SideAsked ask old (Err faults.NotSoMany) new = ⊥
+SideAsked ask old answer new = SideAnswers (refusal_at old ask) (SideAccepts ask old new) old answer new
+
+-- Heartbeats, and what is decided in the handshake.
+
+-- what comes of it at the end of a side that is set up so
+abbrev pub verdict_by : (set_up : (role : Role) × Config role) → Seated → Control → AskVerdict
+verdict_by set_up seated control = verdict_at set_up.0 set_up.1 control seated.kept.endpoint
+
+-- It is accepted: the end puts one frame and is left as the definitions say, and each history that it was the trace of goes on
+-- with the frame.
+pub record AcceptsControlBy (set_up : (role : Role) × Config role) (control : Control) (old new : Seated) : Type 0 where
+  pub was_there : old.dropped ≡ false
+  pub is_there : new.dropped ≡ false
+  pub set_up_same : new.set_up ≡ old.set_up
+  pub accepts : AcceptsControl set_up.0 set_up.1 control old.kept.endpoint new.kept.endpoint
+  pub history : (history : History) → IsTraceOf set_up.0 set_up.1 old.kept history
+      → ∥ IsTraceOf set_up.0 set_up.1 new.kept (then_put (frames_by (verdict_by set_up old control)) history) ∥₁
+  pub fed : new.kept.fed ≡ old.kept.fed
+  pub written : new.kept.written ≡ old.kept.written
+
+abbrev pub SideAcceptsControl : Control → (old new : Seated) → Type 0
+SideAcceptsControl control old new = AcceptsControlBy old.set_up control old new
+
+-- what a control makes of a side
+abbrev pub SideControlled : Control → (old : Seated) → Answer → (new : Seated) → Type 0
+SideControlled control old answer new =
+    SideAnswers (refusal_by (verdict_by old.set_up old control)) (SideAcceptsControl control old new) old answer new
 
 -- Drops.
 

@@ -6,6 +6,7 @@ use Rattle.amqp_channel.specs.EventTexts.{channel_text, side_text}
 use Rattle.amqp_core.specs.Texts.{ask_text}
 use Rattle.amqp_core.specs.declared.asks.Ask.{Ask}
 use Rattle.amqp_core.specs.declared.asks.Ask.TheVariants as ask
+use Rattle.amqp_link.specs.ControlTexts.{control_text}
 use Rattle.amqp_link.specs.declared.steps.Direction.{Direction}
 use Rattle.amqp_link.specs.declared.steps.Direction.TheVariants.{ToServer, ToClient}
 use Rattle.amqp_link.specs.declared.steps.Step.{Step}
@@ -29,5 +30,7 @@ asked_text a = ask_text a
 abbrev pub step_text : Step → List ℕ
 step_text step.Begin = codes "begin"
 step_text (step.Ask connection side a) = place_text (codes "ask") connection ++ (codes " " ++ (side_text side ++ (codes " " ++ asked_text a)))
+step_text (step.Control connection side control) =
+    place_text (codes "ask") connection ++ (codes " " ++ (side_text side ++ (codes " " ++ control_text control)))
 step_text (step.Carry connection way octets) = place_text (codes "carry") connection ++ (codes " " ++ (way_text way ++ (codes " " ++ decimal octets)))
 step_text (step.Drop connection side) = place_text (codes "drop") connection ++ (codes " " ++ side_text side)

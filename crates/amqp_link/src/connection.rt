@@ -4,18 +4,21 @@ ghost use Rattle.amqp_model.specs.Wire.Notes.{Client as client_role};
 ghost use Rattle.amqp_core.specs.AskView.{ask_view};
 ghost use Rattle.amqp_core.specs.NoteView.{note_view, telling_view};
 ghost use Rattle.amqp_core.specs.Roles.{role_of};
-ghost use Rattle.amqp_link.specs.ConnectionSteps.{ConnectionAsked, ConnectionCarries, ConnectionDrops, IsNewConnection, reader_in, writer_in};
+ghost use Rattle.amqp_link.specs.ConnectionSteps.{ConnectionAsked, ConnectionCarries, ConnectionControlled, ConnectionDrops, IsNewConnection, reader_in, writer_in};
+ghost use Rattle.amqp_link.specs.ControlView.{control_view};
 ghost use Rattle.amqp_link.specs.Joined.{IsJoinedTo};
 ghost use Rattle.amqp_link.specs.SeatSteps.{to_write};
 ghost use Rattle.amqp_link.specs.SeatView.{seat_view};
 ghost use Rattle.amqp_link.specs.SetUps.{client_set_up, server_set_up};
 
+use crate::controls::Control;
 use crate::faults::{LinkFault, OutOfMemory};
 use crate::lives::Written;
 use crate::seat::{Seat, carry};
 use crate::steps::Direction;
 use amqp_core::laws::{agreement, octets, two_ends};
 use amqp_core::{Ask, Client, Config, Server, Side, Telling};
+use amqp_model::controls;
 use std::alloc::Global;
 
 /// A client and a server, of which each was fed what the other wrote.
@@ -56,6 +59,17 @@ impl Connection {
         match side {
             Side::Client => self.client.ask(ask),
             Side::Server => self.server.ask(ask),
+        }
+    }
+
+    pub(crate) fn control(&mut self, side: Side, control: &Control) -> Result<(), LinkFault>
+        ensures { ConnectionControlled (role_of side) (control_view control.now)
+            (connection_view self.old) result (connection_view self.new) }
+    {
+        controls::controls_stand_together();
+        match side {
+            Side::Client => self.client.control(control),
+            Side::Server => self.server.control(control),
         }
     }
 

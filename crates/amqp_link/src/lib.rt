@@ -6,6 +6,7 @@
 #![tactic(auto)]
 
 mod connection;
+mod controls;
 mod faults;
 mod link;
 mod lives;
@@ -13,6 +14,7 @@ mod promises;
 mod seat;
 mod steps;
 
+pub use crate::controls::Control;
 pub use crate::faults::{LinkFault, OutOfMemory};
 pub use crate::link::Link;
 pub use crate::lives::Life;

@@ -4,13 +4,15 @@ ghost use Rattle.amqp_core.specs.AskView.{ask_view};
 ghost use Rattle.amqp_core.specs.Configs.{set_up_as, settings_of};
 ghost use Rattle.amqp_core.specs.NoteView.{item_view, telling_view};
 ghost use Rattle.amqp_core.specs.Roles.{role_of};
-ghost use Rattle.amqp_link.specs.ConnectionSteps.{ConnectionAsked, ConnectionCarries, ConnectionDrops};
+ghost use Rattle.amqp_link.specs.ConnectionSteps.{ConnectionAsked, ConnectionCarries, ConnectionControlled, ConnectionDrops};
+ghost use Rattle.amqp_link.specs.ControlView.{control_view};
 ghost use Rattle.amqp_link.specs.LinkSteps.{Begins, DoneAt, Fits, FitsNot, IsFaultOf, IsNewLink, RunsTo, Steps};
 ghost use Rattle.amqp_link.specs.Items.{CountsItems, acted_in, said_at, sent_in, tally_in, told_at, waiting_in};
 ghost use Rattle.amqp_link.specs.TallyView.{tally_view};
 ghost use Rattle.amqp_link.specs.SetUps.{client_set_up, server_set_up};
 
 use crate::connection::Connection;
+use crate::controls::Control;
 use crate::faults::{LinkFault, OutOfMemory};
 use crate::lives::{Life, Written, add_tallies, items_of};
 use crate::promises::promises_are_kept;
@@ -137,6 +139,17 @@ impl Link {
         connection.ask(side, ask)
     }
 
+    fn control(&mut self, index: usize, side: Side, control: &Control) -> Result<(), LinkFault>
+        ensures { DoneAt (ConnectionControlled (role_of side) (control_view control.now)) index
+            (link_view self.old) result (link_view self.new) }
+    {
+        if self.connections.len() <= index {
+            return Err(LinkFault::NoSuchConnection);
+        }
+        let connection = &mut self.connections[index];
+        connection.control(side, control)
+    }
+
     fn carry(&mut self, index: usize, direction: Direction, octets: usize) -> Result<(), LinkFault>
         ensures { DoneAt (ConnectionCarries direction octets) index (link_view self.old) result (link_view self.new) }
     {
@@ -167,6 +180,7 @@ impl Link {
         match step {
             Step::Begin => self.begin(),
             Step::Ask(connection, side, ask) => self.ask(*connection, *side, ask),
+            Step::Control(connection, side, control) => self.control(*connection, *side, control),
             Step::Carry(connection, direction, octets) => {
                 self.carry(*connection, *direction, *octets)
             }

@@ -5,16 +5,19 @@ ghost use Rattle.amqp_model.specs.Laws.OctetLaws.{IsOctet};
 ghost use Rattle.amqp_core.specs.AskView.{ask_view};
 ghost use Rattle.amqp_core.specs.Configs.{set_up_as, settings_of};
 ghost use Rattle.amqp_core.specs.NoteView.{note_view, telling_view};
+ghost use Rattle.amqp_core.specs.TracedControls.{ControlledTrace};
+ghost use Rattle.amqp_link.specs.ControlView.{control_view};
 ghost use Rattle.amqp_link.specs.JoinLaws.{Laws};
 ghost use Rattle.amqp_link.specs.Joined.{IsJoinedTo};
-ghost use Rattle.amqp_link.specs.SeatSteps.{HandsOverOr, IsNew, SideAsked, SideDropped, SidesCarry, to_write};
+ghost use Rattle.amqp_link.specs.SeatSteps.{HandsOverOr, IsNew, SideAsked, SideControlled, SideDropped, SidesCarry, to_write};
 ghost use Rattle.amqp_link.specs.SeatView.{seat_view};
 
+use crate::controls::Control;
 use crate::faults::{LinkFault, OutOfMemory};
 use amqp_core::laws::{
     agreement, arrangement, fitting, octets, one_end, two_ends, unfailed_traces_stand,
 };
-use amqp_core::{Ask, Config, End, Note, Role, Telling, Traced};
+use amqp_core::{Ask, AskFault, Config, End, Note, Role, Telling, Traced};
 use std::alloc::Global;
 
 /// An end with its history, which takes and asks nothing more once it is dropped.
@@ -100,6 +103,20 @@ pub(crate) fn carry<W: Role, R: Role>(
     Ok(())
 }
 
+/// Does it with an end.
+fn do_control<R: Role>(end: &mut Traced<R>, control: &Control) -> Result<(), AskFault>
+    ensures { ControlledTrace end.old (control_view control.now) result end.new }
+{
+    match control {
+        Control::Beat => end.beat(),
+        Control::Admit => end.admit(),
+        Control::Refuse(code, text) => end.refuse(*code, text),
+        Control::AnswerStart(mechanism, response, locale) => {
+            end.answer_start(mechanism, response, locale)
+        }
+    }
+}
+
 impl<R: Role> Seat<R> {
     /// A new end, set up with a copy of the configuration.
     pub(crate) fn new(alloc: Global, config: &Config<R>) -> Result<Seat<R>, OutOfMemory>
@@ -126,6 +143,19 @@ impl<R: Role> Seat<R> {
         }
         match self.end.ask(ask) {
             Ok(_) => Ok(()),
+            Err(fault) => Err(LinkFault::from(fault)),
+        }
+    }
+
+    /// Puts a heartbeat, or decides in the handshake.
+    pub(crate) fn control(&mut self, control: &Control) -> Result<(), LinkFault>
+        ensures { SideControlled (control_view control.now) (seat_view self.old) result (seat_view self.new) }
+    {
+        if self.dropped {
+            return Err(LinkFault::Dropped);
+        }
+        match do_control(&mut self.end, control) {
+            Ok(()) => Ok(()),
             Err(fault) => Err(LinkFault::from(fault)),
         }
     }

@@ -3,6 +3,7 @@ ghost use Rattle.std.specs.Prelude.{Some};
 ghost use Rattle.std.specs.Fmt.{WritesOnOk};
 ghost use Rattle.amqp_link.specs.StepTexts.{way_text, place_text, asked_text, step_text};
 
+use crate::controls::Control;
 use amqp_core::{Ask, Side};
 use std::fmt;
 
@@ -36,6 +37,8 @@ pub enum Step {
     Begin,
     /// The application of one side of a connection asks something of its end.
     Ask(usize, Side, Ask),
+    /// The application of one side of a connection puts a heartbeat, or decides in the handshake.
+    Control(usize, Side, Control),
     /// So many of the octets that wait are fed to the end that reads them, in order.
     Carry(usize, Direction, usize),
     /// One side of a connection is dropped: its end takes and asks nothing more. What it has written can still be carried.
@@ -93,6 +96,10 @@ impl fmt::Display for Step {
                 write_place(f, "ask", *connection)?;
                 write!(f, " {side} ")?;
                 write_asked(f, ask)
+            }
+            Step::Control(connection, side, control) => {
+                write_place(f, "ask", *connection)?;
+                write!(f, " {side} {control}")
             }
             Step::Carry(connection, direction, octets) => {
                 write_place(f, "carry", *connection)?;

@@ -5,7 +5,7 @@ use crate::rules::{Rule, check};
 use crate::tallies::Entry;
 use crate::trouble::Trouble;
 use amqp_core::{Ask, Item, Side};
-use amqp_link::{Direction, Life, Link, LinkFault, Step};
+use amqp_link::{Control, Direction, Life, Link, LinkFault, Step};
 use std::alloc::Global;
 
 /// Two channels, and bodies that take several frames. The servers take small bodies, so some contents close their channels.
@@ -269,6 +269,15 @@ impl Game {
         let done = done?;
         check_ask(done, self.fault(connection, side), way_of(side))?;
         Ok(done.answer.is_ok())
+    }
+
+    /// A side puts a heartbeat, where its connection runs.
+    pub(crate) fn beat(&mut self, connection: usize, side: Side) -> Result<(), Trouble> {
+        let step = Step::Control(connection, side, Control::Beat);
+        let done = self.try_step(connection, &step);
+        drop(step);
+        let done = done?;
+        check_ask(done, self.fault(connection, side), way_of(side))
     }
 
     pub(crate) fn open(&mut self, connection: usize, side: Side) -> Result<(), Trouble> {

@@ -10,6 +10,8 @@ mod closes;
 #[cfg(test)]
 mod configurations;
 #[cfg(test)]
+mod controls;
+#[cfg(test)]
 mod dice;
 #[cfg(test)]
 mod drops;

@@ -12,6 +12,7 @@ pub(crate) struct Limits {
     pub(crate) max_body: u64,
     /// The response or the mechanisms are filled up, so that the frame with the hello has so many octets.
     pub(crate) hello: usize,
+    pub(crate) gated: bool,
 }
 
 /// The limits of the clients and of the servers.
@@ -26,6 +27,12 @@ pub(crate) const LIMITS: Limits = Limits {
     channel_max: 2047,
     max_body: 16_777_216,
     hello: 0,
+    gated: false,
+};
+
+const GATED: Limits = Limits {
+    gated: true,
+    ..LIMITS
 };
 
 pub(crate) const DEFAULT: Setting = Setting {
@@ -49,6 +56,21 @@ pub(crate) const SMALL_BODIES: Setting = Setting {
         max_body: 1,
         ..LIMITS
     },
+};
+
+pub(crate) const GATED_SERVER: Setting = Setting {
+    client: LIMITS,
+    server: GATED,
+};
+
+pub(crate) const GATED_CLIENT: Setting = Setting {
+    client: GATED,
+    server: LIMITS,
+};
+
+pub(crate) const BOTH_GATED: Setting = Setting {
+    client: GATED,
+    server: GATED,
 };
 
 fn short(alloc: Global, octets: &[u8]) -> Result<ShortStr, OutOfMemory> {
@@ -99,7 +121,7 @@ fn limited<R: Role>(hello: R::Hello, limits: Limits) -> Config<R> {
         channel_max: limits.channel_max,
         max_body: limits.max_body,
         heartbeat: 0,
-        gated: false,
+        gated: limits.gated,
         hello,
     }
 }

@@ -192,6 +192,12 @@ impl Game {
         self.ask_other(Ask::Blocked(text))
     }
 
+    fn beat_some(&mut self) -> Result<(), Trouble> {
+        let connection = self.pick_connection();
+        let side = self.pick_side();
+        self.beat(connection, side)
+    }
+
     /// All octets that wait, some of them, a few, or more than wait.
     fn pick_count(&mut self, waiting: usize) -> usize {
         match self.dice.below(20) {
@@ -234,9 +240,10 @@ impl Game {
 
     /// What ends connections, or says nothing of channels.
     fn move_seldom(&mut self, alloc: Global) -> Result<(), Trouble> {
-        match self.dice.below(4) {
+        match self.dice.below(5) {
             0 => self.close(alloc),
             1 => self.drop_some(),
+            2 => self.beat_some(),
             _ => self.block(alloc),
         }
     }

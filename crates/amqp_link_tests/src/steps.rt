@@ -14,10 +14,14 @@
 //!     close CODE TEXT
 //!     blocked TEXT
 //!     unblocked
+//!     beat
+//!     admit
+//!     refuse CODE TEXT
+//!     answer-start MECHANISM RESPONSE LOCALE
 use crate::messages::message;
 use crate::trouble::Trouble;
 use amqp_core::{Ask, Side};
-use amqp_link::{Direction, Life, Step};
+use amqp_link::{Control, Direction, Life, Step};
 use amqp_value::ShortStr;
 use std::alloc::Global;
 use std::str::FromStr;
@@ -159,14 +163,66 @@ fn ask(alloc: Global, word: &str, rest: &[&str]) -> Result<Ask, Trouble> {
     }
 }
 
+fn refuse(alloc: Global, words: &[&str]) -> Result<Control, Trouble> {
+    let (code, word) = pair(words)?;
+    let code = number(code)?;
+    let text = text(alloc, word)?;
+    Ok(Control::Refuse(code, text))
+}
+
+/// The answer to start that three words are.
+fn answer(alloc: Global, words: [&str; 3]) -> Result<Control, Trouble> {
+    let mechanism = text(alloc, words[0])?;
+    let response = Vec::from_slice(alloc, words[1].as_bytes())?;
+    let locale = text(alloc, words[2])?;
+    Ok(Control::AnswerStart(mechanism, response, locale))
+}
+
+fn answer_start(alloc: Global, words: &[&str]) -> Result<Control, Trouble> {
+    match words {
+        [mechanism, response, locale] => answer(alloc, [*mechanism, *response, *locale]),
+        _ => Err(Trouble::UnknownWord),
+    }
+}
+
+/// What the first word does with the connection itself, with the words after it.
+fn control(alloc: Global, word: &str, rest: &[&str]) -> Result<Control, Trouble> {
+    match word {
+        "beat" if rest.is_empty() => Ok(Control::Beat),
+        "admit" if rest.is_empty() => Ok(Control::Admit),
+        "refuse" => refuse(alloc, rest),
+        "answer-start" => answer_start(alloc, rest),
+        _ => Err(Trouble::UnknownWord),
+    }
+}
+
+fn is_control(word: &str) -> bool {
+    matches!(word, "beat" | "admit" | "refuse" | "answer-start")
+}
+
+/// What is asked of a side by the first word, with the words after it.
+fn asked(
+    alloc: Global,
+    connection: usize,
+    side: Side,
+    word: &str,
+    rest: &[&str],
+) -> Result<Step, Trouble> {
+    if is_control(word) {
+        let control = control(alloc, word, rest)?;
+        return Ok(Step::Control(connection, side, control));
+    }
+    let ask = ask(alloc, word, rest)?;
+    Ok(Step::Ask(connection, side, ask))
+}
+
 fn ask_step(alloc: Global, words: &[&str]) -> Result<Step, Trouble> {
     let (place, rest) = split_first(words)?;
     let (who, rest) = split_first(rest)?;
     let (word, rest) = split_first(rest)?;
     let connection = connection(place)?;
     let side = side(who)?;
-    let ask = ask(alloc, word, rest)?;
-    Ok(Step::Ask(connection, side, ask))
+    asked(alloc, connection, side, word, rest)
 }
 
 fn carry_step(words: &[&str]) -> Result<Step, Trouble> {

@@ -2,7 +2,7 @@
 use Rattle.std.proofs.Common.{Err, refl, ap, subst, sym}
 use Rattle.amqp_core.specs.AskView.{ask_view}
 use Rattle.amqp_core.specs.Configs.{set_up_as}
-use Rattle.amqp_link.specs.SeatSteps.{SideAsked}
+use Rattle.amqp_link.specs.SeatSteps.{SideAccepts, SideAsked, refusal_at}
 use Rattle.amqp_link.specs.SeatView.{seat_view}
 use Rattle.amqp_link.proofs.SeatLemmas.{refused-side}
 use Rattle.amqp_link.proofs.seat.Seat.ask.Goals as goal
@@ -10,7 +10,8 @@ use Rattle.amqp_link.proofs.seat.Seat.ask.Goals as goal
 pub returns-in-Err : goal.returns-in-Err
 returns-in-Err g c =
     let e = c.in-Err.ensures in
+    let ask = ask_view c.args.ask.now in
     let old = seat_view c.args.self.now in
     let new = seat_view record { end = c.ask.new.self; dropped = c.args.self.now.dropped } in
-    subst (λ f. SideAsked (ask_view c.args.ask.now) old (Err f) new) (sym c.from.ensures)
-    (refused-side (ask_view c.args.ask.now) c.in-Err.fault old new c.if-self.false e.refused e.same (ap set_up_as e.settings) refl)
+    subst (λ f. SideAsked ask old (Err f) new) (sym c.from.ensures)
+    (refused-side (refusal_at old ask) (SideAccepts ask old new) c.in-Err.fault old new c.if-self.false e.refused.refused e.refused.same e.same (ap set_up_as e.settings) refl)
