@@ -453,8 +453,7 @@ def message_of(method):
         "    ) -> Result<Message, OutOfMemory>",
         clause("", fact),
         "    {",
-        "        let method = self.into_method(alloc)?;",
-        "        Ok(Message::content(method, properties, body))",
+        "        content_of(self.into_method(alloc), properties, body)",
         "    }",
         "",
     ]
@@ -553,6 +552,8 @@ def class_file(name, all_methods):
     if bare:
         lines.append("use crate::bare::Bare;")
         lines += use_lines("crate::bare_kinds", sorted(bare))
+    if any(method.content for method in of_class):
+        lines.append("use crate::contents::content_of;")
     if in_payload:
         lines += use_lines("crate::views", in_payload)
     types = ("Arg", "Kind", "Message", "Method", "MethodRef", "OutOfMemory", "Properties")
@@ -734,16 +735,37 @@ def any_answer(module, function, read, of_class):
     return "\n".join(lines) + "\n"
 
 
+def message_answer(method):
+    """That the method is one that a content follows, and that the message has it."""
+    call = f"({method.snake}_call c.args.self)"
+    lines = [
+        "use Rattle.std.proofs.Common.{refl}",
+        f"use Rattle.amqp_typed.specs.{camel(method.class_name)}.{{{method.snake}_call}}",
+        "use Rattle.amqp_typed.proofs.Carrying.{carries}",
+        f"use Rattle.amqp_typed.proofs.{method.class_name}.{method.name}.message.Goals as goal",
+        "",
+        "pub content_of-requires : goal.content_of-requires",
+        f"content_of-requires c = carries _ {call} c.into_method.ensures refl",
+        "",
+        "pub returns : goal.returns",
+        f"returns c = c.content_of.ensures {call} c.into_method.ensures",
+    ]
+    return "\n".join(lines) + "\n"
+
+
 def answers(all_methods):
     found = {}
     for name in CLASSES:
         of_class = [method for method in all_methods if method.class_name == name]
-        path = CRATE / "proofs" / "any_method_view" / f"any_{name}" / "Answers.antt"
-        found[path] = any_answer("any_method_view", f"any_{name}", "from_view", of_class)
+        for module, read in (("any_method", "from_method"), ("any_method_view", "from_view")):
+            path = CRATE / "proofs" / module / f"any_{name}" / "Answers.antt"
+            found[path] = any_answer(module, f"any_{name}", read, of_class)
     for method in all_methods:
         if not method.fields:
             continue
         folder = CRATE / "proofs" / method.class_name
+        if method.content:
+            found[folder / method.name / "message" / "Answers.antt"] = message_answer(method)
         if method.is_plain():
             found[folder / method.name / "from_ref" / "Answers.antt"] = ref_answer(method, method.name, "from_ref")
             found[folder / method.name / "from_view" / "Answers.antt"] = view_answer(method, method.name)
@@ -779,7 +801,7 @@ def any_file(all_methods):
     lines += ["}", ""]
     for name in CLASSES:
         of_class = [method for method in all_methods if method.class_name == name]
-        lines += any_of_class(name, of_class) + method_of_class(name, of_class)
+        lines += any_of_class(name, of_class)
     lines += ["impl AnyMethod {", "    pub fn kind(&self) -> Kind"]
     lines.append(clause("", "result ≡ (any_call self.now).kind"))
     lines += ["    {", "        match self {"]
@@ -792,8 +814,10 @@ def any_file(all_methods):
     lines.append("    /// The method with these arguments.")
     lines.append("    pub fn into_method(self, alloc: Global) -> Result<Method, OutOfMemory>")
     lines.append(clause("", "IfOk result (λ m. method_view m ≡ any_call self)"))
-    lines += by_class("self.kind()", lambda name: f"{name}_method(self, alloc)", all_methods)
-    lines += ["}", ""]
+    lines += ["    {", "        match self {"]
+    for method in all_methods:
+        lines += arm(f"AnyMethod::{method.kind}(method)", "method.into_method(alloc)", "            ")
+    lines += ["        }", "    }", "}", ""]
     lines += debug_of_any(all_methods)
     return "\n".join(lines) + "\n"
 
@@ -804,17 +828,6 @@ def by_class(kind, call, all_methods):
     lines = ["    {", f"        match {kind}.class_id() {{"]
     lines += [f"            {numbers[name]} => {call(name)}," for name in CLASSES[:-1]]
     return lines + [f"            _ => {call(CLASSES[-1])},", "        }", "    }"]
-
-
-def method_of_class(name, of_class):
-    lines = [f"/// The method of the class {name} with these arguments."]
-    lines.append(f"fn {name}_method(method: AnyMethod, alloc: Global) -> Result<Method, OutOfMemory>")
-    lines.append(f"    requires {{ (row (any_call method).kind).class ≡ {of_class[0].class_id} }}")
-    lines.append(clause("", "IfOk result (λ m. method_view m ≡ any_call method)", "    "))
-    lines += ["{", "    match method {"]
-    for method in of_class:
-        lines += arm(f"AnyMethod::{method.kind}(method)", "method.into_method(alloc)", "        ")
-    return lines + ["        _ => unreachable!(),", "    }", "}", ""]
 
 
 def debug_of_any(all_methods):

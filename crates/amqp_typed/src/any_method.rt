@@ -123,28 +123,6 @@ fn any_connection(method: Method) -> AnyMethod
     }
 }
 
-/// The method of the class connection with these arguments.
-fn connection_method(method: AnyMethod, alloc: Global) -> Result<Method, OutOfMemory>
-    requires { (row (any_call method).kind).class ≡ 10 }
-    ensures { IfOk result (λ m. method_view m ≡ any_call method) }
-{
-    match method {
-        AnyMethod::ConnectionStart(method) => method.into_method(alloc),
-        AnyMethod::ConnectionStartOk(method) => method.into_method(alloc),
-        AnyMethod::ConnectionSecure(method) => method.into_method(alloc),
-        AnyMethod::ConnectionSecureOk(method) => method.into_method(alloc),
-        AnyMethod::ConnectionTune(method) => method.into_method(alloc),
-        AnyMethod::ConnectionTuneOk(method) => method.into_method(alloc),
-        AnyMethod::ConnectionOpen(method) => method.into_method(alloc),
-        AnyMethod::ConnectionOpenOk(method) => method.into_method(alloc),
-        AnyMethod::ConnectionClose(method) => method.into_method(alloc),
-        AnyMethod::ConnectionCloseOk(method) => method.into_method(alloc),
-        AnyMethod::ConnectionBlocked(method) => method.into_method(alloc),
-        AnyMethod::ConnectionUnblocked(method) => method.into_method(alloc),
-        _ => unreachable!(),
-    }
-}
-
 /// What a method of the class channel says.
 fn any_channel(method: Method) -> AnyMethod
     requires { (row (method_view method).kind).class ≡ 20 }
@@ -163,22 +141,6 @@ fn any_channel(method: Method) -> AnyMethod
         Kind::ChannelCloseOk => {
             AnyMethod::ChannelCloseOk(channel::CloseOk::from_method(method).unwrap())
         }
-        _ => unreachable!(),
-    }
-}
-
-/// The method of the class channel with these arguments.
-fn channel_method(method: AnyMethod, alloc: Global) -> Result<Method, OutOfMemory>
-    requires { (row (any_call method).kind).class ≡ 20 }
-    ensures { IfOk result (λ m. method_view m ≡ any_call method) }
-{
-    match method {
-        AnyMethod::ChannelOpen(method) => method.into_method(alloc),
-        AnyMethod::ChannelOpenOk(method) => method.into_method(alloc),
-        AnyMethod::ChannelFlow(method) => method.into_method(alloc),
-        AnyMethod::ChannelFlowOk(method) => method.into_method(alloc),
-        AnyMethod::ChannelClose(method) => method.into_method(alloc),
-        AnyMethod::ChannelCloseOk(method) => method.into_method(alloc),
         _ => unreachable!(),
     }
 }
@@ -215,24 +177,6 @@ fn any_exchange(method: Method) -> AnyMethod
     }
 }
 
-/// The method of the class exchange with these arguments.
-fn exchange_method(method: AnyMethod, alloc: Global) -> Result<Method, OutOfMemory>
-    requires { (row (any_call method).kind).class ≡ 40 }
-    ensures { IfOk result (λ m. method_view m ≡ any_call method) }
-{
-    match method {
-        AnyMethod::ExchangeDeclare(method) => method.into_method(alloc),
-        AnyMethod::ExchangeDeclareOk(method) => method.into_method(alloc),
-        AnyMethod::ExchangeDelete(method) => method.into_method(alloc),
-        AnyMethod::ExchangeDeleteOk(method) => method.into_method(alloc),
-        AnyMethod::ExchangeBind(method) => method.into_method(alloc),
-        AnyMethod::ExchangeBindOk(method) => method.into_method(alloc),
-        AnyMethod::ExchangeUnbind(method) => method.into_method(alloc),
-        AnyMethod::ExchangeUnbindOk(method) => method.into_method(alloc),
-        _ => unreachable!(),
-    }
-}
-
 /// What a method of the class queue says.
 fn any_queue(method: Method) -> AnyMethod
     requires { (row (method_view method).kind).class ≡ 50 }
@@ -255,26 +199,6 @@ fn any_queue(method: Method) -> AnyMethod
         Kind::QueueDeleteOk => {
             AnyMethod::QueueDeleteOk(queue::DeleteOk::from_method(method).unwrap())
         }
-        _ => unreachable!(),
-    }
-}
-
-/// The method of the class queue with these arguments.
-fn queue_method(method: AnyMethod, alloc: Global) -> Result<Method, OutOfMemory>
-    requires { (row (any_call method).kind).class ≡ 50 }
-    ensures { IfOk result (λ m. method_view m ≡ any_call method) }
-{
-    match method {
-        AnyMethod::QueueDeclare(method) => method.into_method(alloc),
-        AnyMethod::QueueDeclareOk(method) => method.into_method(alloc),
-        AnyMethod::QueueBind(method) => method.into_method(alloc),
-        AnyMethod::QueueBindOk(method) => method.into_method(alloc),
-        AnyMethod::QueueUnbind(method) => method.into_method(alloc),
-        AnyMethod::QueueUnbindOk(method) => method.into_method(alloc),
-        AnyMethod::QueuePurge(method) => method.into_method(alloc),
-        AnyMethod::QueuePurgeOk(method) => method.into_method(alloc),
-        AnyMethod::QueueDelete(method) => method.into_method(alloc),
-        AnyMethod::QueueDeleteOk(method) => method.into_method(alloc),
         _ => unreachable!(),
     }
 }
@@ -317,34 +241,6 @@ fn any_basic(method: Method) -> AnyMethod
     }
 }
 
-/// The method of the class basic with these arguments.
-fn basic_method(method: AnyMethod, alloc: Global) -> Result<Method, OutOfMemory>
-    requires { (row (any_call method).kind).class ≡ 60 }
-    ensures { IfOk result (λ m. method_view m ≡ any_call method) }
-{
-    match method {
-        AnyMethod::BasicQos(method) => method.into_method(alloc),
-        AnyMethod::BasicQosOk(method) => method.into_method(alloc),
-        AnyMethod::BasicConsume(method) => method.into_method(alloc),
-        AnyMethod::BasicConsumeOk(method) => method.into_method(alloc),
-        AnyMethod::BasicCancel(method) => method.into_method(alloc),
-        AnyMethod::BasicCancelOk(method) => method.into_method(alloc),
-        AnyMethod::BasicPublish(method) => method.into_method(alloc),
-        AnyMethod::BasicReturn(method) => method.into_method(alloc),
-        AnyMethod::BasicDeliver(method) => method.into_method(alloc),
-        AnyMethod::BasicGet(method) => method.into_method(alloc),
-        AnyMethod::BasicGetOk(method) => method.into_method(alloc),
-        AnyMethod::BasicGetEmpty(method) => method.into_method(alloc),
-        AnyMethod::BasicAck(method) => method.into_method(alloc),
-        AnyMethod::BasicReject(method) => method.into_method(alloc),
-        AnyMethod::BasicRecoverAsync(method) => method.into_method(alloc),
-        AnyMethod::BasicRecover(method) => method.into_method(alloc),
-        AnyMethod::BasicRecoverOk(method) => method.into_method(alloc),
-        AnyMethod::BasicNack(method) => method.into_method(alloc),
-        _ => unreachable!(),
-    }
-}
-
 /// What a method of the class tx says.
 fn any_tx(method: Method) -> AnyMethod
     requires { (row (method_view method).kind).class ≡ 90 }
@@ -361,22 +257,6 @@ fn any_tx(method: Method) -> AnyMethod
     }
 }
 
-/// The method of the class tx with these arguments.
-fn tx_method(method: AnyMethod, alloc: Global) -> Result<Method, OutOfMemory>
-    requires { (row (any_call method).kind).class ≡ 90 }
-    ensures { IfOk result (λ m. method_view m ≡ any_call method) }
-{
-    match method {
-        AnyMethod::TxSelect(method) => method.into_method(alloc),
-        AnyMethod::TxSelectOk(method) => method.into_method(alloc),
-        AnyMethod::TxCommit(method) => method.into_method(alloc),
-        AnyMethod::TxCommitOk(method) => method.into_method(alloc),
-        AnyMethod::TxRollback(method) => method.into_method(alloc),
-        AnyMethod::TxRollbackOk(method) => method.into_method(alloc),
-        _ => unreachable!(),
-    }
-}
-
 /// What a method of the class confirm says.
 fn any_confirm(method: Method) -> AnyMethod
     requires { (row (method_view method).kind).class ≡ 85 }
@@ -389,18 +269,6 @@ fn any_confirm(method: Method) -> AnyMethod
         Kind::ConfirmSelectOk => {
             AnyMethod::ConfirmSelectOk(confirm::SelectOk::from_method(method).unwrap())
         }
-        _ => unreachable!(),
-    }
-}
-
-/// The method of the class confirm with these arguments.
-fn confirm_method(method: AnyMethod, alloc: Global) -> Result<Method, OutOfMemory>
-    requires { (row (any_call method).kind).class ≡ 85 }
-    ensures { IfOk result (λ m. method_view m ≡ any_call method) }
-{
-    match method {
-        AnyMethod::ConfirmSelect(method) => method.into_method(alloc),
-        AnyMethod::ConfirmSelectOk(method) => method.into_method(alloc),
         _ => unreachable!(),
     }
 }
@@ -494,14 +362,69 @@ impl AnyMethod {
     pub fn into_method(self, alloc: Global) -> Result<Method, OutOfMemory>
         ensures { IfOk result (λ m. method_view m ≡ any_call self) }
     {
-        match self.kind().class_id() {
-            10 => connection_method(self, alloc),
-            20 => channel_method(self, alloc),
-            40 => exchange_method(self, alloc),
-            50 => queue_method(self, alloc),
-            60 => basic_method(self, alloc),
-            90 => tx_method(self, alloc),
-            _ => confirm_method(self, alloc),
+        match self {
+            AnyMethod::ConnectionStart(method) => method.into_method(alloc),
+            AnyMethod::ConnectionStartOk(method) => method.into_method(alloc),
+            AnyMethod::ConnectionSecure(method) => method.into_method(alloc),
+            AnyMethod::ConnectionSecureOk(method) => method.into_method(alloc),
+            AnyMethod::ConnectionTune(method) => method.into_method(alloc),
+            AnyMethod::ConnectionTuneOk(method) => method.into_method(alloc),
+            AnyMethod::ConnectionOpen(method) => method.into_method(alloc),
+            AnyMethod::ConnectionOpenOk(method) => method.into_method(alloc),
+            AnyMethod::ConnectionClose(method) => method.into_method(alloc),
+            AnyMethod::ConnectionCloseOk(method) => method.into_method(alloc),
+            AnyMethod::ConnectionBlocked(method) => method.into_method(alloc),
+            AnyMethod::ConnectionUnblocked(method) => method.into_method(alloc),
+            AnyMethod::ChannelOpen(method) => method.into_method(alloc),
+            AnyMethod::ChannelOpenOk(method) => method.into_method(alloc),
+            AnyMethod::ChannelFlow(method) => method.into_method(alloc),
+            AnyMethod::ChannelFlowOk(method) => method.into_method(alloc),
+            AnyMethod::ChannelClose(method) => method.into_method(alloc),
+            AnyMethod::ChannelCloseOk(method) => method.into_method(alloc),
+            AnyMethod::ExchangeDeclare(method) => method.into_method(alloc),
+            AnyMethod::ExchangeDeclareOk(method) => method.into_method(alloc),
+            AnyMethod::ExchangeDelete(method) => method.into_method(alloc),
+            AnyMethod::ExchangeDeleteOk(method) => method.into_method(alloc),
+            AnyMethod::ExchangeBind(method) => method.into_method(alloc),
+            AnyMethod::ExchangeBindOk(method) => method.into_method(alloc),
+            AnyMethod::ExchangeUnbind(method) => method.into_method(alloc),
+            AnyMethod::ExchangeUnbindOk(method) => method.into_method(alloc),
+            AnyMethod::QueueDeclare(method) => method.into_method(alloc),
+            AnyMethod::QueueDeclareOk(method) => method.into_method(alloc),
+            AnyMethod::QueueBind(method) => method.into_method(alloc),
+            AnyMethod::QueueBindOk(method) => method.into_method(alloc),
+            AnyMethod::QueueUnbind(method) => method.into_method(alloc),
+            AnyMethod::QueueUnbindOk(method) => method.into_method(alloc),
+            AnyMethod::QueuePurge(method) => method.into_method(alloc),
+            AnyMethod::QueuePurgeOk(method) => method.into_method(alloc),
+            AnyMethod::QueueDelete(method) => method.into_method(alloc),
+            AnyMethod::QueueDeleteOk(method) => method.into_method(alloc),
+            AnyMethod::BasicQos(method) => method.into_method(alloc),
+            AnyMethod::BasicQosOk(method) => method.into_method(alloc),
+            AnyMethod::BasicConsume(method) => method.into_method(alloc),
+            AnyMethod::BasicConsumeOk(method) => method.into_method(alloc),
+            AnyMethod::BasicCancel(method) => method.into_method(alloc),
+            AnyMethod::BasicCancelOk(method) => method.into_method(alloc),
+            AnyMethod::BasicPublish(method) => method.into_method(alloc),
+            AnyMethod::BasicReturn(method) => method.into_method(alloc),
+            AnyMethod::BasicDeliver(method) => method.into_method(alloc),
+            AnyMethod::BasicGet(method) => method.into_method(alloc),
+            AnyMethod::BasicGetOk(method) => method.into_method(alloc),
+            AnyMethod::BasicGetEmpty(method) => method.into_method(alloc),
+            AnyMethod::BasicAck(method) => method.into_method(alloc),
+            AnyMethod::BasicReject(method) => method.into_method(alloc),
+            AnyMethod::BasicRecoverAsync(method) => method.into_method(alloc),
+            AnyMethod::BasicRecover(method) => method.into_method(alloc),
+            AnyMethod::BasicRecoverOk(method) => method.into_method(alloc),
+            AnyMethod::BasicNack(method) => method.into_method(alloc),
+            AnyMethod::TxSelect(method) => method.into_method(alloc),
+            AnyMethod::TxSelectOk(method) => method.into_method(alloc),
+            AnyMethod::TxCommit(method) => method.into_method(alloc),
+            AnyMethod::TxCommitOk(method) => method.into_method(alloc),
+            AnyMethod::TxRollback(method) => method.into_method(alloc),
+            AnyMethod::TxRollbackOk(method) => method.into_method(alloc),
+            AnyMethod::ConfirmSelect(method) => method.into_method(alloc),
+            AnyMethod::ConfirmSelectOk(method) => method.into_method(alloc),
         }
     }
 }

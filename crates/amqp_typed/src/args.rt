@@ -33,11 +33,18 @@ pub(crate) fn bare_method(alloc: Global, kind: Kind) -> Method
     Method::new(kind, Vec::new(alloc))
 }
 
+/// Whether the kinds are one.
+pub(crate) fn is_same(kind: Kind, other: Kind) -> bool
+    ensures { IsTrue result ↔ (kind ≡ other) }
+{
+    kind == other
+}
+
 /// Whether the method is of this kind.
 pub(crate) fn is_kind(method: &Method, kind: Kind) -> bool
     ensures { IsTrue result ↔ ((method_view method.now).kind ≡ kind) }
 {
-    method.kind() == kind
+    is_same(method.kind(), kind)
 }
 
 /// The arguments of a method of this kind, or the method if it is of another.

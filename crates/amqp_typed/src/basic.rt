@@ -17,6 +17,7 @@ use crate::args::{
 };
 use crate::bare::Bare;
 use crate::bare_kinds::{BasicGetEmpty, BasicQosOk, BasicRecoverOk};
+use crate::contents::content_of;
 use crate::views::{bit_in, is_view_of, long_in, long_long_in, short_in, short_str_in, table_in};
 use amqp_method::{Arg, Kind, Message, Method, MethodRef, OutOfMemory, Properties};
 use amqp_value::{ShortStr, Table, TableRef};
@@ -551,8 +552,7 @@ impl Publish {
     ) -> Result<Message, OutOfMemory>
         ensures { IfOk result (λ m. message_view m ≡ letter_with (publish_call self) (properties_view properties) body.items) }
     {
-        let method = self.into_method(alloc)?;
-        Ok(Message::content(method, properties, body))
+        content_of(self.into_method(alloc), properties, body)
     }
 
     /// What the method says, or the method as it was if it is another.
@@ -680,8 +680,7 @@ impl Return {
     ) -> Result<Message, OutOfMemory>
         ensures { IfOk result (λ m. message_view m ≡ letter_with (return_call self) (properties_view properties) body.items) }
     {
-        let method = self.into_method(alloc)?;
-        Ok(Message::content(method, properties, body))
+        content_of(self.into_method(alloc), properties, body)
     }
 
     /// What the method says, or the method as it was if it is another.
@@ -814,8 +813,7 @@ impl Deliver {
     ) -> Result<Message, OutOfMemory>
         ensures { IfOk result (λ m. message_view m ≡ letter_with (deliver_call self) (properties_view properties) body.items) }
     {
-        let method = self.into_method(alloc)?;
-        Ok(Message::content(method, properties, body))
+        content_of(self.into_method(alloc), properties, body)
     }
 
     /// What the method says, or the method as it was if it is another.
@@ -1045,8 +1043,7 @@ impl GetOk {
     ) -> Result<Message, OutOfMemory>
         ensures { IfOk result (λ m. message_view m ≡ letter_with (get_ok_call self) (properties_view properties) body.items) }
     {
-        let method = self.into_method(alloc)?;
-        Ok(Message::content(method, properties, body))
+        content_of(self.into_method(alloc), properties, body)
     }
 
     /// What the method says, or the method as it was if it is another.

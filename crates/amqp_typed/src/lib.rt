@@ -26,6 +26,7 @@ pub mod basic;
 pub mod channel;
 pub mod confirm;
 pub mod connection;
+mod contents;
 pub mod delivery_mode;
 pub mod exchange;
 pub mod queue;

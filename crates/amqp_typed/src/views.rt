@@ -7,6 +7,7 @@ ghost use Rattle.amqp_method.specs.MethodRefView.{lent_call};
 ghost use Rattle.amqp_method.specs.Places.{argument_at};
 ghost use Rattle.amqp_typed.specs.Kinds.{kind_at};
 
+use crate::args::is_same;
 use amqp_method::{ArgRef, FieldKind, Kind, MethodRef};
 use amqp_value::TableRef;
 
@@ -16,7 +17,7 @@ pub(crate) fn is_view_of(method: MethodRef<'_>, kind: Kind) -> bool
     ensures fit { Fits (lent_call method.entry) }
 {
     let _args = method.args();
-    method.kind() == kind
+    is_same(method.kind(), kind)
 }
 
 /// The argument at a place.

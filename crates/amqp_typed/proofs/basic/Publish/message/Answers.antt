@@ -1,0 +1,10 @@
+use Rattle.std.proofs.Common.{refl}
+use Rattle.amqp_typed.specs.Basic.{publish_call}
+use Rattle.amqp_typed.proofs.Carrying.{carries}
+use Rattle.amqp_typed.proofs.basic.Publish.message.Goals as goal
+
+pub content_of-requires : goal.content_of-requires
+content_of-requires c = carries _ (publish_call c.args.self) c.into_method.ensures refl
+
+pub returns : goal.returns
+returns c = c.content_of.ensures (publish_call c.args.self) c.into_method.ensures
