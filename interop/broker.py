@@ -6,9 +6,11 @@ without those of what the example leaves out."""
 
 import os
 import pathlib
+import socket
 import subprocess
 import sys
 import tempfile
+import threading
 import time
 
 import amqp
@@ -463,6 +465,160 @@ def with_py_amqp():
         says("py-amqp: passive declare of no such queue", 404, found)
 
 
+def error_of(action):
+    """The name of the exception that an action ends with, and the code that the broker gave."""
+    try:
+        action()
+        return None
+    except (pika.exceptions.AMQPError, amqp.exceptions.AMQPError) as error:
+        codes = [code for code in (403, 530) if str(code) in repr(error)]
+        return type(error).__name__, codes
+
+
+def start_as(mechanism, response):
+    """Answers start so on a raw socket. It gives the socket and the method that comes, or None where the broker
+    hangs up."""
+    stream = socket.create_connection(("127.0.0.1", PORT), timeout=30)
+    stream.sendall(b"AMQP\x00\x00\x09\x01")
+    next_method(stream)
+    send_method(stream, pika.spec.Connection.StartOk({}, mechanism, response, "en_US"))
+    return stream, next_method(stream)
+
+
+def send_method(stream, method):
+    stream.sendall(pika.frame.Method(0, method).marshal())
+
+
+def received(stream):
+    """What comes next, and nothing where the broker hung up."""
+    try:
+        return stream.recv(65_536)
+    except ConnectionResetError:
+        return b""
+
+
+def next_method(stream):
+    octets = b""
+    while True:
+        size, frame = pika.frame.decode_frame(octets)
+        if frame is not None:
+            return frame.method
+        more = received(stream)
+        if not more:
+            return None
+        octets += more
+
+
+def logins():
+    bad = pika.PlainCredentials("guest", "wrong")
+    nobody = pika.PlainCredentials("nobody", "guest")
+    for what, wanted, words in (
+        ("a wrong password", ("ProbableAuthenticationError", [403]), {"credentials": bad}),
+        ("no such user", ("ProbableAuthenticationError", [403]), {"credentials": nobody}),
+        ("no such virtual host", ("ProbableAccessDeniedError", [530]), {"virtual_host": "nowhere"}),
+    ):
+        where = pika.ConnectionParameters("127.0.0.1", PORT, heartbeat=0, **words)
+        says(f"pika: {what}", wanted, error_of(lambda: pika.BlockingConnection(where)))
+    for what, wanted, words in (
+        ("a wrong password", ("AccessRefused", [403]), {"password": "wrong"}),
+        ("a wrong password, by PLAIN", ("AccessRefused", [403]), {"password": "wrong", "login_method": "PLAIN"}),
+        ("no such virtual host", ("NotAllowed", [530]), {"virtual_host": "nowhere"}),
+    ):
+        found = error_of(lambda: amqp.Connection(f"127.0.0.1:{PORT}", **words).connect())
+        says(f"py-amqp: {what}", wanted, found)
+    for method in ("PLAIN", "AMQPLAIN"):
+        with amqp.Connection(f"127.0.0.1:{PORT}", login_method=method) as connection:
+            says(f"py-amqp: a login by {method}", True, connection.channel().is_open)
+    for what, code, words in (
+        ("a wrong password", "error 403", ["--username", "guest", "--password", "wrong"]),
+        ("no such virtual host", "error 530", ["--vhost", "nowhere"]),
+    ):
+        where = ["--server", "127.0.0.1", "--port", str(PORT)]
+        ran = subprocess.run(["amqp-get", *where, *words, "-q", "q"], capture_output=True, text=True, check=False)
+        says(f"amqp-get: {what}", (1, True), (ran.returncode, code in ran.stderr))
+    for mechanism, response in (("EXTERNAL", "guest"), ("PLAIN", "guest"), ("AMQPLAIN", "guest")):
+        stream, answer = start_as(mechanism, response)
+        code = getattr(answer, "reply_code", None)
+        # RabbitMQ hangs up where it doesn't know the mechanism, or can't read the response
+        says(f"raw: a login by {mechanism} that is none", True, code == 403 or (IS_RABBITMQ and code is None))
+        stream.close()
+
+
+def idle_pika(heartbeat):
+    connection = pika.BlockingConnection(pika.ConnectionParameters("127.0.0.1", PORT, heartbeat=heartbeat))
+    channel = connection.channel()
+    connection.sleep(60)
+    channel.queue_declare("", exclusive=True)
+    connection.close()
+    return True
+
+
+def idle_go(heartbeat):
+    words = ["go", "run", str(CLIENTS / "idle.go"), str(PORT), str(heartbeat)]
+    ran = subprocess.run(words, capture_output=True, timeout=300, check=False, text=True, env={**os.environ, **go()})
+    return ran.returncode == 0 or ran.stdout + ran.stderr
+
+
+def idle_raw(heartbeat):
+    """A client that agrees on a heartbeat, opens and falls silent is given up after two of them, and hears beats."""
+    stream, _ = start_as("PLAIN", "\0guest\0guest")
+    send_method(stream, pika.spec.Connection.TuneOk(2047, 131_072, heartbeat))
+    send_method(stream, pika.spec.Connection.Open("/"))
+    next_method(stream)
+    begun, beats = time.monotonic(), 0
+    while octets := received(stream):
+        beats += octets.count(b"\x08\x00\x00\x00\x00\x00\x00\xce")
+    lasted = time.monotonic() - begun
+    return (beats >= 2 and 1.5 * heartbeat <= lasted <= 3 * heartbeat) or (beats, lasted)
+
+
+def idle():
+    """All at once, so that it takes one minute."""
+    found = {}
+
+    def run(what, client, heartbeat):
+        try:
+            found[what] = client(heartbeat)
+        except Exception as error:
+            found[what] = error
+
+    clients = (("pika", idle_pika), ("amqp091-go", idle_go))
+    runs = [(f"{name}: idle for a minute, a heartbeat of {beat}", client, beat) for name, client in clients
+            for beat in (2, 10)]
+    runs.append(("raw: a client that falls silent is given up", idle_raw, 4))
+    threads = [threading.Thread(target=run, args=each) for each in runs]
+    for thread in threads:
+        thread.start()
+    for thread in threads:
+        thread.join()
+    for what, _, _ in runs:
+        says(what, True, found[what])
+
+
+def blocked():
+    """Publishers are held where messages hold more than 256 MB, and are told so, until they hold less."""
+    publisher, other = connect(), connect()
+    channel = publisher.channel()
+    told = []
+    publisher.add_on_connection_blocked_callback(lambda _connection, frame: told.append(frame.method.reason))
+    publisher.add_on_connection_unblocked_callback(lambda _connection, _frame: told.append(None))
+    channel.queue_declare("b.large")
+    for _ in range(6):
+        channel.basic_publish("", "b.large", bytes(50_000_000))
+    until = time.monotonic() + 60
+    while not told and time.monotonic() < until:
+        publisher.process_data_events(0.5)
+    says("pika: a publisher is told that it is blocked", ["low on memory"], told)
+    says("pika: another client isn't held", True, other.channel().queue_declare("", exclusive=True) is not None)
+    other.channel().queue_purge("b.large")
+    while len(told) < 2 and time.monotonic() < until:
+        publisher.process_data_events(0.5)
+    says("pika: and that it is not any more", ["low on memory", None], told)
+    channel.queue_delete("b.large")
+    publisher.close()
+    other.close()
+
+
 def tool(name, *words, data=None):
     command = [name, "--server", "127.0.0.1", "--port", str(PORT), *words]
     ran = subprocess.run(command, input=data, capture_output=True, timeout=120, check=False)
@@ -484,13 +640,17 @@ def with_tools():
     says("amqp-delete-queue", (0, b"0\n"), tool("amqp-delete-queue", "-q", "b.tools"))
 
 
+def go():
+    """What Go's command wants of its environment."""
+    cache = os.environ.get("GOCACHE", os.path.join(tempfile.gettempdir(), "interop-go"))
+    return {"GO111MODULE": "off", "GOPATH": "/usr/share/gocode", "GOFLAGS": "", "GOCACHE": cache}
+
+
 def with_program(name, command):
     """A client in another language, which prints the same lines."""
     global failed
-    go = {"GO111MODULE": "off", "GOPATH": "/usr/share/gocode", "GOFLAGS": ""}
-    go["GOCACHE"] = os.environ.get("GOCACHE", os.path.join(tempfile.gettempdir(), "interop-go"))
     words = [*command, str(PORT)]
-    ran = subprocess.run(words, capture_output=True, timeout=300, check=False, text=True, env={**os.environ, **go})
+    ran = subprocess.run(words, capture_output=True, timeout=300, check=False, text=True, env={**os.environ, **go()})
     lines = ran.stdout.splitlines()
     print(ran.stdout, end="", flush=True)
     failed += sum(1 for line in lines if not line.startswith("ok: "))
@@ -510,12 +670,17 @@ PARTS = {
     "lives": lives_of_queues,
     "confirms": confirms,
     "channels": many_channels,
+    "logins": logins,
+    "idle": idle,
     "py-amqp": with_py_amqp,
     "tools": with_tools,
     "go": lambda: with_program("amqp091-go", ["go", "run", str(CLIENTS / "client.go")]),
     "ruby": lambda: with_program("bunny", ["ruby", str(CLIENTS / "client.rb")]),
     "php": lambda: with_program("php-amqplib", ["php", str(CLIENTS / "client.php")]),
 }
+if not IS_RABBITMQ:
+    # RabbitMQ's bound depends on the machine
+    PARTS["blocked"] = blocked
 chosen = [word for word in sys.argv[2:] if word in PARTS]
 for part in chosen or PARTS:
     try:

@@ -1,9 +1,16 @@
 //! A channel: its consumers, and the messages that were sent on it and wait to be acknowledged.
+ghost use Rattle.std.specs.Prelude.{◌≡◌, false, true, OnOk};
+ghost use Rattle.example_broker.specs.Standing.{Awaits};
+
 use crate::credit::Credit;
-use crate::queue::QueueId;
+use crate::messages::Content;
+use crate::queues::QueueId;
+use crate::refusal::{Done, Refusal};
 use amqp_value::ShortStr;
 use std::alloc::{AllocError, Global};
 use std::collections::BTreeMap;
+use std::ops::Bound;
+use std::rc::Rc;
 
 #[derive(Drop)]
 pub struct Consumer {
@@ -11,15 +18,16 @@ pub struct Consumer {
     pub tag: ShortStr,
     pub queue: QueueId,
     pub no_ack: bool,
-    pub credit: Credit,
+    credit: Credit,
 }
 
 /// A message that waits to be acknowledged.
-#[derive(Clone, Copy)]
+#[derive(Drop)]
 pub struct Delivery {
     pub queue: QueueId,
     /// Its place there.
     pub place: u64,
+    pub content: Rc<Content>,
     /// None for one that basic.get took.
     pub consumer: Option<u64>,
 }
@@ -29,8 +37,7 @@ pub struct Channel {
     pub consumers: Vec<Consumer>,
     /// by their delivery tags
     unacked: BTreeMap<u64, Delivery>,
-    /// the last delivery tag
-    pub last_tag: u64,
+    last_tag: u64,
     /// The limit of each consumer that is added from now on.
     pub prefetch: u16,
     /// The limit of all consumers together.
@@ -57,9 +64,25 @@ impl Channel {
         }
     }
 
-    /// The delivery tag of the next message.
-    pub fn next_tag(&self) -> u64 {
-        self.last_tag.saturating_add(1)
+    /// The delivery tag of the next message, which is then the last.
+    pub fn next_tag(&mut self) -> u64 {
+        self.last_tag = self.last_tag.saturating_add(1);
+        self.last_tag
+    }
+
+    /// Adds a consumer, whose tag no other on the channel has.
+    pub fn add_consumer(&mut self, id: u64, tag: ShortStr, queue: QueueId, no_ack: bool) -> Done {
+        if self.consumers.iter().any(|other| other.tag == tag) {
+            return Err(Refusal::TagInUse(tag).into());
+        }
+        self.consumers.push(Consumer {
+            id,
+            tag,
+            queue,
+            no_ack,
+            credit: Credit::new(self.prefetch),
+        })?;
+        Ok(())
     }
 
     /// The consumer, if it may be sent a message now.
@@ -69,46 +92,49 @@ impl Channel {
         (self.is_flowing && (consumer.no_ack || has_room)).then_some(consumer)
     }
 
-    /// The consumer is gone. What it was sent still waits.
-    pub fn remove_consumer(&mut self, id: u64) {
-        self.consumers.retain(|consumer| consumer.id != id);
+    fn consumer_mut(&mut self, id: u64) -> Option<&mut Consumer> {
+        self.consumers.iter_mut().find(|consumer| consumer.id == id)
     }
 
     /// A message waits to be acknowledged.
-    pub fn await_ack(&mut self, tag: u64, delivery: Delivery) -> Result<(), AllocError> {
-        self.unacked.insert(tag, delivery)?;
+    pub fn await_ack(&mut self, tag: u64, delivery: Delivery) -> Result<(), AllocError>
+        ensures { OnOk result (Awaits self.old self.new tag true) }
+    {
         if let Some(id) = delivery.consumer {
             self.credit.spend();
-            if let Some(consumer) = self.consumers.iter_mut().find(|consumer| consumer.id == id) {
+            if let Some(consumer) = self.consumer_mut(id) {
                 consumer.credit.spend();
             }
         }
+        self.unacked.insert(tag, delivery)?;
         Ok(())
     }
 
-    /// The message waits no more.
-    pub fn settle(&mut self, tag: u64) -> Option<Delivery> {
+    /// A message waits no more: the first with a tag from one to another.
+    pub fn settle_next(&mut self, first: u64, last: u64) -> Option<Delivery> {
+        let mut from_first = self
+            .unacked
+            .range((Bound::Included(first), Bound::Unbounded));
+        let tag = *from_first.next()?.0;
+        if tag > last { None } else { self.settle(tag) }
+    }
+
+    /// The message with this tag waits no more.
+    fn settle(&mut self, tag: u64) -> Option<Delivery>
+        ensures { Awaits self.old self.new tag false }
+    {
         let delivery = self.unacked.remove(&tag)?;
         if let Some(id) = delivery.consumer {
             self.credit.give_back();
-            if let Some(consumer) = self.consumers.iter_mut().find(|consumer| consumer.id == id) {
+            if let Some(consumer) = self.consumer_mut(id) {
                 consumer.credit.give_back();
             }
         }
         Some(delivery)
     }
 
-    /// Whether an acknowledgement with this tag names messages that wait. With `multiple`, 0 names all.
-    pub fn has_delivery(&self, tag: u64, multiple: bool) -> bool {
-        self.unacked.contains_key(&tag) || (multiple && tag == 0)
-    }
-
-    /// The first message waits no more, if its tag is at most this.
-    pub fn settle_first(&mut self, last: u64) -> Option<Delivery> {
-        let tag = *self.unacked.first_key_value()?.0;
-        if tag > last {
-            return None;
-        }
-        self.settle(tag)
+    /// Whether a message with this tag waits.
+    pub fn has_delivery(&self, tag: u64) -> bool {
+        self.unacked.contains_key(&tag)
     }
 }

@@ -1,33 +1,19 @@
 //! A connection: its socket, its end, and its channels.
-ghost use Rattle.std.specs.Prelude.{◌≡◌, ◌≤◌, true, false, length};
-ghost use Rattle.amqp_method.specs.Kinds.{has_content};
-ghost use Rattle.amqp_method.specs.MethodView.{method_view};
+ghost use Rattle.std.specs.Prelude.{◌≤◌, length};
 
 use crate::channel::{Channel, Delivery};
-use crate::declaring::count;
-use crate::queue::{Queue, Seat};
-use crate::refusal::{Done, Fault, Refusal};
-use amqp_core::{End, Server};
-use amqp_method::{Message, Method};
-use amqp_typed::basic;
+use crate::pulse::Pulse;
+use crate::queues::{Queue, Seat};
+use crate::refusal::Fault;
+use amqp_core::{AskFault, End, Phase, Server};
+use amqp_value::ShortStr;
 use mio::net::TcpStream;
 use std::alloc::Global;
 use std::collections::BTreeMap;
-use std::io::{self, ErrorKind, Read, Write};
+use std::io::{ErrorKind, Read, Write};
 
 /// Where more octets wait to be written, the connection is not read, and gets no messages.
 const FULL: usize = 1_048_576;
-
-/// How far a connection is.
-#[derive(Clone, Copy, PartialEq, Eq)]
-enum State {
-    /// It is read and written.
-    Served,
-    /// Its end is closed or has failed. What waits is still written.
-    Ending,
-    /// The client hung up, or the socket failed.
-    Gone,
-}
 
 #[derive(Drop)]
 pub struct Connection {
@@ -39,7 +25,14 @@ pub struct Connection {
     pub can_read: bool,
     /// As far as it is known, the socket takes octets.
     pub can_write: bool,
-    state: State,
+    /// The client wants to be told that it is held.
+    pub hears_blocked: bool,
+    pub publishes: bool,
+    /// The client isn't read: it publishes, and memory is short.
+    is_held: bool,
+    /// The client hung up or fell silent, or the socket failed, or an event couldn't be answered.
+    pub is_gone: bool,
+    pulse: Pulse,
 }
 
 impl Connection {
@@ -51,200 +44,144 @@ impl Connection {
             channels: BTreeMap::new(alloc),
             can_read: true,
             can_write: true,
-            state: State::Served,
+            hears_blocked: false,
+            publishes: false,
+            is_held: false,
+            is_gone: false,
+            pulse: Pulse::default(),
         }
     }
 
-    /// Whether so much waits to be written that nothing is added.
-    pub fn is_full(&self) -> bool {
-        self.end.output().len() > FULL
+    /// Whether the client is served: its end is not closed, and has not failed.
+    pub fn is_served(&self) -> bool {
+        !self.is_gone && !matches!(self.end.phase(), Phase::Closed | Phase::Failed)
     }
 
-    fn can_be_read(&self) -> bool {
-        self.can_read && self.is_served() && !self.is_full()
+    /// Whether so little waits to be written that more may be added.
+    fn has_room(&self) -> bool {
+        self.is_served() && self.end.waiting_in_all() <= FULL
+    }
+
+    fn is_read(&self) -> bool {
+        self.has_room() && !self.is_held
     }
 
     fn can_be_written(&self) -> bool {
-        self.can_write && self.state != State::Gone && !self.end.output().is_empty()
-    }
-
-    pub fn is_served(&self) -> bool {
-        self.state == State::Served
-    }
-
-    /// Nothing more is read.
-    pub fn finish(&mut self) {
-        if self.is_served() {
-            self.state = State::Ending;
-        }
+        self.can_write && !self.is_gone && !self.end.output().is_empty()
     }
 
     /// Whether nothing is left to do.
     pub fn is_done(&self) -> bool {
-        match self.state {
-            State::Served => false,
-            State::Ending => self.end.output().is_empty(),
-            State::Gone => true,
-        }
+        self.is_gone || (!self.is_served() && self.end.output().is_empty())
     }
 
     /// Whether there is something to do at once.
     pub fn has_work(&self) -> bool {
-        self.can_be_read() || self.can_be_written() || self.is_done()
+        (self.can_read && self.is_read()) || self.can_be_written() || self.is_done()
     }
 
     /// Reads once what is there. It answers how many octets came.
     pub fn read(&mut self, piece: &mut [u8]) -> usize
         ensures { result ≤ length piece.new }
     {
-        if !self.can_be_read() {
+        if !self.can_read || !self.is_read() {
             return 0;
         }
         match self.stream.read(piece) {
-            Ok(0) => {
-                self.state = State::Gone;
-                0
-            }
-            Ok(count) => count,
-            Err(failure) => {
-                self.can_read = false;
-                self.note_failure(failure);
-                0
-            }
+            Ok(count) if count > 0 => return count,
+            Err(failure) if failure.kind() == ErrorKind::WouldBlock => self.can_read = false,
+            _ => self.is_gone = true,
         }
+        0
     }
 
-    /// Writes what the socket takes.
+    /// Writes once what waits, as far as the socket takes it.
     pub fn write(&mut self) {
-        for _ in 0..u64::MAX {
-            if !self.can_be_written() {
-                break;
+        if !self.can_be_written() {
+            return;
+        }
+        match self.stream.write(self.end.output()) {
+            Ok(count) => self.end.wrote(count),
+            Err(failure) if failure.kind() == ErrorKind::WouldBlock => self.can_write = false,
+            Err(_) => self.is_gone = true,
+        }
+    }
+
+    /// Half a second passed: puts a heartbeat if one is due, and gives up a client that fell silent.
+    pub fn tick(&mut self) {
+        let is_read = self.is_read();
+        let (frames, octets) = (self.end.frames_taken(), self.end.octets_written());
+        self.pulse.tick(frames, octets, is_read);
+        let heartbeat = self.end.heartbeat();
+        if heartbeat > 0 && self.pulse.is_over(heartbeat) {
+            self.is_gone = true;
+        } else if heartbeat > 0 && self.pulse.owes_beat(heartbeat) && self.end.output().is_empty() {
+            // refused where the connection isn't open any more, and then none is due
+            let _ = self.end.beat();
+        }
+    }
+
+    /// A client that publishes is not read while memory is short, and is told so if it wants to be.
+    pub fn hold(&mut self, is_short: bool, reason: &ShortStr) {
+        if self.publishes && self.is_held != is_short {
+            self.is_held = is_short;
+            // refused where the connection closes, and then the client needn't know
+            if self.hears_blocked && is_short {
+                let _ = self.end.blocked(reason);
+            } else if self.hears_blocked {
+                let _ = self.end.unblocked();
             }
-            match self.stream.write(self.end.output()) {
-                Ok(count) => self.end.wrote(count),
-                Err(failure) => {
-                    self.can_write = false;
-                    self.note_failure(failure);
-                }
-            }
         }
     }
 
-    /// After a failure the connection is gone, unless the call would have had to wait.
-    fn note_failure(&mut self, failure: io::Error) {
-        if failure.kind() != ErrorKind::WouldBlock {
-            self.state = State::Gone;
-        }
+    pub fn channel(&mut self, number: u16) -> Result<&mut Channel, Fault> {
+        Ok(self.channels.get_mut(&number).ok_or(AskFault::NotOpen)?)
     }
 
-    /// Sends a method alone.
-    pub fn reply(&mut self, channel: u16, method: Method) -> Done
-        requires { has_content (method_view method).kind ≡ false }
-    {
-        self.end.send(channel, &Message::plain(method))?;
-        Ok(())
-    }
-
-    /// Closes the channel, or the connection where the error is a hard one. The close names no class and no
-    /// method yet.
-    pub fn refuse(&mut self, channel: u16, refusal: &Refusal) -> Done {
-        let code = refusal.code();
-        let text = refusal.text(self.alloc)?;
-        if refusal.is_hard() {
-            self.end.close(code, &text)?;
-        } else {
-            self.end.close_channel(channel, code, &text)?;
-        }
-        Ok(())
-    }
-
-    /// Sends a consumer the first ready message of a queue, if it may be sent one now. It answers whether it was.
+    /// Offers a consumer the first ready message of a queue. It answers whether the message was sent.
     pub fn offer(&mut self, queue: &mut Queue, seat: Seat) -> Result<bool, Fault> {
-        if self.is_full() || !self.is_served() {
-            return Ok(false);
+        let has_room = self.has_room();
+        let channel = self.channel(seat.at.channel)?;
+        match channel.ready_consumer(seat.consumer) {
+            Some(consumer) if has_room => {
+                let (tag, no_ack) = (consumer.tag.copy()?, consumer.no_ack);
+                self.send_first(queue, seat.at.channel, Some((seat.consumer, tag)), no_ack)
+            }
+            _ => Ok(false),
         }
-        let Some(channel) = self.channels.get(&seat.at.channel) else {
-            return Ok(false);
-        };
-        let Some(consumer) = channel.ready_consumer(seat.consumer) else {
-            return Ok(false);
-        };
-        let Some((_, entry)) = queue.messages.first() else {
-            return Ok(false);
-        };
-        let deliver = basic::Deliver {
-            consumer_tag: consumer.tag.copy()?,
-            delivery_tag: channel.next_tag(),
-            redelivered: entry.redelivered,
-            exchange: entry.content.exchange.copy()?,
-            routing_key: entry.content.routing_key.copy()?,
-        };
-        let (id, no_ack) = (Some(consumer.id), consumer.no_ack);
-        let method = deliver.into_method(self.alloc)?;
-        self.send_first(queue, seat.at.channel, method, id, no_ack)?;
-        Ok(true)
     }
 
-    /// Sends the first ready message of a queue to a client that asked for one. It answers whether there was one.
-    pub fn fetch(&mut self, queue: &mut Queue, number: u16, no_ack: bool) -> Result<bool, Fault> {
-        let Some(channel) = self.channels.get(&number) else {
-            return Ok(false);
-        };
-        let left = queue.messages.ready_count().saturating_sub(1);
-        let Some((_, entry)) = queue.messages.first() else {
-            return Ok(false);
-        };
-        let ok = basic::GetOk {
-            delivery_tag: channel.next_tag(),
-            redelivered: entry.redelivered,
-            exchange: entry.content.exchange.copy()?,
-            routing_key: entry.content.routing_key.copy()?,
-            message_count: count(left),
-        };
-        let method = ok.into_method(self.alloc)?;
-        self.send_first(queue, number, method, None, no_ack)?;
-        Ok(true)
-    }
-
-    /// Sends the first ready message of a queue after this method, which has the channel's next delivery tag.
+    /// Sends the first ready message of a queue, to a consumer with this tag or in answer to basic.get. It answers
+    /// whether there was one. The body is lent to the end, which copies it into its output.
     pub fn send_first(
         &mut self,
         queue: &mut Queue,
         number: u16,
-        method: Method,
-        consumer: Option<u64>,
+        consumer: Option<(u64, ShortStr)>,
         no_ack: bool,
-    ) -> Done
-        requires { has_content (method_view method).kind ≡ true }
-    {
+    ) -> Result<bool, Fault> {
+        let left = queue.messages.ready_count().saturating_sub(1);
         let Some((place, entry)) = queue.messages.first() else {
-            return Ok(());
+            return Ok(false);
         };
-        let Some(channel) = self.channels.get_mut(&number) else {
-            return Ok(());
-        };
+        let channel = self.channels.get_mut(&number).ok_or(AskFault::NotOpen)?;
         let tag = channel.next_tag();
+        let (id, consumer_tag) = consumer.unzip();
+        let method = entry.heading(self.alloc, tag, consumer_tag, left)?;
         if !no_ack {
-            let queue = queue.id;
-            channel.await_ack(
-                tag,
-                Delivery {
-                    queue,
-                    place,
-                    consumer,
-                },
-            )?;
+            let content = entry.content.clone()?;
+            let delivery = Delivery {
+                queue: queue.id,
+                place,
+                content,
+                consumer: id,
+            };
+            channel.await_ack(tag, delivery)?;
         }
-        if let Err(fault) = entry.content.send(&mut self.end, number, method) {
-            channel.settle(tag);
-            return Err(fault.into());
-        }
-        channel.last_tag = tag;
-        if no_ack {
-            queue.messages.remove(place);
-        } else {
-            queue.messages.mark_sent(place);
-        }
-        Ok(())
+        let content = &entry.content;
+        self.end
+            .send_content(number, &method, &content.properties, &content.body)?;
+        queue.messages.remove(place);
+        Ok(true)
     }
 }

@@ -1,13 +1,13 @@
 //! Messages: published, consumed, fetched, acknowledged.
 use crate::broker::Broker;
-use crate::channel::Consumer;
-use crate::content::Content;
-use crate::credit::Credit;
-use crate::queue::{Place, QueueId, Seat};
-use crate::refusal::{Done, Fault, Refusal};
+use crate::messages::Content;
+use crate::queues::{Place, QueueId, Seat, settle};
+use crate::refusal::{Done, Refusal};
+use amqp_core::AskFault;
 use amqp_method::{Properties, reply};
-use amqp_typed::basic;
-use amqp_value::{ShortStr, Table};
+use amqp_typed::basic::{self, Publish};
+use amqp_typed::confirm;
+use amqp_value::ShortStr;
 use std::rc::Rc;
 
 impl Broker {
@@ -16,46 +16,35 @@ impl Broker {
     pub fn publish(
         &mut self,
         at: Place,
-        publish: basic::Publish,
+        publish: Publish,
         properties: Properties,
         body: Vec<u8>,
     ) -> Done {
-        let (exchange, key) = (publish.exchange, publish.routing_key);
-        if publish.immediate {
-            return Err(Refusal::NotImplemented("immediate=true").into());
-        }
-        let queues = self.route(&exchange, &key, properties.headers.as_ref())?;
-        if !queues.is_empty() {
-            self.enqueue(&queues, Content::new(exchange, key, properties, body))?;
-        } else if publish.mandatory {
-            let text = ShortStr::new(self.alloc, b"NO_ROUTE")?;
-            let returned = basic::Return::new(reply::NO_ROUTE, text, exchange, key);
-            let message = returned.message(self.alloc, properties, body)?;
-            self.connections.at(at)?.end.send(at.channel, &message)?;
-        }
+        let share = self.gauge.share(body.len())?;
+        let content = Content {
+            publish,
+            properties,
+            body,
+            share,
+        };
+        self.take(at, content)?;
+        self.connection(at.connection)?.publishes = true;
         self.confirm(at)
     }
 
-    /// The queues to which a message goes that is published to an exchange.
-    fn route(
-        &self,
-        name: &ShortStr,
-        key: &ShortStr,
-        headers: Option<&Table>,
-    ) -> Result<Vec<QueueId>, Fault> {
-        if name.is_empty() {
-            let mut queues = Vec::new(self.alloc);
-            if let Some(queue) = self.queues.find(key) {
-                queues.push(queue)?;
-            }
-            return Ok(queues);
+    fn take(&mut self, at: Place, content: Content) -> Done {
+        let publish = &content.publish;
+        if publish.immediate {
+            return Err(Refusal::NotImplemented("immediate=true").into());
         }
-        match self.exchanges.get(name.as_bytes()) {
-            Some(exchange) if exchange.declare.internal => Err(Refusal::Internal(
-                name.copy()?,
-            ).into()),
-            Some(exchange) => Ok(exchange.route(self.alloc, key, headers)?),
-            None => Err(Refusal::NoExchange(name.copy()?).into()),
+        let headers = content.properties.headers.as_ref();
+        let queues = self.route(&publish.exchange, &publish.routing_key, headers)?;
+        if !queues.is_empty() {
+            self.enqueue(&queues, content)
+        } else if publish.mandatory {
+            self.send_back(at, content)
+        } else {
+            Ok(())
         }
     }
 
@@ -63,99 +52,112 @@ impl Broker {
     fn enqueue(&mut self, queues: &[QueueId], content: Content) -> Done {
         let content = Rc::new(self.alloc, content)?;
         for id in queues {
-            if let Some(queue) = self.queues.get_mut(*id) {
+            if let Some(queue) = self.queues.get_mut(id) {
                 queue.messages.push(content.clone()?)?;
             }
         }
         Ok(())
     }
 
-    /// Confirms the next message, if the client asked for confirms.
-    fn confirm(&mut self, at: Place) -> Done {
-        let channel = self.connections.channel(at)?;
-        let Some(published) = channel.published else {
-            return Ok(());
-        };
-        let published = published.saturating_add(1);
-        channel.published = Some(published);
-        let ack = basic::Ack::new(published).into_method(self.alloc)?;
-        self.reply(at, false, ack)
+    /// Sends back a message that no queue takes.
+    fn send_back(&mut self, at: Place, content: Content) -> Done {
+        let text = ShortStr::text(self.alloc, "NO_ROUTE")?;
+        let (exchange, key) = (content.publish.exchange, content.publish.routing_key);
+        let returned = basic::Return::new(reply::NO_ROUTE, text, exchange, key);
+        let method = returned.into_method(self.alloc)?;
+        let end = &mut self.connection(at.connection)?.end;
+        end.send_content(at.channel, &method, &content.properties, &content.body)?;
+        Ok(())
     }
 
-    /// Adds a consumer.
-    pub fn consume(&mut self, at: Place, consume: basic::Consume) -> Done {
-        let name = self.queue_name(at, consume.queue)?;
-        let id = self.next_id()?;
-        let queue = self.queue(at, &name)?;
-        if queue.is_taken || (consume.exclusive && !queue.consumers.is_empty()) {
-            return Err(Refusal::ExclusiveUse(name).into());
+    /// From now on each message that is published on the channel is confirmed.
+    pub fn select_confirms(&mut self, at: Place, select: confirm::Select) -> Done {
+        let channel = self.channel(at)?;
+        channel.published = channel.published.or(Some(0));
+        let ok = confirm::SelectOk::new().into_method(self.alloc);
+        self.reply(at, select.no_wait, ok)
+    }
+
+    /// Confirms the next message, if the client asked for confirms.
+    fn confirm(&mut self, at: Place) -> Done {
+        if let Some(published) = &mut self.channel(at)?.published {
+            *published = published.saturating_add(1);
+            let ack = basic::Ack::new(*published);
+            self.reply(at, false, ack.into_method(self.alloc))?;
         }
-        let queue = queue.id;
-        let mut tag = consume.consumer_tag;
+        Ok(())
+    }
+
+    /// From now on so many messages may wait to be acknowledged: of each new consumer, or of the whole channel.
+    pub fn set_qos(&mut self, at: Place, qos: basic::Qos) -> Done {
+        let channel = self.channel(at)?;
+        if qos.prefetch_size != 0 {
+            return Err(Refusal::NotImplemented("prefetch_size!=0").into());
+        } else if qos.global {
+            channel.credit.set_limit(qos.prefetch_count);
+        } else {
+            channel.prefetch = qos.prefetch_count;
+        }
+        self.reply(at, false, basic::QosOk::new().into_method(self.alloc))
+    }
+
+    /// Adds a consumer, which may have the queue for itself.
+    pub fn consume(&mut self, at: Place, consume: basic::Consume) -> Done {
+        let (id, mut tag) = (self.next_id()?, consume.consumer_tag);
         if tag.is_empty() {
             tag = self.made_up_name("amq.ctag", id)?;
         }
-        let ok = basic::ConsumeOk::new(tag.copy()?).into_method(self.alloc)?;
-        let channel = self.connections.channel(at)?;
-        if channel.consumers.iter().any(|other| other.tag == tag) {
-            return Err(Refusal::TagInUse(tag).into());
+        let ok = basic::ConsumeOk::new(tag.copy()?);
+        let queue = self.queue(at, consume.queue)?;
+        if queue.is_taken || (consume.exclusive && !queue.consumers.is_empty()) {
+            return Err(Refusal::NoAccess(queue.name()?, "in exclusive use").into());
         }
-        channel.consumers.push(Consumer {
-            id,
-            tag,
-            queue,
-            no_ack: consume.no_ack,
-            credit: Credit::new(channel.prefetch),
-        })?;
-        let seat = Seat { at, consumer: id };
-        self.queues.add_consumer(queue, seat, consume.exclusive)?;
-        self.reply(at, consume.no_wait, ok)
+        let queue = queue.id;
+        self.channel(at)?
+            .add_consumer(id, tag, queue, consume.no_ack)?;
+        let queue = self.queues.get_mut(&queue).ok_or(AskFault::NotOpen)?;
+        queue.consumers.push_back(Seat { at, consumer: id })?;
+        queue.is_taken = consume.exclusive;
+        self.reply(at, consume.no_wait, ok.into_method(self.alloc))
     }
 
     /// Removes a consumer. What it was sent still waits to be acknowledged.
     pub fn cancel(&mut self, at: Place, cancel: basic::Cancel) -> Done {
         let tag = cancel.consumer_tag;
-        let consumers = &mut self.connections.channel(at)?.consumers;
+        let consumers = &mut self.channel(at)?.consumers;
         if let Some(place) = consumers.iter().position(|consumer| consumer.tag == tag) {
             let consumer = consumers.remove(place);
             self.remove_consumer(consumer.queue, consumer.id);
         }
-        let ok = basic::CancelOk::new(tag).into_method(self.alloc)?;
-        self.reply(at, cancel.no_wait, ok)
+        let ok = basic::CancelOk::new(tag);
+        self.reply(at, cancel.no_wait, ok.into_method(self.alloc))
     }
 
     /// Sends the first ready message of a queue, if there is one.
     pub fn get(&mut self, at: Place, get: basic::Get) -> Done {
-        let name = self.queue_name(at, get.queue)?;
-        self.queue(at, &name)?;
-        let connection = self.connections.at(at)?;
-        let fetched = match self.queues.find_mut(&name) {
-            Some(queue) => connection.fetch(queue, at.channel, get.no_ack)?,
-            None => false,
-        };
-        if !fetched {
-            let empty = basic::GetEmpty::new().into_method(self.alloc)?;
-            self.reply(at, false, empty)?;
+        let id = self.queue(at, get.queue)?.id;
+        let queue = self.queues.get_mut(&id).ok_or(AskFault::NotOpen)?;
+        let connection = self.connections.get_mut(&at.connection);
+        let connection = connection.ok_or(AskFault::NotOpen)?;
+        if connection.send_first(queue, at.channel, None, get.no_ack)? {
+            return Ok(());
         }
-        Ok(())
+        self.reply(at, false, basic::GetEmpty::new().into_method(self.alloc))
     }
 
     /// Messages that were sent are done with: one, or with `multiple` all up to it, where 0 stands for the
     /// last. They leave their queues, or go back to them.
     pub fn settle(&mut self, at: Place, tag: u64, multiple: bool, requeue: bool) -> Done {
-        let channel = self.connections.channel(at)?;
-        if !channel.has_delivery(tag, multiple) {
+        let connection = self.connections.get_mut(&at.connection);
+        let connection = connection.ok_or(AskFault::NotOpen)?;
+        let channel = connection.channel(at.channel)?;
+        if multiple && tag == 0 {
+            return settle(&mut self.queues, channel, 0, u64::MAX, requeue);
+        } else if !channel.has_delivery(tag) {
             return Err(Refusal::UnknownTag(tag).into());
         }
-        if !multiple {
-            if let Some(delivery) = channel.settle(tag) {
-                self.queues.settle(delivery, requeue)?;
-            }
-        } else {
-            let last = if tag == 0 { u64::MAX } else { tag };
-            self.queues.settle_up_to(channel, last, requeue)?;
-        }
-        Ok(())
+        let first = if multiple { 0 } else { tag };
+        settle(&mut self.queues, channel, first, tag, requeue)
     }
 
     /// All messages that were sent on a channel go back to their queues.

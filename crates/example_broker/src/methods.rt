@@ -1,55 +1,49 @@
 //! What the broker does with the methods that clients send on channels.
-ghost use Rattle.std.specs.Prelude.{◌≡◌, false};
-ghost use Rattle.amqp_method.specs.Kinds.{has_content};
-ghost use Rattle.amqp_method.specs.MethodView.{method_view};
-
 use crate::broker::Broker;
-use crate::queue::Place;
+use crate::queues::Place;
 use crate::refusal::{Done, Fault, Refusal};
-use amqp_method::{Message, Method};
-use amqp_typed::{AnyMethod, basic, confirm};
-use std::alloc::AllocError;
+use amqp_method::{Message, Method, OutOfMemory, reply};
+use amqp_typed::{AnyMethod, basic};
 
 impl Broker {
-    /// Handles a message. One that is refused closes its channel or the connection; one that can't be
-    /// answered ends the connection.
-    pub fn tell(&mut self, at: Place, message: Message) -> Result<(), AllocError> {
-        let done = match self.handle_message(at, message) {
-            Err(Fault::Refused(refusal)) => {
-                if refusal.is_hard() {
-                    self.close_channels(at.connection)?;
-                } else {
-                    self.close_channel(at)?;
-                }
-                self.connections.refuse(at, &refusal)
-            }
-            done => done,
-        };
-        if done.is_err() {
-            self.finish(at.connection);
-        }
-        Ok(())
-    }
-
-    /// Sends a method, unless the client wants none.
-    pub fn reply(&mut self, at: Place, no_wait: bool, method: Method) -> Done
-        requires { has_content (method_view method).kind ≡ false }
-    {
-        if no_wait {
-            return Ok(());
-        }
-        self.connections.at(at)?.reply(at.channel, method)
-    }
-
-    /// A client sends contents after basic.publish alone.
-    fn handle_message(&mut self, at: Place, message: Message) -> Done {
-        match message.into_parts() {
+    /// Handles a message. One that is refused closes its channel, or the connection where the error is a hard one.
+    pub fn tell(&mut self, at: Place, message: Message) -> Done {
+        let done = match message.into_parts() {
             (method, None) => self.handle_method(at, method),
+            // a client sends contents after basic.publish alone
             (method, Some((properties, body))) => match basic::Publish::from_method(method) {
                 Ok(publish) => self.publish(at, publish, properties, body),
                 Err(_) => Ok(()),
             },
+        };
+        match done {
+            Err(Fault::Refused(refusal)) => self.refuse(at, &refusal),
+            done => done,
         }
+    }
+
+    fn refuse(&mut self, at: Place, refusal: &Refusal) -> Done {
+        let (code, text) = (refusal.code(), refusal.text(self.alloc)?);
+        if reply::is_hard(code) {
+            self.close_channels(at.connection)?;
+            self.connection(at.connection)?.end.close(code, &text)?;
+            return Ok(());
+        }
+        self.close_channel(at)?;
+        self.connection(at.connection)?
+            .end
+            .close_channel(at.channel, code, &text)?;
+        Ok(())
+    }
+
+    /// Sends a method alone, unless the client wants none.
+    pub fn reply(&mut self, at: Place, no_wait: bool, method: Result<Method, OutOfMemory>) -> Done {
+        if !no_wait && let Ok(message) = Message::try_plain(method?) {
+            self.connection(at.connection)?
+                .end
+                .send(at.channel, &message)?;
+        }
+        Ok(())
     }
 
     fn handle_method(&mut self, at: Place, method: Method) -> Done {
@@ -78,7 +72,7 @@ impl Broker {
             AnyMethod::BasicRecoverAsync(recover) => self.recover(at, recover.requeue),
             AnyMethod::BasicRecover(recover) => {
                 self.recover(at, recover.requeue)?;
-                self.reply(at, false, basic::RecoverOk::new().into_method(self.alloc)?)
+                self.reply(at, false, basic::RecoverOk::new().into_method(self.alloc))
             }
             AnyMethod::ConfirmSelect(select) => self.select_confirms(at, select),
             AnyMethod::TxSelect(_) | AnyMethod::TxCommit(_) | AnyMethod::TxRollback(_) => {
@@ -87,27 +81,5 @@ impl Broker {
             // no client sends any other
             _ => Ok(()),
         }
-    }
-
-    /// From now on so many messages may wait to be acknowledged: of each new consumer, or of the whole channel.
-    fn set_qos(&mut self, at: Place, qos: basic::Qos) -> Done {
-        if qos.prefetch_size != 0 {
-            return Err(Refusal::NotImplemented("prefetch_size!=0").into());
-        }
-        let channel = self.connections.channel(at)?;
-        if qos.global {
-            channel.credit.set_limit(qos.prefetch_count);
-        } else {
-            channel.prefetch = qos.prefetch_count;
-        }
-        self.reply(at, false, basic::QosOk::new().into_method(self.alloc)?)
-    }
-
-    /// From now on each message that is published on the channel is confirmed.
-    fn select_confirms(&mut self, at: Place, select: confirm::Select) -> Done {
-        let channel = self.connections.channel(at)?;
-        channel.published = channel.published.or(Some(0));
-        let ok = confirm::SelectOk::new().into_method(self.alloc)?;
-        self.reply(at, select.no_wait, ok)
     }
 }

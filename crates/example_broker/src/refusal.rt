@@ -7,28 +7,20 @@ use thiserror::Error;
 
 #[derive(Debug, Drop, Error)]
 pub enum Refusal {
-    #[error("NOT_FOUND - no queue {0:?} in vhost '/'")]
-    NoQueue(ShortStr),
-    #[error("NOT_FOUND - no exchange {0:?} in vhost '/'")]
-    NoExchange(ShortStr),
+    #[error("NOT_FOUND - no {0} {1:?} in vhost '/'")]
+    NotFound(&'static str, ShortStr),
     #[error("RESOURCE_LOCKED - cannot obtain exclusive access to locked queue {0:?} in vhost '/'")]
     Locked(ShortStr),
-    #[error("PRECONDITION_FAILED - inequivalent arg for {0:?} in vhost '/'")]
-    Inequivalent(ShortStr),
-    #[error("PRECONDITION_FAILED - {0:?} in vhost '/' in use")]
-    InUse(ShortStr),
-    #[error("PRECONDITION_FAILED - queue {0:?} in vhost '/' not empty")]
-    NotEmpty(ShortStr),
+    #[error("PRECONDITION_FAILED - {0:?} in vhost '/' {1}")]
+    Precondition(ShortStr, &'static str),
     #[error("PRECONDITION_FAILED - unknown delivery tag {0}")]
     UnknownTag(u64),
-    #[error("ACCESS_REFUSED - queue {0:?} in vhost '/' in exclusive use")]
-    ExclusiveUse(ShortStr),
-    #[error("ACCESS_REFUSED - name {0:?} contains reserved prefix 'amq.*'")]
-    Reserved(ShortStr),
-    #[error("ACCESS_REFUSED - operation not permitted on the default exchange")]
-    DefaultExchange,
-    #[error("ACCESS_REFUSED - cannot publish to internal exchange {0:?} in vhost '/'")]
-    Internal(ShortStr),
+    #[error("ACCESS_REFUSED - {0:?} in vhost '/' {1}")]
+    NoAccess(ShortStr, &'static str),
+    #[error("ACCESS_REFUSED - Login was refused using authentication mechanism {0:?}")]
+    Login(ShortStr),
+    #[error("NOT_ALLOWED - vhost {0:?} not found")]
+    NoHost(ShortStr),
     #[error("NOT_ALLOWED - attempt to reuse consumer tag {0:?}")]
     TagInUse(ShortStr),
     #[error("COMMAND_INVALID - unknown exchange type {0:?}")]
@@ -38,21 +30,14 @@ pub enum Refusal {
 }
 
 impl Refusal {
-    /// Whether the error is a hard one, which closes the connection. A soft one closes the channel alone.
-    pub fn is_hard(&self) -> bool {
-        reply::is_hard(self.code())
-    }
-
-    /// The reply code of the close.
+    /// The reply code of the close. A hard one closes the connection, a soft one the channel alone.
     pub fn code(&self) -> u16 {
         match self {
-            Refusal::NoQueue(_) | Refusal::NoExchange(_) => reply::NOT_FOUND,
+            Refusal::NotFound(..) => reply::NOT_FOUND,
             Refusal::Locked(_) => reply::RESOURCE_LOCKED,
-            Refusal::Inequivalent(_) | Refusal::InUse(_) => reply::PRECONDITION_FAILED,
-            Refusal::NotEmpty(_) | Refusal::UnknownTag(_) => reply::PRECONDITION_FAILED,
-            Refusal::ExclusiveUse(_) | Refusal::Reserved(_) => reply::ACCESS_REFUSED,
-            Refusal::DefaultExchange | Refusal::Internal(_) => reply::ACCESS_REFUSED,
-            Refusal::TagInUse(_) => reply::NOT_ALLOWED,
+            Refusal::Precondition(..) | Refusal::UnknownTag(_) => reply::PRECONDITION_FAILED,
+            Refusal::NoAccess(..) | Refusal::Login(_) => reply::ACCESS_REFUSED,
+            Refusal::NoHost(_) | Refusal::TagInUse(_) => reply::NOT_ALLOWED,
             Refusal::UnknownType(_) => reply::COMMAND_INVALID,
             Refusal::NotImplemented(_) => reply::NOT_IMPLEMENTED,
         }
@@ -62,8 +47,7 @@ impl Refusal {
     pub fn text(&self, alloc: Global) -> Result<ShortStr, Fault> {
         let text = format!(in alloc; "{self}")?;
         let octets = text.as_bytes();
-        let length = octets.len().min(255);
-        Ok(ShortStr::new(alloc, &octets[..length])?)
+        Ok(ShortStr::new(alloc, &octets[..octets.len().min(255)])?)
     }
 }
 

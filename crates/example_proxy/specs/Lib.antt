@@ -1,0 +1,4 @@
+pub mod Advancing
+pub mod ChannelView
+pub mod Passing
+pub mod PassingView

@@ -1,0 +1,59 @@
+-- What an event of one side asks of the other, where the event's channel has another number.
+use Rattle.std.specs.Prelude.{Bool, true, false, ℕ, List, [], ◌++◌, Option, Some, None, codes, replicate}
+use Rattle.amqp_model.specs.End.Asks.{Ask, Send, Flow, CloseChannel, Close, Blocked, Unblocked}
+use Rattle.amqp_model.specs.End.Events as events
+use Rattle.amqp_model.specs.End.Events.{Plain, Whole}
+use Rattle.amqp_model.specs.Lent.Alike.{LentEvent, WithoutContent, Begins, Heads, Part, Other}
+use Rattle.amqp_model.specs.Wire.Contents.{Content}
+use Rattle.amqp_model.specs.Wire.Methods.{Method, Properties}
+
+-- the content that a method begins: nothing but the method is there
+abbrev pub begun : Method → Option Content
+begun method = Some (record { method = method; properties = replicate 14 None; body = [] })
+
+-- its properties are there
+abbrev pub with_properties : Properties → Option Content → Option Content
+with_properties properties (Some content) =
+    Some (record { method = content.method; properties = properties; body = content.body })
+with_properties properties None = None
+
+-- one more part of its body is there
+abbrev pub with_part : List ℕ → Option Content → Option Content
+with_part octets (Some content) =
+    Some (record { method = content.method; properties = content.properties; body = content.body ++ octets })
+with_part octets None = None
+
+-- once it is whole it is sent on the partner
+abbrev pub sent : (partner : ℕ) (whole : Bool) → Option Content → Option Ask
+sent partner true (Some content) = Some (Send partner (Whole content))
+sent partner whole content = None
+
+-- and is no longer coming
+abbrev pub left : (whole : Bool) → Option Content → Option Content
+left true content = None
+left false content = content
+
+-- the content that is coming on a channel, after an event of the channel
+abbrev pub after : Option Content → LentEvent → Option Content
+after content (Begins number method) = begun method
+after content (Heads number size properties whole) = left whole (with_properties properties content)
+after content (Part number octets whole) = left whole (with_part octets content)
+after content event = content
+
+abbrev pub method_alone : (partner : ℕ) → Method → Option Ask
+method_alone partner method = Some (Send partner (Plain method))
+
+-- What an event asks: a method is sent, a content once it is whole; a flow is asked for. A channel or connection that the
+-- other end closed is closed with its code and its text, and so is a channel on which a content was refused.
+abbrev pub asked : (partner : ℕ) → Option Content → LentEvent → Option Ask
+asked partner content (WithoutContent number method) = method_alone partner method
+asked partner content (Heads number size properties whole) = sent partner whole (with_properties properties content)
+asked partner content (Part number octets whole) = sent partner whole (with_part octets content)
+asked partner content (Other (events.Flow number active)) = Some (Flow partner active)
+asked partner content (Other (events.ChannelClosed number (Some reason))) =
+    Some (CloseChannel partner reason.code reason.text)
+asked partner content (Other (events.Discarded number)) = Some (CloseChannel partner 311 (codes "CONTENT_TOO_LARGE"))
+asked partner content (Other (events.ConnectionClosed (Some reason))) = Some (Close reason.code reason.text)
+asked partner content (Other (events.Blocked reason)) = Some (Blocked reason)
+asked partner content (Other events.Unblocked) = Some Unblocked
+asked partner content event = None

@@ -1,0 +1,282 @@
+"""Runs clients against the example proxy in front of the broker at 127.0.0.1 and the port that is given, and says
+of each thing whether it went as it should.
+
+The runs of broker.py are made through the proxy, with the word `rabbitmq` after the port those of RabbitMQ; then what
+a proxy alone has to do. The variable PROXY has the proxy's words."""
+
+import os
+import pathlib
+import socket
+import struct
+import subprocess
+import sys
+import threading
+import time
+
+import pika
+
+BROKER = int(sys.argv[1])
+IS_RABBITMQ = "rabbitmq" in sys.argv[2:]
+HERE = pathlib.Path(__file__).parent
+WORDS = os.environ["PROXY"].split()
+failed = 0
+
+
+def says(what, wanted, found):
+    global failed
+    if wanted == found:
+        print(f"ok: {what}", flush=True)
+    else:
+        failed += 1
+        print(f"failed: {what}: wanted {wanted!r:.300}, and not {found!r:.300}", flush=True)
+
+
+class Proxy:
+    """A proxy on a port of its own, for as long as the block lasts."""
+
+    def __init__(self, *options, broker=BROKER):
+        words = [*WORDS, "127.0.0.1:0", f"127.0.0.1:{broker}", *options]
+        self.process = subprocess.Popen(words, stdout=subprocess.PIPE, text=True)
+        self.port = int(self.process.stdout.readline().rsplit(":", 1)[1])
+
+    def __enter__(self):
+        return self
+
+    def __exit__(self, *_):
+        self.process.kill()
+        self.process.wait()
+
+    def connect(self, **parameters):
+        where = pika.ConnectionParameters("127.0.0.1", self.port, heartbeat=0, **parameters)
+        return pika.BlockingConnection(where)
+
+    def memory(self):
+        """Its greatest resident memory, in megabytes."""
+        status = pathlib.Path(f"/proc/{self.process.pid}/status").read_text()
+        return next(int(line.split()[1]) // 1000 for line in status.splitlines() if line.startswith("VmHWM"))
+
+
+# The runs of broker.py but for rabbitmq-c's tools, which don't wait until the broker has what they published.
+RUNS = "sizes order exchanges acks prefetch turns refusals lives confirms channels py-amqp go ruby php".split()
+
+
+def clients_of_the_broker():
+    with Proxy() as proxy:
+        runs = [word for word in sys.argv[2:] if word in RUNS] or RUNS
+        words = [sys.executable, str(HERE / "broker.py"), str(proxy.port), *IS_RABBITMQ * ["rabbitmq"], *runs]
+        ran = subprocess.run(words, check=False)
+        says("proxy: all that clients do with the broker itself", 0, ran.returncode)
+
+
+def tool(proxy, name, *words, data=None):
+    command = [name, "--server", "127.0.0.1", "--port", str(proxy.port), *words]
+    ran = subprocess.run(command, input=data, capture_output=True, timeout=120, check=False)
+    return ran.returncode, ran.stdout
+
+
+def tools():
+    with Proxy() as proxy:
+        says("amqp-declare-queue", (0, b"p.tools\n"), tool(proxy, "amqp-declare-queue", "-q", "p.tools"))
+        for size in (0, 1, 131_064, 1_000_000):
+            body = os.urandom(size)
+            says(f"amqp-publish {size} octets", 0, tool(proxy, "amqp-publish", "-r", "p.tools", data=body)[0])
+            # a proxy answers the tool's close before the broker has what was published
+            time.sleep(1)
+            says(f"amqp-get {size} octets", True, tool(proxy, "amqp-get", "-q", "p.tools") == (0, body))
+        says("amqp-get of an empty queue", 2, tool(proxy, "amqp-get", "-q", "p.tools")[0])
+        says("amqp-get of no such queue", 1, tool(proxy, "amqp-get", "-q", "p.nowhere")[0])
+        says("amqp-delete-queue", (0, b"0\n"), tool(proxy, "amqp-delete-queue", "-q", "p.tools"))
+
+
+def slow_reader():
+    """100 MB to a consumer that reads nothing for a while."""
+    count, body, seen = 100, bytes(range(250)) * 4_000, []
+    with Proxy() as proxy:
+        connection, writer = proxy.connect(), proxy.connect()
+        queue = writer.channel().queue_declare("p.slow").method.queue
+        connection.channel().basic_consume(queue, lambda _c, _m, _p, came: seen.append(came), auto_ack=True)
+        sends = threading.Thread(target=send_all, args=(writer, queue, body, count))
+        sends.start()
+        time.sleep(3)
+        held = proxy.memory()
+        until = time.monotonic() + 120
+        while len(seen) < count and time.monotonic() < until:
+            connection.process_data_events(1)
+        sends.join()
+        says("proxy: 100 MB to a slow reader", True, seen == count * [body])
+        most = proxy.memory()
+        says(f"proxy: it held {held} MB before they were read, and {most} at most", True, most < 32)
+        connection.channel().queue_delete(queue)
+        connection.close()
+
+
+def send_all(connection, queue, body, count):
+    channel = connection.channel()
+    for _ in range(count):
+        channel.basic_publish("", queue, body)
+    connection.close()
+
+
+def small_frames():
+    """Contents are cut anew where the sides have agreed on other sizes."""
+    with Proxy() as proxy:
+        connection = proxy.connect(frame_max=4096)
+        channel = connection.channel()
+        channel.confirm_delivery()
+        queue = channel.queue_declare("", exclusive=True).method.queue
+        for size in (4_088, 4_089, 1_000_000):
+            body = os.urandom(size)
+            channel.basic_publish("", queue, body)
+            says(f"proxy: {size} octets in frames of 4096", True, channel.basic_get(queue, auto_ack=True)[2] == body)
+        connection.close()
+
+
+def channels():
+    """The client's numbers are its own, and can be used again."""
+    with Proxy() as proxy:
+        connection = proxy.connect()
+        found = []
+        for number in (7, 3, 2_000, 3):
+            channel = connection.channel(number)
+            queue = channel.queue_declare("", exclusive=True).method.queue
+            channel.basic_publish("", queue, str(number).encode())
+            found.append((channel.channel_number, channel.basic_get(queue, auto_ack=True)[2]))
+            if number == 3:
+                channel.close()
+        says("proxy: channels 7, 3, 2000, and 3 again", [(n, b"%d" % n) for n in (7, 3, 2_000, 3)], found)
+        connection.close()
+
+
+def frame(kind, channel, payload):
+    return struct.pack(">BHI", kind, channel, len(payload)) + payload + b"\xce"
+
+
+def short(text):
+    return bytes([len(text)]) + text
+
+
+def until(client, end):
+    """Reads until what came ends so."""
+    came = b""
+    while not came.endswith(end + b"\xce"):
+        more = client.recv(65_536)
+        if not more:
+            raise ConnectionError(f"hung up after {came!r}")
+        came += more
+
+
+def pipelined():
+    """Requests that don't wait for the replies to those before them, a content after them, and a close."""
+    with Proxy() as proxy, socket.create_connection(("127.0.0.1", proxy.port), timeout=30) as client:
+        client.sendall(b"AMQP\0\0\x09\x01")
+        until(client, b"en_US")
+        response = b"\0guest\0guest"
+        start_ok = b"\0\x0a\0\x0b\0\0\0\0" + short(b"PLAIN") + struct.pack(">I", len(response)) + response
+        client.sendall(frame(1, 0, start_ok + short(b"en_US")))
+        until(client, struct.pack(">HHHIH", 10, 30, 2047, 131_072, 0))
+        client.sendall(frame(1, 0, struct.pack(">HHHIH", 10, 31, 2047, 131_072, 0)))
+        client.sendall(frame(1, 0, b"\0\x0a\0\x28\x01/\0\0"))
+        until(client, b"\0\x0a\0\x29\0")
+        # all at once from here on: open, declares, a content, a close
+        names = [b"p.%d" % number for number in range(50)]
+        declares = [b"\0\x32\0\x0a\0\0" + short(name) + b"\0\0\0\0\0" for name in names]
+        publish = b"\0\x3c\0\x28\0\0\0" + short(names[49]) + b"\0"
+        close = b"\0\x14\0\x28\0\xc8" + short(b"bye") + b"\0\0\0\0"
+        frames = [frame(1, 1, payload) for payload in [b"\0\x14\0\x0a\0", *declares, publish]]
+        content = [frame(2, 1, struct.pack(">HHQH", 60, 0, 5, 0)), frame(3, 1, b"after"), frame(1, 1, close)]
+        client.sendall(b"".join([*frames, *content]))
+        until(client, b"\0\x14\0\x29")
+        connection = proxy.connect()
+        channel = connection.channel()
+        channel.queue_declare("p.49")
+        time.sleep(1)
+        says("proxy: a content after 50 requests, and a close", b"after", channel.basic_get("p.49", auto_ack=True)[2])
+        found = [channel.queue_delete(name.decode()) is not None for name in names]
+        says("proxy: each request was made", 50, sum(found))
+        connection.close()
+
+
+def flow():
+    """A client that takes no contents for a while, which RabbitMQ doesn't have."""
+    if IS_RABBITMQ:
+        return
+    with Proxy() as proxy:
+        connection = proxy.connect()
+        channel, other, seen = connection.channel(), connection.channel(), []
+        queue = channel.queue_declare("", exclusive=True).method.queue
+        channel.basic_consume(queue, lambda _c, _m, _p, body: seen.append(body), auto_ack=True)
+        channel.flow(False)
+        for _ in range(5):
+            other.basic_publish("", queue, b"m")
+        connection.process_data_events(1)
+        says("proxy: nothing comes on a channel that is paused", [], seen)
+        channel.flow(True)
+        connection.process_data_events(1)
+        says("proxy: all comes once it goes on", 5 * [b"m"], seen)
+        connection.close()
+
+
+def outcome(proxy):
+    try:
+        proxy.connect().close()
+        return None
+    except pika.exceptions.AMQPConnectionError as error:
+        # pika wraps a close in the handshake in an error of its own
+        return next((code for code in (403, 320) if f"({code})" in repr(error)), repr(error))
+
+
+def refused_logins():
+    if IS_RABBITMQ:
+        with Proxy("--user", "nobody", "--password", "wrong") as proxy:
+            says("proxy: a login that the broker refuses", 403, outcome(proxy))
+    with socket.create_server(("127.0.0.1", 0)) as closed:
+        free = closed.getsockname()[1]
+    with Proxy(broker=free) as proxy:
+        says("proxy: no broker", 320, outcome(proxy))
+
+
+def broker_that_hangs_up():
+    """A broker that ends in the middle of a connection: here a proxy before it."""
+    with Proxy() as broker, Proxy(broker=broker.port) as proxy:
+        connection = proxy.connect()
+        channel = connection.channel()
+        broker.process.kill()
+        try:
+            channel.queue_declare("", exclusive=True)
+            found = None
+        except pika.exceptions.ConnectionClosedByBroker as error:
+            found = error.reply_code
+        says("proxy: the broker is gone", 320, found)
+
+
+def log():
+    with Proxy("--log") as proxy:
+        connection = proxy.connect()
+        connection.channel().queue_declare("p.log", auto_delete=True)
+        connection.channel().queue_delete("p.log")
+        connection.close()
+        proxy.process.terminate()
+        lines = proxy.process.stdout.read().splitlines()
+        found = [line for line in lines if " queue.de" in line]
+        says("proxy: a line for each method", 4, len(found))
+
+
+PARTS = {
+    "clients": clients_of_the_broker,
+    "tools": tools,
+    "slow": slow_reader,
+    "frames": small_frames,
+    "numbers": channels,
+    "pipelined": pipelined,
+    "flow": flow,
+    "logins": refused_logins,
+    "gone": broker_that_hangs_up,
+    "log": log,
+}
+chosen = [word for word in sys.argv[2:] if word in PARTS]
+for part in chosen or PARTS:
+    try:
+        PARTS[part]()
+    except Exception as error:
+        says(f"{part} ends", None, error)
+sys.exit(1 if failed else 0)
