@@ -1,5 +1,5 @@
 -- How long nothing comes or goes, in ticks.
-use Rattle.std.specs.Prelude.{ℕ, Bool, if◌then◌else◌, ◌+◌, ◌∸◌, min, ◌^◌}
+use Rattle.std.specs.Prelude.{ℕ, Bool, if◌then◌else◌, ◌+◌, min}
 
 -- one more tick, up to the greatest number of 32 bits, or none where something came or went
 abbrev pub ticks_after : Bool → ℕ → ℕ

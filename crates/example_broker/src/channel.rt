@@ -50,6 +50,11 @@ pub struct Channel {
     pub is_flowing: bool,
 }
 
+/// The consumer with this number.
+fn find_consumer(consumers: &mut [Consumer], id: u64) -> Option<&mut Consumer> {
+    consumers.iter_mut().find(|consumer| consumer.id == id)
+}
+
 impl Channel {
     pub fn new(alloc: Global, last_queue: ShortStr) -> Channel {
         Channel {
@@ -92,20 +97,35 @@ impl Channel {
         (self.is_flowing && (consumer.no_ack || has_room)).then_some(consumer)
     }
 
-    fn consumer_mut(&mut self, id: u64) -> Option<&mut Consumer> {
-        self.consumers.iter_mut().find(|consumer| consumer.id == id)
+    /// A message was sent to a consumer, if it is still there.
+    fn spend(&mut self, consumer: Option<u64>)
+        ensures { self.new.unacked ≡ self.old.unacked }
+    {
+        if let Some(id) = consumer {
+            self.credit.spend();
+            if let Some(consumer) = find_consumer(&mut self.consumers, id) {
+                consumer.credit.spend();
+            }
+        }
+    }
+
+    /// A message that was sent to a consumer waits no more.
+    fn give_back(&mut self, consumer: Option<u64>)
+        ensures { self.new.unacked ≡ self.old.unacked }
+    {
+        if let Some(id) = consumer {
+            self.credit.give_back();
+            if let Some(consumer) = find_consumer(&mut self.consumers, id) {
+                consumer.credit.give_back();
+            }
+        }
     }
 
     /// A message waits to be acknowledged.
     pub fn await_ack(&mut self, tag: u64, delivery: Delivery) -> Result<(), AllocError>
         ensures { OnOk result (Awaits self.old self.new tag true) }
     {
-        if let Some(id) = delivery.consumer {
-            self.credit.spend();
-            if let Some(consumer) = self.consumer_mut(id) {
-                consumer.credit.spend();
-            }
-        }
+        self.spend(delivery.consumer);
         self.unacked.insert(tag, delivery)?;
         Ok(())
     }
@@ -124,12 +144,7 @@ impl Channel {
         ensures { Awaits self.old self.new tag false }
     {
         let delivery = self.unacked.remove(&tag)?;
-        if let Some(id) = delivery.consumer {
-            self.credit.give_back();
-            if let Some(consumer) = self.consumer_mut(id) {
-                consumer.credit.give_back();
-            }
-        }
+        self.give_back(delivery.consumer);
         Some(delivery)
     }
 
