@@ -337,14 +337,14 @@ def scripts():
 
 
 def documented(where, text):
-    """What a text says that a command prints, it prints. A command is an indented line that begins with `$`; what it prints stands below it, and ends
-    before an empty line. `amqp` and `./amqp` are the program."""
+    """What a text says that a command prints, it prints, on standard output and then on standard error. A command is an indented line that begins with
+    `$`; what it prints stands below it, and ends before an empty line. `amqp` and `./amqp` are the program."""
     count = 0
     for part in text.split("    $ ")[1:]:
         command, *printed = part.split("\n\n")[0].rstrip("\n").split("\n")
         printed = [line.removeprefix("    ") for line in printed]
         ran = subprocess.run(["bash", "-c", re.sub(r"(^|\| )(\./)?amqp ", rf"\1{PROGRAM} ", command)], capture_output=True, timeout=60, check=False)
-        compare(f"{where}: {command}", ("".join(f"{line}\n" for line in printed), ""), (ran.stdout.decode(), ran.stderr.decode()))
+        compare(f"{where}: {command}", "".join(f"{line}\n" for line in printed), (ran.stdout + ran.stderr).decode())
         count += 1
     return count
 
