@@ -542,6 +542,7 @@ def logins():
         # RabbitMQ hangs up where it doesn't know the mechanism, or can't read the response
         says(f"raw: a login by {mechanism} that is none", True, code == 403 or (IS_RABBITMQ and code is None))
         stream.close()
+    with_program("amqp091-go", ["go", "run", str(CLIENTS / "client.go")], "logins")
 
 
 def idle_pika(heartbeat):
@@ -646,10 +647,10 @@ def go():
     return {"GO111MODULE": "off", "GOPATH": "/usr/share/gocode", "GOFLAGS": "", "GOCACHE": cache}
 
 
-def with_program(name, command):
+def with_program(name, command, *more):
     """A client in another language, which prints the same lines."""
     global failed
-    words = [*command, str(PORT)]
+    words = [*command, str(PORT), *more]
     ran = subprocess.run(words, capture_output=True, timeout=300, check=False, text=True, env={**os.environ, **go()})
     lines = ran.stdout.splitlines()
     print(ran.stdout, end="", flush=True)
