@@ -6,3 +6,6 @@ pub mod PutLemmas
 pub mod FreeLemmas
 pub mod LentLemmas
 pub mod UnderWayLemmas
+pub mod SumLemmas
+pub mod HeaderLemmas
+pub mod AmountLemmas

@@ -15,6 +15,11 @@ channel_view (Open life) = model.Open (life_view life)
 channel_view (LentHeader kind standing) = model.Open (life_on (gathered_as (AwaitsHeader kind)) standing)
 channel_view (LentBody kind size came standing) = model.Open (life_on (gathered_as (AwaitsBody kind size came)) standing)
 
+-- the channel, of whose content only what is gathered counts: of one that is lent nothing is kept
+abbrev pub gathered_view : Channel → model.Channel
+gathered_view (Open life) = model.Open (life_view life)
+gathered_view channel = model.Free
+
 abbrev pub IsFree : Channel → Type 0
 IsFree channel = channel_view channel ≡ model.Free
 

@@ -3,11 +3,15 @@ use Rattle.std.specs.Prelude.{◌≡◌, ◌≢◌, false, ℕ}
 use Rattle.amqp_model.specs.End.Channels as model
 use Rattle.amqp_model.specs.End.FrameVerdict.{is_gathering}
 use Rattle.amqp_channel.specs.LentView.{content_on}
-use Rattle.amqp_channel.specs.Used.{used_view, NoneLentIn}
+use Rattle.amqp_channel.specs.Used.{used_gathered, used_view, NoneLentIn}
 use Rattle.amqp_channel.specs.declared.channels.Channels.{Channels}
 
 abbrev pub channels_view : Channels → ℕ → model.Channel
 channels_view channels = used_view channels.used
+
+-- the channels, of whose contents only what is gathered counts
+abbrev pub channels_gathered : Channels → ℕ → model.Channel
+channels_gathered channels = used_gathered channels.used
 
 -- all channels but this one are as they were
 abbrev pub OnlyAt : ℕ → (old new : ℕ → model.Channel) → Type 0

@@ -15,6 +15,7 @@ pub mod LifeView
 pub mod ChannelView
 pub mod StateView
 pub mod Used
+pub mod AmountView
 pub mod ChannelsView
 pub mod Leaving
 pub mod ProgressView

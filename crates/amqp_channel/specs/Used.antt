@@ -1,14 +1,15 @@
 -- The channels in use, by number, in the words of the model.
-use Rattle.std.specs.Prelude.{◌≡◌, ◌≢◌, ◌<◌, Bool, true, false, nat_eq, ℕ, zero, suc, slice_get, Option, Some, None}
+use Rattle.std.specs.Prelude.{◌≡◌, ◌≢◌, ◌<◌, ◌^◌, Bool, true, false, nat_eq, ℕ, zero, suc, slice_get, Option, Some, None}
 use Rattle.std.specs.declared.hash.FoldHasher.{FoldHasher}
 use Rattle.std.specs.declared.hash.BuildHasherDefault.{BuildHasherDefault}
 use Rattle.std.specs.HashMap.{get, values, HashMap}
 use Rattle.indexmap.specs.IndexMap.{with_value_at}
+use Rattle.amqp_model.specs.End.Amounts.{body_octets_on, header_octets_on}
 use Rattle.amqp_model.specs.End.Asks.{is_free}
 use Rattle.amqp_model.specs.End.Channels as model
 use Rattle.amqp_model.specs.End.FrameVerdict.{is_gathering}
 use Rattle.amqp_channel.specs.LentView.{content_on}
-use Rattle.amqp_channel.specs.ChannelView.{channel_view, is_lent}
+use Rattle.amqp_channel.specs.ChannelView.{channel_view, gathered_view, is_lent}
 use Rattle.amqp_channel.specs.declared.channel.Channel.{Channel}
 
 abbrev pub Used : Type 0
@@ -86,3 +87,28 @@ is_closing_at channel = false
 abbrev pub is_open_at : model.Channel → Bool
 is_open_at (model.Open life) = true
 is_open_at channel = false
+
+-- the number has this channel, and the others have what they had
+pub record IsKeptAt (old : Used) (number : ℕ) (channel : Channel) (new : Used) : Type 0 where
+  pub here : get nat_eq new number ≡ Some channel
+  pub others : (other : ℕ) → other ≢ number → get nat_eq new other ≡ get nat_eq old other
+
+-- the channels, of whose contents only what is gathered counts
+abbrev pub gathered_there : Option Channel → model.Channel
+gathered_there None = model.Free
+gathered_there (Some channel) = gathered_view channel
+
+abbrev pub used_gathered : Used → ℕ → model.Channel
+used_gathered used zero = model.Free
+used_gathered used (suc n) = gathered_there (get nat_eq used (suc n))
+
+-- how many octets are kept there of the header, and of the body, of the content under way
+abbrev pub header_octets_at : Used → ℕ → ℕ
+header_octets_at used number = header_octets_on (used_gathered used number)
+
+abbrev pub body_octets_at : Used → ℕ → ℕ
+body_octets_at used number = body_octets_on (used_gathered used number)
+
+-- a body is in memory, and its octets are counted in 64 bits
+abbrev pub BodiesFit : Used → Type 0
+BodiesFit used = (number : ℕ) → body_octets_at used number < 2 ^ 64

@@ -66,7 +66,7 @@ pub enum Channel {
 
 impl Channel {
     ghost use Rattle.amqp_model.specs.End.Asks.{is_free};
-    ghost use Rattle.amqp_model.specs.End.Closes.{close_as, flow_as, without_arguments};
+    ghost use Rattle.amqp_model.specs.End.Closes.{Cause, close_for, flow_as, without_arguments};
     ghost use Rattle.amqp_model.specs.End.Events.{Message, method_of};
     ghost use Rattle.amqp_model.specs.History.Histories.{PutHere};
     ghost use Rattle.amqp_model.specs.End.Machine.{channel_after};
@@ -107,17 +107,21 @@ impl Channel {
     pub(crate) fn put_open(&mut self)
         requires { IsFree self.old }
         ensures gathers { is_lent self.new ≡ false }
-        ensures after { (frame : Frame) → channel_view self.new ≡ channel_after Client (PutHere (Calls (without_arguments Kind.ChannelOpen)) frame) (channel_view self.old) }
+        ensures after { (frame : Frame)
+            → channel_view self.new ≡ channel_after Client (PutHere (Calls (without_arguments Kind.ChannelOpen))
+            frame) (channel_view self.old) }
     {
         *self = Channel::Opening;
     }
 
-    /// A close that an end puts, with any code and text.
+    /// A close that an end puts, with any code, text and cause.
     pub(crate) fn put_close(&mut self, site: Site)
         requires { IsOpen self.old }
         ensures taken { is_free (channel_view self.new) ≡ false }
         ensures gathers { is_lent self.old ≡ false → is_lent self.new ≡ false }
-        ensures after { (code : ℕ) (text : List ℕ) (frame : Frame) → channel_view self.new ≡ channel_after (role_of site.side) (PutHere (Calls (close_as Kind.ChannelClose code text)) frame) (channel_view self.old) }
+        ensures after { (code : ℕ) (text : List ℕ) (cause : Cause) (frame : Frame)
+            → channel_view self.new ≡ channel_after (role_of site.side)
+            (PutHere (Calls (close_for Kind.ChannelClose code text cause)) frame) (channel_view self.old) }
     {
         *self = Channel::Closing;
     }
@@ -127,7 +131,8 @@ impl Channel {
         requires { IsOpen self.old }
         ensures taken { is_free (channel_view self.new) ≡ false }
         ensures gathers { is_lent self.old ≡ false → is_lent self.new ≡ false }
-        ensures after { (frame : Frame) → channel_view self.new ≡ channel_after (role_of site.side) (PutHere (Calls (flow_as Kind.ChannelFlow active)) frame) (channel_view self.old) }
+        ensures after { (frame : Frame) → channel_view self.new ≡ channel_after (role_of site.side)
+            (PutHere (Calls (flow_as Kind.ChannelFlow active)) frame) (channel_view self.old) }
     {
         match self {
             Channel::Open(life) => life.standing.await_flow_ok(true),
@@ -144,7 +149,8 @@ impl Channel {
         ensures open { is_open_at (channel_view self.new) ≡ true }
         ensures gathers { is_lent self.old ≡ false → is_lent self.new ≡ false }
         ensures ok { OnOk result ((frame : Frame) → channel_view self.new
-            ≡ channel_after (role_of site.side) (PutHere (Calls (method_view method.now)) frame) (channel_view self.old)) }
+            ≡ channel_after (role_of site.side) (PutHere (Calls (method_view method.now)) frame)
+            (channel_view self.old)) }
         ensures err { OnErr result (channel_view self.new ≡ channel_view self.old) }
     {
         match self {
@@ -168,7 +174,9 @@ impl Channel {
         requires other { IsOther (kind_of (Calls (method_view method.now))) }
         ensures taken { is_free (channel_view self.new) ≡ false }
         ensures gathers { is_lent self.old ≡ false → is_lent self.new ≡ false }
-        ensures ok { OnOk result ((frame_max : ℕ) (message : Message) → method_of message ≡ method_view method.now → channel_view self.new ≡ after_payloads (role_of site.side) site.number (message_payloads frame_max message) (channel_view self.old)) }
+        ensures ok { OnOk result ((frame_max : ℕ) (message : Message) → method_of message ≡ method_view method.now
+            → channel_view self.new ≡ after_payloads (role_of site.side) site.number
+            (message_payloads frame_max message) (channel_view self.old)) }
         ensures err { OnErr result (channel_view self.new ≡ channel_view self.old) }
     {
         self.put_method(alloc, site, method)
@@ -389,7 +397,8 @@ impl Channel {
         requires { 0 < site.number }
         ensures rules { Rules site (channel_view self.now) (reading_view reading.entry) result }
         // Where this end has closed the channel, a part of a content is dropped.
-        ensures drops { is_closing_at (channel_view self.now) ≡ true → IsPart (reading_view reading.entry) → Drops result }
+        ensures drops { is_closing_at (channel_view self.now) ≡ true → IsPart (reading_view reading.entry)
+            → Drops result }
     {
         match reading {
             Reading::Method(method) => self.judge_method(site, method),
@@ -558,6 +567,7 @@ impl Channel {
             Progress::NoContent => Channel::Open(Life {
                 content: Gathering::Nothing,
                 standing,
+                header: 0,
             }),
             Progress::AwaitsHeader(kind) => Channel::LentHeader(kind, standing),
             Progress::AwaitsBody { kind, size, came } => Channel::LentBody {
@@ -621,7 +631,8 @@ impl Channel {
     ) -> Result<(), OutOfMemory>
         requires { FitsTold (channel_view self.old) (reading_view reading) told }
         ensures left { OnOk result (AlikeChannels
-            (goes_on (role_of side) (reading_view reading.entry) told (channel_view self.old)) (channel_view self.new)) }
+            (goes_on (role_of side) (reading_view reading.entry) told (channel_view self.old))
+            (channel_view self.new)) }
         ensures err { OnErr result (channel_view self.new ≡ channel_view self.old) }
         ensures drops { IsDiscarded told → IsOk result }
     {
@@ -651,7 +662,8 @@ impl Channel {
     ) -> Result<(), OutOfMemory>
         requires { FitsTold (channel_view self.old) (reading_view reading) told }
         ensures left { OnOk result (AlikeChannels
-            (told_on (role_of side) (reading_view reading.entry) told (channel_view self.old)) (channel_view self.new)) }
+            (told_on (role_of side) (reading_view reading.entry) told (channel_view self.old))
+            (channel_view self.new)) }
         ensures err { OnErr result (channel_view self.new ≡ channel_view self.old) }
         ensures drops { IsDiscarded told → IsOk result }
     {
@@ -688,7 +700,8 @@ impl Channel {
     ) -> Result<(), OutOfMemory>
         requires { Fits (channel_view self.old) (reading_view reading) verdict }
         ensures left { OnOk result (AlikeChannels
-            (left_by (role_of side) (reading_view reading.entry) verdict (channel_view self.old)) (channel_view self.new)) }
+            (left_by (role_of side) (reading_view reading.entry) verdict (channel_view self.old))
+            (channel_view self.new)) }
         ensures err { OnErr result (channel_view self.new ≡ channel_view self.old) }
         // What is dropped takes no memory.
         ensures drops { Drops verdict → IsOk result }

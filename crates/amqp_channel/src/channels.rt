@@ -3,19 +3,22 @@
 //! A channel is kept from its open to its end, and none that is Free is kept: memory is bounded by the channels in use,
 //! whatever their numbers are.
 ghost use Rattle.std.specs.Prelude.{◌≡◌, ◌≢◌, ◌+◌, ◌<◌, ◌≤◌, true, false, not, ℕ, suc, IsOk, IfOk, IfNone, IfSome, OnErr, OnOk, MatchOption, None};
+ghost use Rattle.amqp_model.specs.End.Amounts.{IsSum};
 ghost use Rattle.amqp_model.specs.End.Asks.{is_free, first_free};
 ghost use Rattle.amqp_model.specs.End.Channels.{Free};
 ghost use Rattle.amqp_model.specs.Lent.Alike.{AlikeChannels};
 ghost use Rattle.amqp_channel.specs.ChannelView.{channel_view, is_lent};
 ghost use Rattle.amqp_channel.specs.ContentView.{content_there};
-ghost use Rattle.amqp_channel.specs.Used.{is_closing_at, used_view, HoldsAt, IsIdleAt, KeepsEntriesAt, KeepsOthersAt, KeptAt, NoneElseFree, NoneFreeBelow, NoneKeptFree, NoneLentIn, PutAt, WritesAt};
+ghost use Rattle.amqp_channel.specs.Used.{body_octets_at, header_octets_at, is_closing_at, used_gathered, used_view, BodiesFit, HoldsAt, IsIdleAt, IsKeptAt, KeepsEntriesAt, KeepsOthersAt, KeptAt, NoneElseFree, NoneFreeBelow, NoneKeptFree, NoneLentIn, PutAt, WritesAt};
 ghost use Rattle.indexmap.specs.IndexMap.{index_map_len};
+ghost use Rattle.std.specs.HashMap.{IsUnchanged};
 ghost use Rattle.amqp_channel.specs.Roles.{role_of};
 ghost use Rattle.amqp_channel.specs.ReadingView.{reading_view};
 ghost use Rattle.amqp_channel.specs.VerdictView.{Drops, Fits, IsPart, Rules, handed_out, left_by};
 
 mod puts;
 
+use crate::amounts::{Amount, Amounts};
 use crate::channel::Channel;
 use crate::reading::Reading;
 use crate::side::Side;
@@ -32,9 +35,14 @@ pub struct Channels {
     last: usize,
     /// No number from 1 up to this one, which is not among them, is free.
     low: u16,
+    /// How many octets are kept of the contents under way.
+    pub(crate) amounts: Amounts,
     ghost low_is_least: { 1 ≤ low },
     ghost taken_below: { NoneFreeBelow used low },
     ghost none_free: { NoneKeptFree used },
+    ghost counts_headers: { IsSum (header_octets_at used) amounts.headers },
+    ghost counts_bodies: { IsSum (body_octets_at used) amounts.bodies },
+    ghost bodies_fit: { BodiesFit used },
 }
 
 /// Written out, so that no crate above proves again of each part that it can be dropped.
@@ -44,6 +52,7 @@ impl Drop for Channels {
             used: _,
             last: _,
             low: _,
+            amounts: _,
         } = self;
     }
 }
@@ -59,6 +68,7 @@ fn take_out(used: &mut IndexMap<u16, Channel>, low: u16, number: u16) -> u16
     requires taken { (j : ℕ) → suc j < low → suc j ≢ number → is_free (used_view used.old (suc j)) ≡ false }
     requires none { NoneElseFree used.old number }
     ensures same { (other : ℕ) → used_view used.new other ≡ used_view used.old other }
+    ensures gathered { (other : ℕ) → used_gathered used.new other ≡ used_gathered used.old other }
     ensures least { 1 ≤ result }
     ensures taken { NoneFreeBelow used.new result }
     ensures none { NoneKeptFree used.new }
@@ -76,6 +86,7 @@ fn tidy(used: &mut IndexMap<u16, Channel>, low: u16, number: u16, over: bool) ->
     requires taken { (j : ℕ) → suc j < low → suc j ≢ number → is_free (used_view used.old (suc j)) ≡ false }
     requires none { NoneElseFree used.old number }
     ensures same { (other : ℕ) → used_view used.new other ≡ used_view used.old other }
+    ensures gathered { (other : ℕ) → used_gathered used.new other ≡ used_gathered used.old other }
     ensures least { 1 ≤ result }
     ensures taken { NoneFreeBelow used.new result }
     ensures none { NoneKeptFree used.new }
@@ -85,6 +96,17 @@ fn tidy(used: &mut IndexMap<u16, Channel>, low: u16, number: u16, over: bool) ->
         return low;
     }
     take_out(used, low, number)
+}
+
+/// Keeps a channel under a number. Out of memory, all is as it was.
+///
+/// It stands apart, so that what stood there before is dropped in one place.
+fn keep(used: &mut IndexMap<u16, Channel>, number: u16, channel: Channel) -> Result<(), OutOfMemory>
+    ensures ok { OnOk result (IsKeptAt used.old number channel used.new) }
+    ensures err { OnErr result (IsUnchanged used.old used.new) }
+{
+    used.insert(number, channel)?;
+    Ok(())
 }
 
 impl Channels {
@@ -99,33 +121,34 @@ impl Channels {
             used: IndexMap::new(alloc),
             last: 0,
             low: 1,
+            amounts: Amounts::none(),
         }
     }
 
     /// The channel of this number, if it is in use.
     pub fn get(&self, number: u16) -> Option<&Channel>
         requires { 0 < number }
-        ensures { MatchOption result (channels_view self.now number ≡ Free) (λ channel. channels_view self.now number ≡ channel_view channel.now) }
+        ensures { MatchOption result (channels_view self.now number ≡ Free) (λ channel. channels_view self.now number
+            ≡ channel_view channel.now) }
     {
         self.used.get(&number)
     }
 
-    /// Sets a channel that isn't Free.
+    /// Sets a channel that was Free.
     pub(crate) fn set(&mut self, number: u16, channel: Channel) -> Result<(), OutOfMemory>
-        requires { 0 < number }
+        requires above { 0 < number }
+        requires free { is_free (channels_view self.old number) ≡ true }
         ensures gathers { is_lent channel ≡ false → NoneLent self.old → NoneLent self.new }
         ensures at { OnOk result (channels_view self.new number ≡ channel_view channel) }
         ensures others { OnOk result (OnlyAt number (channels_view self.old) (channels_view self.new)) }
         ensures err { OnErr result ((other : ℕ) → channels_view self.new other ≡ channels_view self.old other) }
     {
         if channel.is_free() {
-            let _ = self.used.swap_remove(&number);
-            if number < self.low {
-                self.low = number;
-            }
             return Ok(());
         }
-        self.used.insert(number, channel)?;
+        let left = channel.amount();
+        keep(&mut self.used, number, channel)?;
+        self.amounts = self.amounts.after(Amount::none(), left);
         Ok(())
     }
 
@@ -162,7 +185,8 @@ impl Channels {
         requires { 0 < site.number }
         ensures rules { Rules site (channels_view self.now site.number) (reading_view reading.entry) result }
         // Where this end has closed the channel, a part of a content is dropped.
-        ensures drops { is_closing_at (channels_view self.now site.number) ≡ true → IsPart (reading_view reading.entry) → Drops result }
+        ensures drops { is_closing_at (channels_view self.now site.number) ≡ true
+            → IsPart (reading_view reading.entry) → Drops result }
     {
         match self.place_of(site.number) {
             Some(place) => self.used[place].judge(site, reading),
@@ -197,10 +221,13 @@ impl Channels {
             Some(place) => {
                 self.last = place;
                 let channel = &mut self.used[place];
-                let content = channel.apply(alloc, side, reading, verdict)?;
+                let before = channel.amount();
+                let answer = channel.apply(alloc, side, reading, verdict);
+                let left = channel.amount();
                 let over = channel.is_free();
+                self.amounts = self.amounts.after(before, left);
                 self.low = tidy(&mut self.used, self.low, number, over);
-                Ok(content)
+                answer
             }
             None => self.apply_unused(alloc, side, number, reading, verdict),
         }
@@ -261,10 +288,13 @@ impl Channels {
             Some(place) => {
                 self.last = place;
                 let channel = &mut self.used[place];
-                channel.apply_lent(alloc, side, reading, verdict)?;
+                let before = channel.amount();
+                let answer = channel.apply_lent(alloc, side, reading, verdict);
+                let left = channel.amount();
                 let over = channel.is_free();
+                self.amounts = self.amounts.after(before, left);
                 self.low = tidy(&mut self.used, self.low, number, over);
-                Ok(())
+                answer
             }
             None => self.apply_lent_unused(alloc, side, number, reading, verdict),
         }

@@ -41,9 +41,11 @@ impl Deferred {
         header: HeaderRef<'_>,
         content: Box<Content>,
     ) -> Result<Box<Deferred>, Box<Content>>
-        ensures properties { IfOk result (λ d. properties_of d.value.header.items ≡ (lent_header header.entry).properties) }
+        ensures properties { IfOk result (λ d. properties_of d.value.header.items
+            ≡ (lent_header header.entry).properties) }
         ensures size { IfOk result (λ d. d.value.size ≡ (lent_header header.entry).body_size) }
-        ensures method { IfOk result (λ d. carrier_view d.value.content.value.method ≡ carrier_view content.value.method) }
+        ensures method { IfOk result (λ d. carrier_view d.value.content.value.method
+            ≡ carrier_view content.value.method) }
         ensures body { IfOk result (λ d. d.value.content.value.body.items ≡ content.value.body.items) }
         ensures back { IfErr result (λ c. carrier_view c.value.method ≡ carrier_view content.value.method) }
     {
@@ -76,7 +78,8 @@ impl Deferred {
         ensures same { (self.new.size ≡ self.old.size) × (self.new.header.items ≡ self.old.header.items) }
         ensures method { carrier_view self.new.content.value.method ≡ carrier_view self.old.content.value.method }
         ensures body { self.new.content.value.body.items ≡ self.old.content.value.body.items }
-        ensures read { OnOk result (properties_view self.new.content.value.header.properties ≡ properties_of self.old.header.items) }
+        ensures read { OnOk result (properties_view self.new.content.value.header.properties
+            ≡ properties_of self.old.header.items) }
     {
         match read_content_header(alloc, &self.header, &mut self.content.header) {
             Ok(true) => Ok(()),

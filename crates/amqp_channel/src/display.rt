@@ -42,7 +42,8 @@ fn write_told<W: fmt::Write>(
     channel: u16,
     message: &Message,
 ) -> fmt::Result
-    ensures { WritesOnOk W.write_str_gives f.old result (channel_text (codes "told") channel ++ (codes " " ++ text_of_message (message_view message.now))) f.new }
+    ensures { WritesOnOk W.write_str_gives f.old result (channel_text (codes "told") channel
+        ++ (codes " " ++ text_of_message (message_view message.now))) f.new }
 {
     write_channel(f, "told", channel)?;
     f.write_str(" ")?;
@@ -75,7 +76,8 @@ fn write_channel_closed<W: fmt::Write>(
     channel: u16,
     reason: &Option<Reason>,
 ) -> fmt::Result
-    ensures { WritesOnOk W.write_str_gives f.old result (channel_text (codes "channel-closed") channel ++ (codes " " ++ closer_text reason.now)) f.new }
+    ensures { WritesOnOk W.write_str_gives f.old result (channel_text (codes "channel-closed") channel
+        ++ (codes " " ++ closer_text reason.now)) f.new }
 {
     write_channel(f, "channel-closed", channel)?;
     f.write_str(" ")?;
@@ -104,7 +106,8 @@ fn write_negotiated<W: fmt::Write>(
     channel_max: u16,
     frame_max: u32,
 ) -> fmt::Result
-    ensures { WritesOnOk W.write_str_gives f.old result (codes "negotiated " ++ (decimal channel_max ++ (codes " " ++ decimal frame_max))) f.new }
+    ensures { WritesOnOk W.write_str_gives f.old result (codes "negotiated "
+        ++ (decimal channel_max ++ (codes " " ++ decimal frame_max))) f.new }
 {
     write!(f, "negotiated {channel_max} {frame_max}")
 }

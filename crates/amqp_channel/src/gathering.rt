@@ -93,7 +93,8 @@ pub(crate) fn append_last(body: &mut Vec<u8>, octets: &[u8]) -> Result<(), OutOf
 impl Gathering {
     /// Keeps a part of a body, after which more is due. Out of memory, all is as it was.
     pub(crate) fn append(&mut self, octets: &[u8]) -> Result<(), OutOfMemory>
-        ensures ok { OnOk result (gathering_view self.new ≡ continued_with (BodyOf octets.now) (gathering_view self.old)) }
+        ensures ok { OnOk result (gathering_view self.new ≡ continued_with (BodyOf octets.now)
+            (gathering_view self.old)) }
         ensures err { OnErr result (gathering_view self.new ≡ gathering_view self.old) }
     {
         match self {
@@ -107,7 +108,8 @@ impl Gathering {
     /// The content that a part of its body makes whole. Nothing is kept of it any more. Out of memory, all is as it was.
     pub(crate) fn finish(&mut self, octets: &[u8]) -> Result<Box<Content>, OutOfMemory>
         requires { IsWhole (whole_with (gathering_view self.old) octets.now) }
-        ensures whole { IfOk result (λ content. whole_with (gathering_view self.old) octets.now ≡ Some (content_view content.value)) }
+        ensures whole { IfOk result (λ content. whole_with (gathering_view self.old) octets.now
+            ≡ Some (content_view content.value)) }
         ensures left { OnOk result (gathering_view self.new ≡ Nothing) }
         ensures err { OnErr result (gathering_view self.new ≡ gathering_view self.old) }
     {
@@ -128,7 +130,8 @@ impl Gathering {
     /// Takes the header that is due, after which the body is due. Out of memory, the header is due still.
     pub(crate) fn head(&mut self, alloc: Global, header: HeaderRef<'_>) -> Result<(), OutOfMemory>
         requires { IsHeaderDue (gathering_view self.old) }
-        ensures ok { OnOk result (gathering_view self.new ≡ headed_with (header_said header.entry) (gathering_view self.old)) }
+        ensures ok { OnOk result (gathering_view self.new ≡ headed_with (header_said header.entry)
+            (gathering_view self.old)) }
         ensures err { OnErr result (gathering_view self.new ≡ gathering_view self.old) }
     {
         match mem::replace(self, Gathering::Nothing) {
@@ -144,7 +147,8 @@ impl Gathering {
         header: HeaderRef<'_>,
     ) -> Result<Box<Content>, OutOfMemory>
         requires { IsWhole (whole_at (gathering_view self.old) (header_said header)) }
-        ensures whole { IfOk result (λ content. whole_at (gathering_view self.old) (header_said header.entry) ≡ Some (content_view content.value)) }
+        ensures whole { IfOk result (λ content. whole_at (gathering_view self.old) (header_said header.entry)
+            ≡ Some (content_view content.value)) }
         ensures left { OnOk result (gathering_view self.new ≡ Nothing) }
         ensures err { OnErr result (gathering_view self.new ≡ gathering_view self.old) }
     {
@@ -169,7 +173,8 @@ impl Gathering {
         header: HeaderRef<'_>,
         mut content: Box<Content>,
     ) -> Result<(), OutOfMemory>
-        ensures ok { OnOk result (gathering_view self.new ≡ headed_with (header_said header.entry) (HeaderDue (carrier_view content.value.method))) }
+        ensures ok { OnOk result (gathering_view self.new ≡ headed_with (header_said header.entry)
+            (HeaderDue (carrier_view content.value.method))) }
         ensures err { OnErr result (gathering_view self.new ≡ HeaderDue (carrier_view content.value.method)) }
     {
         content.body.clear();
@@ -192,7 +197,8 @@ impl Gathering {
         content: Box<Content>,
     ) -> Result<(), OutOfMemory>
         requires { content.value.body.items ≡ [] }
-        ensures ok { OnOk result (gathering_view self.new ≡ headed_with (header_said header.entry) (HeaderDue (carrier_view content.value.method))) }
+        ensures ok { OnOk result (gathering_view self.new ≡ headed_with (header_said header.entry)
+            (HeaderDue (carrier_view content.value.method))) }
         ensures err { OnErr result (gathering_view self.new ≡ HeaderDue (carrier_view content.value.method)) }
     {
         match Deferred::new(alloc, header, content) {

@@ -9,6 +9,7 @@
 #![tactic(auto)]
 
 mod aligned;
+mod amounts;
 mod channel;
 mod channels;
 mod codes;

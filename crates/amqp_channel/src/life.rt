@@ -3,6 +3,7 @@
 ghost use Rattle.std.specs.Prelude.{◌≡◌, ◌≢◌, ◌<◌, ◌≤◌, true, ℕ, List, length, None, Some, IfOk, IsOk, OnOk, OnErr};
 ghost use Rattle.amqp_method.specs.HeaderRefView.{lent_header};
 ghost use Rattle.amqp_method.specs.MethodRefView.{lent_call};
+ghost use Rattle.amqp_model.specs.End.Amounts.{header_octets};
 ghost use Rattle.amqp_model.specs.End.Channels as model;
 ghost use Rattle.amqp_model.specs.End.Channels.{Open, new_life};
 ghost use Rattle.amqp_model.specs.End.FrameVerdict.{on_message};
@@ -13,7 +14,7 @@ ghost use Rattle.amqp_model.specs.Wire.Notes.{Client, Server};
 ghost use Rattle.amqp_model.specs.Wire.Readings as readings;
 ghost use Rattle.amqp_model.specs.Wire.Readings.{Calls, BodyOf, HeaderOf, kind_of};
 ghost use Rattle.amqp_channel.specs.ContentView.{content_there, content_view};
-ghost use Rattle.amqp_channel.specs.LifeView.{life_view, IsIdle, IsOther};
+ghost use Rattle.amqp_channel.specs.GatheringView.{gathering_view};
 ghost use Rattle.amqp_channel.specs.ReadingView.{header_said, reading_view};
 ghost use Rattle.amqp_channel.specs.Roles.{role_of};
 ghost use Rattle.amqp_channel.specs.VerdictView.{asked_with, replies_in, told_in, verdict_view, whole_at, whole_of, whole_with, FitsTold, IsDiscarded, IsFlow, IsHeaderDue, IsWhole, MessageRules, Rules, RulesByState, TellsMessage};
@@ -27,6 +28,7 @@ use crate::standing::Standing;
 use crate::verdict::{Reply, Told, Verdict};
 use crate::words::lent_bit_at;
 use amqp_method::{Carrier, Content, HeaderRef, Kind, MethodRef, OutOfMemory};
+use amqp_model::bounds::headers_have_one_length;
 use std::alloc::Global;
 
 /// How many requests a server keeps on a channel.
@@ -39,9 +41,14 @@ pub struct Life {
     pub content: Gathering,
     /// What waits, and what is paused.
     pub standing: Standing,
+    /// How many octets the header has of the content under way; 0 before it has come.
+    pub(crate) header: usize,
+    pub ghost measures: { header ≡ header_octets (gathering_view content) },
 }
 
 impl Life {
+    ghost use Rattle.amqp_channel.specs.LifeView.{life_view, IsIdle, IsOther};
+
     /// A life begins with nothing under way.
     pub(crate) fn new() -> Life
         ensures { life_view result ≡ new_life }
@@ -49,6 +56,7 @@ impl Life {
         Life {
             content: Gathering::Nothing,
             standing: Standing::new(),
+            header: 0,
         }
     }
 }
@@ -56,7 +64,8 @@ impl Life {
 /// A message that may come: its method stands alone, or begins a content.
 fn tell_message(method: MethodRef<'_>) -> Verdict
     ensures tells { TellsMessage (lent_call method.entry) result }
-    ensures verdict { (number : ℕ) → verdict_view number (Calls (lent_call method.entry)) None result ≡ on_message number (lent_call method.entry) }
+    ensures verdict { (number : ℕ) → verdict_view number (Calls (lent_call method.entry)) None result
+        ≡ on_message number (lent_call method.entry) }
 {
     if method.has_content() {
         return Verdict::Proceeds(Told::Begun, None);
@@ -96,6 +105,8 @@ pub(crate) fn judge_part(site: Site, size: u64, came: u64, octets: &[u8]) -> Ver
 }
 
 impl Life {
+    ghost use Rattle.amqp_channel.specs.LifeView.{life_view, IsIdle, IsOther};
+
     /// What a client takes: a reply has to be to the request that waits.
     fn judge_reply(&self, method: MethodRef<'_>) -> Verdict
         ensures rules { MessageRules Client (life_view self.now) (lent_call method.entry) result }
@@ -177,7 +188,8 @@ impl Life {
     pub(crate) fn judge_header(&self, site: Site, header: HeaderRef<'_>) -> Verdict
         requires above { 0 < site.number }
         requires within { site.number ≤ site.channel_max }
-        ensures { Rules site (Open (life_view self.now)) (HeaderOf (lent_header header.entry).body_size (lent_header header.entry).properties) result }
+        ensures { Rules site (Open (life_view self.now)) (HeaderOf (lent_header header.entry).body_size
+            (lent_header header.entry).properties) result }
     {
         match &self.content {
             Gathering::Nothing | Gathering::BodyDue(_) | Gathering::Deferred(_) => {
@@ -214,6 +226,8 @@ impl Life {
 }
 
 impl Life {
+    ghost use Rattle.amqp_channel.specs.LifeView.{life_view, IsIdle, IsOther};
+
     /// A server keeps a request that it takes.
     fn keep_asked(
         &mut self,
@@ -221,7 +235,8 @@ impl Life {
         side: Side,
         method: MethodRef<'_>,
     ) -> Result<(), OutOfMemory>
-        ensures ok { OnOk result (life_view self.new ≡ asked_with (role_of side) (Calls (lent_call method.entry)) (life_view self.old)) }
+        ensures ok { OnOk result (life_view self.new ≡ asked_with (role_of side) (Calls (lent_call method.entry))
+            (life_view self.old)) }
         ensures err { OnErr result (life_view self.new ≡ life_view self.old) }
     {
         if !side.is_client() && method.is_request() {
@@ -237,7 +252,8 @@ impl Life {
         side: Side,
         method: MethodRef<'_>,
     ) -> Result<(), OutOfMemory>
-        ensures ok { OnOk result (life_view self.new ≡ told_in (role_of side) (Calls (lent_call method.entry)) Told.Method (life_view self.old)) }
+        ensures ok { OnOk result (life_view self.new ≡ told_in (role_of side) (Calls (lent_call method.entry))
+            Told.Method (life_view self.old)) }
         ensures err { OnErr result (life_view self.new ≡ life_view self.old) }
     {
         match side {
@@ -254,18 +270,22 @@ impl Life {
     /// A method begins a content. Out of memory, none is begun.
     fn begin(&mut self, alloc: Global, side: Side, method: MethodRef<'_>) -> Result<(), OutOfMemory>
         requires { content_follows (lent_call method) ≡ true }
-        ensures ok { OnOk result (life_view self.new ≡ told_in (role_of side) (Calls (lent_call method.entry)) Told.Begun (life_view self.old)) }
+        ensures ok { OnOk result (life_view self.new ≡ told_in (role_of side) (Calls (lent_call method.entry))
+            Told.Begun (life_view self.old)) }
         ensures err { OnErr result (life_view self.new ≡ life_view self.old) }
     {
         let content = Content::begun(alloc, Carrier::new(method.to_owned(alloc)?))?;
         self.keep_asked(alloc, side, method)?;
         self.content = Gathering::HeaderDue(content);
+        self.header = 0;
         Ok(())
     }
 
     /// A part of a body, after which more is due.
+    #[tactic(auto, using(crate::proofs::HeaderLemmas::header_continued))]
     fn fill(&mut self, side: Side, octets: &[u8]) -> Result<(), OutOfMemory>
-        ensures ok { OnOk result (life_view self.new ≡ told_in (role_of side) (BodyOf octets.now) Told.Continued (life_view self.old)) }
+        ensures ok { OnOk result (life_view self.new ≡ told_in (role_of side) (BodyOf octets.now) Told.Continued
+            (life_view self.old)) }
         ensures err { OnErr result (life_view self.new ≡ life_view self.old) }
     {
         self.content.append(octets)
@@ -279,10 +299,15 @@ impl Life {
         header: HeaderRef<'_>,
     ) -> Result<(), OutOfMemory>
         requires { IsHeaderDue (life_view self.old).content }
-        ensures ok { OnOk result (life_view self.new ≡ told_in (role_of side) (header_said header.entry) Told.Headed (life_view self.old)) }
+        ensures ok { OnOk result (life_view self.new ≡ told_in (role_of side) (header_said header.entry) Told.Headed
+            (life_view self.old)) }
         ensures err { OnErr result (life_view self.new ≡ life_view self.old) }
     {
-        self.content.head(alloc, header)
+        headers_have_one_length();
+        let octets = header.payload().len();
+        self.content.head(alloc, header)?;
+        self.header = octets;
+        Ok(())
     }
 
     /// The header of a content without a body, which is whole. A client's reply takes its request away.
@@ -293,12 +318,15 @@ impl Life {
         header: HeaderRef<'_>,
     ) -> Result<Box<Content>, OutOfMemory>
         requires { IsWhole (whole_at (life_view self.old).content (header_said header)) }
-        ensures whole { IfOk result (λ content. whole_at (life_view self.old).content (header_said header.entry) ≡ Some (content_view content.value)) }
-        ensures ok { OnOk result (life_view self.new ≡ told_in (role_of side) (header_said header.entry) Told.Completed (life_view self.old)) }
+        ensures whole { IfOk result (λ content. whole_at (life_view self.old).content (header_said header.entry)
+            ≡ Some (content_view content.value)) }
+        ensures ok { OnOk result (life_view self.new ≡ told_in (role_of side) (header_said header.entry)
+            Told.Completed (life_view self.old)) }
         ensures err { OnErr result (life_view self.new ≡ life_view self.old) }
     {
         let replies = self.replies();
         let content = self.content.finish_header(alloc, header)?;
+        self.header = 0;
         if side.is_client() && replies {
             self.standing.answer_request();
         }
@@ -308,12 +336,15 @@ impl Life {
     /// The last part of a body. A client's reply takes its request away.
     fn finish(&mut self, side: Side, octets: &[u8]) -> Result<Box<Content>, OutOfMemory>
         requires { IsWhole (whole_with (life_view self.old).content octets.now) }
-        ensures whole { IfOk result (λ content. whole_with (life_view self.old).content octets.now ≡ Some (content_view content.value)) }
-        ensures ok { OnOk result (life_view self.new ≡ told_in (role_of side) (BodyOf octets.now) Told.Completed (life_view self.old)) }
+        ensures whole { IfOk result (λ content. whole_with (life_view self.old).content octets.now
+            ≡ Some (content_view content.value)) }
+        ensures ok { OnOk result (life_view self.new ≡ told_in (role_of side) (BodyOf octets.now) Told.Completed
+            (life_view self.old)) }
         ensures err { OnErr result (life_view self.new ≡ life_view self.old) }
     {
         let replies = self.replies();
         let content = self.content.finish(octets)?;
+        self.header = 0;
         if side.is_client() && replies {
             self.standing.answer_request();
         }
@@ -336,7 +367,8 @@ impl Life {
     /// A flow pauses the channel or lets it go on, and flow-ok answers this end's.
     fn apply_flow(&mut self, side: Side, told: Told)
         requires { IsFlow told }
-        ensures { (reading : readings.Reading) → life_view self.new ≡ told_in (role_of side) reading told (life_view self.old) }
+        ensures { (reading : readings.Reading) → life_view self.new ≡ told_in (role_of side) reading told
+            (life_view self.old) }
     {
         match told {
             Told::Flow(active) => self.standing.pause(!active),
@@ -347,6 +379,8 @@ impl Life {
 }
 
 impl Life {
+    ghost use Rattle.amqp_channel.specs.LifeView.{life_view, IsIdle, IsOther};
+
     /// The frame that makes a content whole: the last part of its body, or its header.
     fn finish_content(
         &mut self,

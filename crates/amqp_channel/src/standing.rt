@@ -196,8 +196,10 @@ impl Standing {
     ) -> Result<(), OutOfMemory>
         requires { IsOther (kind_of (Calls (method_view method.now))) }
         ensures ok { OnOk result ((content : Gathering) (frame : Frame) → Open (life_on content self.new)
-            ≡ channel_after (role_of side) (PutHere (Calls (method_view method.now)) frame) (Open (life_on content self.old))) }
-        ensures err { OnErr result ((content : Gathering) → Open (life_on content self.new) ≡ Open (life_on content self.old)) }
+            ≡ channel_after (role_of side) (PutHere (Calls (method_view method.now)) frame)
+            (Open (life_on content self.old))) }
+        ensures err { OnErr result ((content : Gathering) → Open (life_on content self.new)
+            ≡ Open (life_on content self.old)) }
     {
         match side {
             Side::Client => {
@@ -218,7 +220,8 @@ impl Standing {
     fn take_request(&mut self, alloc: Global, method: MethodRef<'_>) -> Result<(), OutOfMemory>
         ensures ok { OnOk result ((content : Gathering)
             → StandsAs (asked_with Server (Calls (lent_call method.entry)) (life_on content self.old)) self.new) }
-        ensures err { OnErr result ((content : Gathering) → Open (life_on content self.new) ≡ Open (life_on content self.old)) }
+        ensures err { OnErr result ((content : Gathering) → Open (life_on content self.new)
+            ≡ Open (life_on content self.old)) }
     {
         if method.is_request() {
             self.keep_request(alloc, method.kind())?;
@@ -234,8 +237,10 @@ impl Standing {
         method: MethodRef<'_>,
     ) -> Result<(), OutOfMemory>
         ensures ok { OnOk result ((content : Gathering)
-            → StandsAs (told_in (role_of side) (Calls (lent_call method.entry)) Told.Method (life_on content self.old)) self.new) }
-        ensures err { OnErr result ((content : Gathering) → Open (life_on content self.new) ≡ Open (life_on content self.old)) }
+            → StandsAs (told_in (role_of side) (Calls (lent_call method.entry)) Told.Method
+            (life_on content self.old)) self.new) }
+        ensures err { OnErr result ((content : Gathering) → Open (life_on content self.new)
+            ≡ Open (life_on content self.old)) }
     {
         match side {
             Side::Client => {
@@ -260,7 +265,8 @@ impl Standing {
     ) -> Result<(), OutOfMemory>
         ensures ok { OnOk result ((content : Gathering) → replies_in content ≡ replies
             → StandsAs (told_in (role_of side) (reading_view reading.entry) told (life_on content self.old)) self.new) }
-        ensures err { OnErr result ((content : Gathering) → Open (life_on content self.new) ≡ Open (life_on content self.old)) }
+        ensures err { OnErr result ((content : Gathering) → Open (life_on content self.new)
+            ≡ Open (life_on content self.old)) }
     {
         match told {
             Told::Method => {

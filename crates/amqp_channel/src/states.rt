@@ -25,7 +25,7 @@ pub enum ChannelState {
 
 impl Gathering {
     /// How many octets are kept of a body.
-    fn octets(&self) -> usize
+    pub(crate) fn octets(&self) -> usize
         ensures { result ≡ length (kept (gathering_view self.now)) }
     {
         match self {

@@ -59,7 +59,7 @@ module _ (role : Role) (one : End) (others : ℕ → Channel) (each : (n : ℕ) 
   open-same : (ask : Ask) → not_open one ask ≡ not_open there ask
   open-same (Send channel message) = ap (λ b. when b asks.NotOpen) (lacks-alike (one.channels channel) (others channel) (each channel))
   open-same (Flow channel active) = ap (λ b. when b asks.NotOpen) (lacks-alike (one.channels channel) (others channel) (each channel))
-  open-same (CloseChannel channel code text) = ap (λ b. when b asks.NotOpen) (lacks-alike (one.channels channel) (others channel) (each channel))
+  open-same (CloseChannel channel code text cause) = ap (λ b. when b asks.NotOpen) (lacks-alike (one.channels channel) (others channel) (each channel))
   open-same ask = refl
 
   bad-same : (ask : Ask) → bad_channel one ask ≡ bad_channel there ask

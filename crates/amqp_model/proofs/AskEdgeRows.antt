@@ -8,7 +8,7 @@ use Rattle.amqp_model.specs.Wire.Frame.{Frame}
 use Rattle.amqp_model.specs.Wire.Notes.{Role, Client, Server}
 use Rattle.amqp_model.specs.Wire.Methods.{Method, plain_method}
 use Rattle.amqp_model.specs.End.Channels.{Free, Opening, Closing, Open, new_life, AwaitsOpenOk, Phase, Handshake, Closed, Failed, End}
-use Rattle.amqp_model.specs.End.Closes.{close_as, flow_as, without_arguments}
+use Rattle.amqp_model.specs.End.Closes.{close_as, no_cause, flow_as, without_arguments}
 use Rattle.amqp_model.specs.End.Events.{Plain}
 use Rattle.amqp_model.specs.End.Asks.{Refusal, Ask, AskVerdict, Refused, Puts, ask_verdict}
 use Rattle.amqp_model.proofs.AskRows.{ten_channels, open_on_1, AtBothSizes, OnOpenChannel, paused_life, sends}
@@ -28,8 +28,8 @@ IsNotRunning phase =
     AtBothSizes Client (in_phase phase) (sends (without_arguments kinds.TxSelect)) (Refused Refusal.NotRunning)
     × AtBothSizes Client (in_phase phase) Ask.Open (Refused Refusal.NotRunning)
     × AtBothSizes Server (in_phase phase) (Ask.Flow 1 true) (Refused Refusal.NotRunning)
-    × AtBothSizes Server (in_phase phase) (Ask.CloseChannel 1 200 []) (Refused Refusal.NotRunning)
-    × AtBothSizes Client (in_phase phase) (Ask.Close 200 []) (Refused Refusal.NotRunning)
+    × AtBothSizes Server (in_phase phase) (Ask.CloseChannel 1 200 [] no_cause) (Refused Refusal.NotRunning)
+    × AtBothSizes Client (in_phase phase) (Ask.Close 200 [] no_cause) (Refused Refusal.NotRunning)
     × AtBothSizes Server (in_phase phase) (Ask.Blocked []) (Refused Refusal.NotRunning)
     × AtBothSizes Server (in_phase phase) Ask.Unblocked (Refused Refusal.NotRunning)
 
@@ -75,10 +75,10 @@ flow_on_10 : OnChannels Server (Ask.Flow 10 false) (Puts (method_on 10 (0 ∷ 20
 unfolding plain_method
 flow_on_10 = (refl, refl)
 
-close_on_0 : OnChannels Client (Ask.CloseChannel 0 200 []) (Refused Refusal.BadChannel)
+close_on_0 : OnChannels Client (Ask.CloseChannel 0 200 [] no_cause) (Refused Refusal.BadChannel)
 close_on_0 = (refl, refl)
 
-close_on_11 : OnChannels Client (Ask.CloseChannel 11 200 []) (Refused Refusal.BadChannel)
+close_on_11 : OnChannels Client (Ask.CloseChannel 11 200 [] no_cause) (Refused Refusal.BadChannel)
 close_on_11 = (refl, refl)
 
 -- A channel has to be Open.
@@ -92,7 +92,7 @@ send_on_opening = (refl, refl)
 flow_on_closing : OnChannels Server (Ask.Flow 3 true) (Refused Refusal.NotOpen)
 flow_on_closing = (refl, refl)
 
-close_on_closing : OnChannels Server (Ask.CloseChannel 3 200 []) (Refused Refusal.NotOpen)
+close_on_closing : OnChannels Server (Ask.CloseChannel 3 200 [] no_cause) (Refused Refusal.NotOpen)
 close_on_closing = (refl, refl)
 
 -- The classes connection and channel are no messages, whoever may send the method.
@@ -134,19 +134,19 @@ unblocked_by_server = (refl, refl)
 abbrev bye_octets : List ℕ
 bye_octets = 0 ∷ 200 ∷ 3 ∷ 98 ∷ 121 ∷ 101 ∷ 0 ∷ 0 ∷ 0 ∷ 0 ∷ []
 
-close_channel_of_client : OnOpenChannel Client paused_life (Ask.CloseChannel 1 200 (codes "bye")) (Puts (method_on 1 (0 ∷ 20 ∷ 0 ∷ 40 ∷ bye_octets) ∷ []))
+close_channel_of_client : OnOpenChannel Client paused_life (Ask.CloseChannel 1 200 (codes "bye") no_cause) (Puts (method_on 1 (0 ∷ 20 ∷ 0 ∷ 40 ∷ bye_octets) ∷ []))
 unfolding plain_method
 close_channel_of_client = (refl, refl)
 
-close_channel_of_server : OnChannels Server (Ask.CloseChannel 10 404 []) (Puts (method_on 10 (0 ∷ 20 ∷ 0 ∷ 40 ∷ 1 ∷ 148 ∷ 0 ∷ 0 ∷ 0 ∷ 0 ∷ 0 ∷ []) ∷ []))
+close_channel_of_server : OnChannels Server (Ask.CloseChannel 10 404 [] no_cause) (Puts (method_on 10 (0 ∷ 20 ∷ 0 ∷ 40 ∷ 1 ∷ 148 ∷ 0 ∷ 0 ∷ 0 ∷ 0 ∷ 0 ∷ []) ∷ []))
 unfolding plain_method
 close_channel_of_server = (refl, refl)
 
-close_of_client : OnOpenChannel Client new_life (Ask.Close 200 (codes "bye")) (Puts (method_on 0 (0 ∷ 10 ∷ 0 ∷ 50 ∷ bye_octets) ∷ []))
+close_of_client : OnOpenChannel Client new_life (Ask.Close 200 (codes "bye") no_cause) (Puts (method_on 0 (0 ∷ 10 ∷ 0 ∷ 50 ∷ bye_octets) ∷ []))
 unfolding plain_method
 close_of_client = (refl, refl)
 
-close_of_server : OnOpenChannel Server new_life (Ask.Close 320 (codes "x")) (Puts (method_on 0 (0 ∷ 10 ∷ 0 ∷ 50 ∷ 1 ∷ 64 ∷ 1 ∷ 120 ∷ 0 ∷ 0 ∷ 0 ∷ 0 ∷ []) ∷ []))
+close_of_server : OnOpenChannel Server new_life (Ask.Close 320 (codes "x") no_cause) (Puts (method_on 0 (0 ∷ 10 ∷ 0 ∷ 50 ∷ 1 ∷ 64 ∷ 1 ∷ 120 ∷ 0 ∷ 0 ∷ 0 ∷ 0 ∷ []) ∷ []))
 unfolding plain_method
 close_of_server = (refl, refl)
 

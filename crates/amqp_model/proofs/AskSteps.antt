@@ -12,7 +12,7 @@ use Rattle.amqp_model.specs.History.Histories.{Put, History, PutHere}
 use Rattle.amqp_model.specs.End.Channels.{Life, Channel, Phase, Handshake, Running, Closed, Failed, End}
 use Rattle.amqp_model.specs.End.Channels as channels
 use Rattle.amqp_model.specs.History.Negotiation.{Config}
-use Rattle.amqp_model.specs.End.Closes.{method_frame, flow_as, close_as, without_arguments}
+use Rattle.amqp_model.specs.End.Closes.{Cause, method_frame, flow_as, close_for, without_arguments}
 use Rattle.amqp_model.specs.End.Events.{Message, Plain, Whole, method_of}
 use Rattle.amqp_model.specs.End.FrameVerdict.{answers_first}
 use Rattle.amqp_model.specs.End.Asks.{Ask, Refusal, frame_max, is_running, lowest_free, opens_on, channel_max, life_of, in_life, method_asked, refusal, frames_asked, payload_frame, message_payloads, reply_pending, no_such_request, is_made, Puts, ask_verdict}
@@ -42,9 +42,9 @@ may-flow : (role : Role) (life : Life) (active : Bool) → may_put_here role (ch
 may-flow Client life active = refl
 may-flow Server life active = refl
 
-may-close : (role : Role) (life : Life) (code : ℕ) (text : List ℕ) → may_put_here role (channels.Open life) (Calls (close_as kinds.ChannelClose code text)) ≡ true
-may-close Client life code text = refl
-may-close Server life code text = refl
+may-close : (role : Role) (life : Life) (code : ℕ) (text : List ℕ) (cause : Cause) → may_put_here role (channels.Open life) (Calls (close_for kinds.ChannelClose code text cause)) ≡ true
+may-close Client life code text cause = refl
+may-close Server life code text cause = refl
 
 -- A message.
 
@@ -157,10 +157,10 @@ module _ (P : (role : Role) → Config role → End → History → Type 0) (k :
   ask-follows role config end history (Ask.Flow c active) stands back a =
       let life = has-life (end.channels c) (not-when _ Refusal.NotOpen a.opened) in
       one-follows P k role config end history c (flow_as kinds.ChannelFlow active) stands back (inr (is-running end.phase (not-when _ Refusal.NotRunning a.runs), subst (λ channel. may_put_here role channel (Calls (flow_as kinds.ChannelFlow active)) ≡ true) (sym life.1) (may-flow role life.0 active), quiet-asks role (end.channels c) (Calls (flow_as kinds.ChannelFlow active)) refl))
-  ask-follows role config end history (Ask.CloseChannel c code text) stands back a =
+  ask-follows role config end history (Ask.CloseChannel c code text cause) stands back a =
       let life = has-life (end.channels c) (not-when _ Refusal.NotOpen a.opened) in
-      one-follows P k role config end history c (close_as kinds.ChannelClose code text) stands back (inr (is-running end.phase (not-when _ Refusal.NotRunning a.runs), subst (λ channel. may_put_here role channel (Calls (close_as kinds.ChannelClose code text)) ≡ true) (sym life.1) (may-close role life.0 code text), quiet-asks role (end.channels c) (Calls (close_as kinds.ChannelClose code text)) refl))
-  ask-follows role config end history (Ask.Close code text) stands back a = one-follows P k role config end history 0 (close_as kinds.ConnectionClose code text) stands back (inl refl)
+      one-follows P k role config end history c (close_for kinds.ChannelClose code text cause) stands back (inr (is-running end.phase (not-when _ Refusal.NotRunning a.runs), subst (λ channel. may_put_here role channel (Calls (close_for kinds.ChannelClose code text cause)) ≡ true) (sym life.1) (may-close role life.0 code text cause), quiet-asks role (end.channels c) (Calls (close_for kinds.ChannelClose code text cause)) refl))
+  ask-follows role config end history (Ask.Close code text cause) stands back a = one-follows P k role config end history 0 (close_for kinds.ConnectionClose code text cause) stands back (inl refl)
   ask-follows role config end history (Ask.Blocked reason) stands back a = one-follows P k role config end history 0 (method_asked (Ask.Blocked reason)) stands back (inl refl)
   ask-follows role config end history Ask.Unblocked stands back a = one-follows P k role config end history 0 (method_asked Ask.Unblocked) stands back (inl refl)
 

@@ -17,7 +17,7 @@ use Rattle.amqp_model.specs.End.Channels.{Life, Channel, Phase, Handshake, Runni
 use Rattle.amqp_model.specs.End.Channels as channels
 use Rattle.amqp_model.specs.History.Negotiation.{Config}
 use Rattle.amqp_model.specs.End.StateFromHistory.{has_put, is_closed, is_negotiated, step_from, life_from, channel_in, channel_from, end_from}
-use Rattle.amqp_model.specs.End.Closes.{Owed, method_frame, without_arguments, flow_as, close_as}
+use Rattle.amqp_model.specs.End.Closes.{Owed, method_frame, without_arguments, flow_as, Cause, close_for}
 use Rattle.amqp_model.specs.End.Events.{Message, Plain, Whole, method_of}
 use Rattle.amqp_model.specs.End.Asks.{Ask, Refusal, method_asked, channel_max, opens_on, is_made, is_running, life_of, lacks_life, in_life, is_free, first_free, lowest_free, when, first_refusal, is_pausable, refused_or_put, refusal, frames_asked, Puts, payload_frame, message_payloads, not_running, bad_channel, not_open, paused, not_sendable, too_large, flow_pending, no_free_channel, reply_pending, no_such_request}
 use Rattle.amqp_model.specs.End.LawfulHistories.{then_put}
@@ -175,8 +175,8 @@ flow-acts role config history n theirs c active writes a = one-method role their
         let awaits : awaits_flow_ok role (notes (entries_on (suc n) history)) ≡ false = found.5 ∙ none in
         simp (found.2, found.3, awaits)
 
-close-acts : (role : Role) (config : Config role) (history : History) (n : ℕ) (theirs : List Note) (c code : ℕ) (text : List ℕ) → ReadsBack (close_as kinds.ChannelClose code text) → Accepted role (end_from role config false history) (Ask.CloseChannel c code text) → ActsOn role theirs (notes (entries_on (suc n) history)) (notes (entries_on (suc n) (Put (method_frame c (close_as kinds.ChannelClose code text)) ∷ history)))
-close-acts role config history n theirs c code text writes a = one-method role theirs history n c (close_as kinds.ChannelClose code text) writes refl may
+close-acts : (role : Role) (config : Config role) (history : History) (n : ℕ) (theirs : List Note) (c code : ℕ) (text : List ℕ) (cause : Cause) → ReadsBack (close_for kinds.ChannelClose code text cause) → Accepted role (end_from role config false history) (Ask.CloseChannel c code text cause) → ActsOn role theirs (notes (entries_on (suc n) history)) (notes (entries_on (suc n) (Put (method_frame c (close_for kinds.ChannelClose code text cause)) ∷ history)))
+close-acts role config history n theirs c code text cause writes a = one-method role theirs history n c (close_for kinds.ChannelClose code text cause) writes refl may
   where
     may : c ≡ suc n → may_put role (notes (entries_on (suc n) history)) Kind.Close ≡ true
     may same =
@@ -184,11 +184,11 @@ close-acts role config history n theirs c code text writes a = one-method role t
         simp (found.2, found.3)
 
 -- connection.close is noted on every channel
-pub leave-acts : (role : Role) (theirs : List Note) (history : History) (n code : ℕ) (text : List ℕ) → ReadsBack (close_as kinds.ConnectionClose code text) → ActsOn role theirs (notes (entries_on (suc n) history)) (notes (entries_on (suc n) (Put (method_frame 0 (close_as kinds.ConnectionClose code text)) ∷ history)))
-leave-acts role theirs history n code text writes =
-    let f = method_frame 0 (close_as kinds.ConnectionClose code text) in
+pub leave-acts : (role : Role) (theirs : List Note) (history : History) (n code : ℕ) (text : List ℕ) (cause : Cause) → ReadsBack (close_for kinds.ConnectionClose code text cause) → ActsOn role theirs (notes (entries_on (suc n) history)) (notes (entries_on (suc n) (Put (method_frame 0 (close_for kinds.ConnectionClose code text cause)) ∷ history)))
+leave-acts role theirs history n code text cause writes =
+    let f = method_frame 0 (close_for kinds.ConnectionClose code text cause) in
     let elsewhere : (0 == suc n) ≡ false = ne_eqb 0 (suc n) (λ e. let h : 0 ≡ suc n = e in omega arith) in
-    let closes : closes_connection f ≡ true = ap (is_call kinds.ConnectionClose) (reads-back 0 (close_as kinds.ConnectionClose code text) writes) in
+    let closes : closes_connection f ≡ true = ap (is_call kinds.ConnectionClose) (reads-back 0 (close_for kinds.ConnectionClose code text cause) writes) in
     let seen : entries_on (suc n) (Put f ∷ history) ≡ LeftHere ∷ entries_on (suc n) history = simp (elsewhere, closes) in
     subst (λ l. ActsOn role theirs (notes (entries_on (suc n) history)) (notes l)) (sym seen) (acts leaves rests)
 
@@ -359,8 +359,8 @@ ask-acts : (role : Role) (config : Config role) (history : History) (ask : Ask) 
 ask-acts role config history Ask.Open n theirs writes made a = open-acts role config history n theirs writes a (lowest_free (end_from role config false history)) refl
 ask-acts role config history (Ask.Send c message) n theirs writes made a = send-acts role config history n theirs c _ message writes made a
 ask-acts role config history (Ask.Flow c active) n theirs writes made a = flow-acts role config history n theirs c active writes a
-ask-acts role config history (Ask.CloseChannel c code text) n theirs writes made a = close-acts role config history n theirs c code text writes a
-ask-acts role config history (Ask.Close code text) n theirs writes made a = leave-acts role theirs history n code text writes
+ask-acts role config history (Ask.CloseChannel c code text cause) n theirs writes made a = close-acts role config history n theirs c code text cause writes a
+ask-acts role config history (Ask.Close code text cause) n theirs writes made a = leave-acts role theirs history n code text cause writes
 ask-acts role config history (Ask.Blocked reason) n theirs writes made a = zero-acts role theirs history n (record { kind = kinds.ConnectionBlocked; args = short_string reason ∷ [] }) writes refl
 ask-acts role config history Ask.Unblocked n theirs writes made a = zero-acts role theirs history n (without_arguments kinds.ConnectionUnblocked) writes refl
 

@@ -14,7 +14,7 @@ use Rattle.amqp_model.specs.End.Channels.{Life, Phase, Handshake, Running, Close
 use Rattle.amqp_model.specs.History.Negotiation.{Config}
 use Rattle.amqp_model.specs.History.Negotiation as negotiation
 use Rattle.amqp_model.specs.End.StateFromHistory.{end_from}
-use Rattle.amqp_model.specs.End.Closes.{method_frame}
+use Rattle.amqp_model.specs.End.Closes.{Cause, method_frame}
 use Rattle.amqp_model.specs.End.Asks.{is_running}
 use Rattle.amqp_model.specs.End.EndVerdict.{end_verdict, goes_on}
 use Rattle.amqp_model.specs.End.ReadingBack.{WritesReadBack}
@@ -48,21 +48,21 @@ pub hears-as : (role : Role) (client_config : Config Client) (server_config : Co
 hears-as Client client_config server_config c s due sent signal together = let h = client-hears client_config server_config c s together in record { next = h.next; words = h.words; hears = h.hears; together = h.together }
 hears-as Server client_config server_config c s due sent signal together = let h = server-hears client_config server_config c s together in record { next = h.next; words = h.words; hears = h.hears; together = h.together }
 
-closes-as : (role : Role) (client_config : Config Client) (server_config : Config Server) (mine theirs : Footing) (due sent : List Signal) → TogetherAs role client_config server_config mine theirs due sent → is_running mine.phase ≡ true → (code : ℕ) (text : List ℕ) → TogetherAs role client_config server_config (at Phase.Closing mine.agreed) theirs due (sent ++ Says (Close code text) ∷ [])
-closes-as Client client_config server_config mine theirs due sent together e code text = client-closes client_config server_config together e code text
-closes-as Server client_config server_config mine theirs due sent together e code text = server-closes client_config server_config together e code text
+closes-as : (role : Role) (client_config : Config Client) (server_config : Config Server) (mine theirs : Footing) (due sent : List Signal) → TogetherAs role client_config server_config mine theirs due sent → is_running mine.phase ≡ true → (code : ℕ) (text : List ℕ) (cause : Cause) → TogetherAs role client_config server_config (at Phase.Closing mine.agreed) theirs due (sent ++ Says (Close code text cause) ∷ [])
+closes-as Client client_config server_config mine theirs due sent together e code text cause = client-closes client_config server_config together e code text cause
+closes-as Server client_config server_config mine theirs due sent together e code text cause = server-closes client_config server_config together e code text cause
 
 -- a Running server is blocked, or no more, or beats
 server-blocked : (client_config : Config Client) (server_config : Config Server) {client server : Footing} {to_server to_client : List Signal} {signal : Signal} → Together client_config server_config client server to_server to_client → is_running server.phase ≡ true → IsBlock signal → Together client_config server_config client server to_server (to_client ++ signal ∷ [])
 server-blocked client_config server_config {signal = signal} (opened {later = later} b) e is = opened (one-more IsBlock signal later is b)
 server-blocked client_config server_config {signal = signal} (both_run {later = later} d b) e is = both_run d (one-more IsBlock signal later is b)
-server-blocked client_config server_config {signal = signal} (by_client {later = later} code text d b) e is = by_client code text d (one-more IsBlock signal later is b)
+server-blocked client_config server_config {signal = signal} (by_client {later = later} code text cause d b) e is = by_client code text cause d (one-more IsBlock signal later is b)
 server-blocked client_config server_config together e is = absurd (false≢true e)
 
 -- a Running client beats
 client-beats : (client_config : Config Client) (server_config : Config Server) {client server : Footing} {to_server to_client : List Signal} → Together client_config server_config client server to_server to_client → is_running client.phase ≡ true → Together client_config server_config client server (to_server ++ Beats ∷ []) to_client
 client-beats client_config server_config (both_run {due = due} d b) e = both_run (one-more IsBeat Beats due a_beat d) b
-client-beats client_config server_config (Together.server_closes {due = due} code text d b) e = Together.server_closes code text (one-more IsBeat Beats due a_beat d) b
+client-beats client_config server_config (Together.server_closes {due = due} code text cause d b) e = Together.server_closes code text cause (one-more IsBeat Beats due a_beat d) b
 client-beats client_config server_config together e = absurd (false≢true e)
 
 beats-as : (role : Role) (client_config : Config Client) (server_config : Config Server) (mine theirs : Footing) (due sent : List Signal) → TogetherAs role client_config server_config mine theirs due sent → is_running mine.phase ≡ true → TogetherAs role client_config server_config mine theirs due (sent ++ Beats ∷ [])
@@ -72,14 +72,14 @@ beats-as Server client_config server_config mine theirs due sent together e = se
 -- where a client runs, neither end is early
 client-late : (client_config : Config Client) (server_config : Config Server) {client server : Footing} {to_server to_client : List Signal} → Together client_config server_config client server to_server to_client → is_running client.phase ≡ true → (is_early client ≡ false) × (is_early server ≡ false)
 client-late client_config server_config (both_run d b) e = (refl, refl)
-client-late client_config server_config (Together.server_closes code text d b) e = (refl, refl)
+client-late client_config server_config (Together.server_closes code text cause d b) e = (refl, refl)
 client-late client_config server_config together e = absurd (false≢true e)
 
 -- and a server that runs is not
 server-late : (client_config : Config Client) (server_config : Config Server) {client server : Footing} {to_server to_client : List Signal} → Together client_config server_config client server to_server to_client → is_running server.phase ≡ true → is_early server ≡ false
 server-late client_config server_config (opened b) e = refl
 server-late client_config server_config (both_run d b) e = refl
-server-late client_config server_config (by_client code text d b) e = refl
+server-late client_config server_config (by_client code text cause d b) e = refl
 server-late client_config server_config together e = absurd (false≢true e)
 
 runs-late : (role : Role) (client_config : Config Client) (server_config : Config Server) (mine theirs : Footing) (due sent : List Signal) → TogetherAs role client_config server_config mine theirs due sent → is_running mine.phase ≡ true → is_early mine ≡ false
@@ -330,8 +330,8 @@ module _ (role : Role) (client_config : Config Client) (server_config : Config S
       none_opens from (inl e) = false≢true (sym (ap is_early footing ∙ late runs) ∙ e)
       none_opens (inl r) (inr e) = client role (footing_of (mine_of role client_config server_config mine)) (footing_of (theirs_of role client_config server_config theirs)) j.due j.sent r j.together (ap is_running runs) e
       none_opens (inr open_one) (inr e) = let free = (j.early (inr e) open_one.0).mine_free in let one = open_one.1.1 in let both : channels.Free ≡ channels.Open open_one.1.0 = sym free ∙ one in cc
-  asks-joined frames runs (closes code text x) =
-      runs-joined frames runs (Says (Close code text)) (at Phase.Closing (mine_of role client_config server_config mine).agreed) x refl refl refl (closes-as role client_config server_config (footing_of (mine_of role client_config server_config mine)) (footing_of (theirs_of role client_config server_config theirs)) j.due j.sent j.together (ap is_running runs) code text)
+  asks-joined frames runs (closes code text cause x) =
+      runs-joined frames runs (Says (Close code text cause)) (at Phase.Closing (mine_of role client_config server_config mine).agreed) x refl refl refl (closes-as role client_config server_config (footing_of (mine_of role client_config server_config mine)) (footing_of (theirs_of role client_config server_config theirs)) j.due j.sent j.together (ap is_running runs) code text cause)
   asks-joined frames runs (says signal block r x) =
       runs-joined frames runs signal (footing_of (mine_of role client_config server_config mine)) x refl (ap shakes_hands runs) (ap is_shut runs) (blocks-as role client_config server_config (footing_of (mine_of role client_config server_config mine)) (footing_of (theirs_of role client_config server_config theirs)) j.due j.sent r j.together (ap is_running runs) signal block)
 
@@ -407,10 +407,10 @@ server-opens : (client_config : Config Client) (server_config : Config Server) {
 server-opens client_config server_config open_held e = (refl, opened none)
 server-opens client_config server_config together e = absurd (false≢true e)
 
-server-refuses : (client_config : Config Client) (server_config : Config Server) {client server : Footing} {to_server to_client : List Signal} → Together client_config server_config client server to_server to_client → (holds_login server.phase || holds_open server.phase) ≡ true → (code : ℕ) (text : List ℕ) → (is_shut client.phase ≡ false) × Together client_config server_config client (at Phase.Closing server.agreed) to_server (to_client ++ Says (Close code text) ∷ [])
-server-refuses client_config server_config (login_held gate) e code text = (refl, login_refused gate code text)
-server-refuses client_config server_config open_held e code text = (refl, open_refused code text)
-server-refuses client_config server_config together e code text = absurd (false≢true e)
+server-refuses : (client_config : Config Client) (server_config : Config Server) {client server : Footing} {to_server to_client : List Signal} → Together client_config server_config client server to_server to_client → (holds_login server.phase || holds_open server.phase) ≡ true → (code : ℕ) (text : List ℕ) (cause : Cause) → (is_shut client.phase ≡ false) × Together client_config server_config client (at Phase.Closing server.agreed) to_server (to_client ++ Says (Close code text cause) ∷ [])
+server-refuses client_config server_config (login_held gate) e code text cause = (refl, login_refused gate code text cause)
+server-refuses client_config server_config open_held e code text cause = (refl, open_refused code text cause)
+server-refuses client_config server_config together e code text cause = absurd (false≢true e)
 
 shaking-early : (f : Footing) (step : HandshakeStep) → f.phase ≡ Handshake step → is_early f ≡ true
 shaking-early f step e = ap (λ p. shakes_hands p || is_none f.agreed) e
@@ -429,9 +429,9 @@ server-decides client_config server_config client_writes server_writes back serv
 server-decides client_config server_config client_writes server_writes back server client frames stands j (opens holds x) =
     let t = server-opens client_config server_config j.together (ap holds_open holds) in
     speaks-joined Server client_config server_config client_writes server_writes back server client stands j frames (Says OpenOk) _ x (λ e. inl (shaking-early (footing_of (end_from Server server_config false server)) HoldsOpen holds)) refl t.0 t.1
-server-decides client_config server_config client_writes server_writes back server client frames stands j (turns_away code text holds x) =
-    let t = server-refuses client_config server_config j.together (either holds) code text in
-    speaks-joined Server client_config server_config client_writes server_writes back server client stands j frames (Says (Close code text)) _ x (λ e. inl (early holds)) refl t.0 t.1
+server-decides client_config server_config client_writes server_writes back server client frames stands j (turns_away code text cause holds x) =
+    let t = server-refuses client_config server_config j.together (either holds) code text cause in
+    speaks-joined Server client_config server_config client_writes server_writes back server client stands j frames (Says (Close code text cause)) _ x (λ e. inl (early holds)) refl t.0 t.1
   where
     either : {phase : Phase} → (phase ≡ Handshake HoldsLogin) ⊎ (phase ≡ Handshake HoldsOpen) → (holds_login phase || holds_open phase) ≡ true
     either (inl e) = ap (λ p. holds_login p || holds_open p) e

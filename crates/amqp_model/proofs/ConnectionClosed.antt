@@ -77,8 +77,8 @@ asked-written : (role : Role) (end : End) (ask : Ask) → ReadsBack (method_aske
 asked-written role end Ask.Open back a = open-written (lowest_free end) back
 asked-written role end (Ask.Send c message) back a = away-written c (message_payloads (frame_max end.agreed) message) (first-false (c == 0) _ (not-when _ Refusal.BadChannel a.numbered))
 asked-written role end (Ask.Flow c active) back a = (frame-written c _ back, tt)
-asked-written role end (Ask.CloseChannel c code text) back a = (frame-written c _ back, tt)
-asked-written role end (Ask.Close code text) back a = (frame-written 0 _ back, tt)
+asked-written role end (Ask.CloseChannel c code text cause) back a = (frame-written c _ back, tt)
+asked-written role end (Ask.Close code text cause) back a = (frame-written 0 _ back, tt)
 asked-written role end (Ask.Blocked reason) back a = (frame-written 0 _ back, tt)
 asked-written role end Ask.Unblocked back a = (frame-written 0 _ back, tt)
 

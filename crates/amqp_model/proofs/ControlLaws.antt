@@ -13,7 +13,7 @@ use Rattle.amqp_model.specs.History.Histories.{History, PutHere}
 use Rattle.amqp_model.specs.End.Channels.{Phase, End}
 use Rattle.amqp_model.specs.History.Negotiation.{Config, Hello, OfClient, FRAME_MIN, frame_limit, start_ok_choosing, tune, connection_open_ok}
 use Rattle.amqp_model.specs.End.StateFromHistory.{end_from}
-use Rattle.amqp_model.specs.End.Closes.{close_as}
+use Rattle.amqp_model.specs.End.Closes.{close_as, no_cause}
 use Rattle.amqp_model.specs.End.Asks.{Refused, Puts, AskVerdict}
 use Rattle.amqp_model.specs.Output.Outputs.{after_puts}
 use Rattle.amqp_model.specs.Output.Departures.{IsOutputOf}
@@ -35,7 +35,7 @@ use Rattle.amqp_model.proofs.Hearing.{choosing-is}
 use Rattle.amqp_model.proofs.Controlling.{Controlled, beats, admits_login, admits_open, refuses_login, refuses_open, answers, control-puts, OneAtZero, puts-at-zero, control-kept, control-acts, control-channels, control-opened}
 use Rattle.amqp_model.proofs.Lawfulness.{end-steps}
 use Rattle.amqp_model.proofs.Pairing.{step-stays-pair}
-use Rattle.amqp_model.proofs.ReadBack.{connection_close-fits}
+use Rattle.amqp_model.proofs.ReadBack.{no_cause-fits, connection_close-fits}
 use Rattle.amqp_model.proofs.ReadBackOwed.{tune-sound, open_ok-sound, connection_close-short, all-reads-back}
 use Rattle.amqp_model.proofs.OctetAsks.{all-keep, control-keeps}
 use Rattle.amqp_model.proofs.WellPutPairs.{writes-of}
@@ -107,8 +107,8 @@ controlled-short : {role : Role} {config : Config role} {phase : Phase} {control
 controlled-short writes reads beats = omega arith
 controlled-short {config = config} writes reads admits_login = (tune-sound 0 config writes).short
 controlled-short writes reads admits_open = (open_ok-sound 0).short
-controlled-short writes reads (refuses_login code text) = connection_close-short 0 code text reads.1.0
-controlled-short writes reads (refuses_open code text) = connection_close-short 0 code text reads.1.0
+controlled-short writes reads (refuses_login code text) = connection_close-short 0 code text no_cause reads.1.0
+controlled-short writes reads (refuses_open code text) = connection_close-short 0 code text no_cause reads.1.0
 controlled-short writes reads (answers mechanism response locale short) = short
 
 short-fits : (frame : Frame) → frame.channel ≡ 0 → frame_length frame ≤ FRAME_MIN → Fits frame
@@ -131,7 +131,7 @@ controlled-reads-back methods Client config Beat fits c = tt
 controlled-reads-back methods Server config Beat fits c = tt
 controlled-reads-back methods Client config Admit fits c = tt
 controlled-reads-back methods Server config Admit fits c = tt
-controlled-reads-back methods role config (Refuse code text) fits c = (methods _ (connection_close-fits code text c.0 c.1), c.1)
+controlled-reads-back methods role config (Refuse code text) fits c = (methods _ (connection_close-fits code text no_cause c.0 c.1 no_cause-fits), c.1)
 controlled-reads-back methods Client config (AnswerStart mechanism response locale) fits c = choosing-fits methods config mechanism response locale fits.hello c.0 c.1 c.2
 controlled-reads-back methods Server config (AnswerStart mechanism response locale) fits c = tt
 

@@ -10,7 +10,7 @@ use Rattle.amqp_model.specs.Wire.Methods.{Method, ReadsBack, carries_content, sa
 use Rattle.amqp_model.specs.History.Histories.{Put, History, entries_on, notes}
 use Rattle.amqp_model.specs.End.Channels.{HoldsStart, HoldsLogin, HoldsOpen, Phase, Handshake, Running, End}
 use Rattle.amqp_model.specs.History.Negotiation.{Config, Hello, OfClient, FRAME_MIN, start_ok_choosing, tune, connection_open_ok}
-use Rattle.amqp_model.specs.End.Closes.{close_as, method_frame}
+use Rattle.amqp_model.specs.End.Closes.{close_as, no_cause, method_frame}
 use Rattle.amqp_model.specs.End.Asks.{Puts}
 use Rattle.amqp_model.specs.End.Controls.{Control, Beat, Admit, Refuse, AnswerStart, heartbeat_frame, beats_in, admits_in, refuses_in, unless_long, answers_in, control_in, control_verdict}
 use Rattle.amqp_model.specs.End.ReadingBack.{WritesReadBack, ControlReadsBack}
@@ -119,7 +119,7 @@ beat-away n history = let apart = zero-apart n in simp apart
 pub control-acts : (role : Role) (theirs : List Note) (history : History) (n : ℕ) (frames : List Frame) → OneAtZero frames → ActsOn role theirs (notes (entries_on (suc n) history)) (notes (entries_on (suc n) (then_put frames history)))
 control-acts role theirs history n frames (one frame at_beat) = subst (λ l. ActsOn role theirs (notes (entries_on (suc n) history)) (notes l)) (sym (beat-away n history)) rests
 control-acts role theirs history n frames (one frame (at_method method back quiet a b c)) = zero-acts role theirs history n method back quiet
-control-acts role theirs history n frames (one frame (at_close code text back fits)) = leave-acts role theirs history n code text back
+control-acts role theirs history n frames (one frame (at_close code text back fits)) = leave-acts role theirs history n code text no_cause back
 
 -- Nor does it change a channel of what is kept.
 pub control-channels : (role : Role) (config : Config role) (frames : List Frame) (end : End) → OneAtZero frames → (end_after_put role config frames end).channels ≡ end.channels

@@ -12,6 +12,7 @@ use Rattle.amqp_model.specs.Wire.Methods.{plain_method, plain_header, method_at,
 use Rattle.amqp_model.specs.History.Histories.{Put, Took, History}
 use Rattle.amqp_model.specs.History.Negotiation.{start, tune, tune_ok, connection_open, connection_open_ok}
 use Rattle.amqp_model.specs.End.Asks.{Ask, Puts}
+use Rattle.amqp_model.specs.End.Closes.{no_cause}
 use Rattle.amqp_model.specs.End.Controls.{Control, Beat, Admit, Refuse, AnswerStart, heartbeat_frame, control_verdict}
 use Rattle.amqp_model.specs.End.ReadingBack.{ControlReadsBack}
 use Rattle.amqp_model.specs.End.LawfulHistories.{then_taken, greets, takes, asks, controls, end_of}
@@ -153,7 +154,7 @@ module _ (reads : MethodReadsBack) (client_writes : ConfigWrites gated_client) (
 
   p13 : Pair gated_client gated_server c5 s8
   unfolding method_at header_at plain_method plain_header reading.method_at reading.args_at reading.field_at with_id header_reading.header_at header_reading.properties_at header_reading.optional_at table_at elements many named after_tag tagged value_at
-  p13 = server_goes {taken = None} p12 tt (asks (Ask.Close 320 (codes "bye")) (on_zero closing ∷ []) refl (record { method = refl; header = tt; text = (omega arith, are-octets (codes "bye") refl) }) refl)
+  p13 = server_goes {taken = None} p12 tt (asks (Ask.Close 320 (codes "bye") no_cause) (on_zero closing ∷ []) refl (record { method = refl; header = tt; text = (omega arith, are-octets (codes "bye") refl) }) refl)
 
   p14 : Pair gated_client gated_server c5 s9
   unfolding method_at header_at plain_method plain_header reading.method_at reading.args_at reading.field_at with_id header_reading.header_at header_reading.properties_at header_reading.optional_at table_at elements many named after_tag tagged value_at

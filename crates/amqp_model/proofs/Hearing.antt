@@ -10,6 +10,7 @@ use Rattle.amqp_model.specs.History.Negotiation.{Config, Hello, OfClient, OfServ
 use Rattle.amqp_model.specs.End.Asks.{is_running}
 use Rattle.amqp_model.specs.End.FrameVerdict.{on_zero}
 use Rattle.amqp_model.specs.End.EndVerdict.{goes_on, takes_frames}
+use Rattle.amqp_model.specs.End.Closes.{Cause}
 use Rattle.amqp_model.specs.End.Fitting.{ConfigWrites}
 use Rattle.amqp_model.proofs.Footings.{Footing, footing_owed, verdict_of, owed_of, footing_heard}
 use Rattle.amqp_model.proofs.PutLast.{leaving-is}
@@ -110,24 +111,24 @@ closing-beat : (server_config : Config Server) (agreed : Option Agreed) {signal 
 closing-beat server_config agreed a_beat = record { takes = refl; goes = refl; heard = refl; puts = refl; sent = tt; closes = λ e. absurd (false≢true e); begins = λ e. e }
 
 -- closes
-running-close : (role : Role) (config : Config role) (agreed : Option Agreed) (code : ℕ) (text : List ℕ) → Hears role config (at Running agreed) (Says (Close code text)) (at Closed agreed) (CloseOk ∷ [])
-running-close Client config agreed code text = record { takes = refl; goes = refl; heard = refl; puts = refl; sent = (refl, tt); closes = λ e. leaving-is 0 (said (Close code text)); begins = λ e. e }
-running-close Server config agreed code text = record { takes = refl; goes = refl; heard = refl; puts = refl; sent = (refl, tt); closes = λ e. leaving-is 0 (said (Close code text)); begins = λ e. e }
+running-close : (role : Role) (config : Config role) (agreed : Option Agreed) (code : ℕ) (text : List ℕ) (cause : Cause) → Hears role config (at Running agreed) (Says (Close code text cause)) (at Closed agreed) (CloseOk ∷ [])
+running-close Client config agreed code text cause = record { takes = refl; goes = refl; heard = refl; puts = refl; sent = (refl, tt); closes = λ e. leaving-is 0 (said (Close code text cause)); begins = λ e. e }
+running-close Server config agreed code text cause = record { takes = refl; goes = refl; heard = refl; puts = refl; sent = (refl, tt); closes = λ e. leaving-is 0 (said (Close code text cause)); begins = λ e. e }
 
-closing-close : (role : Role) (config : Config role) (agreed : Option Agreed) (code : ℕ) (text : List ℕ) → Hears role config (at Phase.Closing agreed) (Says (Close code text)) (at Phase.Closing agreed) (CloseOk ∷ [])
-closing-close Client config agreed code text = record { takes = refl; goes = refl; heard = refl; puts = refl; sent = (refl, tt); closes = λ e. absurd (false≢true e); begins = λ e. e }
-closing-close Server config agreed code text = record { takes = refl; goes = refl; heard = refl; puts = refl; sent = (refl, tt); closes = λ e. absurd (false≢true e); begins = λ e. e }
+closing-close : (role : Role) (config : Config role) (agreed : Option Agreed) (code : ℕ) (text : List ℕ) (cause : Cause) → Hears role config (at Phase.Closing agreed) (Says (Close code text cause)) (at Phase.Closing agreed) (CloseOk ∷ [])
+closing-close Client config agreed code text cause = record { takes = refl; goes = refl; heard = refl; puts = refl; sent = (refl, tt); closes = λ e. absurd (false≢true e); begins = λ e. e }
+closing-close Server config agreed code text cause = record { takes = refl; goes = refl; heard = refl; puts = refl; sent = (refl, tt); closes = λ e. absurd (false≢true e); begins = λ e. e }
 
 closing-answered : (role : Role) (config : Config role) (agreed : Option Agreed) → Hears role config (at Phase.Closing agreed) (Says CloseOk) (at Closed agreed) ([])
 closing-answered Client config agreed = record { takes = refl; goes = refl; heard = refl; puts = refl; sent = tt; closes = λ e. leaving-is 0 (said CloseOk); begins = λ e. e }
 closing-answered Server config agreed = record { takes = refl; goes = refl; heard = refl; puts = refl; sent = tt; closes = λ e. leaving-is 0 (said CloseOk); begins = λ e. e }
 
 -- a refusal in the handshake
-refused-login : (client_config : Config Client) (code : ℕ) (text : List ℕ) → Hears Client client_config (at (Handshake AwaitsTune) None) (Says (Close code text)) (at Closed None) (CloseOk ∷ [])
-refused-login client_config code text = record { takes = refl; goes = refl; heard = refl; puts = refl; sent = (refl, tt); closes = λ e. leaving-is 0 (said (Close code text)); begins = λ e. refl }
+refused-login : (client_config : Config Client) (code : ℕ) (text : List ℕ) (cause : Cause) → Hears Client client_config (at (Handshake AwaitsTune) None) (Says (Close code text cause)) (at Closed None) (CloseOk ∷ [])
+refused-login client_config code text cause = record { takes = refl; goes = refl; heard = refl; puts = refl; sent = (refl, tt); closes = λ e. leaving-is 0 (said (Close code text cause)); begins = λ e. refl }
 
-refused-open : (client_config : Config Client) (agreed : Agreed) (code : ℕ) (text : List ℕ) → Hears Client client_config (at (Handshake AwaitsOpenOk) (Some agreed)) (Says (Close code text)) (at Closed (Some agreed)) (CloseOk ∷ [])
-refused-open client_config agreed code text = record { takes = refl; goes = refl; heard = refl; puts = refl; sent = (refl, tt); closes = λ e. leaving-is 0 (said (Close code text)); begins = λ e. refl }
+refused-open : (client_config : Config Client) (agreed : Agreed) (code : ℕ) (text : List ℕ) (cause : Cause) → Hears Client client_config (at (Handshake AwaitsOpenOk) (Some agreed)) (Says (Close code text cause)) (at Closed (Some agreed)) (CloseOk ∷ [])
+refused-open client_config agreed code text cause = record { takes = refl; goes = refl; heard = refl; puts = refl; sent = (refl, tt); closes = λ e. leaving-is 0 (said (Close code text cause)); begins = λ e. refl }
 
 -- The handshake.
 
@@ -204,17 +205,17 @@ module _ (client_config : Config Client) (server_config : Config Server) (client
   client-hears (greeted args) = client-starts args client_config.gated refl
   client-hears tuned = record { next = _; words = _; hears = hears-tune client_config server_config server_writes; together = settled_once (connection_open client_config).args }
   client-hears (opened b) = record { next = _; words = _; hears = hears-open_ok client_config (both_settle client_config server_config); together = both_run none b }
-  client-hears (closed_early code text b) = record { next = _; words = _; hears = hears-open_ok client_config (both_settle client_config server_config); together = server_closes code text none b }
-  client-hears (login_refused gate code text) = record { next = _; words = _; hears = refused-login client_config code text; together = client_closed (refused gate) none }
-  client-hears (open_refused code text) = record { next = _; words = _; hears = refused-open client_config (both_settle client_config server_config) code text; together = client_closed settles none }
+  client-hears (closed_early code text cause b) = record { next = _; words = _; hears = hears-open_ok client_config (both_settle client_config server_config); together = server_closes code text cause none b }
+  client-hears (login_refused gate code text cause) = record { next = _; words = _; hears = refused-login client_config code text cause; together = client_closed (refused gate) none }
+  client-hears (open_refused code text cause) = record { next = _; words = _; hears = refused-open client_config (both_settle client_config server_config) code text cause; together = client_closed settles none }
   client-hears (both_run d (first is b)) = record { next = _; words = _; hears = client-block client_config (Some (both_settle client_config server_config)) is; together = still client_config server_config (both_run d b) }
-  client-hears (server_closes {due = due} code text d none) = record { next = _; words = _; hears = running-close Client client_config (Some (both_settle client_config server_config)) code text; together = client_closed settles (passes-then IsBeat [] (Says CloseOk ∷ []) due d) }
-  client-hears (server_closes code text d (first is b)) = record { next = _; words = _; hears = client-block client_config (Some (both_settle client_config server_config)) is; together = still client_config server_config (server_closes code text d b) }
-  client-hears (client_closes code text d (first is b)) = record { next = _; words = _; hears = closing-block client_config (Some (both_settle client_config server_config)) is; together = still client_config server_config (client_closes code text d b) }
-  client-hears (crossing {due = due} code text other_code other_text d none) = record { next = _; words = _; hears = closing-close Client client_config (Some (both_settle client_config server_config)) other_code other_text; together = client_heard code text (passes-then IsBeat (Says (Close code text) ∷ []) (Says CloseOk ∷ []) due d) }
-  client-hears (crossing code text other_code other_text d (first is b)) = record { next = _; words = _; hears = closing-block client_config (Some (both_settle client_config server_config)) is; together = still client_config server_config (crossing code text other_code other_text d b) }
-  client-hears (server_heard code text none) = record { next = _; words = _; hears = closing-close Client client_config (Some (both_settle client_config server_config)) code text; together = both_heard }
-  client-hears (server_heard code text (first is b)) = record { next = _; words = _; hears = closing-block client_config (Some (both_settle client_config server_config)) is; together = server_heard code text b }
+  client-hears (server_closes {due = due} code text cause d none) = record { next = _; words = _; hears = running-close Client client_config (Some (both_settle client_config server_config)) code text cause; together = client_closed settles (passes-then IsBeat [] (Says CloseOk ∷ []) due d) }
+  client-hears (server_closes code text cause d (first is b)) = record { next = _; words = _; hears = client-block client_config (Some (both_settle client_config server_config)) is; together = still client_config server_config (server_closes code text cause d b) }
+  client-hears (client_closes code text cause d (first is b)) = record { next = _; words = _; hears = closing-block client_config (Some (both_settle client_config server_config)) is; together = still client_config server_config (client_closes code text cause d b) }
+  client-hears (crossing {due = due} code text cause other_code other_text other_cause d none) = record { next = _; words = _; hears = closing-close Client client_config (Some (both_settle client_config server_config)) other_code other_text other_cause; together = client_heard code text cause (passes-then IsBeat (Says (Close code text cause) ∷ []) (Says CloseOk ∷ []) due d) }
+  client-hears (crossing code text cause other_code other_text other_cause d (first is b)) = record { next = _; words = _; hears = closing-block client_config (Some (both_settle client_config server_config)) is; together = still client_config server_config (crossing code text cause other_code other_text other_cause d b) }
+  client-hears (server_heard code text cause none) = record { next = _; words = _; hears = closing-close Client client_config (Some (both_settle client_config server_config)) code text cause; together = both_heard }
+  client-hears (server_heard code text cause (first is b)) = record { next = _; words = _; hears = closing-block client_config (Some (both_settle client_config server_config)) is; together = server_heard code text cause b }
   client-hears both_heard = record { next = _; words = _; hears = closing-answered Client client_config (Some (both_settle client_config server_config)); together = client_closed settles none }
   client-hears (server_closed none) = record { next = _; words = _; hears = closing-answered Client client_config (Some (both_settle client_config server_config)); together = both_closed settles }
   client-hears (server_closed (first is b)) = record { next = _; words = _; hears = closing-block client_config (Some (both_settle client_config server_config)) is; together = server_closed b }
@@ -224,13 +225,13 @@ module _ (client_config : Config Client) (server_config : Config Server) (client
   server-hears (settled_once args) = record { next = _; words = _; hears = hears-tune_ok client_config server_config client_writes server_writes; together = settled_twice args }
   server-hears (settled_twice args) = server-opens args server_config.gated refl
   server-hears (both_run (first is d) b) = record { next = _; words = _; hears = server-beat server_config (Some (both_settle client_config server_config)) is; together = still-server client_config server_config (both_run d b) }
-  server-hears (server_closes code text (first is d) b) = record { next = _; words = _; hears = closing-beat server_config (Some (both_settle client_config server_config)) is; together = still-server client_config server_config (server_closes code text d b) }
-  server-hears (client_closes {later = later} code text none b) = record { next = _; words = _; hears = running-close Server server_config (Some (both_settle client_config server_config)) code text; together = server_closed (passes-then IsBlock [] (Says CloseOk ∷ []) later b) }
-  server-hears (client_closes code text (first is d) b) = record { next = _; words = _; hears = server-beat server_config (Some (both_settle client_config server_config)) is; together = still-server client_config server_config (client_closes code text d b) }
-  server-hears (crossing {later = later} code text other_code other_text none b) = record { next = _; words = _; hears = closing-close Server server_config (Some (both_settle client_config server_config)) code text; together = server_heard other_code other_text (passes-then IsBlock (Says (Close other_code other_text) ∷ []) (Says CloseOk ∷ []) later b) }
-  server-hears (crossing code text other_code other_text (first is d) b) = record { next = _; words = _; hears = closing-beat server_config (Some (both_settle client_config server_config)) is; together = still-server client_config server_config (crossing code text other_code other_text d b) }
-  server-hears (client_heard code text none) = record { next = _; words = _; hears = closing-close Server server_config (Some (both_settle client_config server_config)) code text; together = both_heard }
-  server-hears (client_heard code text (first is d)) = record { next = _; words = _; hears = closing-beat server_config (Some (both_settle client_config server_config)) is; together = client_heard code text d }
+  server-hears (server_closes code text cause (first is d) b) = record { next = _; words = _; hears = closing-beat server_config (Some (both_settle client_config server_config)) is; together = still-server client_config server_config (server_closes code text cause d b) }
+  server-hears (client_closes {later = later} code text cause none b) = record { next = _; words = _; hears = running-close Server server_config (Some (both_settle client_config server_config)) code text cause; together = server_closed (passes-then IsBlock [] (Says CloseOk ∷ []) later b) }
+  server-hears (client_closes code text cause (first is d) b) = record { next = _; words = _; hears = server-beat server_config (Some (both_settle client_config server_config)) is; together = still-server client_config server_config (client_closes code text cause d b) }
+  server-hears (crossing {later = later} code text cause other_code other_text other_cause none b) = record { next = _; words = _; hears = closing-close Server server_config (Some (both_settle client_config server_config)) code text cause; together = server_heard other_code other_text other_cause (passes-then IsBlock (Says (Close other_code other_text other_cause) ∷ []) (Says CloseOk ∷ []) later b) }
+  server-hears (crossing code text cause other_code other_text other_cause (first is d) b) = record { next = _; words = _; hears = closing-beat server_config (Some (both_settle client_config server_config)) is; together = still-server client_config server_config (crossing code text cause other_code other_text other_cause d b) }
+  server-hears (client_heard code text cause none) = record { next = _; words = _; hears = closing-close Server server_config (Some (both_settle client_config server_config)) code text cause; together = both_heard }
+  server-hears (client_heard code text cause (first is d)) = record { next = _; words = _; hears = closing-beat server_config (Some (both_settle client_config server_config)) is; together = client_heard code text cause d }
   server-hears both_heard = record { next = _; words = _; hears = closing-answered Server server_config (Some (both_settle client_config server_config)); together = server_closed none }
   server-hears (client_closed s none) = record { next = _; words = _; hears = closing-answered Server server_config _; together = both_closed s }
   server-hears (client_closed s (first is d)) = record { next = _; words = _; hears = closing-beat server_config _ is; together = client_closed s d }
@@ -238,13 +239,13 @@ module _ (client_config : Config Client) (server_config : Config Server) (client
 -- What an application asks on channel 0.
 
 -- a Running end closes the connection
-pub client-closes : (client_config : Config Client) (server_config : Config Server) {client server : Footing} {to_server to_client : List Signal} → Together client_config server_config client server to_server to_client → is_running client.phase ≡ true → (code : ℕ) (text : List ℕ) → Together client_config server_config (at Phase.Closing client.agreed) server (to_server ++ Says (Close code text) ∷ []) to_client
-client-closes client_config server_config (both_run {due = due} d b) e code text = client_closes code text (passes-then IsBeat [] (Says (Close code text) ∷ []) due d) b
-client-closes client_config server_config (server_closes {due = due} other_code other_text d b) e code text = crossing code text other_code other_text (passes-then IsBeat [] (Says (Close code text) ∷ []) due d) b
-client-closes client_config server_config together e code text = absurd (false≢true e)
+pub client-closes : (client_config : Config Client) (server_config : Config Server) {client server : Footing} {to_server to_client : List Signal} → Together client_config server_config client server to_server to_client → is_running client.phase ≡ true → (code : ℕ) (text : List ℕ) (cause : Cause) → Together client_config server_config (at Phase.Closing client.agreed) server (to_server ++ Says (Close code text cause) ∷ []) to_client
+client-closes client_config server_config (both_run {due = due} d b) e code text cause = client_closes code text cause (passes-then IsBeat [] (Says (Close code text cause) ∷ []) due d) b
+client-closes client_config server_config (server_closes {due = due} other_code other_text other_cause d b) e code text cause = crossing code text cause other_code other_text other_cause (passes-then IsBeat [] (Says (Close code text cause) ∷ []) due d) b
+client-closes client_config server_config together e code text cause = absurd (false≢true e)
 
-pub server-closes : (client_config : Config Client) (server_config : Config Server) {client server : Footing} {to_server to_client : List Signal} → Together client_config server_config client server to_server to_client → is_running server.phase ≡ true → (code : ℕ) (text : List ℕ) → Together client_config server_config client (at Phase.Closing server.agreed) to_server (to_client ++ Says (Close code text) ∷ [])
-server-closes client_config server_config (opened {later = later} b) e code text = closed_early code text (passes-then IsBlock [] (Says (Close code text) ∷ []) later b)
-server-closes client_config server_config (both_run {later = later} d b) e code text = server_closes code text d (passes-then IsBlock [] (Says (Close code text) ∷ []) later b)
-server-closes client_config server_config (client_closes {later = later} other_code other_text d b) e code text = crossing other_code other_text code text d (passes-then IsBlock [] (Says (Close code text) ∷ []) later b)
-server-closes client_config server_config together e code text = absurd (false≢true e)
+pub server-closes : (client_config : Config Client) (server_config : Config Server) {client server : Footing} {to_server to_client : List Signal} → Together client_config server_config client server to_server to_client → is_running server.phase ≡ true → (code : ℕ) (text : List ℕ) (cause : Cause) → Together client_config server_config client (at Phase.Closing server.agreed) to_server (to_client ++ Says (Close code text cause) ∷ [])
+server-closes client_config server_config (opened {later = later} b) e code text cause = closed_early code text cause (passes-then IsBlock [] (Says (Close code text cause) ∷ []) later b)
+server-closes client_config server_config (both_run {later = later} d b) e code text cause = server_closes code text cause d (passes-then IsBlock [] (Says (Close code text cause) ∷ []) later b)
+server-closes client_config server_config (client_closes {later = later} other_code other_text other_cause d b) e code text cause = crossing other_code other_text other_cause code text cause d (passes-then IsBlock [] (Says (Close code text cause) ∷ []) later b)
+server-closes client_config server_config together e code text cause = absurd (false≢true e)

@@ -115,3 +115,6 @@ mod AlikeEntries
 mod AlikeAsks
 mod AlikeEndpoints
 mod Lending
+mod HeaderLengths
+mod HeaderBounds
+mod AmountBounds

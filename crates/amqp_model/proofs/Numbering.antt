@@ -41,7 +41,7 @@ use Rattle.amqp_model.proofs.Going.{running, running-free}
 set-elsewhere : (m n : ℕ) (new : Channel) (channels : ℕ → Channel) → (n == suc m) ≡ false → set_channel (suc m) new channels n ≡ channels n
 set-elsewhere m n new channels apart = simp apart
 
-owed-elsewhere : (role : Role) (config : Config role) (m : ℕ) (owed : List Owed) (end : End) → Each (λ owed. owed.channel ≡ suc m) owed → ((end_after_owed role config owed end).agreed ≡ end.agreed) × ((n : ℕ) → (n == suc m) ≡ false → (end_after_owed role config owed end).channels n ≡ end.channels n)
+pub owed-elsewhere : (role : Role) (config : Config role) (m : ℕ) (owed : List Owed) (end : End) → Each (λ owed. owed.channel ≡ suc m) owed → ((end_after_owed role config owed end).agreed ≡ end.agreed) × ((n : ℕ) → (n == suc m) ≡ false → (end_after_owed role config owed end).channels n ≡ end.channels n)
 owed-elsewhere role config m [] end here = (refl, λ n apart. refl)
 owed-elsewhere role config m (owed ∷ later) end here =
     let next = end_after role config owed.channel (PutHere (Calls owed.method) (frame_of owed)) end in
@@ -55,12 +55,12 @@ owed-elsewhere role config m (owed ∷ later) end here =
 
 -- those of channel 0 leave all channels, and what was agreed where none is tune-ok
 
-owed-zero : (role : Role) (config : Config role) (owed : List Owed) (end : End) → Each (λ owed. owed.channel ≡ 0) owed → (n : ℕ) → (end_after_owed role config owed end).channels n ≡ end.channels n
+pub owed-zero : (role : Role) (config : Config role) (owed : List Owed) (end : End) → Each (λ owed. owed.channel ≡ 0) owed → (n : ℕ) → (end_after_owed role config owed end).channels n ≡ end.channels n
 owed-zero role config [] end zeros n = refl
 owed-zero role config (owed ∷ later) end zeros n =
     owed-zero role config later _ zeros.1 n ∙ ap (λ c. (end_after role config c (PutHere (Calls owed.method) (frame_of owed)) end).channels n) zeros.0
 
-owed-settles-none : (role : Role) (config : Config role) (owed : List Owed) (end : End) → Each (λ owed. (owed.channel ≡ 0) × (same_kind owed.method.kind kinds.ConnectionTuneOk ≡ false)) owed → (end_after_owed role config owed end).agreed ≡ end.agreed
+pub owed-settles-none : (role : Role) (config : Config role) (owed : List Owed) (end : End) → Each (λ owed. (owed.channel ≡ 0) × (same_kind owed.method.kind kinds.ConnectionTuneOk ≡ false)) owed → (end_after_owed role config owed end).agreed ≡ end.agreed
 owed-settles-none role config [] end quiet = refl
 owed-settles-none role config (owed ∷ later) end quiet = owed-settles-none role config later _ quiet.1 ∙ (ap (λ c. (end_after role config c (PutHere (Calls owed.method) (frame_of owed)) end).agreed) quiet.0.0 ∙ one role config)
   where
@@ -70,7 +70,7 @@ owed-settles-none role config (owed ∷ later) end quiet = owed-settles-none rol
 
 -- Channel 0, once the handshake is over.
 
-abbrev QuietZero : Owed → Type 0
+abbrev pub QuietZero : Owed → Type 0
 QuietZero owed = (owed.channel ≡ 0) × (same_kind owed.method.kind kinds.ConnectionTuneOk ≡ false)
 
 module _ {role : Role} (config : Config role) (phase : Phase) (agreed : Option Agreed) where
@@ -91,11 +91,11 @@ module _ {role : Role} (config : Config role) (phase : Phase) (agreed : Option A
       (either (is_client role && same_kind method.kind kinds.ConnectionBlocked) _ _ (λ g. tt)
       (either (is_client role && same_kind method.kind kinds.ConnectionUnblocked) _ _ (λ g. tt) (λ g. absurd (false≢true g)))))
 
-abbrev in_handshake : Phase → Bool
+abbrev pub in_handshake : Phase → Bool
 in_handshake (Handshake step) = true
 in_handshake phase = false
 
-zero-quiet : {role : Role} (config : Config role) (phase : Phase) (agreed : Option Agreed) (r : Reading) → in_handshake phase ≡ false → OwesQuiet config phase agreed (verdict_on (facts_in config phase agreed 0 Free) r)
+pub zero-quiet : {role : Role} (config : Config role) (phase : Phase) (agreed : Option Agreed) (r : Reading) → in_handshake phase ≡ false → OwesQuiet config phase agreed (verdict_on (facts_in config phase agreed 0 Free) r)
 zero-quiet config Closed agreed r h g = absurd (false≢true g)
 zero-quiet config Failed agreed r h g = absurd (false≢true g)
 zero-quiet config (Handshake step) agreed r h g = absurd (true≢false h)
@@ -110,7 +110,7 @@ zero-quiet {role} config Running agreed (Calls method) h g = by-class (class_of 
 zero-quiet config Running agreed r h g = absurd (false≢true g)
 
 -- a server settles only with the tune-ok that it awaits
-took-settles-none : (role : Role) (config : Config role) (phase : Phase) (r : Reading) (frame : Frame) (agreed : Option Agreed) → in_handshake phase ≡ false → agreed_after role config phase (TookHere r frame) agreed ≡ agreed
+pub took-settles-none : (role : Role) (config : Config role) (phase : Phase) (r : Reading) (frame : Frame) (agreed : Option Agreed) → in_handshake phase ≡ false → agreed_after role config phase (TookHere r frame) agreed ≡ agreed
 took-settles-none Client config phase r frame agreed h = refl
 took-settles-none Server config (Handshake step) r frame agreed h = absurd (true≢false h)
 took-settles-none Server config Running (Calls method) frame agreed h = none (same_kind method.kind kinds.ConnectionTuneOk)
@@ -169,7 +169,7 @@ replies-here number (Some Kind.CloseOk) = (refl, tt)
 replies-here number (Some (Kind.FlowOk active)) = (refl, tt)
 replies-here number (Some kind) = tt
 
-owed-here : {role : Role} (facts : Facts role) (channel : Channel) (r : Reading) (v : FrameVerdict) → AgreesWithLives role facts.number channel r v → Each (λ owed. owed.channel ≡ facts.number) (methods_put facts v)
+pub owed-here : {role : Role} (facts : Facts role) (channel : Channel) (r : Reading) (v : FrameVerdict) → AgreesWithLives role facts.number channel r v → Each (λ owed. owed.channel ≡ facts.number) (methods_put facts v)
 owed-here facts channel r v (agrees event owed told e is) = subst (λ v. Each (λ owed. owed.channel ≡ facts.number) (methods_put facts v)) (sym is) (replies-here facts.number owed)
 owed-here facts channel r v (refuses e is) = subst (λ v. Each (λ owed. owed.channel ≡ facts.number) (methods_put facts v)) (sym is) (refl, tt)
 
@@ -277,8 +277,8 @@ ask-channels role config end Ask.Open a w n above = by-free (lowest_free end) (f
     by-free (Some k) found = below-elsewhere role config k (opens_on (Some k)) end (refl, tt) (let below = found.below_end in omega arith) w n above
 ask-channels role config end (Ask.Send c message) a w n above = below-elsewhere role config c (frames_asked end (Ask.Send c message)) end (parts-on c (message_payloads (frame_max end.agreed) message)) (is-numbered end c (not-when _ Refusal.BadChannel a.numbered)) w n above
 ask-channels role config end (Ask.Flow c active) a w n above = below-elsewhere role config c (frames_asked end (Ask.Flow c active)) end (refl, tt) (is-numbered end c (not-when _ Refusal.BadChannel a.numbered)) w n above
-ask-channels role config end (Ask.CloseChannel c code text) a w n above = below-elsewhere role config c (frames_asked end (Ask.CloseChannel c code text)) end (refl, tt) (is-numbered end c (not-when _ Refusal.BadChannel a.numbered)) w n above
-ask-channels role config end (Ask.Close code text) a w n above = below-elsewhere role config 0 (frames_asked end (Ask.Close code text)) end (refl, tt) (omega arith) w n above
+ask-channels role config end (Ask.CloseChannel c code text cause) a w n above = below-elsewhere role config c (frames_asked end (Ask.CloseChannel c code text cause)) end (refl, tt) (is-numbered end c (not-when _ Refusal.BadChannel a.numbered)) w n above
+ask-channels role config end (Ask.Close code text cause) a w n above = below-elsewhere role config 0 (frames_asked end (Ask.Close code text cause)) end (refl, tt) (omega arith) w n above
 ask-channels role config end (Ask.Blocked reason) a w n above = below-elsewhere role config 0 (frames_asked end (Ask.Blocked reason)) end (refl, tt) (omega arith) w n above
 ask-channels role config end Ask.Unblocked a w n above = below-elsewhere role config 0 (frames_asked end Ask.Unblocked) end (refl, tt) (omega arith) w n above
 

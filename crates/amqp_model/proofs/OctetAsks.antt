@@ -12,7 +12,7 @@ use Rattle.amqp_model.specs.Wire.Readings.{Calls, reading}
 use Rattle.amqp_model.specs.History.Histories.{History, PutHere}
 use Rattle.amqp_model.specs.End.Channels.{Phase, Handshake, Running, Closing, Closed, Failed, Agreed, End}
 use Rattle.amqp_model.specs.History.Negotiation.{Config, PROTOCOL_HEADER, frame_limit}
-use Rattle.amqp_model.specs.End.Closes.{method_frame, without_arguments, flow_as, close_as}
+use Rattle.amqp_model.specs.End.Closes.{method_frame, without_arguments, flow_as, close_as, close_for}
 use Rattle.amqp_model.specs.End.Asks.{Ask, Refusal, is_running, frame_max, lowest_free, opens_on, method_asked, payload_frame, message_payloads, refusal, frames_asked, Puts}
 use Rattle.amqp_model.specs.Output.Outputs.{after_puts, after_writing}
 use Rattle.amqp_model.specs.Output.Departures.{IsOutputOf}
@@ -74,8 +74,8 @@ ask-keeps role config end (Ask.Send c message) back a = by-channel c refl
     by-channel zero e = absurd (let bad : (c == 0) ≡ false = first-false (c == 0) _ (not-when _ Refusal.BadChannel a.numbered) in true≢false (sym (eq-eqb c 0 e) ∙ bad))
     by-channel (suc m) e = parts-keep role config c m e (message_payloads (frame_max end.agreed) message)
 ask-keeps role config end (Ask.Flow c active) back a = (method-keeps role config c (flow_as kinds.ChannelFlow active) back refl, tt)
-ask-keeps role config end (Ask.CloseChannel c code text) back a = (method-keeps role config c (close_as kinds.ChannelClose code text) back refl, tt)
-ask-keeps role config end (Ask.Close code text) back a = (method-keeps role config 0 (close_as kinds.ConnectionClose code text) back refl, tt)
+ask-keeps role config end (Ask.CloseChannel c code text cause) back a = (method-keeps role config c (close_for kinds.ChannelClose code text cause) back refl, tt)
+ask-keeps role config end (Ask.Close code text cause) back a = (method-keeps role config 0 (close_for kinds.ConnectionClose code text cause) back refl, tt)
 ask-keeps role config end (Ask.Blocked reason) back a = (method-keeps role config 0 (method_asked (Ask.Blocked reason)) back refl, tt)
 ask-keeps role config end Ask.Unblocked back a = (method-keeps role config 0 (method_asked Ask.Unblocked) back refl, tt)
 

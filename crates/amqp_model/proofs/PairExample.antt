@@ -13,7 +13,7 @@ use Rattle.amqp_model.specs.Output.Arrangement.{is_leaving, on}
 use Rattle.amqp_model.specs.Wire.Methods.{plain_method, plain_header, method_at, header_at}
 use Rattle.amqp_model.specs.History.Histories.{Put, Took, History}
 use Rattle.amqp_model.specs.History.Negotiation.{start, start_ok, tune, tune_ok, connection_open, connection_open_ok}
-use Rattle.amqp_model.specs.End.Closes.{flow_as, close_as}
+use Rattle.amqp_model.specs.End.Closes.{flow_as, close_as, no_cause}
 use Rattle.amqp_model.specs.End.Events.{Plain, Whole}
 use Rattle.amqp_model.specs.End.Asks.{Ask, is_made, Puts, ask_verdict}
 use Rattle.amqp_model.specs.End.ReadingBack.{AskReadsBack}
@@ -276,11 +276,11 @@ module _ (reads : MethodReadsBack) (client_writes : ConfigWrites example_client)
 
   p26 : Pair example_client example_server c13 s13
   unfolding method_at header_at plain_method plain_header reading.method_at reading.args_at reading.field_at with_id header_reading.header_at header_reading.properties_at header_reading.optional_at table_at elements many named after_tag tagged value_at
-  p26 = client-asks p25 (Ask.CloseChannel 1 200 []) ((one (close_as kinds.ChannelClose 200 [])) ∷ []) refl (record { method = refl; header = tt; text = (omega arith, tt) }) refl refl
+  p26 = client-asks p25 (Ask.CloseChannel 1 200 [] no_cause) ((one (close_as kinds.ChannelClose 200 [])) ∷ []) refl (record { method = refl; header = tt; text = (omega arith, tt) }) refl refl
 
   p27 : Pair example_client example_server c13 s14
   unfolding method_at header_at plain_method plain_header reading.method_at reading.args_at reading.field_at with_id header_reading.header_at header_reading.properties_at header_reading.optional_at table_at elements many named after_tag tagged value_at
-  p27 = server-asks p26 (Ask.CloseChannel 1 404 []) ((one (close_as kinds.ChannelClose 404 [])) ∷ []) refl (record { method = refl; header = tt; text = (omega arith, tt) }) refl refl
+  p27 = server-asks p26 (Ask.CloseChannel 1 404 [] no_cause) ((one (close_as kinds.ChannelClose 404 [])) ∷ []) refl (record { method = refl; header = tt; text = (omega arith, tt) }) refl refl
 
   p28 : Pair example_client example_server c13 s15
   unfolding method_at header_at plain_method plain_header reading.method_at reading.args_at reading.field_at with_id header_reading.header_at header_reading.properties_at header_reading.optional_at table_at elements many named after_tag tagged value_at
@@ -300,11 +300,11 @@ module _ (reads : MethodReadsBack) (client_writes : ConfigWrites example_client)
 
   p32 : Pair example_client example_server c16 s16
   unfolding method_at header_at plain_method plain_header reading.method_at reading.args_at reading.field_at with_id header_reading.header_at header_reading.properties_at header_reading.optional_at table_at elements many named after_tag tagged value_at
-  p32 = client-asks p31 (Ask.Close 200 []) ((zero (close_as kinds.ConnectionClose 200 [])) ∷ []) refl (record { method = refl; header = tt; text = (omega arith, tt) }) refl refl
+  p32 = client-asks p31 (Ask.Close 200 [] no_cause) ((zero (close_as kinds.ConnectionClose 200 [])) ∷ []) refl (record { method = refl; header = tt; text = (omega arith, tt) }) refl refl
 
   p33 : Pair example_client example_server c16 s17
   unfolding method_at header_at plain_method plain_header reading.method_at reading.args_at reading.field_at with_id header_reading.header_at header_reading.properties_at header_reading.optional_at table_at elements many named after_tag tagged value_at
-  p33 = server-asks p32 (Ask.Close 320 []) ((zero (close_as kinds.ConnectionClose 320 [])) ∷ []) refl (record { method = refl; header = tt; text = (omega arith, tt) }) refl refl
+  p33 = server-asks p32 (Ask.Close 320 [] no_cause) ((zero (close_as kinds.ConnectionClose 320 [])) ∷ []) refl (record { method = refl; header = tt; text = (omega arith, tt) }) refl refl
 
   p34 : Pair example_client example_server c16 s18
   unfolding method_at header_at plain_method plain_header reading.method_at reading.args_at reading.field_at with_id header_reading.header_at header_reading.properties_at header_reading.optional_at table_at elements many named after_tag tagged value_at

@@ -301,12 +301,12 @@ asked-departs role config back before stands ask read a after departs = by-ask a
     by-ask Ask.Open read a after = stay Ask.Open a (one-opens (lowest_free (end_from role config false before)))
     by-ask (Ask.Send c message) read a after = stay (Ask.Send c message) a (away c (message_payloads (frame_max (end_from role config false before).agreed) message) (first-false (c == 0) _ (not-when _ Refusal.BadChannel a.numbered)))
     by-ask (Ask.Flow c active) read a after = stay (Ask.Flow c active) a (mild-stays c (method_asked (Ask.Flow c active)) refl, tt)
-    by-ask (Ask.CloseChannel c code text) read a after = stay (Ask.CloseChannel c code text) a (mild-stays c (method_asked (Ask.CloseChannel c code text)) refl, tt)
+    by-ask (Ask.CloseChannel c code text cause) read a after = stay (Ask.CloseChannel c code text cause) a (mild-stays c (method_asked (Ask.CloseChannel c code text cause)) refl, tt)
     by-ask (Ask.Blocked reason) read a after = stay (Ask.Blocked reason) a (mild-stays 0 (method_asked (Ask.Blocked reason)) refl, tt)
     by-ask Ask.Unblocked read a after = stay Ask.Unblocked a (mild-stays 0 (method_asked Ask.Unblocked) refl, tt)
-    by-ask (Ask.Close code text) read a after =
-        leave-more role config false before _ _ departs.parted (leaving-is 0 (method_asked (Ask.Close code text)), tt) (put-then (frames_asked (end_from role config false before) (Ask.Close code text)) before)
-        (λ goes. ap is_over after.phase ∙ subst (λ phase. is_over (phase_put role (reading (method_frame 0 (method_asked (Ask.Close code text)))) phase) ≡ true) (sym (running (Ask.Close code text) a)) (subst (λ r. is_over (phase_put role r Running) ≡ true) (sym (reads-back 0 (method_asked (Ask.Close code text)) read)) refl))
+    by-ask (Ask.Close code text cause) read a after =
+        leave-more role config false before _ _ departs.parted (leaving-is 0 (method_asked (Ask.Close code text cause)), tt) (put-then (frames_asked (end_from role config false before) (Ask.Close code text cause)) before)
+        (λ goes. ap is_over after.phase ∙ subst (λ phase. is_over (phase_put role (reading (method_frame 0 (method_asked (Ask.Close code text cause)))) phase) ≡ true) (sym (running (Ask.Close code text cause) a)) (subst (λ r. is_over (phase_put role r Running) ≡ true) (sym (reads-back 0 (method_asked (Ask.Close code text cause)) read)) refl))
 
 -- What else an application does with the connection is accepted.
 

@@ -9,11 +9,11 @@ use Rattle.amqp_method.specs.declared.kinds.Kind.TheVariants as kinds
 use Rattle.amqp_model.specs.Wire.Notes.{Role, Client, Server}
 use Rattle.amqp_model.specs.Wire.Methods.{Header, ReadsBack, method_read, header_read, method_at, header_at, plain_method, plain_header}
 use Rattle.amqp_model.specs.History.Negotiation.{FRAME_MIN, Hello, OfClient, OfServer, Config, start, start_ok, connection_open}
-use Rattle.amqp_model.specs.End.Closes.{close_as, method_frame}
+use Rattle.amqp_model.specs.End.Closes.{Cause, no_cause, close_for, method_frame}
 use Rattle.amqp_model.specs.End.Events.{Message, Plain, Whole}
 use Rattle.amqp_model.specs.End.Asks.{Ask, Open, Send, Flow, CloseChannel, Close, Blocked, Unblocked, method_asked}
 use Rattle.amqp_model.specs.End.ReadingBack.{header_of, HeaderAskedReadsBack, TextAskedFits}
-use Rattle.amqp_model.specs.End.Fitting.{MethodFits, HelloFits, greeting, HostFits, PartsFit, FRAME_MOST, FrameMax, ChannelMax, HelloTooLong}
+use Rattle.amqp_model.specs.End.Fitting.{MethodFits, CauseFits, HelloFits, greeting, HostFits, PartsFit, FRAME_MOST, FrameMax, ChannelMax, HelloTooLong}
 use Rattle.amqp_model.specs.Laws.FittingLaws.{MethodReadsBack, HeaderReadsBack, FittingConfigWrites, AskedReadsBack, FaultlessConfigFits, FittingConfigIsFaultless}
 
 pub method-reads : MethodIsEncoded → MethodIsRead → MethodReadsBack
@@ -71,11 +71,14 @@ config-writes reads role config fits =
 
 -- The method of an ask.
 
-pub connection_close-fits : (code : ℕ) (text : List ℕ) → code < 2 ^ 16 → FitsShort text → MethodFits (close_as kinds.ConnectionClose code text)
-connection_close-fits code text small fits = record { of_kind = refl; arguments = (small, (fits, (omega arith, (omega arith, tt)))) }
+pub no_cause-fits : CauseFits no_cause
+no_cause-fits = record { class_id = omega arith; method_id = omega arith }
 
-pub channel_close-fits : (code : ℕ) (text : List ℕ) → code < 2 ^ 16 → FitsShort text → MethodFits (close_as kinds.ChannelClose code text)
-channel_close-fits code text small fits = record { of_kind = refl; arguments = (small, (fits, (omega arith, (omega arith, tt)))) }
+pub connection_close-fits : (code : ℕ) (text : List ℕ) (cause : Cause) → code < 2 ^ 16 → FitsShort text → CauseFits cause → MethodFits (close_for kinds.ConnectionClose code text cause)
+connection_close-fits code text cause small fits caused = record { of_kind = refl; arguments = (small, (fits, (caused.class_id, (caused.method_id, tt)))) }
+
+pub channel_close-fits : (code : ℕ) (text : List ℕ) (cause : Cause) → code < 2 ^ 16 → FitsShort text → CauseFits cause → MethodFits (close_for kinds.ChannelClose code text cause)
+channel_close-fits code text cause small fits caused = record { of_kind = refl; arguments = (small, (fits, (caused.class_id, (caused.method_id, tt)))) }
 
 message-fits : (channel : ℕ) (message : Message) → PartsFit (Send channel message) → MethodFits (method_asked (Send channel message))
 message-fits channel (Plain method) fits = fits.1
@@ -85,8 +88,8 @@ pub asked-fits : (ask : Ask) → PartsFit ask → MethodFits (method_asked ask)
 asked-fits Open fits = record { of_kind = refl; arguments = tt }
 asked-fits (Send channel message) fits = message-fits channel message fits
 asked-fits (Flow channel active) fits = record { of_kind = refl; arguments = (tt, tt) }
-asked-fits (CloseChannel channel code text) fits = channel_close-fits code text fits.1 fits.2
-asked-fits (Close code text) fits = connection_close-fits code text fits.0 fits.1
+asked-fits (CloseChannel channel code text cause) fits = channel_close-fits code text cause fits.1 fits.2 fits.3
+asked-fits (Close code text cause) fits = connection_close-fits code text cause fits.0 fits.1 fits.2
 asked-fits (Blocked reason) fits = record { of_kind = refl; arguments = (fits, tt) }
 asked-fits Unblocked fits = record { of_kind = refl; arguments = tt }
 
@@ -95,8 +98,8 @@ header-asked reads Open fits = tt
 header-asked reads (Send channel (Plain method)) fits = tt
 header-asked reads (Send channel (Whole content)) fits = reads (header_of content) fits.1.header
 header-asked reads (Flow channel active) fits = tt
-header-asked reads (CloseChannel channel code text) fits = tt
-header-asked reads (Close code text) fits = tt
+header-asked reads (CloseChannel channel code text cause) fits = tt
+header-asked reads (Close code text cause) fits = tt
 header-asked reads (Blocked reason) fits = tt
 header-asked reads Unblocked fits = tt
 
@@ -104,8 +107,8 @@ text-asked : (ask : Ask) → PartsFit ask → TextAskedFits ask
 text-asked Open fits = tt
 text-asked (Send channel message) fits = tt
 text-asked (Flow channel active) fits = tt
-text-asked (CloseChannel channel code text) fits = fits.2
-text-asked (Close code text) fits = fits.1
+text-asked (CloseChannel channel code text cause) fits = fits.2
+text-asked (Close code text cause) fits = fits.1
 text-asked (Blocked reason) fits = fits
 text-asked Unblocked fits = tt
 

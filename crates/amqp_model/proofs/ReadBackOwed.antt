@@ -1,6 +1,7 @@
 -- Each method that a verdict puts fits its fields, its channel does, and its frame is short.
-use Rattle.std.proofs.Common.{◌≡◌, ◌≢◌, ◌<◌, ◌≤◌, ◌^◌, ◌==◌, Bool, true, false, cond, not, ◌&&◌, min, ℕ, arith, List, [], ◌∷◌, map, length, Option, Some, None, refl, length-append}
+use Rattle.std.proofs.Common.{◌≡◌, ◌≢◌, ◌<◌, ◌≤◌, ◌^◌, ◌==◌, Bool, true, false, cond, not, ◌&&◌, min, ℕ, arith, List, [], ◌∷◌, ◌++◌, map, length, Option, Some, None, refl, length-append}
 use Rattle.std.specs.Prelude.{nat_lt, nat_le}
+use Rattle.std.specs.Int.{bytes_high_first}
 use Rattle.std.specs.List.{AllByRecursion}
 use Rattle.std.proofs.lemmas.Bool.{ltb-true, ltb-false, eqb-false, false≢true, true≢false}
 use Rattle.amqp_frame.specs.Frame.{frame_length}
@@ -14,14 +15,14 @@ use Rattle.amqp_model.specs.Wire.Readings.{Reading, Calls, UnknownMethod, Malfor
 use Rattle.amqp_model.specs.End.Channels as channels
 use Rattle.amqp_model.specs.End.Channels.{Life, Channel, Phase, Handshake, Agreed, AwaitsProtocolHeader, AwaitsStart, AwaitsStartOk, AwaitsTune, AwaitsTuneOk, AwaitsOpen, AwaitsOpenOk}
 use Rattle.amqp_model.specs.History.Negotiation.{Hello, OfClient, Config, FRAME_MIN, start_ok, tune, settled, smaller, tunes_too_small, tune_ok, agreed_in, in_range, connection_open, connection_open_ok}
-use Rattle.amqp_model.specs.End.Closes.{CloseCode, ContentTooLarge, FrameError, SyntaxError, CommandInvalid, ChannelError, UnexpectedFrame, ResourceError, NotImplemented, number_of, text_of, close_as, Owed, AllReadBack, connection_close, connection_close_ok, channel_close, reply_to, method_frame, frame_of}
+use Rattle.amqp_model.specs.End.Closes.{CloseCode, ContentTooLarge, FrameError, SyntaxError, CommandInvalid, ChannelError, UnexpectedFrame, ResourceError, NotImplemented, number_of, text_of, Cause, no_cause, close_for, Owed, AllReadBack, connection_close, connection_close_ok, channel_close, reply_to, method_frame, frame_of}
 use Rattle.amqp_model.specs.End.Events.{Event, AnswerAsked, LoginAsked, OpenAsked, Peer, FrameVerdict, Proceeds, RefusesContent, Faults}
 use Rattle.amqp_model.specs.End.FrameVerdict.{Facts, on_zero, on_channel, first_of, when_over, when_leaving, when_heartbeat, as_lives, lives_verdict, when_closing, when_unread, closed_by, is_awaited, asked_or, on_awaited, in_step, when_handshake, is_no_channel, after_part, on_part, part_on, on_content, when_content, on_connection, when_connection, when_misdirected, when_no_channel, on_message, answers_first, MOST_REQUESTS, on_matched, on_idle, is_gathering, on_open, by_state, on_method, on_rest, verdict_on, methods_put}
 use Rattle.amqp_model.specs.End.EndVerdict.{facts_at}
 use Rattle.amqp_model.specs.End.ReadingBack.{GreetingReadsBack, AdmissionReadsBack}
 use Rattle.amqp_model.specs.End.Fitting.{FRAME_MOST, HostFits, ConfigWrites, SettledFits}
 use Rattle.amqp_model.specs.Laws.FittingLaws.{MethodReadsBack, OwedReadBack, CloseReadsBack, AllReadsBack}
-use Rattle.amqp_model.proofs.ReadBack.{configured, open-fits, connection_close-fits, channel_close-fits}
+use Rattle.amqp_model.proofs.ReadBack.{configured, open-fits, no_cause-fits, connection_close-fits, channel_close-fits}
 
 -- what holds of each method that a verdict puts, where the frame stands on the channel of this number
 pub record Sound (number : ℕ) (owed : Owed) : Type 0 where
@@ -68,29 +69,29 @@ code-fits ResourceError = omega arith
 code-fits NotImplemented = omega arith
 
 -- a close with a short text has a short frame
-pub connection_close-short : (channel code : ℕ) (text : List ℕ) → length text < 2 ^ 8 → frame_length (method_frame channel (close_as kinds.ConnectionClose code text)) ≤ FRAME_MIN
+pub connection_close-short : (channel code : ℕ) (text : List ℕ) (cause : Cause) → length text < 2 ^ 8 → frame_length (method_frame channel (close_for kinds.ConnectionClose code text cause)) ≤ FRAME_MIN
 unfolding plain_method
-connection_close-short channel code text small = omega (arith, length-append text (0 ∷ 0 ∷ 0 ∷ 0 ∷ []))
+connection_close-short channel code text cause small = omega (arith, length-append text (bytes_high_first 2 cause.class_id ++ bytes_high_first 2 cause.method_id))
 
-pub channel_close-short : (channel code : ℕ) (text : List ℕ) → length text < 2 ^ 8 → frame_length (method_frame channel (close_as kinds.ChannelClose code text)) ≤ FRAME_MIN
+pub channel_close-short : (channel code : ℕ) (text : List ℕ) (cause : Cause) → length text < 2 ^ 8 → frame_length (method_frame channel (close_for kinds.ChannelClose code text cause)) ≤ FRAME_MIN
 unfolding plain_method
-channel_close-short channel code text small = omega (arith, length-append text (0 ∷ 0 ∷ 0 ∷ 0 ∷ []))
+channel_close-short channel code text cause small = omega (arith, length-append text (bytes_high_first 2 cause.class_id ++ bytes_high_first 2 cause.method_id))
 
 connection_close-sound : (number : ℕ) (code : CloseCode) → Sound number (connection_close code)
 connection_close-sound number code =
     record {
-      back = λ reads. reads _ (connection_close-fits (number_of code) (text_of code) (code-fits code) (text-fits code));
+      back = λ reads. reads _ (connection_close-fits (number_of code) (text_of code) no_cause (code-fits code) (text-fits code) no_cause-fits);
       channel = λ h. omega arith;
-      short = connection_close-short 0 (number_of code) (text_of code) (text-fits code).0;
+      short = connection_close-short 0 (number_of code) (text_of code) no_cause (text-fits code).0;
       settles = λ e. absurd (false≢true e);
     }
 
 channel_close-sound : (number : ℕ) (code : CloseCode) → Sound number (channel_close number code)
 channel_close-sound number code =
     record {
-      back = λ reads. reads _ (channel_close-fits (number_of code) (text_of code) (code-fits code) (text-fits code));
+      back = λ reads. reads _ (channel_close-fits (number_of code) (text_of code) no_cause (code-fits code) (text-fits code) no_cause-fits);
       channel = λ h. h;
-      short = channel_close-short number (number_of code) (text_of code) (text-fits code).0;
+      short = channel_close-short number (number_of code) (text_of code) no_cause (text-fits code).0;
       settles = λ e. absurd (false≢true e);
     }
 

@@ -92,8 +92,8 @@ asked-within : (limit : ℕ) (end : End) (ask : Ask) → FRAME_MIN ≤ limit →
 asked-within limit end Open least below text e = open-within limit (lowest_free end) least
 asked-within limit end (Send channel message) least below text e = message-within limit channel end message least below e
 asked-within limit end (Flow channel active) least below text e = let short = flow-short channel active in (omega arith, tt)
-asked-within limit end (CloseChannel channel code words) least below text e = let short = channel_close-short channel code words text.0 in (omega arith, tt)
-asked-within limit end (Close code words) least below text e = let short = connection_close-short 0 code words text.0 in (omega arith, tt)
+asked-within limit end (CloseChannel channel code words cause) least below text e = let short = channel_close-short channel code words cause text.0 in (omega arith, tt)
+asked-within limit end (Close code words cause) least below text e = let short = connection_close-short 0 code words cause text.0 in (omega arith, tt)
 asked-within limit end (Blocked reason) least below text e = let short = blocked-short reason text.0 in (omega arith, tt)
 asked-within limit end Unblocked least below text e = let short = unblocked-short in (omega arith, tt)
 
@@ -129,8 +129,8 @@ asked-numbered : (end : End) (ask : Ask) → channel_max end.agreed < 2 ^ 16 →
 asked-numbered end Open small e = open-numbered end (lowest_free end) small (finds-lowest end.channels (channel_max end.agreed) 1)
 asked-numbered end (Send channel message) small e = payloads-numbered channel (message_payloads (frame_max end.agreed) message) (good-number end channel small (not-when _ Refusal.BadChannel e))
 asked-numbered end (Flow channel active) small e = (good-number end channel small (not-when _ Refusal.BadChannel e), tt)
-asked-numbered end (CloseChannel channel code text) small e = (good-number end channel small (not-when _ Refusal.BadChannel e), tt)
-asked-numbered end (Close code text) small e = (omega arith, tt)
+asked-numbered end (CloseChannel channel code text cause) small e = (good-number end channel small (not-when _ Refusal.BadChannel e), tt)
+asked-numbered end (Close code text cause) small e = (omega arith, tt)
 asked-numbered end (Blocked reason) small e = (omega arith, tt)
 asked-numbered end Unblocked small e = (omega arith, tt)
 

@@ -14,7 +14,7 @@ use Rattle.amqp_model.specs.Wire.Readings.{Reading, Calls, Beat, reading}
 use Rattle.amqp_model.specs.End.Channels.{Phase, Handshake, Running, Closed, Agreed, AwaitsProtocolHeader, AwaitsStart, AwaitsStartOk, AwaitsTune, AwaitsTuneOk, AwaitsOpen, AwaitsOpenOk, HoldsStart, HoldsLogin, HoldsOpen}
 use Rattle.amqp_model.specs.History.Negotiation.{Config, FRAME_MIN, smaller, tune, settled, tunes_too_small, in_range}
 use Rattle.amqp_model.specs.History.Negotiation as negotiation
-use Rattle.amqp_model.specs.End.Closes.{Owed, close_as, without_arguments, method_frame}
+use Rattle.amqp_model.specs.End.Closes.{Cause, Owed, close_for, without_arguments, method_frame}
 use Rattle.amqp_model.specs.End.FrameVerdict.{on_zero}
 use Rattle.amqp_model.specs.End.Controls.{heartbeat_frame}
 use Rattle.amqp_model.specs.End.Fitting.{ConfigWrites}
@@ -26,7 +26,7 @@ pub data Word : Type 0 where
   Tune : (channel_max frame_max heartbeat : ℕ) → Word
   TuneOk : Agreed → Word
   OpenOk CloseOk Unblocked : Word
-  Close : (code : ℕ) (text : List ℕ) → Word
+  Close : (code : ℕ) (text : List ℕ) (cause : Cause) → Word
   Blocked : (reason : List ℕ) → Word
 
 abbrev pub said : Word → Method
@@ -38,7 +38,7 @@ said (TuneOk agreed) = negotiation.tune_ok agreed
 said OpenOk = negotiation.connection_open_ok
 said CloseOk = without_arguments kinds.ConnectionCloseOk
 said Unblocked = without_arguments kinds.ConnectionUnblocked
-said (Close code text) = close_as kinds.ConnectionClose code text
+said (Close code text cause) = close_for kinds.ConnectionClose code text cause
 said (Blocked reason) = record { kind = kinds.ConnectionBlocked; args = short_string reason ∷ [] }
 
 abbrev pub owes : Word → Owed
@@ -120,14 +120,14 @@ pub data Together (client_config : Config Client) (server_config : Config Server
   open_held : Together client_config server_config (at (Handshake AwaitsOpenOk) (Some (both_settle client_config server_config))) (at (Handshake HoldsOpen) (Some (both_settle client_config server_config))) [] []
   opened : {later : List Signal} → Blocks [] later → Together client_config server_config (at (Handshake AwaitsOpenOk) (Some (both_settle client_config server_config))) (at Running (Some (both_settle client_config server_config))) [] (Says OpenOk ∷ later)
   both_run : {due later : List Signal} → Beaten [] due → Blocks [] later → Together client_config server_config (at Running (Some (both_settle client_config server_config))) (at Running (Some (both_settle client_config server_config))) due later
-  login_refused : server_config.gated ≡ true → (code : ℕ) (text : List ℕ) → Together client_config server_config (at (Handshake AwaitsTune) None) (at Phase.Closing None) [] (Says (Close code text) ∷ [])
-  open_refused : (code : ℕ) (text : List ℕ) → Together client_config server_config (at (Handshake AwaitsOpenOk) (Some (both_settle client_config server_config))) (at Phase.Closing (Some (both_settle client_config server_config))) [] (Says (Close code text) ∷ [])
-  closed_early : {later : List Signal} (code : ℕ) (text : List ℕ) → Blocks (Says (Close code text) ∷ []) later → Together client_config server_config (at (Handshake AwaitsOpenOk) (Some (both_settle client_config server_config))) (at Phase.Closing (Some (both_settle client_config server_config))) [] (Says OpenOk ∷ later)
-  server_closes : {due later : List Signal} (code : ℕ) (text : List ℕ) → Beaten [] due → Blocks (Says (Close code text) ∷ []) later → Together client_config server_config (at Running (Some (both_settle client_config server_config))) (at Phase.Closing (Some (both_settle client_config server_config))) due later
-  client_closes : {due later : List Signal} (code : ℕ) (text : List ℕ) → Beaten (Says (Close code text) ∷ []) due → Blocks [] later → Together client_config server_config (at Phase.Closing (Some (both_settle client_config server_config))) (at Running (Some (both_settle client_config server_config))) due later
-  crossing : {due later : List Signal} (code : ℕ) (text : List ℕ) (other_code : ℕ) (other_text : List ℕ) → Beaten (Says (Close code text) ∷ []) due → Blocks (Says (Close other_code other_text) ∷ []) later → Together client_config server_config (at Phase.Closing (Some (both_settle client_config server_config))) (at Phase.Closing (Some (both_settle client_config server_config))) due later
-  client_heard : {due : List Signal} (code : ℕ) (text : List ℕ) → Beaten (Says (Close code text) ∷ Says CloseOk ∷ []) due → Together client_config server_config (at Phase.Closing (Some (both_settle client_config server_config))) (at Phase.Closing (Some (both_settle client_config server_config))) due []
-  server_heard : {later : List Signal} (code : ℕ) (text : List ℕ) → Blocks (Says (Close code text) ∷ Says CloseOk ∷ []) later → Together client_config server_config (at Phase.Closing (Some (both_settle client_config server_config))) (at Phase.Closing (Some (both_settle client_config server_config))) [] later
+  login_refused : server_config.gated ≡ true → (code : ℕ) (text : List ℕ) (cause : Cause) → Together client_config server_config (at (Handshake AwaitsTune) None) (at Phase.Closing None) [] (Says (Close code text cause) ∷ [])
+  open_refused : (code : ℕ) (text : List ℕ) (cause : Cause) → Together client_config server_config (at (Handshake AwaitsOpenOk) (Some (both_settle client_config server_config))) (at Phase.Closing (Some (both_settle client_config server_config))) [] (Says (Close code text cause) ∷ [])
+  closed_early : {later : List Signal} (code : ℕ) (text : List ℕ) (cause : Cause) → Blocks (Says (Close code text cause) ∷ []) later → Together client_config server_config (at (Handshake AwaitsOpenOk) (Some (both_settle client_config server_config))) (at Phase.Closing (Some (both_settle client_config server_config))) [] (Says OpenOk ∷ later)
+  server_closes : {due later : List Signal} (code : ℕ) (text : List ℕ) (cause : Cause) → Beaten [] due → Blocks (Says (Close code text cause) ∷ []) later → Together client_config server_config (at Running (Some (both_settle client_config server_config))) (at Phase.Closing (Some (both_settle client_config server_config))) due later
+  client_closes : {due later : List Signal} (code : ℕ) (text : List ℕ) (cause : Cause) → Beaten (Says (Close code text cause) ∷ []) due → Blocks [] later → Together client_config server_config (at Phase.Closing (Some (both_settle client_config server_config))) (at Running (Some (both_settle client_config server_config))) due later
+  crossing : {due later : List Signal} (code : ℕ) (text : List ℕ) (cause : Cause) (other_code : ℕ) (other_text : List ℕ) (other_cause : Cause) → Beaten (Says (Close code text cause) ∷ []) due → Blocks (Says (Close other_code other_text other_cause) ∷ []) later → Together client_config server_config (at Phase.Closing (Some (both_settle client_config server_config))) (at Phase.Closing (Some (both_settle client_config server_config))) due later
+  client_heard : {due : List Signal} (code : ℕ) (text : List ℕ) (cause : Cause) → Beaten (Says (Close code text cause) ∷ Says CloseOk ∷ []) due → Together client_config server_config (at Phase.Closing (Some (both_settle client_config server_config))) (at Phase.Closing (Some (both_settle client_config server_config))) due []
+  server_heard : {later : List Signal} (code : ℕ) (text : List ℕ) (cause : Cause) → Blocks (Says (Close code text cause) ∷ Says CloseOk ∷ []) later → Together client_config server_config (at Phase.Closing (Some (both_settle client_config server_config))) (at Phase.Closing (Some (both_settle client_config server_config))) [] later
   both_heard : Together client_config server_config (at Phase.Closing (Some (both_settle client_config server_config))) (at Phase.Closing (Some (both_settle client_config server_config))) (Says CloseOk ∷ []) (Says CloseOk ∷ [])
   client_closed : {due : List Signal} {agreed : Option Agreed} → Settles client_config server_config agreed → Beaten (Says CloseOk ∷ []) due → Together client_config server_config (at Closed agreed) (at Phase.Closing agreed) due []
   server_closed : {later : List Signal} → Blocks (Says CloseOk ∷ []) later → Together client_config server_config (at Phase.Closing (Some (both_settle client_config server_config))) (at Closed (Some (both_settle client_config server_config))) [] later

@@ -198,10 +198,10 @@ says-ask role config history (Ask.Flow (suc m) active) frames back lawful made r
     as-asked role (end_of config history) history (Ask.Flow (suc m) active) frames _ v (says-method role (suc m) (flow_as kinds.ChannelFlow active) history read.method)
 says-ask role config history Ask.Open frames back lawful made read v =
     as-asked role (end_of config history) history Ask.Open frames _ v (open-says role history _ read.method)
-says-ask role config history (Ask.CloseChannel channel code text) frames back lawful made read v =
-    as-asked role (end_of config history) history (Ask.CloseChannel channel code text) frames _ v (quiet-says role channel _ history read.method refl)
-says-ask role config history (Ask.Close code text) frames back lawful made read v =
-    as-asked role (end_of config history) history (Ask.Close code text) frames _ v refl
+says-ask role config history (Ask.CloseChannel channel code text cause) frames back lawful made read v =
+    as-asked role (end_of config history) history (Ask.CloseChannel channel code text cause) frames _ v (quiet-says role channel _ history read.method refl)
+says-ask role config history (Ask.Close code text cause) frames back lawful made read v =
+    as-asked role (end_of config history) history (Ask.Close code text cause) frames _ v refl
 says-ask role config history (Ask.Blocked reason) frames back lawful made read v =
     as-asked role (end_of config history) history (Ask.Blocked reason) frames _ v refl
 says-ask role config history Ask.Unblocked frames back lawful made read v =

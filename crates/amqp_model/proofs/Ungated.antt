@@ -176,7 +176,7 @@ goes-holds role config before taken failed after e u back stands h (asks ask fra
       where
         by : Asked role config before after → holds (end_of config after).phase ≡ false
         by (above footing put from) = ap (λ (f : Footing). holds f.phase) footing ∙ ap holds x.0
-        by (closes code text s) = ap (λ (f : Footing). holds f.phase) s.footing
+        by (closes code text cause s) = ap (λ (f : Footing). holds f.phase) s.footing
         by (says signal block r s) = ap (λ (f : Footing). holds f.phase) s.footing ∙ ap holds x.0
 goes-holds role config before taken failed after e u back stands h (controls control frames read v) = by (decided role config before control frames stands back read v)
   where
@@ -185,7 +185,7 @@ goes-holds role config before taken failed after e u back stands h (controls con
     by (starts args p s) = ap (λ (f : Footing). holds f.phase) s.footing
     by (logs_in p s) = ap (λ (f : Footing). holds f.phase) s.footing
     by (opens p s) = ap (λ (f : Footing). holds f.phase) s.footing
-    by (turns_away code text p s) = ap (λ (f : Footing). holds f.phase) s.footing
+    by (turns_away code text cause p s) = ap (λ (f : Footing). holds f.phase) s.footing
 goes-holds role config before taken failed after e u back stands h (faults frame can g) = absurd (true≢false e)
 goes-holds role config before taken failed after e u back stands h (meets_too_large p) = absurd (true≢false e)
 goes-holds role config before taken failed after e u back stands h (fails p) = absurd (true≢false e)

@@ -19,7 +19,7 @@ use Rattle.amqp_model.specs.History.Histories.{History}
 use Rattle.amqp_model.specs.End.Channels.{Phase, Handshake, Running, Closed, Failed, Agreed, End}
 use Rattle.amqp_model.specs.History.Negotiation.{Config, FRAME_MIN, start_ok_choosing}
 use Rattle.amqp_model.specs.End.StateFromHistory.{end_from}
-use Rattle.amqp_model.specs.End.Closes.{ContentTooLarge, Owed, AllReadBack, method_frame, frame_of, reply_to, channel_close}
+use Rattle.amqp_model.specs.End.Closes.{ContentTooLarge, no_cause, Owed, AllReadBack, method_frame, frame_of, reply_to, channel_close}
 use Rattle.amqp_model.specs.End.Events.{Message, Plain, Whole, method_of, FrameVerdict}
 use Rattle.amqp_model.specs.End.FrameVerdict.{on_channel, verdict_on, methods_put}
 use Rattle.amqp_model.specs.End.Asks.{Ask, Refusal, channel_max, frame_max, lowest_free, opens_on, payload_frame, message_payloads, method_asked, frames_asked, refusal, Puts, ask_verdict}
@@ -76,7 +76,7 @@ word-class (TuneOk agreed) = refl
 word-class SaysOpenOk = refl
 word-class SaysCloseOk = refl
 word-class Unblocked = refl
-word-class (SaysClose code text) = refl
+word-class (SaysClose code text cause) = refl
 word-class (Blocked reason) = refl
 
 pub word-well : (role : Role) (limits : Agreed) (word : Word) → ReadsBack (said word) → sends (is_client role) (said word).kind ≡ true → frame_length (spoken word) ≤ FRAME_MIN → FRAME_MIN ≤ limits.frame_max → IsWellPut role limits (spoken word)
@@ -277,8 +277,8 @@ module _ (role : Role) (limits : Agreed) (end : End) (agreed : end.agreed ≡ So
       say (Whole content) read header sent class =
           (calls-it content.method read sent class, (subst (λ h. SaysWell role c (header_reading h)) (sym header) (heads (length content.body) content.properties number.0), bodies-say role c number.0 (pieces (room_in (frame_max end.agreed)) content.body)))
   by-ask (Ask.Flow c active) back a within = one-well role limits c (method_asked (Ask.Flow c active)) (number-of c (not-when _ Refusal.BadChannel a.numbered)) back.method (both-send role).0 refl within
-  by-ask (Ask.CloseChannel c code text) back a within = one-well role limits c (method_asked (Ask.CloseChannel c code text)) (number-of c (not-when _ Refusal.BadChannel a.numbered)) back.method (both-send role).1 refl within
-  by-ask (Ask.Close code text) back a within = (word-well role limits (SaysClose code text) back.method (both-send role).2 (connection_close-short 0 code text back.text.0) least, tt)
+  by-ask (Ask.CloseChannel c code text cause) back a within = one-well role limits c (method_asked (Ask.CloseChannel c code text cause)) (number-of c (not-when _ Refusal.BadChannel a.numbered)) back.method (both-send role).1 refl within
+  by-ask (Ask.Close code text cause) back a within = (word-well role limits (SaysClose code text cause) back.method (both-send role).2 (connection_close-short 0 code text cause back.text.0) least, tt)
   by-ask (Ask.Blocked reason) back a within = (word-well role limits (Blocked reason) back.method (server role a) (blocked-short reason back.text.0) least, tt)
     where
       server : (role : Role) → Accepted role end (Ask.Blocked reason) → sends (is_client role) kinds.ConnectionBlocked ≡ true
@@ -305,8 +305,8 @@ controlled-well : {role : Role} {config : Config role} {phase : Phase} {control 
 controlled-well {role = role} limits least writes back reads puts_beat = beat-well role limits least
 controlled-well {config = config} limits least writes back reads admits_login = word-well Server limits (Tune config.channel_max config.frame_max config.heartbeat) back.admission.0 refl (tune-sound 0 config writes).short least
 controlled-well limits least writes back reads admits_open = word-well Server limits SaysOpenOk back.admission.1 refl (open_ok-sound 0).short least
-controlled-well limits least writes back reads (refuses_login code text) = word-well Server limits (SaysClose code text) reads.0 refl (connection_close-short 0 code text reads.1.0) least
-controlled-well limits least writes back reads (refuses_open code text) = word-well Server limits (SaysClose code text) reads.0 refl (connection_close-short 0 code text reads.1.0) least
+controlled-well limits least writes back reads (refuses_login code text) = word-well Server limits (SaysClose code text no_cause) reads.0 refl (connection_close-short 0 code text no_cause reads.1.0) least
+controlled-well limits least writes back reads (refuses_open code text) = word-well Server limits (SaysClose code text no_cause) reads.0 refl (connection_close-short 0 code text no_cause reads.1.0) least
 controlled-well {config = config} limits least writes back reads (answers mechanism response locale short) =
     let is = choosing-is config mechanism response locale in
     subst (λ m. IsWellPut Client limits (method_frame 0 m)) (sym is)

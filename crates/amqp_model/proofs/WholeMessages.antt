@@ -294,8 +294,8 @@ asked-whole role end n history (Ask.Send c (Whole content)) read made a whole = 
     cases true e = here (eqb-true c (suc n) e)
     cases false e = parts-away-whole role n c (cut (frame_max end.agreed) content) history e whole
 asked-whole role end n history (Ask.Flow c active) read made a whole = method-whole role n c (method_asked (Ask.Flow c active)) history read.method refl whole
-asked-whole role end n history (Ask.CloseChannel c code text) read made a whole = method-whole role n c (method_asked (Ask.CloseChannel c code text)) history read.method refl whole
-asked-whole role end n history (Ask.Close code text) read made a whole = method-whole role n 0 (method_asked (Ask.Close code text)) history read.method refl whole
+asked-whole role end n history (Ask.CloseChannel c code text cause) read made a whole = method-whole role n c (method_asked (Ask.CloseChannel c code text cause)) history read.method refl whole
+asked-whole role end n history (Ask.Close code text cause) read made a whole = method-whole role n 0 (method_asked (Ask.Close code text cause)) history read.method refl whole
 asked-whole role end n history (Ask.Blocked reason) read made a whole = method-whole role n 0 (method_asked (Ask.Blocked reason)) history read.method refl whole
 asked-whole role end n history Ask.Unblocked read made a whole = method-whole role n 0 (method_asked Ask.Unblocked) history read.method refl whole
 

@@ -14,7 +14,7 @@ use Rattle.amqp_model.specs.End.Channels.{Life, HandshakeStep, AwaitsTune, Await
 use Rattle.amqp_method.specs.Arguments.{Argument}
 use Rattle.amqp_model.specs.History.Negotiation.{Config, start_ok_choosing}
 use Rattle.amqp_model.specs.End.StateFromHistory.{end_from}
-use Rattle.amqp_model.specs.End.Closes.{ContentTooLarge, Owed, AllReadBack, method_frame, frame_of, reply_to, channel_close}
+use Rattle.amqp_model.specs.End.Closes.{ContentTooLarge, Cause, no_cause, Owed, AllReadBack, method_frame, frame_of, reply_to, channel_close}
 use Rattle.amqp_model.specs.End.Events.{FrameVerdict}
 use Rattle.amqp_model.specs.End.FrameVerdict.{on_channel, verdict_on, methods_put}
 use Rattle.amqp_model.specs.End.Asks.{Ask, is_made, Refusal, channel_max, lowest_free, opens_on, payload_frame, message_payloads, method_asked, frame_max, frames_asked, refusal, Puts, ask_verdict}
@@ -213,7 +213,7 @@ pub record Speaks (role : Role) (config : Config role) (before after : History) 
 pub data Asked (role : Role) (config : Config role) (before after : History) : Type 0 where
   -- frames of channels above 0: by a client, or on a channel that is Open
   above : footing_of (end_from role config false after) ≡ footing_of (end_from role config false before) → on 0 (frames_put after) ≡ on 0 (frames_put before) → ((role ≡ Client) ⊎ ((c : ℕ) × ((life : Life) × ((end_from role config false before).channels c ≡ channels.Open life)))) → Asked role config before after
-  closes : (code : ℕ) (text : List ℕ) → Speaks role config before after (Says (Close code text)) (at Phase.Closing (end_from role config false before).agreed) → Asked role config before after
+  closes : (code : ℕ) (text : List ℕ) (cause : Cause) → Speaks role config before after (Says (Close code text cause)) (at Phase.Closing (end_from role config false before).agreed) → Asked role config before after
   says : (signal : Signal) → IsBlock signal → role ≡ Server → Speaks role config before after signal (footing_of (end_from role config false before)) → Asked role config before after
 
 put-stays : (role : Role) (config : Config role) (frames : List Frame) (footing : Footing) → AllAbove frames → footing_put role config frames footing ≡ footing
@@ -265,10 +265,10 @@ module _ (role : Role) (config : Config role) (before : History) (stands : Stand
       opener Server a = absurd (let h = a.sendable in cc)
   by-ask (Ask.Send c message) read a follows = ask-above (frames_asked (end_from role config false before) (Ask.Send c message)) (payloads-above c (message_payloads (frame_max (end_from role config false before).agreed) message) (first-false (c == 0) _ (not-when _ Refusal.BadChannel a.numbered))) follows (inr (c, has-life ((end_from role config false before).channels c) (not-when _ Refusal.NotOpen a.opened)))
   by-ask (Ask.Flow c active) read a follows = ask-above (frames_asked (end_from role config false before) (Ask.Flow c active)) (first-false (c == 0) _ (not-when _ Refusal.BadChannel a.numbered), tt) follows (inr (c, has-life ((end_from role config false before).channels c) (not-when _ Refusal.NotOpen a.opened)))
-  by-ask (Ask.CloseChannel c code text) read a follows = ask-above (frames_asked (end_from role config false before) (Ask.CloseChannel c code text)) (first-false (c == 0) _ (not-when _ Refusal.BadChannel a.numbered), tt) follows (inr (c, has-life ((end_from role config false before).channels c) (not-when _ Refusal.NotOpen a.opened)))
-  by-ask (Ask.Close code text) read a follows = closes code text (ask-says (Close code text) _ read follows (moves role config (footing_of (end_from role config false before)) (is-running (end_from role config false before).phase (not-when _ Refusal.NotRunning a.runs))))
+  by-ask (Ask.CloseChannel c code text cause) read a follows = ask-above (frames_asked (end_from role config false before) (Ask.CloseChannel c code text cause)) (first-false (c == 0) _ (not-when _ Refusal.BadChannel a.numbered), tt) follows (inr (c, has-life ((end_from role config false before).channels c) (not-when _ Refusal.NotOpen a.opened)))
+  by-ask (Ask.Close code text cause) read a follows = closes code text cause (ask-says (Close code text cause) _ read follows (moves role config (footing_of (end_from role config false before)) (is-running (end_from role config false before).phase (not-when _ Refusal.NotRunning a.runs))))
     where
-      moves : (role : Role) (config : Config role) (f : Footing) → f.phase ≡ Running → footing_after role config 0 (PutHere (Calls (said (Close code text))) (spoken (Close code text))) f ≡ at Phase.Closing f.agreed
+      moves : (role : Role) (config : Config role) (f : Footing) → f.phase ≡ Running → footing_after role config 0 (PutHere (Calls (said (Close code text cause))) (spoken (Close code text cause))) f ≡ at Phase.Closing f.agreed
       moves Client config f p = simp p
       moves Server config f p = simp p
   by-ask (Ask.Blocked reason) read a follows = says (Says (Blocked reason)) (blocks reason) (is_server role a) (ask-says (Blocked reason) _ read follows (moves role config (footing_of (end_from role config false before)) (is-running (end_from role config false before).phase (not-when _ Refusal.NotRunning a.runs))))
@@ -305,7 +305,7 @@ pub data Decided : (role : Role) → Config role → (before after : History) �
   starts : {config : Config Client} {before after : History} (args : List Argument) → (end_from Client config false before).phase ≡ Handshake HoldsStart → Speaks Client config before after (Says (StartOk args)) (at (Handshake AwaitsTune) (end_from Client config false before).agreed) → Decided Client config before after
   logs_in : {config : Config Server} {before after : History} → (end_from Server config false before).phase ≡ Handshake HoldsLogin → Speaks Server config before after (Says (Tune config.channel_max config.frame_max config.heartbeat)) (at (Handshake AwaitsTuneOk) (end_from Server config false before).agreed) → Decided Server config before after
   opens : {config : Config Server} {before after : History} → (end_from Server config false before).phase ≡ Handshake HoldsOpen → Speaks Server config before after (Says OpenOk) (at Running (end_from Server config false before).agreed) → Decided Server config before after
-  turns_away : {config : Config Server} {before after : History} (code : ℕ) (text : List ℕ) → ((end_from Server config false before).phase ≡ Handshake HoldsLogin) ⊎ ((end_from Server config false before).phase ≡ Handshake HoldsOpen) → Speaks Server config before after (Says (Close code text)) (at Phase.Closing (end_from Server config false before).agreed) → Decided Server config before after
+  turns_away : {config : Config Server} {before after : History} (code : ℕ) (text : List ℕ) (cause : Cause) → ((end_from Server config false before).phase ≡ Handshake HoldsLogin) ⊎ ((end_from Server config false before).phase ≡ Handshake HoldsOpen) → Speaks Server config before after (Says (Close code text cause)) (at Phase.Closing (end_from Server config false before).agreed) → Decided Server config before after
 
 beat-moves : (role : Role) (config : Config role) (f : Footing) → f.phase ≡ Running → footing_after role config 0 (PutHere (tells Beats) (passing Beats)) f ≡ f
 beat-moves Client config f p = ap (λ q. footing_after Client config 0 (PutHere (tells Beats) (passing Beats)) (at q f.agreed)) p ∙ ap (λ q. at q f.agreed) (sym p)
@@ -320,16 +320,16 @@ logs-moves config a b c f p = simp p
 opens-moves : (config : Config Server) (f : Footing) → f.phase ≡ Handshake HoldsOpen → footing_after Server config 0 (PutHere (Calls (said OpenOk)) (spoken OpenOk)) f ≡ at Running f.agreed
 opens-moves config f p = simp p
 
-away-moves : (config : Config Server) (code : ℕ) (text : List ℕ) (f : Footing) (step : HandshakeStep) → f.phase ≡ Handshake step → footing_after Server config 0 (PutHere (Calls (said (Close code text))) (spoken (Close code text))) f ≡ at Phase.Closing f.agreed
-away-moves config code text f step p = simp p
+away-moves : (config : Config Server) (code : ℕ) (text : List ℕ) (cause : Cause) (f : Footing) (step : HandshakeStep) → f.phase ≡ Handshake step → footing_after Server config 0 (PutHere (Calls (said (Close code text cause))) (spoken (Close code text cause))) f ≡ at Phase.Closing f.agreed
+away-moves config code text cause f step p = simp p
 
 -- its frame is put, by the phase
 decide : {role : Role} {config : Config role} (before : History) (phase : Phase) {control : Control} {frame : Frame} → StandsFor role config false (end_from role config false before) before → WritesReadBack role config → ControlReadsBack role config control → (end_from role config false before).phase ≡ phase → Controlled role config phase control frame → StandsFor role config false (end_after_put role config (frame ∷ []) (end_from role config false before)) (then_put (frame ∷ []) before) → Decided role config before (then_put (frame ∷ []) before)
 decide {role} {config} before phase stands back reads p beats follows = beaten p (signals role config before stands Beats _ refl follows (beat-moves role config (footing_of (end_from role config false before)) p))
 decide {config = config} before phase stands back reads p admits_login follows = logs_in p (ask-says Server config before stands (Tune config.channel_max config.frame_max config.heartbeat) _ back.admission.0 follows (logs-moves config config.channel_max config.frame_max config.heartbeat (footing_of (end_from Server config false before)) p))
 decide {config = config} before phase stands back reads p admits_open follows = opens p (ask-says Server config before stands OpenOk _ back.admission.1 follows (opens-moves config (footing_of (end_from Server config false before)) p))
-decide {config = config} before phase stands back reads p (refuses_login code text) follows = turns_away code text (inl p) (ask-says Server config before stands (Close code text) _ reads.0 follows (away-moves config code text (footing_of (end_from Server config false before)) HoldsLogin p))
-decide {config = config} before phase stands back reads p (refuses_open code text) follows = turns_away code text (inr p) (ask-says Server config before stands (Close code text) _ reads.0 follows (away-moves config code text (footing_of (end_from Server config false before)) HoldsOpen p))
+decide {config = config} before phase stands back reads p (refuses_login code text) follows = turns_away code text no_cause (inl p) (ask-says Server config before stands (Close code text no_cause) _ reads.0 follows (away-moves config code text no_cause (footing_of (end_from Server config false before)) HoldsLogin p))
+decide {config = config} before phase stands back reads p (refuses_open code text) follows = turns_away code text no_cause (inr p) (ask-says Server config before stands (Close code text no_cause) _ reads.0 follows (away-moves config code text no_cause (footing_of (end_from Server config false before)) HoldsOpen p))
 decide {config = config} before phase stands back reads p (answers mechanism response locale short) follows =
     subst (λ frame. StandsFor Client config false (end_after_put Client config (frame ∷ []) (end_from Client config false before)) (then_put (frame ∷ []) before) → Decided Client config before (then_put (frame ∷ []) before)) (ap (method_frame 0) (sym (choosing-is config mechanism response locale)))
     (λ follows. starts (start_ok_choosing config mechanism response locale).args p (ask-says Client config before stands (StartOk (start_ok_choosing config mechanism response locale).args) _ (subst ReadsBack (choosing-is config mechanism response locale) reads) follows (starts-moves config (start_ok_choosing config mechanism response locale).args (footing_of (end_from Client config false before)) p)))

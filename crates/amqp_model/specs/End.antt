@@ -14,5 +14,6 @@ pub mod Answers
 pub mod Heard
 pub mod Blame
 pub mod Bounds
+pub mod Amounts
 pub mod Numbers
 pub mod Fitting

@@ -10,6 +10,7 @@ pub mod VerdictInWords
 pub mod AnswersInWords
 pub mod FittingLaws
 pub mod OctetLaws
+pub mod AmountLaws
 pub mod CarryingLaws
 pub mod LeavingLaws
 pub mod SentLaws

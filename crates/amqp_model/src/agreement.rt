@@ -61,8 +61,11 @@ pub fn frames_are_well_put()
 /// An end can take whatever frame comes next, and goes on with it, on every channel and in every phase. A reply that comes next
 /// to a client answers the request that waits, and a request that comes next to a server finds it keeping fewer than it may.
 pub fn no_fault_over_frames()
-    ensures matched { (role : Role) (client_config : Config Client) (server_config : Config Server) (mine theirs : History) (frame : Frame) → NextIsMatched role client_config server_config mine theirs frame }
-    ensures takes { (role : Role) (client_config : Config Client) (server_config : Config Server) (mine theirs : History) (frame : Frame) → TakesWhatComesNext role client_config server_config mine theirs frame }
+    ensures matched { (role : Role) (client_config : Config Client) (server_config : Config Server)
+        (mine theirs : History) (frame : Frame) → NextIsMatched role client_config server_config mine theirs frame }
+    ensures takes { (role : Role) (client_config : Config Client) (server_config : Config Server)
+        (mine theirs : History) (frame : Frame) → TakesWhatComesNext role client_config server_config mine theirs
+        frame }
 {
     written_reads_back();
 }
@@ -70,16 +73,24 @@ pub fn no_fault_over_frames()
 /// An end that is fed the next octets of what the other put finds no fault, in whatever pieces they come; and what it keeps
 /// then stands for a history that is a pair with the other's again.
 pub fn no_fault_over_octets()
-    ensures none { (role : Role) (client_config : Config Client) (server_config : Config Server) (mine theirs : History) (endpoint : Endpoint) (fed written piece later : List ℕ) → FindsNoFaultWithOctets role client_config server_config mine theirs endpoint fed written piece later }
-    ensures pair { (role : Role) (client_config : Config Client) (server_config : Config Server) (mine theirs : History) (endpoint : Endpoint) (fed written piece later : List ℕ) → FeedStaysPair role client_config server_config mine theirs endpoint fed written piece later }
-    ensures grown { (role : Role) (client_config : Config Client) (server_config : Config Server) (mine theirs : History) (endpoint : Endpoint) (fed written piece later : List ℕ) (after : History) → GrownStaysPair role client_config server_config mine theirs endpoint fed written piece later after }
+    ensures none { (role : Role) (client_config : Config Client) (server_config : Config Server)
+        (mine theirs : History) (endpoint : Endpoint) (fed written piece later : List ℕ)
+        → FindsNoFaultWithOctets role client_config server_config mine theirs endpoint fed written piece later }
+    ensures pair { (role : Role) (client_config : Config Client) (server_config : Config Server)
+        (mine theirs : History) (endpoint : Endpoint) (fed written piece later : List ℕ)
+        → FeedStaysPair role client_config server_config mine theirs endpoint fed written piece later }
+    ensures grown { (role : Role) (client_config : Config Client) (server_config : Config Server)
+        (mine theirs : History) (endpoint : Endpoint) (fed written piece later : List ℕ) (after : History)
+        → GrownStaysPair role client_config server_config mine theirs endpoint fed written piece later after }
 {
     written_reads_back();
 }
 
 /// No octet waits for an end that is closed: it has none unfinished, and was fed all that the other put.
 pub fn nothing_waits_for_closed()
-    ensures { (role : Role) (client_config : Config Client) (server_config : Config Server) (mine theirs : History) (limit : ℕ) (put fed unfinished rest : List ℕ) → NothingWaitsForClosed role client_config server_config mine theirs limit put fed unfinished rest }
+    ensures { (role : Role) (client_config : Config Client) (server_config : Config Server) (mine theirs : History)
+        (limit : ℕ) (put fed unfinished rest : List ℕ) → NothingWaitsForClosed role client_config server_config mine
+        theirs limit put fed unfinished rest }
 {
     written_reads_back();
 }
@@ -88,8 +99,11 @@ pub fn nothing_waits_for_closed()
 /// what the other put after what the end took. So the items that the other sent in the life of a live end are those that the
 /// frames acted on and then the waiting ones encode.
 pub fn octets_in_flight_are_frames()
-    ensures frames { (role : Role) (limit : ℕ) (mine theirs : History) (put fed unfinished rest : List ℕ) → OctetsInFlightAreFrames role limit mine theirs put fed unfinished rest }
-    ensures items { (role : Role) (client_config : Config Client) (server_config : Config Server) (mine theirs : History) (unfinished rest : List ℕ) (n : ℕ) → ItemsSentAreActedOnOrWaiting role client_config server_config mine theirs unfinished rest n }
+    ensures frames { (role : Role) (limit : ℕ) (mine theirs : History) (put fed unfinished rest : List ℕ)
+        → OctetsInFlightAreFrames role limit mine theirs put fed unfinished rest }
+    ensures items { (role : Role) (client_config : Config Client) (server_config : Config Server)
+        (mine theirs : History) (unfinished rest : List ℕ) (n : ℕ)
+        → ItemsSentAreActedOnOrWaiting role client_config server_config mine theirs unfinished rest n }
 {
     written_reads_back();
 }
@@ -98,8 +112,10 @@ pub fn octets_in_flight_are_frames()
 /// put. No content but get-ok comes to an end on a channel where it took flow-ok with active 0, and has since put no flow with
 /// active 1.
 pub fn ends_agree_on_lives()
-    ensures lives { (role : Role) (client_config : Config Client) (server_config : Config Server) (mine theirs : History) (n : ℕ) → LivesAgree role client_config server_config mine theirs n }
-    ensures pause { (role : Role) (client_config : Config Client) (server_config : Config Server) (mine theirs : History) (n : ℕ) → NoContentFromPaused role client_config server_config mine theirs n }
+    ensures lives { (role : Role) (client_config : Config Client) (server_config : Config Server)
+        (mine theirs : History) (n : ℕ) → LivesAgree role client_config server_config mine theirs n }
+    ensures pause { (role : Role) (client_config : Config Client) (server_config : Config Server)
+        (mine theirs : History) (n : ℕ) → NoContentFromPaused role client_config server_config mine theirs n }
 {
     written_reads_back();
 }
@@ -111,7 +127,9 @@ pub fn ends_stand_together()
     ensures turned { StandTogetherTurned }
     ensures carried { CarryStandsTogether }
     ensures asked { AskStandsTogether }
-    ensures pair { (role : Role) (client_config : Config Client) (server_config : Config Server) (mine theirs : History) (end : End) (ask : Ask) (frames : List Frame) → AskedStaysPair role client_config server_config mine theirs end ask frames }
+    ensures pair { (role : Role) (client_config : Config Client) (server_config : Config Server)
+        (mine theirs : History) (end : End) (ask : Ask) (frames : List Frame)
+        → AskedStaysPair role client_config server_config mine theirs end ask frames }
 {
     written_reads_back();
 }

@@ -12,15 +12,18 @@ ghost use Rattle.amqp_model.specs.Wire.Notes.{Role};
 
 /// The state of a channel up to the agreed maximum is that of its notes, until the connection is closed and all are Free.
 pub fn states_are_of_notes()
-    ensures open { (role : Role) (config : Config role) (end : End) (history : History) (n : ℕ) → StateIsOfNotes role config end history n }
+    ensures open { (role : Role) (config : Config role) (end : End) (history : History) (n : ℕ)
+        → StateIsOfNotes role config end history n }
     ensures closed { ClosedIsFree }
 {}
 
 /// The octets gathered on an Open channel of a Running connection are those of the body parts of the content under way, and
 /// none where none is. Nowhere else are there any.
 pub fn octets_are_of_body()
-    ensures under_way { (role : Role) (config : Config role) (end : End) (history : History) (n : ℕ) (life : Life) (since : List Payload) → GatheredIsUnderWay role config end history n life since }
-    ensures none { (role : Role) (config : Config role) (end : End) (history : History) (n : ℕ) (life : Life) → NoneIsGathered role config end history n life }
+    ensures under_way { (role : Role) (config : Config role) (end : End) (history : History) (n : ℕ) (life : Life)
+        (since : List Payload) → GatheredIsUnderWay role config end history n life since }
+    ensures none { (role : Role) (config : Config role) (end : End) (history : History) (n : ℕ) (life : Life)
+        → NoneIsGathered role config end history n life }
     ensures elsewhere { OnlyOpenGathers }
 {}
 

@@ -5,6 +5,7 @@
 //! no ask makes it keep more than that.
 
 ghost use Rattle.std.specs.Prelude.{ℕ, List};
+ghost use Rattle.amqp_model.specs.End.Amounts.{OneHeaderLength};
 ghost use Rattle.amqp_model.specs.End.Asks.{Ask};
 ghost use Rattle.amqp_model.specs.End.Bounds.{AskStaysWithin, FrameStaysWithin, GatheredIsWithin, NewIsWithin, OthersAreFree, StandsWithin};
 ghost use Rattle.amqp_model.specs.End.Channels.{End};
@@ -13,13 +14,16 @@ ghost use Rattle.amqp_model.specs.History.Histories.{History};
 ghost use Rattle.amqp_model.specs.History.Negotiation.{Config};
 ghost use Rattle.amqp_model.specs.Wire.Notes.{Role};
 ghost use Rattle.amqp_model.specs.End.Numbers.{StandsNumbered};
+ghost use Rattle.amqp_model.specs.Laws.AmountLaws.{ContentsAreWithin};
 
 /// Each Open channel of an end is within its bounds: of a new end, after each frame and each ask, and so of every end that
 /// stands for a lawful history.
 pub fn ends_are_bounded()
     ensures new { NewIsWithin }
-    ensures frame { (role : Role) (config : Config role) (end : End) (frame : Frame) → FrameStaysWithin role config end frame }
-    ensures ask { (role : Role) (config : Config role) (end : End) (ask : Ask) (frames : List Frame) → AskStaysWithin role config end ask frames }
+    ensures frame { (role : Role) (config : Config role) (end : End) (frame : Frame)
+        → FrameStaysWithin role config end frame }
+    ensures ask { (role : Role) (config : Config role) (end : End) (ask : Ask) (frames : List Frame)
+        → AskStaysWithin role config end ask frames }
     ensures stands { StandsWithin }
 {}
 
@@ -33,4 +37,15 @@ pub fn answers_are_bounded()
 /// No channel above the agreed maximum is kept: at most so many channels are other than Free.
 pub fn channels_are_numbered()
     ensures { StandsNumbered }
+{}
+
+/// Every encoding of a content header has as many octets as the plain one: a truth value has one octet in each, and all
+/// else is the same.
+pub fn headers_have_one_length()
+    ensures { OneHeaderLength }
+{}
+
+/// An end keeps of the contents under way at most, for each channel that was agreed, a body and a frame.
+pub fn contents_are_bounded()
+    ensures { ContentsAreWithin }
 {}

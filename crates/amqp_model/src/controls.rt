@@ -21,7 +21,8 @@ use crate::fitting::written_reads_back;
 /// the end keeps stands for its history with that frame. The handshake goes on, or ends, or the connection closes; no
 /// channel changes, and no message is said. Above channel 0 the end leaves, if it refuses, and does nothing else.
 pub fn controls_follow()
-    ensures history { (role : Role) (config : Config role) (failed : Bool) (end : End) (history : History) (control : Control) → ControlOfHistory role config failed end history control }
+    ensures history { (role : Role) (config : Config role) (failed : Bool) (end : End) (history : History)
+        (control : Control) → ControlOfHistory role config failed end history control }
     ensures one { ControlPutsOne }
     ensures follows { ControlFollows }
     ensures phase { ControlMovesPhase }
@@ -42,9 +43,12 @@ pub fn controls_are_written()
 /// An endpoint that accepts a control goes on to stand for its history, and for what it was fed and wrote; one that
 /// refuses it stays as it is. What is unfinished is held, and alike endpoints stay alike.
 pub fn controls_follow_octets()
-    ensures accepted { (role : Role) (config : Config role) (endpoint : Endpoint) (history : History) (fed written : List ℕ) (control : Control) (frames : List Frame) → ControlAcceptedFollows role config endpoint history fed written control frames }
+    ensures accepted { (role : Role) (config : Config role) (endpoint : Endpoint) (history : History)
+        (fed written : List ℕ) (control : Control) (frames : List Frame)
+        → ControlAcceptedFollows role config endpoint history fed written control frames }
     ensures refused { ControlRefusedStays }
-    ensures held { (role : Role) (config : Config role) (endpoint : Endpoint) (control : Control) → ControlHolds role config endpoint control }
+    ensures held { (role : Role) (config : Config role) (endpoint : Endpoint) (control : Control)
+        → ControlHolds role config endpoint control }
     ensures answer { ControlsAlike }
     ensures alike { ControllingLeavesAlike }
 {}
@@ -53,7 +57,9 @@ pub fn controls_follow_octets()
 /// pair's.
 pub fn controls_stand_together()
     ensures together { ControlStandsTogether }
-    ensures pair { (role : Role) (client_config : Config Client) (server_config : Config Server) (mine theirs : History) (end : End) (control : Control) (frames : List Frame) → ControlledStaysPair role client_config server_config mine theirs end control frames }
+    ensures pair { (role : Role) (client_config : Config Client) (server_config : Config Server)
+        (mine theirs : History) (end : End) (control : Control) (frames : List Frame)
+        → ControlledStaysPair role client_config server_config mine theirs end control frames }
 {
     written_reads_back();
 }

@@ -71,8 +71,10 @@ pub fn frames_fit()
 /// octets. It stays so by each frame that an end takes, and no ask changes it.
 pub fn agreed_is_within()
     ensures history { AgreedIsWithin }
-    ensures frame { (role : Role) (config : Config role) (end : End) (frame : Frame) → AgreedStaysWithin role config end frame }
-    ensures ask { (role : Role) (config : Config role) (end : End) (ask : Ask) (frames : List Frame) → AskKeepsAgreed role config end ask frames }
+    ensures frame { (role : Role) (config : Config role) (end : End) (frame : Frame)
+        → AgreedStaysWithin role config end frame }
+    ensures ask { (role : Role) (config : Config role) (end : End) (ask : Ask) (frames : List Frame)
+        → AskKeepsAgreed role config end ask frames }
 {
     written_reads_back();
 }

@@ -79,9 +79,11 @@ pub fn words_read()
     ensures alive { (role : Role) (history : List Note) → (is_alive role history ≡ true) ↔ IsAlive role history }
     ensures lives { (role : Role) (history : List Note) → lives role history ≡ places_with (is_opening role) history }
     ensures open_ok { (role : Role) (history : List Note) → (has_open_ok role history ≡ true) ↔ HasOpenOk role history }
-    ensures awaits_flow_ok { (role : Role) (history : List Note) → (awaits_flow_ok role history ≡ true) ↔ AwaitsFlowOk role history }
+    ensures awaits_flow_ok { (role : Role) (history : List Note) → (awaits_flow_ok role history ≡ true) ↔ AwaitsFlowOk
+        role history }
     ensures paused { (role : Role) (history : List Note) → (is_paused role history ≡ true) ↔ IsPaused role history }
-    ensures pauses_other { (role : Role) (history : List Note) → (pauses_other role history ≡ true) ↔ PausesOther role history }
+    ensures pauses_other { (role : Role) (history : List Note) → (pauses_other role history ≡ true) ↔ PausesOther role
+        history }
     ensures left { (history : List Note) → (has_left history ≡ true) ↔ HasLeft history }
     ensures before_leaving { (history : List Note) → IsBeforeLeaving history (before_leaving history) }
     ensures state { StatesRead }

@@ -27,13 +27,19 @@ pub fn judged_is_said()
 /// The same comes of octets however they are cut. Each piece that has octets loses one, none loses more than it has, and
 /// where nothing comes of a piece all of it is taken. An end that is closed, or has failed, takes nothing.
 pub fn cut_changes_nothing()
-    ensures goes_on { (role : Role) (config : Config role) (endpoint : Endpoint) (p q : List ℕ) → CutGoesOn role config endpoint p q }
-    ensures stops { (role : Role) (config : Config role) (endpoint : Endpoint) (p q : List ℕ) → CutStops role config endpoint p q }
+    ensures goes_on { (role : Role) (config : Config role) (endpoint : Endpoint) (p q : List ℕ)
+        → CutGoesOn role config endpoint p q }
+    ensures stops { (role : Role) (config : Config role) (endpoint : Endpoint) (p q : List ℕ)
+        → CutStops role config endpoint p q }
     ensures progress { FeedProgresses }
-    ensures within { (role : Role) (config : Config role) (endpoint : Endpoint) (piece : List ℕ) → FeedTakesWithin role config endpoint piece }
-    ensures all { (role : Role) (config : Config role) (endpoint : Endpoint) (piece : List ℕ) → FeedTakesAll role config endpoint piece }
-    ensures closed { (role : Role) (config : Config role) (endpoint : Endpoint) (piece : List ℕ) → FeedStaysClosed role config endpoint piece }
-    ensures failed { (role : Role) (config : Config role) (endpoint : Endpoint) (piece : List ℕ) → FeedStaysFailed role config endpoint piece }
+    ensures within { (role : Role) (config : Config role) (endpoint : Endpoint) (piece : List ℕ)
+        → FeedTakesWithin role config endpoint piece }
+    ensures all { (role : Role) (config : Config role) (endpoint : Endpoint) (piece : List ℕ)
+        → FeedTakesAll role config endpoint piece }
+    ensures closed { (role : Role) (config : Config role) (endpoint : Endpoint) (piece : List ℕ)
+        → FeedStaysClosed role config endpoint piece }
+    ensures failed { (role : Role) (config : Config role) (endpoint : Endpoint) (piece : List ℕ)
+        → FeedStaysFailed role config endpoint piece }
 {}
 
 /// A new end stands for a history of nothing. What an end keeps stands for its history, for all octets fed and for all
@@ -42,11 +48,17 @@ pub fn cut_changes_nothing()
 pub fn octets_follow()
     ensures new { (role : Role) (config : Config role) → NewStands role config }
     ensures octet { OctetFollows }
-    ensures feed { (role : Role) (config : Config role) (endpoint : Endpoint) (history : History) (fed written piece : List ℕ) → FeedFollows role config endpoint history fed written piece }
-    ensures accepted { (role : Role) (config : Config role) (endpoint : Endpoint) (history : History) (fed written : List ℕ) (ask : Ask) (frames : List Frame) → AcceptedFollows role config endpoint history fed written ask frames }
+    ensures feed { (role : Role) (config : Config role) (endpoint : Endpoint) (history : History)
+        (fed written piece : List ℕ) → FeedFollows role config endpoint history fed written piece }
+    ensures accepted { (role : Role) (config : Config role) (endpoint : Endpoint) (history : History)
+        (fed written : List ℕ) (ask : Ask) (frames : List Frame)
+        → AcceptedFollows role config endpoint history fed written ask frames }
     ensures refused { RefusedStays }
-    ensures wrote { (role : Role) (config : Config role) (endpoint : Endpoint) (history : History) (fed written : List ℕ) (n : ℕ) → WroteFollows role config endpoint history fed written n }
-    ensures wrote_failed { (role : Role) (config : Config role) (limit : ℕ) (opening : List ℕ) (history : History) (fed written : List ℕ) (endpoint : Endpoint) (n : ℕ) → FailedWrites role config limit opening history fed written endpoint n }
+    ensures wrote { (role : Role) (config : Config role) (endpoint : Endpoint) (history : History)
+        (fed written : List ℕ) (n : ℕ) → WroteFollows role config endpoint history fed written n }
+    ensures wrote_failed { (role : Role) (config : Config role) (limit : ℕ) (opening : List ℕ) (history : History)
+        (fed written : List ℕ) (endpoint : Endpoint) (n : ℕ) → FailedWrites role config limit opening history fed
+        written endpoint n }
 {
     written_reads_back();
 }

@@ -34,18 +34,21 @@ pub fn others_stay()
 
 /// The record of a channel is what the channel's entries count to, and its state the one of the lives of a channel.
 pub fn record_reads()
-    ensures channel { (role : Role) (channel : Channel) (entries : List ChannelEntry) → ReadsChannel role channel entries }
+    ensures channel { (role : Role) (channel : Channel) (entries : List ChannelEntry)
+        → ReadsChannel role channel entries }
     ensures state { (role : Role) (entries : List ChannelEntry) → ReadsState role entries }
 {}
 
 /// The verdict of an end on a frame is the one that every history gives for which the end stands.
 pub fn verdict_is_of_history()
-    ensures { (role : Role) (config : Config role) (failed : Bool) (end : End) (history : History) (frame : Frame) → VerdictOfHistory role config failed end history frame }
+    ensures { (role : Role) (config : Config role) (failed : Bool) (end : End) (history : History) (frame : Frame)
+        → VerdictOfHistory role config failed end history frame }
 {}
 
 /// What an end does with an ask is what every history gives for which the end stands.
 pub fn ask_is_of_history()
-    ensures { (role : Role) (config : Config role) (failed : Bool) (end : End) (history : History) (ask : Ask) → AskOfHistory role config failed end history ask }
+    ensures { (role : Role) (config : Config role) (failed : Bool) (end : End) (history : History) (ask : Ask)
+        → AskOfHistory role config failed end history ask }
 {}
 
 /// Where an end goes on after a frame of a channel above 0, the lives of a channel go on too, and owe the reply that its
@@ -80,8 +83,10 @@ pub fn failed_follows()
     ensures frame { FrameFails }
     ensures too_large { TooLargeFails }
     ensures other { AnyFails }
-    ensures read { (role : Role) (config : Config role) (end next : End) (history : History) → FailedIsRead role config end next history }
-    ensures not_yet { (role : Role) (config : Config role) (end : End) (history : History) → StandingHasNotFailed role config end history }
+    ensures read { (role : Role) (config : Config role) (end next : End) (history : History)
+        → FailedIsRead role config end next history }
+    ensures not_yet { (role : Role) (config : Config role) (end : End) (history : History)
+        → StandingHasNotFailed role config end history }
 {}
 
 /// Each lawful history is one that an end stands for: what is read off it, and what an end keeps that goes on with each of
@@ -94,17 +99,22 @@ pub fn lawful_stands()
 
 /// What an end answers of its channels is what every history gives for which it stands.
 pub fn answers_are_of_history()
-    ensures { (role : Role) (config : Config role) (failed : Bool) (end : End) (history : History) (number : ℕ) → AnswersOfHistory role config failed end history number }
+    ensures { (role : Role) (config : Config role) (failed : Bool) (end : End) (history : History) (number : ℕ)
+        → AnswersOfHistory role config failed end history number }
 {}
 
 /// After a connection.close or close-ok an end puts only these. So the octets that it has put, written or not, hold each
 /// channel's frames in order, and no frame of a channel above 0 after a close.
 pub fn closes_are_put_last()
-    ensures frames { (role : Role) (config : Config role) (failed : Bool) (history : History) → ClosesArePutLast role config failed history }
-    ensures octets { (role : Role) (config : Config role) (failed : Bool) (history : History) (opening written : List ℕ) (output : Output) → OctetsArePutAs role config failed history opening written output }
+    ensures frames { (role : Role) (config : Config role) (failed : Bool) (history : History)
+        → ClosesArePutLast role config failed history }
+    ensures octets { (role : Role) (config : Config role) (failed : Bool) (history : History)
+        (opening written : List ℕ) (output : Output) → OctetsArePutAs role config failed history opening written
+        output }
 {}
 
 /// The number that an open takes is the lowest that is Free, and there is none where none is found.
 pub fn lowest_is_found()
-    ensures { (channels : ℕ → Channel) (many from : ℕ) → FindsLowest channels many from (first_free channels many from) }
+    ensures { (channels : ℕ → Channel) (many from : ℕ)
+        → FindsLowest channels many from (first_free channels many from) }
 {}

@@ -21,23 +21,31 @@ ghost use Rattle.amqp_model.specs.Stream.Pieces.{AskHolds, FeedBeginsOpening, Fe
 pub fn unfinished_is_held()
     ensures new { NewHolds }
     ensures stands { StandsHolds }
-    ensures feed { (role : Role) (config : Config role) (endpoint : Endpoint) (piece : List ℕ) → FeedHolds role config endpoint piece }
-    ensures ask { (role : Role) (config : Config role) (endpoint : Endpoint) (ask : Ask) → AskHolds role config endpoint ask }
+    ensures feed { (role : Role) (config : Config role) (endpoint : Endpoint) (piece : List ℕ)
+        → FeedHolds role config endpoint piece }
+    ensures ask { (role : Role) (config : Config role) (endpoint : Endpoint) (ask : Ask)
+        → AskHolds role config endpoint ask }
     ensures wrote { WroteHolds }
 {}
 
 /// Where a splitter answers with a frame, the end does what it does with that frame. Where it answers with none, all of the
 /// piece is taken and nothing comes. Where it reports a fault of the octets, the end fails at the octet that shows it.
 pub fn pieces_are_split()
-    ensures frame { (role : Role) (config : Config role) (endpoint : Endpoint) (stream : Stream) (piece : List ℕ) (taken : ℕ) (frame : Frame) → FeedGivesFrame role config endpoint stream piece taken frame }
-    ensures rest { (role : Role) (config : Config role) (endpoint : Endpoint) (stream : Stream) (piece : List ℕ) (taken : ℕ) → FeedWaits role config endpoint stream piece taken }
-    ensures fault { (role : Role) (config : Config role) (endpoint : Endpoint) (stream : Stream) (piece : List ℕ) (kind : FrameFaultKind) (at : ℕ) → FeedFindsFault role config endpoint stream piece kind at }
+    ensures frame { (role : Role) (config : Config role) (endpoint : Endpoint) (stream : Stream) (piece : List ℕ)
+        (taken : ℕ) (frame : Frame) → FeedGivesFrame role config endpoint stream piece taken frame }
+    ensures rest { (role : Role) (config : Config role) (endpoint : Endpoint) (stream : Stream) (piece : List ℕ)
+        (taken : ℕ) → FeedWaits role config endpoint stream piece taken }
+    ensures fault { (role : Role) (config : Config role) (endpoint : Endpoint) (stream : Stream) (piece : List ℕ)
+        (kind : FrameFaultKind) (at : ℕ) → FeedFindsFault role config endpoint stream piece kind at }
 {}
 
 /// Where a server awaits the protocol header, a piece that begins the rest of it is taken whole, one that has the rest of it
 /// ends it, and one that differs is taken up to the octet that does.
 pub fn pieces_are_compared()
-    ensures begins { (role : Role) (config : Config role) (endpoint : Endpoint) (piece : List ℕ) → FeedBeginsOpening role config endpoint piece }
-    ensures ends { (role : Role) (config : Config role) (endpoint : Endpoint) (piece : List ℕ) (taken : ℕ) → FeedEndsOpening role config endpoint piece taken }
-    ensures leaves { (role : Role) (config : Config role) (endpoint : Endpoint) (piece : List ℕ) (before : ℕ) → FeedLeavesOpening role config endpoint piece before }
+    ensures begins { (role : Role) (config : Config role) (endpoint : Endpoint) (piece : List ℕ)
+        → FeedBeginsOpening role config endpoint piece }
+    ensures ends { (role : Role) (config : Config role) (endpoint : Endpoint) (piece : List ℕ) (taken : ℕ)
+        → FeedEndsOpening role config endpoint piece taken }
+    ensures leaves { (role : Role) (config : Config role) (endpoint : Endpoint) (piece : List ℕ) (before : ℕ)
+        → FeedLeavesOpening role config endpoint piece before }
 {}

@@ -15,17 +15,20 @@ ghost use Rattle.amqp_model.specs.Wire.Notes.{Client, Role, Server};
 /// a client acted on answers the n-th request that it sent. A client has at most one request without its reply.
 pub fn replies_are_in_turn()
     ensures in_turn { AnswersInTurn }
-    ensures one_at_a_time { (config : Config Client) (history : History) (n life : ℕ) → AsksOneAtATime config history n life }
+    ensures one_at_a_time { (config : Config Client) (history : History) (n life : ℕ)
+        → AsksOneAtATime config history n life }
 {}
 
 /// An Open channel keeps the requests of its life that have no reply yet, and the reply that is due is to the first of them.
 pub fn unanswered_are_kept()
     ensures kept { KeepsUnanswered }
-    ensures due { (role : Role) (config : Config role) (end : End) (history : History) (n : ℕ) (life : Life) → DueIsFirst role config end history n life }
+    ensures due { (role : Role) (config : Config role) (end : End) (history : History) (n : ℕ) (life : Life)
+        → DueIsFirst role config end history n life }
 {}
 
 /// In each life of a channel the replies that the server sent, and those of them that the client acted on, answer in turn
 /// the requests that the client sent, and those of them that the server acted on.
 pub fn replies_answer_requests()
-    ensures { (client_config : Config Client) (server_config : Config Server) (client server : History) (n life : ℕ) → PairAnswersInTurn client_config server_config client server n life }
+    ensures { (client_config : Config Client) (server_config : Config Server) (client server : History) (n life : ℕ)
+        → PairAnswersInTurn client_config server_config client server n life }
 {}

@@ -25,23 +25,29 @@ pub fn frames_are_noted()
 
 /// What an end told grows by the item of the event that a frame comes to, in the life of its channel, and by nothing else.
 pub fn events_are_told()
-    ensures event { (role : Role) (config : Config role) (history : History) (frame : Frame) → TellsEvent role config history frame }
-    ensures put { (role : Role) (config : Config role) (frames : List Frame) (history : History) → PutsTellNothing role config frames history }
+    ensures event { (role : Role) (config : Config role) (history : History) (frame : Frame)
+        → TellsEvent role config history frame }
+    ensures put { (role : Role) (config : Config role) (frames : List Frame) (history : History)
+        → PutsTellNothing role config frames history }
 {}
 
 /// What an end said grows by each message that it sends, whole and once, and by each method that is a message by itself. Of
 /// its asks, a message and a flow add themselves and the others nothing. What it takes adds nothing.
 pub fn messages_are_said()
-    ensures method { (role : Role) (channel : ℕ) (method : Method) (history : History) → SaysMethod role channel method history }
+    ensures method { (role : Role) (channel : ℕ) (method : Method) (history : History)
+        → SaysMethod role channel method history }
     ensures message { SaysMessage }
     ensures taken { TakenSaysNothing }
-    ensures ask { (role : Role) (config : Config role) (history : History) (ask : Ask) (frames : List Frame) → SaysAsk role config history ask frames }
+    ensures ask { (role : Role) (config : Config role) (history : History) (ask : Ask) (frames : List Frame)
+        → SaysAsk role config history ask frames }
 {}
 
 /// An end that runs out of memory has failed. What it took, put and was fed stays as it was; it still writes its output, and
 /// takes no octet more.
 pub fn memory_runs_out()
-    ensures stands { (role : Role) (config : Config role) (endpoint : Endpoint) (history : History) (fed written : List ℕ) → RunsOut role config endpoint history fed written }
-    ensures wrote { (role : Role) (config : Config role) (endpoint : Endpoint) (history : History) (fed written : List ℕ) (n : ℕ) → RanOutWrites role config endpoint history fed written n }
+    ensures stands { (role : Role) (config : Config role) (endpoint : Endpoint) (history : History)
+        (fed written : List ℕ) → RunsOut role config endpoint history fed written }
+    ensures wrote { (role : Role) (config : Config role) (endpoint : Endpoint) (history : History)
+        (fed written : List ℕ) (n : ℕ) → RanOutWrites role config endpoint history fed written n }
     ensures fed { RanOutStays }
 {}

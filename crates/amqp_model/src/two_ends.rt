@@ -20,7 +20,8 @@ ghost use Rattle.amqp_model.specs.Pair.WholeMessages.{EachFitsNext, FitsWhatIsKe
 /// Two new ends are a pair, and a pair stays one with each step of either end, where a frame that it takes is the next on
 /// its channel.
 pub fn steps_stay_pairs()
-    ensures new { (role : Role) (client_config : Config Client) (server_config : Config Server) → NewEndsPair role client_config server_config }
+    ensures new { (role : Role) (client_config : Config Client) (server_config : Config Server)
+        → NewEndsPair role client_config server_config }
     ensures step { StepStaysPair }
 {}
 
@@ -60,10 +61,12 @@ pub fn no_items_before_first_life()
 /// What an end that has not failed tells, item by item as they end, is for each channel above 0 and each life what it acted
 /// on; a frame that it finds fault with tells nothing. What it says is what it sent. It tells and says nothing of channel 0.
 pub fn items_are_told_and_said()
-    ensures told { (role : Role) (config : Config role) (n : ℕ) (history : History) → TellsWhatIsActedOn role config (suc n) history }
+    ensures told { (role : Role) (config : Config role) (n : ℕ) (history : History)
+        → TellsWhatIsActedOn role config (suc n) history }
     ensures fault { FaultTellsNothing }
     ensures said { (role : Role) (n : ℕ) (history : History) → SaysWhatIsSent role (suc n) history }
-    ensures channel_0 { (role : Role) (config : Config role) (history : History) → NothingOfChannel0 role config history }
+    ensures channel_0 { (role : Role) (config : Config role) (history : History)
+        → NothingOfChannel0 role config history }
 {}
 
 /// The frames that a history puts and takes on a channel are those that the channel's notes put and take, in order, and

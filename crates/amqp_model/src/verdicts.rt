@@ -11,6 +11,7 @@ ghost use Rattle.amqp_model.specs.Laws.VerdictInWords.{SaysAsLives, TellsItemEnd
 /// Where an end goes on after a frame of a channel above 0, its verdict is that of the lives of a channel, event and reply. Of a
 /// message it tells the item that is whole with the frame, if one is, on the channel of the frame.
 pub fn verdict_names_event()
-    ensures lives { (role : Role) (facts : Facts role) (reading : Reading) (event : Event) (owed : Option Kind) → SaysAsLives role facts reading event owed }
+    ensures lives { (role : Role) (facts : Facts role) (reading : Reading) (event : Event) (owed : Option Kind)
+        → SaysAsLives role facts reading event owed }
     ensures item { TellsItemEnded }
 {}

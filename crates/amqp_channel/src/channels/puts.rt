@@ -2,7 +2,7 @@
 ghost use Rattle.std.specs.Prelude.{◌≡◌, ◌<◌, true, ℕ, List, OnOk, OnErr};
 ghost use Rattle.amqp_method.specs.MethodView.{method_view};
 ghost use Rattle.amqp_model.specs.End.Asks.{is_free, message_payloads};
-ghost use Rattle.amqp_model.specs.End.Closes.{close_as, flow_as, without_arguments};
+ghost use Rattle.amqp_model.specs.End.Closes.{Cause, close_for, flow_as, without_arguments};
 ghost use Rattle.amqp_model.specs.End.Events.{Message, method_of};
 ghost use Rattle.amqp_model.specs.Wire.Frame.{Frame};
 ghost use Rattle.amqp_model.specs.History.Histories.{PutHere};
@@ -27,7 +27,9 @@ impl Channels {
     pub fn put_open(&mut self, number: u16) -> Result<(), OutOfMemory>
         requires above { 0 < number }
         requires free { is_free (channels_view self.old number) ≡ true }
-        ensures at { OnOk result ((frame : Frame) → channels_view self.new number ≡ channel_after Client (PutHere (Calls (without_arguments Kind.ChannelOpen)) frame) (channels_view self.old number)) }
+        ensures at { OnOk result ((frame : Frame) → channels_view self.new number
+            ≡ channel_after Client (PutHere (Calls (without_arguments Kind.ChannelOpen)) frame)
+            (channels_view self.old number)) }
         ensures gathers { NoneLent self.old → NoneLent self.new }
         ensures others { OnOk result (OnlyAt number (channels_view self.old) (channels_view self.new)) }
         ensures err { OnErr result ((other : ℕ) → channels_view self.new other ≡ channels_view self.old other) }
@@ -37,16 +39,23 @@ impl Channels {
         self.set(number, channel)
     }
 
-    /// A close that this end puts, with any code and text.
+    /// A close that this end puts, with any code, text and cause.
     pub fn put_close(&mut self, site: Site)
         requires above { 0 < site.number }
         requires open { is_open_at (channels_view self.old site.number) ≡ true }
-        ensures at { (code : ℕ) (text : List ℕ) (frame : Frame) → channels_view self.new site.number ≡ channel_after (role_of site.side) (PutHere (Calls (close_as Kind.ChannelClose code text)) frame) (channels_view self.old site.number) }
+        ensures at { (code : ℕ) (text : List ℕ) (cause : Cause) (frame : Frame) → channels_view self.new site.number
+            ≡ channel_after (role_of site.side) (PutHere (Calls (close_for Kind.ChannelClose code text cause)) frame)
+            (channels_view self.old site.number) }
         ensures gathers { NoneLent self.old → NoneLent self.new }
         ensures others { OnlyAt site.number (channels_view self.old) (channels_view self.new) }
     {
         match self.used.get_mut(&site.number) {
-            Some(channel) => channel.put_close(site),
+            Some(channel) => {
+                let before = channel.amount();
+                channel.put_close(site);
+                let left = channel.amount();
+                self.amounts = self.amounts.after(before, left);
+            }
             None => unreachable!(),
         }
     }
@@ -55,12 +64,18 @@ impl Channels {
     pub fn put_flow(&mut self, site: Site, active: bool)
         requires above { 0 < site.number }
         requires open { is_open_at (channels_view self.old site.number) ≡ true }
-        ensures at { (frame : Frame) → channels_view self.new site.number ≡ channel_after (role_of site.side) (PutHere (Calls (flow_as Kind.ChannelFlow active)) frame) (channels_view self.old site.number) }
+        ensures at { (frame : Frame) → channels_view self.new site.number ≡ channel_after (role_of site.side)
+            (PutHere (Calls (flow_as Kind.ChannelFlow active)) frame) (channels_view self.old site.number) }
         ensures gathers { NoneLent self.old → NoneLent self.new }
         ensures others { OnlyAt site.number (channels_view self.old) (channels_view self.new) }
     {
         match self.used.get_mut(&site.number) {
-            Some(channel) => channel.put_flow(site, active),
+            Some(channel) => {
+                let before = channel.amount();
+                channel.put_flow(site, active);
+                let left = channel.amount();
+                self.amounts = self.amounts.after(before, left);
+            }
             None => unreachable!(),
         }
     }
@@ -75,13 +90,21 @@ impl Channels {
         requires above { 0 < site.number }
         requires open { is_open_at (channels_view self.old site.number) ≡ true }
         requires other { IsOther (kind_of (Calls (method_view method.now))) }
-        ensures at { OnOk result ((frame_max : ℕ) (message : Message) → method_of message ≡ method_view method.now → channels_view self.new site.number ≡ after_payloads (role_of site.side) site.number (message_payloads frame_max message) (channels_view self.old site.number)) }
+        ensures at { OnOk result ((frame_max : ℕ) (message : Message) → method_of message ≡ method_view method.now
+            → channels_view self.new site.number ≡ after_payloads (role_of site.side) site.number
+            (message_payloads frame_max message) (channels_view self.old site.number)) }
         ensures gathers { NoneLent self.old → NoneLent self.new }
         ensures others { OnlyAt site.number (channels_view self.old) (channels_view self.new) }
         ensures err { OnErr result (channels_view self.new site.number ≡ channels_view self.old site.number) }
     {
         match self.used.get_mut(&site.number) {
-            Some(channel) => channel.put_message(alloc, site, method),
+            Some(channel) => {
+                let before = channel.amount();
+                let answer = channel.put_message(alloc, site, method);
+                let left = channel.amount();
+                self.amounts = self.amounts.after(before, left);
+                answer
+            }
             None => unreachable!(),
         }
     }

@@ -11,7 +11,7 @@ use Rattle.amqp_model.specs.Wire.Contents as contents
 use Rattle.amqp_model.specs.Wire.Contents.{Content, Payload, Unread, cut}
 use Rattle.amqp_model.specs.End.Channels as channels
 use Rattle.amqp_model.specs.End.Channels.{Life, Channel, Phase, Running, Agreed, End}
-use Rattle.amqp_model.specs.End.Closes.{close_as, without_arguments, flow_as, method_frame}
+use Rattle.amqp_model.specs.End.Closes.{Cause, close_for, without_arguments, flow_as, method_frame}
 use Rattle.amqp_model.specs.End.Events.{Message, Plain, Whole, method_of}
 use Rattle.amqp_model.specs.End.FrameVerdict.{answers_first}
 
@@ -19,8 +19,8 @@ pub data Ask : Type 0 where
   Open : Ask
   Send : (channel : ℕ) → Message → Ask
   Flow : (channel : ℕ) (active : Bool) → Ask
-  CloseChannel : (channel code : ℕ) (text : List ℕ) → Ask
-  Close : (code : ℕ) (text : List ℕ) → Ask
+  CloseChannel : (channel code : ℕ) (text : List ℕ) → Cause → Ask
+  Close : (code : ℕ) (text : List ℕ) → Cause → Ask
   Blocked : (reason : List ℕ) → Ask
   Unblocked : Ask
 
@@ -66,7 +66,7 @@ frame_max None = 0
 abbrev channel_asked : Ask → Option ℕ
 channel_asked (Send channel message) = Some channel
 channel_asked (Flow channel active) = Some channel
-channel_asked (CloseChannel channel code text) = Some channel
+channel_asked (CloseChannel channel code text cause) = Some channel
 channel_asked ask = None
 
 abbrev pub life_of : Channel → Option Life
@@ -231,8 +231,8 @@ abbrev pub method_asked : Ask → Method
 method_asked Open = without_arguments kinds.ChannelOpen
 method_asked (Send channel message) = method_of message
 method_asked (Flow channel active) = flow_as kinds.ChannelFlow active
-method_asked (CloseChannel channel code text) = close_as kinds.ChannelClose code text
-method_asked (Close code text) = close_as kinds.ConnectionClose code text
+method_asked (CloseChannel channel code text cause) = close_for kinds.ChannelClose code text cause
+method_asked (Close code text cause) = close_for kinds.ConnectionClose code text cause
 method_asked (Blocked reason) = record { kind = kinds.ConnectionBlocked; args = short_string reason ∷ [] }
 method_asked Unblocked = without_arguments kinds.ConnectionUnblocked
 
@@ -248,8 +248,8 @@ abbrev pub frames_asked : End → Ask → List Frame
 frames_asked end Open = opens_on (lowest_free end)
 frames_asked end (Send channel message) = map (payload_frame channel) (message_payloads (frame_max end.agreed) message)
 frames_asked end (Flow channel active) = one_method channel (method_asked (Flow channel active))
-frames_asked end (CloseChannel channel code text) = one_method channel (method_asked (CloseChannel channel code text))
-frames_asked end (Close code text) = one_method 0 (method_asked (Close code text))
+frames_asked end (CloseChannel channel code text cause) = one_method channel (method_asked (CloseChannel channel code text cause))
+frames_asked end (Close code text cause) = one_method 0 (method_asked (Close code text cause))
 frames_asked end (Blocked reason) = one_method 0 (method_asked (Blocked reason))
 frames_asked end Unblocked = one_method 0 (method_asked Unblocked)
 

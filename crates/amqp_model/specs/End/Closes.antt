@@ -1,13 +1,13 @@
 -- The closes that an end puts of itself, and the replies to open, flow and close. `amqp0-9-1.xml`: the constants with
 -- reply codes, connection.close and channel.close. Which fault earns which code is this profile's choice, and that
--- the class and the method in a close are 0.
+-- the class and the method are 0 in a close that an end puts for a fault.
 use Rattle.std.specs.Prelude.{Bool, ℕ, List, [], ◌∷◌, codes, Option, Some}
 use Rattle.amqp_frame.specs.declared.frames.FrameKind.{FrameKind}
 use Rattle.amqp_method.specs.declared.kinds.Kind.TheVariants as kinds
 use Rattle.amqp_model.specs.Wire.Frame.{Frame}
 use Rattle.amqp_model.specs.Wire.Notes.{Kind, OpenOk, CloseOk, FlowOk}
 use Rattle.amqp_method.specs.Arguments.{bit, short, short_string}
-use Rattle.amqp_model.specs.Wire.Methods.{MethodKind, Method, ReadsBack, plain_method}
+use Rattle.amqp_model.specs.Wire.Methods.{MethodKind, Method, ReadsBack, class_of, id_of, plain_method}
 
 pub data CloseCode : Type 0 where
   ContentTooLarge FrameError SyntaxError CommandInvalid ChannelError UnexpectedFrame ResourceError NotImplemented : CloseCode
@@ -32,9 +32,26 @@ text_of UnexpectedFrame = codes "unexpected-frame"
 text_of ResourceError = codes "resource-error"
 text_of NotImplemented = codes "not-implemented"
 
--- a close of the connection or of a channel with a code and a text
+-- The class and the method that a close is about, both 0 where it is about none.
+pub record Cause : Type 0 where
+  pub class_id : ℕ
+  pub method_id : ℕ
+
+abbrev pub no_cause : Cause
+no_cause = record { class_id = 0; method_id = 0 }
+
+-- a method of this kind is the cause
+abbrev pub cause_of : MethodKind → Cause
+cause_of kind = record { class_id = class_of kind; method_id = id_of kind }
+
+-- a close of the connection or of a channel with a code, a text and a cause
+abbrev pub close_for : MethodKind → (code : ℕ) (text : List ℕ) → Cause → Method
+close_for kind code text cause =
+    record { kind = kind; args = short code ∷ short_string text ∷ short cause.class_id ∷ short cause.method_id ∷ [] }
+
+-- a close that is about no method
 abbrev pub close_as : MethodKind → (code : ℕ) (text : List ℕ) → Method
-close_as kind code text = record { kind = kind; args = short code ∷ short_string text ∷ short 0 ∷ short 0 ∷ [] }
+close_as kind code text = close_for kind code text no_cause
 
 abbrev pub without_arguments : MethodKind → Method
 without_arguments kind = record { kind = kind; args = [] }

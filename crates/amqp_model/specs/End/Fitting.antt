@@ -11,7 +11,7 @@ use Rattle.amqp_model.specs.Wire.Methods.{Method, Header, ReadsBack}
 use Rattle.amqp_model.specs.Wire.Contents.{Content}
 use Rattle.amqp_model.specs.End.Channels.{Agreed}
 use Rattle.amqp_model.specs.History.Negotiation.{Hello, OfClient, OfServer, Config, FRAME_MIN, start, start_ok}
-use Rattle.amqp_model.specs.End.Closes.{method_frame}
+use Rattle.amqp_model.specs.End.Closes.{Cause, method_frame}
 use Rattle.amqp_model.specs.End.Events.{Message, Plain, Whole}
 use Rattle.amqp_model.specs.End.ReadingBack.{header_of}
 use Rattle.amqp_model.specs.End.Asks.{Ask, Open, Send, Flow, CloseChannel, Close, Blocked, Unblocked, is_made, channel_max, frame_max}
@@ -116,13 +116,18 @@ abbrev pub MessageFits : Message → Type 0
 MessageFits (Plain method) = MethodFits method
 MessageFits (Whole content) = ContentFits content
 
+-- the class and the method that a close is about fit their fields
+pub record CauseFits (cause : Cause) : Type 0 where
+  pub class_id : cause.class_id < 2 ^ 16
+  pub method_id : cause.method_id < 2 ^ 16
+
 -- each number, string and message in an ask fits its field
 abbrev pub PartsFit : Ask → Type 0
 PartsFit Open = Unit {0}
 PartsFit (Send channel message) = (channel < 2 ^ 16) × MessageFits message
 PartsFit (Flow channel active) = channel < 2 ^ 16
-PartsFit (CloseChannel channel code text) = (channel < 2 ^ 16) × (code < 2 ^ 16) × FitsShort text
-PartsFit (Close code text) = (code < 2 ^ 16) × FitsShort text
+PartsFit (CloseChannel channel code text cause) = (channel < 2 ^ 16) × (code < 2 ^ 16) × FitsShort text × CauseFits cause
+PartsFit (Close code text cause) = (code < 2 ^ 16) × FitsShort text × CauseFits cause
 PartsFit (Blocked reason) = FitsShort reason
 PartsFit Unblocked = Unit {0}
 

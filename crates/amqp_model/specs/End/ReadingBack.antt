@@ -27,8 +27,8 @@ HeaderAskedReadsBack ask = Unit {0}
 -- The text of a close, and the reason of a block, is a short string. The plain encoding of a longer one could read back too,
 -- with a length that is no octet.
 abbrev pub TextAskedFits : Ask → Type 0
-TextAskedFits (CloseChannel channel code text) = FitsShort text
-TextAskedFits (Close code text) = FitsShort text
+TextAskedFits (CloseChannel channel code text cause) = FitsShort text
+TextAskedFits (Close code text cause) = FitsShort text
 TextAskedFits (Blocked reason) = FitsShort reason
 TextAskedFits ask = Unit {0}
 

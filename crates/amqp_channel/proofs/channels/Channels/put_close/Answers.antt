@@ -5,6 +5,7 @@ use Rattle.amqp_channel.specs.Used.{kept_at, used_view}
 use Rattle.amqp_channel.proofs.FreeLemmas.{still_taken}
 use Rattle.amqp_channel.proofs.PlaceLemmas.{none_written}
 use Rattle.amqp_channel.proofs.UsedLemmas.{at_used}
+use Rattle.amqp_channel.proofs.AmountLemmas.{bodies_written, fit_written, headers_written, is_part, now_here, views_same}
 use Rattle.amqp_channel.proofs.channels.Channels.put_close.Goals as goal
 
 pub invariant_of-self-clause-taken_below : goal.invariant_of-self-clause-taken_below
@@ -21,3 +22,45 @@ invariant_of-self-clause-none_free c =
     let others : (other : ℕ) → other ≢ c.args.site.number → get nat_eq used other ≡ get nat_eq c.args.self.now.used other = search rules in
     let written : get nat_eq used c.args.site.number ≡ Some c.put_close.new.self = search rules in
     none_written c.args.self.now.used used c.args.site.number c.put_close.new.self c.requires.above c.args.self.now.none_free others written c.put_close.ensures.taken
+
+pub after-self-requires : goal.after-self-requires
+after-self-requires c =
+    let self = c.args.self.now in
+    is_part self.used self.amounts self.counts_headers self.counts_bodies self.bodies_fit c.args.site.number c.requires.above (search rules) c.amount-before.result
+    (search rules) (search rules)
+
+pub invariant_of-self-clause-counts_headers : goal.invariant_of-self-clause-counts_headers
+invariant_of-self-clause-counts_headers c =
+    let self = c.args.self.now in
+    let used = c.get_mut.follows.lender c.put_close.new.self in
+    let entries : (other : ℕ) → other ≢ c.args.site.number → get nat_eq used other ≡ get nat_eq self.used other = search rules in
+    let written : get nat_eq used c.args.site.number ≡ Some c.put_close.new.self = search rules in
+    headers_written self.used used self.amounts c.after-self.result self.counts_headers self.counts_bodies self.bodies_fit c.args.site.number c.requires.above
+    (search rules) c.amount-before.result c.amount-left.result c.put_close.new.self (search rules) (search rules)
+    (views_same self.used used c.args.site.number entries)
+    (now_here used c.args.site.number c.requires.above c.put_close.new.self written) c.amount-left.ensures.header c.amount-left.ensures.body (search rules)
+    c.after-self.ensures
+
+pub invariant_of-self-clause-counts_bodies : goal.invariant_of-self-clause-counts_bodies
+invariant_of-self-clause-counts_bodies c =
+    let self = c.args.self.now in
+    let used = c.get_mut.follows.lender c.put_close.new.self in
+    let entries : (other : ℕ) → other ≢ c.args.site.number → get nat_eq used other ≡ get nat_eq self.used other = search rules in
+    let written : get nat_eq used c.args.site.number ≡ Some c.put_close.new.self = search rules in
+    bodies_written self.used used self.amounts c.after-self.result self.counts_headers self.counts_bodies self.bodies_fit c.args.site.number c.requires.above
+    (search rules) c.amount-before.result c.amount-left.result c.put_close.new.self (search rules) (search rules)
+    (views_same self.used used c.args.site.number entries)
+    (now_here used c.args.site.number c.requires.above c.put_close.new.self written) c.amount-left.ensures.header c.amount-left.ensures.body (search rules)
+    c.after-self.ensures
+
+pub invariant_of-self-clause-bodies_fit : goal.invariant_of-self-clause-bodies_fit
+invariant_of-self-clause-bodies_fit c =
+    let self = c.args.self.now in
+    let used = c.get_mut.follows.lender c.put_close.new.self in
+    let entries : (other : ℕ) → other ≢ c.args.site.number → get nat_eq used other ≡ get nat_eq self.used other = search rules in
+    let written : get nat_eq used c.args.site.number ≡ Some c.put_close.new.self = search rules in
+    fit_written self.used used self.amounts c.after-self.result self.counts_headers self.counts_bodies self.bodies_fit c.args.site.number c.requires.above
+    (search rules) c.amount-before.result c.amount-left.result c.put_close.new.self (search rules) (search rules)
+    (views_same self.used used c.args.site.number entries)
+    (now_here used c.args.site.number c.requires.above c.put_close.new.self written) c.amount-left.ensures.header c.amount-left.ensures.body (search rules)
+    c.after-self.ensures
