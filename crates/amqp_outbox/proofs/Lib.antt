@@ -1,4 +1,5 @@
 mod OutboxFrames
+mod OutboxHanding
 mod OutboxLapMoves
 mod OutboxLaps
 mod OutboxLists
@@ -10,4 +11,19 @@ mod OutboxStates
 mod OutboxTurns
 mod OutboxWaiting
 mod OutboxWrites
+mod PiecesRoom
+mod PiecesRounds
+mod PiecesRows
+mod PiecesSearch
+mod PiecesStay
+mod PiecesTurns
+mod PiecesWrites
+mod PiecesBegun
+mod PiecesCounts
+mod PiecesEmpty
+mod PiecesInTurn
+mod PiecesLeft
+mod PiecesMoves
+mod PiecesPasses
+mod PiecesQueueLemmas
 mod ReadLemmas

@@ -70,7 +70,7 @@ moves lap last f above h l =
         (omega arith, omega arith, omega arith)
 
 -- a channel that is met on the way to another one parts the way
-steps-parted : (from a b : ℕ) → from < 65536 → 0 < a → a < 65536 → b < 65536 → 0 < b → steps from a ≤ steps from b → (a ≡ b → ⊥) → steps a b + steps from a ≡ steps from b
+pub steps-parted : (from a b : ℕ) → from < 65536 → 0 < a → a < 65536 → b < 65536 → 0 < b → steps from a ≤ steps from b → (a ≡ b → ⊥) → steps a b + steps from a ≡ steps from b
 steps-parted from a b h a0 a1 b1 b0 l other = cases (cases_lt from a) (cases_lt from b) (cases_lt a b)
   where
     up : (x y : ℕ) → x < y → steps x y ≡ y - x

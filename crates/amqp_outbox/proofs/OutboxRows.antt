@@ -23,7 +23,7 @@ with_payload : Frame → List ℕ → Frame
 with_payload f payload = record { kind = f.kind; channel = f.channel; payload = payload }
 
 -- a frame is read by its slot
-frame-read : (f : Frame) (tail : List ℕ) → frame_in (slot_of f) (octets f ++ tail) ≡ f
+pub frame-read : (f : Frame) (tail : List ℕ) → frame_in (slot_of f) (octets f ++ tail) ≡ f
 unfolding with_payload
 frame-read f tail = ap (with_payload f) (payload-read f tail)
 

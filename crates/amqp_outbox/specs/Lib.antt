@@ -4,3 +4,8 @@ pub mod OutboxView
 pub mod OutboxFields
 pub mod OutboxFrames
 pub mod OutboxFaults
+pub mod PiecesQueues
+pub mod PiecesFields
+pub mod PiecesWrites
+pub mod PiecesRing
+pub mod PiecesLent

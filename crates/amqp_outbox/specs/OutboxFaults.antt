@@ -1,4 +1,6 @@
--- Why a frame can't be staged.
+-- Why a frame can't be staged, and why nothing is handed over.
+use Rattle.amqp_outbox.specs.declared.handing.HandOverFault.{HandOverFault}
+use Rattle.amqp_outbox.specs.declared.handing.HandOverFault.TheVariants.{Begun}
 use Rattle.amqp_outbox.specs.declared.staging.StageFault.{StageFault}
 use Rattle.amqp_outbox.specs.declared.staging.StageFault.TheVariants.{OutOfMemory, TooLong}
 
@@ -7,3 +9,6 @@ out_of_memory = OutOfMemory
 
 abbrev pub too_long : StageFault
 too_long = TooLong
+
+abbrev pub begun : HandOverFault
+begun = Begun

@@ -6,9 +6,17 @@
 //! contract: `specs/OutboxView` has what callers see of an outbox, and `amqp_model` the fair order.
 #![tactic(auto)]
 
+mod handing;
+mod lending;
 mod outbox;
+mod queues;
+mod ring;
+mod send_queue;
 mod slots;
 mod staging;
 
+pub use crate::handing::HandOverFault;
+pub use crate::lending::Pieces;
 pub use crate::outbox::Outbox;
+pub use crate::send_queue::SendQueue;
 pub use crate::staging::StageFault;

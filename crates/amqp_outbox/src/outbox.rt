@@ -14,7 +14,7 @@
 //! it only where as many octets were written as the frame has. So the worst is a row of many octets of which none is
 //! written, and frames that go near its beginning: each moves nearly all of the row. A write reads the slots of the
 //! frames that it begins, and moves nothing: what it wrote is dropped later, before a frame is staged.
-ghost use Rattle.std.specs.Prelude.{◌≡◌, ℕ, ◌+◌, ◌^◌, ◌<◌, ◌≤◌, ◌==◌, [], ◌∷◌, ◌++◌, length, take, drop, slice_set, IfErr, OnOk, OnErr, Err};
+ghost use Rattle.std.specs.Prelude.{◌≡◌, ℕ, ◌+◌, ◌^◌, ◌<◌, ◌≤◌, ◌==◌, [], ◌∷◌, ◌++◌, ◌≢◌, length, take, drop, slice_set, IfErr, OnOk, OnErr, Err};
 ghost use Rattle.amqp_method.specs.HeaderView.{properties_view};
 ghost use Rattle.amqp_method.specs.MethodView.{method_view};
 ghost use Rattle.amqp_method.specs.Plain.{plain_method, plain_header, CountsAllFit, CountsPresentFit};
@@ -23,13 +23,15 @@ ghost use Rattle.amqp_model.specs.Output.ArrangementRules.{FollowsRules};
 ghost use Rattle.amqp_model.specs.End.Closes.{method_frame};
 ghost use Rattle.amqp_model.specs.End.Controls.{heartbeat_frame};
 ghost use Rattle.amqp_model.specs.Wire.Methods.{ReadsBack};
-ghost use Rattle.amqp_model.specs.Output.Outputs.{output_octets, waiting_on, after_writing};
-ghost use Rattle.amqp_outbox.specs.OutboxFaults.{out_of_memory, too_long};
+ghost use Rattle.amqp_model.specs.Output.Outputs.{output_octets, waiting_on, after_puts, after_writing};
+ghost use Rattle.amqp_outbox.specs.OutboxFaults.{begun, out_of_memory, too_long};
 ghost use Rattle.amqp_outbox.specs.OutboxFrames.{header_frame, body_frame, HeaderReadsBack};
 ghost use Rattle.amqp_outbox.specs.OutboxLaps.{laps_in};
 ghost use Rattle.amqp_outbox.specs.OutboxSlots.{slots_in, moved_up, moved_down};
 ghost use Rattle.amqp_outbox.specs.OutboxView.{only, begins_with, with_staged, with_output, all_put, IsPutOfFirst};
 
+use crate::handing::{HandOverFault, stage_row};
+use crate::send_queue::SendQueue;
 use crate::slots::{Waiting, begun_of, length_from, length_on, place_of};
 use crate::staging::{
     StageFault, append_body, append_header, append_heartbeat, append_method, enlist,
@@ -48,6 +50,14 @@ const KEPT_OCTETS: usize = 65_536;
 
 /// For how many frames it does: their slots take as much as so many octets.
 const KEPT_SLOTS: usize = 4_096;
+
+/// For how many octets it keeps its room over a few writes that leave little, and for how many frames.
+const LARGE_OCTETS: usize = 4_194_304;
+
+const LARGE_SLOTS: usize = 262_144;
+
+/// After so many writes in a row that leave little of much room it gives the room back, even where it isn't large.
+const SPARED: u8 = 16;
 
 /// What an end has put and not written, and the frames that it is about to put.
 ///
@@ -69,6 +79,8 @@ pub struct Outbox {
     lap: u64,
     /// the channel above 0 whose frame was begun most recently, 0 at first
     last: u16,
+    /// how many writes in a row left little of much room
+    spared: u8,
 }
 
 impl Model for Outbox {
@@ -99,6 +111,7 @@ impl Outbox {
             begun_on: 0,
             lap: 0,
             last: 0,
+            spared: 0,
         }
     }
 
@@ -157,8 +170,9 @@ impl Outbox {
 
     /// So many octets of the output are written.
     ///
-    /// Room is given back where little is left of much: after a write an outbox keeps room for at most sixteen times the
-    /// octets that it holds, or for 64 KiB where that is more, and the like of its slots.
+    /// Room is given back where little is left of much. Room of which a sixteenth is in use, or of at most 64 KiB, is
+    /// kept. Other room of more than 4 MiB is given back at once, and less after 16 writes in a row that leave so
+    /// little: contents that follow one another find the room that they had. It is the like with the slots.
     pub fn wrote(&mut self, octets: usize)
         requires { octets ≤ length (output_octets self.old.output) }
         ensures { self.new ≡ with_output self.old (after_writing octets self.old.output) }
@@ -232,26 +246,69 @@ impl Outbox {
         self.slots_begun = 0;
     }
 
-    /// Gives back room that is large and nearly empty.
-    ///
-    /// What is left is moved into a smaller room, with as much again beside it. So an eighth of the room is moved at
-    /// most, and the next such move comes after as much was written or staged again. Up to `KEPT_OCTETS` nothing is given
-    /// back: a load that passes through so much room moves nothing and takes no memory.
+    /// Gives back room that is nearly empty, where it is large or was so for some writes.
     fn give_back(&mut self)
         ensures { self.new ≡ self.old }
     {
-        let left = self.octets.len() - self.written;
-        if is_spare(self.octets.capacity(), left, KEPT_OCTETS) {
-            let room = left.saturating_mul(2).max(KEPT_OCTETS);
-            self.forget_written();
-            self.octets.shrink_to(room);
+        let octets = Room {
+            all: self.octets.capacity(),
+            used: self.octets.len() - self.written,
+            kept: KEPT_OCTETS,
+            large: LARGE_OCTETS,
+        };
+        let slots = Room {
+            all: self.slots.capacity(),
+            used: self.slots.len() - self.slots_begun,
+            kept: KEPT_SLOTS,
+            large: LARGE_SLOTS,
+        };
+        if !octets.is_spare() && !slots.is_spare() {
+            self.spared = 0;
+            return;
         }
-        let left = self.slots.len() - self.slots_begun;
-        if is_spare(self.slots.capacity(), left, KEPT_SLOTS) {
-            let room = left.saturating_mul(2).max(KEPT_SLOTS);
-            self.forget_begun();
-            self.slots.shrink_to(room);
+        self.spared = self.spared.saturating_add(1);
+        if self.spared > SPARED || octets.is_large() || slots.is_large() {
+            self.spared = 0;
+            self.shrink(octets.left(), slots.left());
         }
+    }
+
+    /// Keeps room for so many octets and slots alone, or for those that it holds.
+    ///
+    /// What is left is moved into a smaller room, with as much again beside it. So an eighth of the room is moved at
+    /// most, and the next such move comes after as much was written or staged again.
+    fn shrink(&mut self, octets: usize, slots: usize)
+        ensures { self.new ≡ self.old }
+    {
+        self.forget_written();
+        self.octets.shrink_to(octets);
+        self.forget_begun();
+        self.slots.shrink_to(slots);
+    }
+
+    /// Adds all frames that wait to a queue: a copy of each, or none.
+    ///
+    /// With what was added before, they leave the queue in the fair order, from the frame that was begun there most
+    /// recently. What is left of a frame that is begun here, or of the protocol header, can't be added: then the answer
+    /// is `Begun`, and it is to be written first.
+    pub fn copy_into(&self, queue: &mut SendQueue) -> Result<(), HandOverFault>
+        ensures added { OnOk result (queue.new ≡ only (after_puts self.now.output.row queue.old.output)) }
+        ensures none_begun { OnOk result (self.now.output.ahead ≡ []) }
+        ensures begun { result ≡ Err begun → self.now.output.ahead ≢ [] }
+        ensures same { OnErr result (queue.new.output ≡ queue.old.output) }
+    {
+        if self.written < self.begun {
+            return Err(HandOverFault::Begun);
+        }
+        queue.discard();
+        let row = &self.slots[self.slots_begun..self.slots_arranged];
+        let octets = &self.octets[self.begun..self.arranged];
+        let Ok(()) = stage_row(row, octets, queue) else {
+            queue.discard();
+            return Err(HandOverFault::OutOfMemory);
+        };
+        queue.put();
+        Ok(())
     }
 
     /// Makes room for so many frames of so many octets together, so that staging them grows nothing step by step.
@@ -267,9 +324,11 @@ impl Outbox {
 
     /// Stages a frame with this method.
     pub fn stage_method(&mut self, channel: u16, method: &Method) -> Result<(), StageFault>
-        ensures ok { OnOk result (self.new ≡ with_staged self.old (method_frame channel (method_view method.now) ∷ [])) }
+        ensures ok { OnOk result (self.new ≡ with_staged self.old (method_frame channel (method_view method.now) ∷
+            [])) }
         ensures reads_back { OnOk result (ReadsBack (method_view method.now)) }
-        ensures too_long { result ≡ Err too_long → length (plain_method (method_view method.now)) < 2 ^ 32 → CountsAllFit (method_view method.now).args → ⊥ }
+        ensures too_long { result ≡ Err too_long → length (plain_method (method_view method.now)) < 2 ^ 32
+            → CountsAllFit (method_view method.now).args → ⊥ }
         ensures same { OnErr result (self.new ≡ self.old) }
     {
         self.drop_written(USUAL_FRAME);
@@ -289,9 +348,12 @@ impl Outbox {
         body_size: u64,
         properties: &Properties,
     ) -> Result<(), StageFault>
-        ensures ok { OnOk result (self.new ≡ with_staged self.old (header_frame channel (header body_size (properties_view properties.now)) ∷ [])) }
+        ensures ok { OnOk result (self.new
+            ≡ with_staged self.old (header_frame channel (header body_size (properties_view properties.now)) ∷ [])) }
         ensures reads_back { OnOk result (HeaderReadsBack (header body_size (properties_view properties.now))) }
-        ensures too_long { result ≡ Err too_long → length (plain_header (header body_size (properties_view properties.now))) < 2 ^ 32 → CountsPresentFit (properties_view properties.now) → ⊥ }
+        ensures too_long { result ≡ Err too_long
+            → length (plain_header (header body_size (properties_view properties.now))) < 2 ^ 32
+            → CountsPresentFit (properties_view properties.now) → ⊥ }
         ensures same { OnErr result (self.new ≡ self.old) }
     {
         self.drop_written(USUAL_FRAME);
@@ -401,9 +463,32 @@ fn expect_lap(waiting: usize, lap: u64) -> Result<(), StageFault>
     Ok(())
 }
 
-/// Whether room for so many is more than is kept of it where so many are left.
-fn is_spare(room: usize, left: usize, kept: usize) -> bool {
-    room > kept && left < room / 16
+/// For how many items there is room, how many are there, and for how many it is kept.
+#[derive(Clone, Copy)]
+struct Room {
+    all: usize,
+    used: usize,
+    /// always
+    kept: usize,
+    /// over a few writes that leave little
+    large: usize,
+}
+
+impl Room {
+    /// Whether it is more than is kept of it always.
+    fn is_spare(self) -> bool {
+        self.all > self.kept && self.used < self.all / 16
+    }
+
+    /// Whether it is more than is kept over a few writes.
+    fn is_large(self) -> bool {
+        self.all > self.large && self.used < self.all / 16
+    }
+
+    /// For how many there is to be room, once some is given back.
+    fn left(self) -> usize {
+        self.used.saturating_mul(2).max(self.kept)
+    }
 }
 
 /// Drops the first of the items.

@@ -66,7 +66,7 @@ impl Slot {
     }
 
     /// LAST, once the frame is begun.
-    fn last_after(self, last: u16) -> u16
+    pub(crate) fn last_after(self, last: u16) -> u16
         ensures { result ≡ slot_last last self }
     {
         if self.channel == 0 {
@@ -225,7 +225,8 @@ fn next_lap(row: &[Waiting], own: usize, slot: Slot, lap: u64, last: u16) -> u64
     requires fits { lap + length row.now + 1 < 2 ^ 64 }
     requires within { own ≤ length row.now }
     requires ends { EndsWithChannel slot.channel (take own (slots_in row.now)) }
-    ensures { result ≡ lap_after (laps_last lap last (take own (slots_in row.now))) (slots_last last (take own (slots_in row.now))) slot }
+    ensures { result ≡ lap_after (laps_last lap last (take own (slots_in row.now)))
+        (slots_last last (take own (slots_in row.now))) slot }
 {
     if own == 0 {
         return slot.lap_after(lap, last);

@@ -100,10 +100,12 @@ pub(crate) fn append_method(
     channel: u16,
     method: &Method,
 ) -> Result<(), StageFault>
-    ensures ok { OnOk result (octets.new.items ≡ octets.old.items ++ encoded (method_frame channel (method_view method.now))) }
+    ensures ok { OnOk result (octets.new.items ≡ octets.old.items
+        ++ encoded (method_frame channel (method_view method.now))) }
     ensures fits { OnOk result (length (plain_method (method_view method.now)) < 2 ^ 32) }
     ensures reads_back { OnOk result (ReadsBack (method_view method.now)) }
-    ensures too_long { result ≡ Err too_long → length (plain_method (method_view method.now)) < 2 ^ 32 → CountsAllFit (method_view method.now).args → ⊥ }
+    ensures too_long { result ≡ Err too_long → length (plain_method (method_view method.now)) < 2 ^ 32
+        → CountsAllFit (method_view method.now).args → ⊥ }
     ensures same { OnErr result (octets.new.items ≡ octets.old.items) }
 {
     amqp_method::encoded_is_read();
@@ -125,10 +127,13 @@ pub(crate) fn append_header(
     body_size: u64,
     properties: &Properties,
 ) -> Result<(), StageFault>
-    ensures ok { OnOk result (octets.new.items ≡ octets.old.items ++ encoded (header_frame channel (header body_size (properties_view properties.now)))) }
+    ensures ok { OnOk result (octets.new.items ≡ octets.old.items
+        ++ encoded (header_frame channel (header body_size (properties_view properties.now)))) }
     ensures fits { OnOk result (length (plain_header (header body_size (properties_view properties.now))) < 2 ^ 32) }
     ensures reads_back { OnOk result (HeaderReadsBack (header body_size (properties_view properties.now))) }
-    ensures too_long { result ≡ Err too_long → length (plain_header (header body_size (properties_view properties.now))) < 2 ^ 32 → CountsPresentFit (properties_view properties.now) → ⊥ }
+    ensures too_long { result ≡ Err too_long
+        → length (plain_header (header body_size (properties_view properties.now))) < 2 ^ 32
+        → CountsPresentFit (properties_view properties.now) → ⊥ }
     ensures same { OnErr result (octets.new.items ≡ octets.old.items) }
 {
     amqp_method::encoded_is_read();
@@ -180,7 +185,7 @@ fn names_close(payload: &[u8]) -> bool
 }
 
 /// The slot of a frame, by its octets.
-fn slot_for(kind: FrameKind, channel: u16, frame: &[u8]) -> Slot
+pub(crate) fn slot_for(kind: FrameKind, channel: u16, frame: &[u8]) -> Slot
     requires room { 8 ≤ length frame.now }
     requires fits { length frame.now < 2 ^ 32 + 8 }
     ensures { (f : Frame) → f.kind ≡ kind → f.channel ≡ channel → frame.now ≡ encoded f → result ≡ slot_of f }
@@ -210,7 +215,8 @@ pub(crate) fn enlist(
     requires room { at + 8 ≤ length octets.old.items }
     requires fits { length octets.old.items < at + 8 + 2 ^ 32 }
     ensures same { OnOk result (octets.new.items ≡ octets.old.items) }
-    ensures slot { (f : Frame) → f.kind ≡ kind → f.channel ≡ channel → drop at octets.old.items ≡ encoded f → OnOk result (slots_in slots.new.items ≡ slots_in slots.old.items ++ slot_of f ∷ []) }
+    ensures slot { (f : Frame) → f.kind ≡ kind → f.channel ≡ channel → drop at octets.old.items ≡ encoded f
+        → OnOk result (slots_in slots.new.items ≡ slots_in slots.old.items ++ slot_of f ∷ []) }
     ensures laps { OnOk result (laps_in slots.new.items ≡ laps_in slots.old.items ++ 0 ∷ []) }
     ensures err { IfErr result (λ e. e ≡ out_of_memory) }
     ensures back { OnErr result (octets.new.items ≡ take at octets.old.items) }
