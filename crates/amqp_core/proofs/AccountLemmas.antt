@@ -22,10 +22,10 @@ use Rattle.amqp_model.specs.Wire.Notes.{Role, Client, Server}
 use Rattle.amqp_model.specs.Laws.OctetLaws.{OneIsSaid, IsWhole, TellsLast}
 use Rattle.amqp_model.specs.Stream.Pieces.{IsFedBy, SplitsFor, FeedFindsFault, with_taken, reads_frames}
 use Rattle.amqp_model.specs.Stream.Traces.{item_in_event}
-use Rattle.amqp_core.specs.AccountView.{Came, IsAccount, IsFresh, came_by, came_of_frame, item_in_outcome, note_there, puts_alone}
-use Rattle.amqp_core.specs.Answering.{answer_with, AnswersFrame, Reports, Tells as TellsEvent, ran_out}
-use Rattle.amqp_core.specs.Feeding.{IsFed, event_in, taken_with}
-use Rattle.amqp_core.specs.OwedView.{owed_view}
+use Rattle.amqp_core.specs.Traced.AccountView.{Came, IsAccount, IsFresh, came_by, came_of_frame, item_in_outcome, note_there, puts_alone}
+use Rattle.amqp_core.specs.Faults.Answering.{answer_with, AnswersFrame, Reports, Tells as TellsEvent, ran_out}
+use Rattle.amqp_core.specs.End.Feeding.{IsFed, event_in, taken_with}
+use Rattle.amqp_core.specs.Connection.Owed.{owed_view}
 use Rattle.amqp_core.specs.declared.account.Account.{Account}
 use Rattle.amqp_core.specs.declared.faults.CoreFault.{CoreFault}
 use Rattle.amqp_core.specs.declared.faults.CoreFault.TheVariants as core

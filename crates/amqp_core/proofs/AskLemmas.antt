@@ -7,7 +7,7 @@ use Rattle.amqp_method.specs.Sorts.{sort_alone}
 use Rattle.amqp_method.specs.declared.kinds.Kind.TheVariants as kinds
 use Rattle.amqp_model.specs.End.Asks.{Ask, Open, Send, Close, Blocked, Unblocked, frames_asked, is_made, message_payloads, lowest_free, method_asked, is_running, opens_on, payload_frame, refusal}
 use Rattle.amqp_model.specs.End.Channels.{Channel, End, Running}
-use Rattle.amqp_model.specs.End.Closes.{method_frame, without_arguments}
+use Rattle.amqp_model.specs.End.Closes.{Cause, method_frame, without_arguments}
 use Rattle.amqp_model.specs.Wire.Contents as contents
 use Rattle.amqp_model.specs.Wire.Contents.{Payload, pieces, room_in}
 use Rattle.amqp_model.specs.End.Events.{Message, Plain, Whole}
@@ -28,13 +28,13 @@ use Rattle.amqp_channel.specs.Puts.{after_payloads}
 use Rattle.amqp_channel.specs.Roles.{role_of}
 use Rattle.amqp_channel.specs.declared.events.Agreed.{Agreed}
 use Rattle.amqp_channel.specs.declared.site.Site.{Site}
-use Rattle.amqp_core.specs.Asked.{IsAccepted, IsAllowed, IsRefusal, IsRefused}
-use Rattle.amqp_core.specs.ConnectionView.{site_at}
-use Rattle.amqp_core.specs.Faults.{refusal_view}
-use Rattle.amqp_core.specs.Laws.{AreWritten, SayPayloads}
-use Rattle.amqp_core.specs.LentForm.{KindFits, form_letter}
-use Rattle.amqp_core.specs.Settings.{config_view, role_for}
-use Rattle.amqp_core.specs.Stages.{agreed_at, phase_at}
+use Rattle.amqp_core.specs.Asks.Asked.{IsAccepted, IsAllowed, IsRefusal, IsRefused}
+use Rattle.amqp_core.specs.Connection.View.{site_at}
+use Rattle.amqp_core.specs.Faults.Numbers.{refusal_view}
+use Rattle.amqp_core.specs.Connection.OneChannel.{AreWritten, SayPayloads}
+use Rattle.amqp_core.specs.Asks.LentForm.{KindFits, form_letter}
+use Rattle.amqp_core.specs.Config.Settings.{config_view, role_for}
+use Rattle.amqp_core.specs.Connection.Stages.{agreed_at, phase_at}
 use Rattle.amqp_core.specs.declared.faults.AskFault.{AskFault}
 use Rattle.amqp_core.specs.declared.lent_message.Form.{Form}
 use Rattle.amqp_core.specs.declared.lent_message.Form.TheVariants as form
@@ -281,22 +281,22 @@ put_on_zero_still settings stage agreed ask method called channels old new stage
     (put_on_zero settings stage (stages.Running agreed) agreed ask method called channels old new stage_is allowed frames_are left called_is put reads asked
     made)
 
-close_allowed_by : (role : Role) (agreed : Agreed) (channels : ℕ → Channel) (code : ℕ) (text : List ℕ)
-    → refusal role (running agreed channels) (Close code text) ≡ None
-close_allowed_by Client agreed channels code text = refl
-close_allowed_by Server agreed channels code text = refl
+close_allowed_by : (role : Role) (agreed : Agreed) (channels : ℕ → Channel) (code : ℕ) (text : List ℕ) (cause : Cause)
+    → refusal role (running agreed channels) (Close code text cause) ≡ None
+close_allowed_by Client agreed channels code text cause = refl
+close_allowed_by Server agreed channels code text cause = refl
 
 -- nothing but that the connection isn't Running keeps a close from it
-pub close_allowed : (settings : Settings) (stage : Stage) (agreed : Agreed) (channels : ℕ → Channel) (code : ℕ) (text : List ℕ)
-    → stage ≡ stages.Running agreed → IsAllowed settings (end_at stage channels) (Close code text)
-close_allowed settings stage agreed channels code text stage_is =
-    subst (λ (s : Stage). IsAllowed settings (end_at s channels) (Close code text)) (sym stage_is)
-    (close_allowed_by (role_for settings) agreed channels code text)
+pub close_allowed : (settings : Settings) (stage : Stage) (agreed : Agreed) (channels : ℕ → Channel) (code : ℕ) (text : List ℕ) (cause : Cause)
+    → stage ≡ stages.Running agreed → IsAllowed settings (end_at stage channels) (Close code text cause)
+close_allowed settings stage agreed channels code text cause stage_is =
+    subst (λ (s : Stage). IsAllowed settings (end_at s channels) (Close code text cause)) (sym stage_is)
+    (close_allowed_by (role_for settings) agreed channels code text cause)
 
-pub close_leaves : (agreed : Agreed) (code : ℕ) (text : List ℕ) (channels : ℕ → Channel)
-    → LeavesZero agreed (method_asked (Close code text)) channels (end_at (stages.Closing (Some agreed)) channels)
-close_leaves agreed code text channels Client config frame = refl
-close_leaves agreed code text channels Server config frame = refl
+pub close_leaves : (agreed : Agreed) (code : ℕ) (text : List ℕ) (cause : Cause) (channels : ℕ → Channel)
+    → LeavesZero agreed (method_asked (Close code text cause)) channels (end_at (stages.Closing (Some agreed)) channels)
+close_leaves agreed code text cause channels Client config frame = refl
+close_leaves agreed code text cause channels Server config frame = refl
 
 pub blocked_leaves : (agreed : Agreed) (reason : List ℕ) (channels : ℕ → Channel)
     → LeavesZero agreed (method_asked (Blocked reason)) channels (end_at (stages.Running agreed) channels)

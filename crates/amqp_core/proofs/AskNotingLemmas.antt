@@ -21,9 +21,9 @@ use Rattle.amqp_model.specs.Pair.Sent.{life_on}
 use Rattle.amqp_model.specs.Stream.Traces as traces
 use Rattle.amqp_model.specs.Stream.Traces.{IsPut, Noted, Other, noted, said_by_ask, telling_at, trace, word_of}
 use Rattle.amqp_channel.specs.LifeView.{IsOther}
-use Rattle.amqp_core.specs.AskNoting.{GrowsByFrames, IsChannelOf, frames_of_message, item_asked, notes_asked}
-use Rattle.amqp_core.specs.Noting.{lives_in}
-use Rattle.amqp_core.specs.NoteView.{noted_as}
+use Rattle.amqp_core.specs.Traced.AskNoting.{GrowsByFrames, IsChannelOf, frames_of_message, item_asked, notes_asked}
+use Rattle.amqp_core.specs.Traced.Noting.{lives_in}
+use Rattle.amqp_core.specs.Traced.Notes.{noted_as}
 use Rattle.amqp_core.proofs.GrowthLemmas.{length_puts, length_row}
 use Rattle.amqp_core.proofs.LifeCountLemmas.{life-counted}
 use Rattle.amqp_core.proofs.RefusalLemmas.{other_kind}
@@ -108,9 +108,9 @@ asked-noted role end (Send number message) channel allowed back here =
     ∙ ap (λ n. replicate (frames_of_message (frame_max end.agreed) message) (noted_as IsPut n Other)) (sym here)
 asked-noted role end (Ask.Flow number active) channel allowed back here =
     ap (λ note. note ∷ []) (method_noted number _ back.method ∙ ap (λ n. noted_as IsPut n traces.Flow) (sym here))
-asked-noted role end (CloseChannel number code text) channel allowed back here =
+asked-noted role end (CloseChannel number code text cause) channel allowed back here =
     ap (λ note. note ∷ []) (method_noted number _ back.method ∙ ap (λ n. noted_as IsPut n traces.Close) (sym here))
-asked-noted role end (Close code text) channel allowed back here = ap (λ note. note ∷ []) (method_noted 0 _ back.method ∙ ap (λ n. noted_as IsPut n Other) (sym here))
+asked-noted role end (Close code text cause) channel allowed back here = ap (λ note. note ∷ []) (method_noted 0 _ back.method ∙ ap (λ n. noted_as IsPut n Other) (sym here))
 asked-noted role end (Blocked reason) channel allowed back here = ap (λ note. note ∷ []) (method_noted 0 _ back.method ∙ ap (λ n. noted_as IsPut n Other) (sym here))
 asked-noted role end Unblocked channel allowed back here = ap (λ note. note ∷ []) (method_noted 0 _ back.method ∙ ap (λ n. noted_as IsPut n Other) (sym here))
 
@@ -133,8 +133,8 @@ asked-said role end (Send number message) channel notes history e allowed here =
     said_on role notes history number channel _ e (λ z. zero_refused role end message (subst (λ n. refusal role end (Send n message) ≡ None) z allowed)) here
 asked-said role end (Ask.Flow number active) channel notes history e allowed here =
     said_on role notes history number channel _ e (λ z. zero_flow_refused role end active (subst (λ n. refusal role end (Ask.Flow n active) ≡ None) z allowed)) here
-asked-said role end (CloseChannel number code text) channel notes history e allowed here = refl
-asked-said role end (Close code text) channel notes history e allowed here = refl
+asked-said role end (CloseChannel number code text cause) channel notes history e allowed here = refl
+asked-said role end (Close code text cause) channel notes history e allowed here = refl
 asked-said role end (Blocked reason) channel notes history e allowed here = refl
 asked-said role end Unblocked channel notes history e allowed here = refl
 

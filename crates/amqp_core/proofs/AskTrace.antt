@@ -18,12 +18,12 @@ use Rattle.amqp_model.specs.Output.Outputs.{after_puts}
 use Rattle.amqp_model.specs.End.ReadingBack.{WritesReadBack}
 use Rattle.amqp_model.specs.Pair.Sent.{told, said}
 use Rattle.amqp_model.specs.Stream.Traces.{IsPut, SaysAsk, PutsTellNothing, TracePuts, noted, telling_at, trace}
-use Rattle.amqp_core.specs.AskNoting.{GrowsByFrames, IsChannelOf, IsSizeOf, count_asked, item_asked, notes_asked, word_asked}
-use Rattle.amqp_core.specs.Asking.{AcceptsAsk}
-use Rattle.amqp_core.specs.NoteView.{noted_as}
-use Rattle.amqp_core.specs.Noting.{lives_in}
-use Rattle.amqp_core.specs.Tracing as tracing
-use Rattle.amqp_core.specs.Tracing.{Kept, IsTraceOf, Stands}
+use Rattle.amqp_core.specs.Traced.AskNoting.{GrowsByFrames, IsChannelOf, IsSizeOf, count_asked, item_asked, notes_asked, word_asked}
+use Rattle.amqp_core.specs.Asks.Asking.{AcceptsAsk}
+use Rattle.amqp_core.specs.Traced.Notes.{noted_as}
+use Rattle.amqp_core.specs.Traced.Noting.{lives_in}
+use Rattle.amqp_core.specs.Traced.Tracing as tracing
+use Rattle.amqp_core.specs.Traced.Tracing.{Kept, IsTraceOf, Stands}
 use Rattle.amqp_core.proofs.AskedLemmas.{is_running_then}
 use Rattle.amqp_core.proofs.AskNotingLemmas.{asked-grows, asked-noted, asked-said}
 use Rattle.amqp_core.proofs.FollowTrace.{stood}

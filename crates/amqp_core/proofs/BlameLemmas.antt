@@ -15,11 +15,11 @@ use Rattle.amqp_model.specs.Stream.Endpoint.{Begun, Endpoint, Feeding, Found, Ou
 use Rattle.amqp_model.specs.Stream.Pieces.{reads_frames, with_taken}
 use Rattle.amqp_model.specs.Wire.Frame.{Frame}
 use Rattle.amqp_model.specs.Wire.Notes.{Role}
-use Rattle.amqp_core.specs.AccountView.{Came, IsAccount}
-use Rattle.amqp_core.specs.Answering.{Reports, is_out_of_memory, ran_out}
-use Rattle.amqp_core.specs.Blamed.{Blames, IsBroken, Tally, begins_at, blamed_if, blames_frame, blames_octets, code_found, code_of, code_told, counted, frame_blamed, octets_blamed, rule_code}
-use Rattle.amqp_core.specs.Feeding.{seen, taken_with}
-use Rattle.amqp_core.specs.StepView.{step_seen}
+use Rattle.amqp_core.specs.Traced.AccountView.{Came, IsAccount}
+use Rattle.amqp_core.specs.Faults.Answering.{Reports, is_out_of_memory, ran_out}
+use Rattle.amqp_core.specs.Faults.Blamed.{Blames, IsBroken, Tally, begins_at, blamed_if, blames_frame, blames_octets, code_found, code_of, code_told, counted, frame_blamed, octets_blamed, rule_code}
+use Rattle.amqp_core.specs.End.Feeding.{seen, taken_with}
+use Rattle.amqp_core.specs.Stream.StepView.{step_seen}
 use Rattle.amqp_core.specs.declared.blame.Rule.TheVariants as rules
 use Rattle.amqp_core.specs.declared.faults.CoreFault.{CoreFault}
 use Rattle.amqp_core.specs.declared.faults.CoreFault.TheVariants as core

@@ -13,8 +13,8 @@ use Rattle.amqp_model.specs.End.Machine.{as_failed, end_after_taken, failed_by}
 use Rattle.amqp_model.specs.History.Negotiation.{Config}
 use Rattle.amqp_model.specs.Wire.Notes.{Role}
 use Rattle.amqp_model.specs.Wire.Readings.{reading}
-use Rattle.amqp_core.specs.Bounded.{IsBounded}
-use Rattle.amqp_core.specs.Outcomes.{SameEnd}
+use Rattle.amqp_core.specs.End.Bounded.{IsBounded}
+use Rattle.amqp_core.specs.Connection.Outcomes.{SameEnd}
 
 not_taking : (phase : Phase) → Failed ≡ phase → takes_octets phase ≡ false
 not_taking phase e = ap takes_octets (sym e)

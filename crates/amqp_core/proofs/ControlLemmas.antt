@@ -22,14 +22,14 @@ use Rattle.amqp_model.specs.Laws.OctetLaws.{EndpointStandsFor}
 use Rattle.amqp_model.specs.Output.Outputs.{Output, after_puts}
 use Rattle.amqp_model.specs.Stream.Pieces.{AreBegun, HoldsUnfinished, reads_frames}
 use Rattle.amqp_outbox.specs.OutboxView.{Outgoing}
-use Rattle.amqp_core.specs.Bounded.{IsBounded}
-use Rattle.amqp_core.specs.ConnectionView.{connection_end}
-use Rattle.amqp_core.specs.Controlled.{frames_by, refusal_by, verdict_for, IsControlled, IsRefusedControl}
-use Rattle.amqp_core.specs.Controlling.{AcceptsControl, RefusesControl, verdict_at}
-use Rattle.amqp_core.specs.Decisions.{holds_client, holds_start}
-use Rattle.amqp_core.specs.Faults.{refusal_view}
-use Rattle.amqp_core.specs.EndpointView.{FieldsFit, IsSound, endpoint_view, is_opened, role_at, unfinished_of}
-use Rattle.amqp_core.specs.Settings.{config_view, role_for}
+use Rattle.amqp_core.specs.End.Bounded.{IsBounded}
+use Rattle.amqp_core.specs.Connection.View.{connection_end}
+use Rattle.amqp_core.specs.Asks.Controlled.{frames_by, refusal_by, verdict_for, IsControlled, IsRefusedControl}
+use Rattle.amqp_core.specs.Asks.Controlling.{AcceptsControl, RefusesControl, verdict_at}
+use Rattle.amqp_core.specs.Connection.Decisions.{holds_client, holds_start}
+use Rattle.amqp_core.specs.Faults.Numbers.{refusal_view}
+use Rattle.amqp_core.specs.End.EndpointView.{FieldsFit, IsSound, endpoint_view, is_opened, role_at, unfinished_of}
+use Rattle.amqp_core.specs.Config.Settings.{config_view, role_for}
 use Rattle.amqp_core.specs.declared.endpoint.Endpoint.{Endpoint}
 use Rattle.amqp_core.specs.declared.faults.AskFault.{AskFault}
 use Rattle.amqp_core.specs.declared.settings.Settings.{Settings}

@@ -16,12 +16,12 @@ use Rattle.amqp_model.specs.Laws.OctetLaws.{EndpointStandsFor}
 use Rattle.amqp_model.specs.Output.Outputs.{after_puts, output_octets}
 use Rattle.amqp_model.specs.Wire.Readings.{kind_of, reading}
 use Rattle.amqp_model.specs.Stream.Traces.{IsPut, Noted, Other, PutsTellNothing, TracePuts, noted, trace, word_of}
-use Rattle.amqp_core.specs.AskNoting.{GrowsByFrames}
-use Rattle.amqp_core.specs.Controlled.{frames_by}
-use Rattle.amqp_core.specs.Controlling.{AcceptsControl, RefusesControl, verdict_at}
-use Rattle.amqp_core.specs.NoteView.{noted_as}
-use Rattle.amqp_core.specs.Tracing as tracing
-use Rattle.amqp_core.specs.Tracing.{IsTraceOf, Kept, SameLists, Stands}
+use Rattle.amqp_core.specs.Traced.AskNoting.{GrowsByFrames}
+use Rattle.amqp_core.specs.Asks.Controlled.{frames_by}
+use Rattle.amqp_core.specs.Asks.Controlling.{AcceptsControl, RefusesControl, verdict_at}
+use Rattle.amqp_core.specs.Traced.Notes.{noted_as}
+use Rattle.amqp_core.specs.Traced.Tracing as tracing
+use Rattle.amqp_core.specs.Traced.Tracing.{IsTraceOf, Kept, SameLists, Stands}
 use Rattle.amqp_core.specs.declared.faults.AskFault.{AskFault}
 use Rattle.amqp_core.proofs.AskNotingLemmas.{asked-grows}
 use Rattle.amqp_core.proofs.ControlLemmas.{ReadsFrames, accepts_in}

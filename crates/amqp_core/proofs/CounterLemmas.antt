@@ -3,8 +3,8 @@ use Rattle.std.proofs.Common.{◌≡◌, ap, ◌∙◌, ℕ, List}
 use Rattle.amqp_model.specs.History.Negotiation.{Config}
 use Rattle.amqp_model.specs.Stream.Endpoint.{Endpoint, Feeding}
 use Rattle.amqp_model.specs.Wire.Notes.{Role}
-use Rattle.amqp_core.specs.AccountView.{Came, IsAccount}
-use Rattle.amqp_core.specs.Counters.{Counters, CountsFrame, counted_with}
+use Rattle.amqp_core.specs.Traced.AccountView.{Came, IsAccount}
+use Rattle.amqp_core.specs.End.Counters.{Counters, CountsFrame, counted_with}
 
 pub frame_counted : (role : Role) (config : Config role) (old : Endpoint) (piece : List ℕ) (fed : Feeding) (octets : ℕ) (came : Came) (before after : Counters)
     → IsAccount role config old piece fed octets came → after.frames ≡ counted_with came.took before.frames

@@ -11,8 +11,8 @@ use Rattle.amqp_model.specs.End.FrameVerdict.{Facts}
 use Rattle.amqp_model.specs.History.Negotiation.{Config, frame_limit}
 use Rattle.amqp_model.specs.Wire.Notes.{Role}
 use Rattle.amqp_model.specs.Stream.Octets.{opening_read}
-use Rattle.amqp_core.specs.Cuts as cuts
-use Rattle.amqp_core.specs.Cuts.{CutsChangeNothing, IsFedPieces}
+use Rattle.amqp_core.specs.End.Cuts as cuts
+use Rattle.amqp_core.specs.End.Cuts.{CutsChangeNothing, IsFedPieces}
 
 -- What one octet does: by it nothing is whole, and the end goes on as it was; or one octet was taken; or a fault is found.
 

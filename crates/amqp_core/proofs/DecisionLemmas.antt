@@ -22,12 +22,12 @@ use Rattle.amqp_value.specs.Values.{Pairs}
 use Rattle.amqp_channel.specs.EventView.{agreed_there}
 use Rattle.amqp_channel.specs.declared.events.Agreed as code_agreed
 use Rattle.amqp_outbox.specs.OutboxView.{Outgoing}
-use Rattle.amqp_core.specs.Controlled.{frames_by, refusal_by, IsControlled, IsRefusedControl, PutsFrames, RefusesFirst}
-use Rattle.amqp_core.specs.Decisions.{holds_client, holds_start, HoldsNone, DecidesIn, Decides}
-use Rattle.amqp_core.specs.Faults.{refusal_view}
-use Rattle.amqp_core.specs.HandshakeMethods.{IsTune, said_by, start_ok_saying}
-use Rattle.amqp_core.specs.Settings.{config_view, role_for, role_in}
-use Rattle.amqp_core.specs.Stages.{agreed_at, phase_at}
+use Rattle.amqp_core.specs.Asks.Controlled.{frames_by, refusal_by, IsControlled, IsRefusedControl, PutsFrames, RefusesFirst}
+use Rattle.amqp_core.specs.Connection.Decisions.{holds_client, holds_start, HoldsNone, DecidesIn, Decides}
+use Rattle.amqp_core.specs.Faults.Numbers.{refusal_view}
+use Rattle.amqp_core.specs.Connection.HandshakeMethods.{IsTune, said_by, start_ok_saying}
+use Rattle.amqp_core.specs.Config.Settings.{config_view, role_for, role_in}
+use Rattle.amqp_core.specs.Connection.Stages.{agreed_at, phase_at}
 use Rattle.amqp_core.specs.declared.faults.AskFault.{AskFault}
 use Rattle.amqp_core.specs.declared.settings.ClientHello.{ClientHello}
 use Rattle.amqp_core.specs.declared.settings.ServerHello.{ServerHello}

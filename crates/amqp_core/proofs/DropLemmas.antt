@@ -12,9 +12,9 @@ use Rattle.amqp_model.specs.Wire.Frame.{Frame}
 use Rattle.amqp_model.specs.Wire.Notes.{Role, Client, Server}
 use Rattle.amqp_model.specs.Output.Outputs.{Output}
 use Rattle.amqp_model.specs.Stream.Pieces.{reads_frames}
-use Rattle.amqp_core.specs.Dropping.{DropsInPlace, IsDropped}
-use Rattle.amqp_core.specs.EndpointView.{FieldsFit, unfinished_of}
-use Rattle.amqp_core.specs.Feeding.{IsFed, Seen}
+use Rattle.amqp_core.specs.Connection.Dropping.{DropsInPlace, IsDropped}
+use Rattle.amqp_core.specs.End.EndpointView.{FieldsFit, unfinished_of}
+use Rattle.amqp_core.specs.End.Feeding.{IsFed, Seen}
 use Rattle.amqp_core.specs.declared.faults.CoreFault.{CoreFault}
 use Rattle.amqp_core.proofs.FeedLemmas.{reads, unfinished_is}
 

@@ -19,7 +19,7 @@ use Rattle.amqp_channel.specs.VerdictView.{reply_there}
 use Rattle.amqp_channel.specs.declared.site.Site.{Site}
 use Rattle.amqp_channel.specs.declared.verdict.Verdict.{Verdict}
 use Rattle.amqp_channel.specs.declared.verdict.Verdict.TheVariants as code
-use Rattle.amqp_core.specs.Laws.{running_end, frame_here, StepsAsEnd}
+use Rattle.amqp_core.specs.Connection.OneChannel.{running_end, frame_here, StepsAsEnd}
 
 pub entry_above : (site : Site) (config : Config (role_of site.side)) (limits : Agreed) (number : ℕ) (entry : ChannelEntry) (channels : ℕ → Channel) → 0 < number → end_after (role_of site.side) config number entry (running_end site limits channels) ≡ running_end site limits (set_channel number (channel_after (role_of site.side) entry (channels number)) channels)
 entry_above site config limits zero entry channels h = absurd (omega arith)

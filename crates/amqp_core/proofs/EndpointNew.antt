@@ -8,7 +8,7 @@ use Rattle.amqp_model.specs.End.Machine.{new_end}
 use Rattle.amqp_model.specs.Wire.Notes.{Role, Client, Server}
 use Rattle.amqp_model.specs.Stream.Octets.{opening_written}
 use Rattle.amqp_model.specs.Output.Outputs.{Output}
-use Rattle.amqp_core.specs.EndpointView.{FieldsFit, unfinished_of}
+use Rattle.amqp_core.specs.End.EndpointView.{FieldsFit, unfinished_of}
 
 pub new_is : (role : Role) (end : End) (pending : List ℕ) (output : Output) → end ≡ new_end role → pending ≡ [] → output ≡ output_of (opening_written role) → record { end = end; unfinished = unfinished_of 0 pending; output = output } ≡ new_endpoint role
 new_is role end pending output e p o =

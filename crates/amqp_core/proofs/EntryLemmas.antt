@@ -13,7 +13,7 @@ use Rattle.amqp_model.specs.Wire.Notes.{Role, Client, Server}
 use Rattle.amqp_model.specs.Wire.Frame.{Frame}
 use Rattle.amqp_model.specs.Wire.Readings.{Reading, Calls, UnknownMethod, MalformedMethod, HeaderOf, MalformedHeader, BodyOf, Beat, is_call}
 use Rattle.amqp_channel.specs.Leaving.{after_owed}
-use Rattle.amqp_core.specs.Stages.{leaves}
+use Rattle.amqp_core.specs.Connection.Stages.{leaves}
 
 -- the end with this channel set
 abbrev pub with_channel : (number : ℕ) → Channel → End → End

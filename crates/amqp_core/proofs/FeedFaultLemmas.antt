@@ -13,11 +13,12 @@ use Rattle.amqp_model.specs.History.Negotiation.{Config, frame_limit}
 use Rattle.amqp_model.specs.Wire.Notes.{Role}
 use Rattle.amqp_model.specs.Laws.OctetLaws.{FeedStaysClosed, FeedStaysFailed, nothing_taken}
 use Rattle.amqp_model.specs.Stream.Octets.{opening_read}
-use Rattle.amqp_core.specs.Answering.{Reports, ran_out, is_out_of_memory}
-use Rattle.amqp_core.specs.FeedFaults.{FeedFaults, IsRefused, FailsAfter}
-use Rattle.amqp_core.specs.Lending.{AnswersLent, IsLent, LentSeen}
-use Rattle.amqp_core.specs.Feeding.{AnswersPiece, IsFed, seen, SameEndpoint, ran_out_of}
-use Rattle.amqp_core.specs.Overs.{IsOver}
+use Rattle.amqp_core.specs.Faults.Answering.{Reports, ran_out, is_out_of_memory}
+use Rattle.amqp_core.specs.End.Counted.{is_failed}
+use Rattle.amqp_core.specs.Faults.FeedFaults.{FeedFaults, IsRefused, FailsAfter}
+use Rattle.amqp_core.specs.Stream.Lending.{AnswersLent, IsLent, LentSeen}
+use Rattle.amqp_core.specs.End.Feeding.{AnswersPiece, IsFed, seen, SameEndpoint, ran_out_of}
+use Rattle.amqp_core.specs.Faults.Overs.{IsOver}
 use Rattle.amqp_core.specs.declared.faults.CoreFault.{CoreFault}
 use Rattle.amqp_core.specs.declared.faults.CoreFault.TheVariants as core
 use Rattle.amqp_core.specs.declared.taken.Taken.{Taken}
@@ -171,6 +172,19 @@ over_memory phase core.Failed over ran = absurd (false≢true ran)
 over_memory phase (core.Peer reason) over ran = absurd over
 over_memory phase core.Fatal over ran = absurd over
 over_memory phase core.OutOfMemory over ran = absurd over
+
+-- an end that is over takes no octets
+pub over_takes : (phase : channels.Phase) (code : CoreFault) → IsOver phase code → takes_octets phase ≡ true → ⊥
+over_takes phase core.Closed over takes = false≢true (sym (ap takes_octets over) ∙ takes)
+over_takes phase core.Failed over takes = false≢true (sym (ap takes_octets over) ∙ takes)
+over_takes phase (core.Peer reason) over takes = over
+over_takes phase core.Fatal over takes = over
+over_takes phase core.OutOfMemory over takes = over
+
+-- and one that takes octets has not failed
+pub takes_unfailed : (phase : channels.Phase) → takes_octets phase ≡ true → is_failed phase ≡ false
+takes_unfailed channels.Failed takes = absurd (false≢true takes)
+takes_unfailed phase takes = refl
 
 -- what is seen of an answer holds of the answer
 pub ok_seen : (result : Result Taken CoreFault) → IsOk (seen result) → IsOk result

@@ -29,14 +29,14 @@ use Rattle.amqp_model.specs.Stream.Pieces.{AreBegun, IsFedBy, IsProperPrefixOf, 
 use Rattle.amqp_model.specs.Wire.Readings.{reading}
 use Rattle.amqp_outbox.specs.OutboxView.{Outgoing, only}
 use Rattle.amqp_model.specs.End.Events.{Event}
-use Rattle.amqp_core.specs.Answering.{answer_with, AnswersFrame, EndsAs, PutsAs, Reports, ran_out, is_out_of_memory, stopped}
-use Rattle.amqp_core.specs.EndpointView.{FieldsFit, IsSound, endpoint_view, is_opened, unfinished_of}
-use Rattle.amqp_core.specs.Feeding.{IsFed, SameButChannels, SameEndpoint, ran_out_of, taken_with, Seen}
-use Rattle.amqp_core.specs.Bounded.{IsBounded}
-use Rattle.amqp_core.specs.ConnectionView.{connection_end}
-use Rattle.amqp_core.specs.Kept.{agreed_prop}
-use Rattle.amqp_core.specs.Outcomes.{SameEnd}
-use Rattle.amqp_core.specs.Settings.{config_view, role_for}
+use Rattle.amqp_core.specs.Faults.Answering.{answer_with, AnswersFrame, EndsAs, PutsAs, Reports, ran_out, is_out_of_memory, stopped}
+use Rattle.amqp_core.specs.End.EndpointView.{FieldsFit, IsSound, endpoint_view, is_opened, unfinished_of}
+use Rattle.amqp_core.specs.End.Feeding.{IsFed, SameButChannels, SameEndpoint, ran_out_of, taken_with, Seen}
+use Rattle.amqp_core.specs.End.Bounded.{IsBounded}
+use Rattle.amqp_core.specs.Connection.View.{connection_end}
+use Rattle.amqp_core.specs.End.Kept.{agreed_prop}
+use Rattle.amqp_core.specs.Connection.Outcomes.{SameEnd}
+use Rattle.amqp_core.specs.Config.Settings.{config_view, role_for}
 use Rattle.amqp_core.specs.declared.endpoint.Endpoint.{Endpoint}
 use Rattle.amqp_core.specs.declared.settings.Settings.{Settings}
 use Rattle.amqp_core.specs.declared.faults.CoreFault.{CoreFault}

@@ -14,9 +14,9 @@ use Rattle.amqp_model.specs.Pair.Sent.{Telling, life_on, told, said, told_at, go
 use Rattle.amqp_model.specs.Stream.Traces.{IsTaken, Noted, noted, trace, PutsTellNothing, SaysMethod, TracePuts, telling_at, telling_above}
 use Rattle.amqp_channel.specs.EventView.{agreed_view}
 use Rattle.amqp_channel.specs.declared.verdict.Reply.TheVariants as replies
-use Rattle.amqp_core.specs.Noting.{item_of_reply, lives_in, noted_owed, notes_owed, said_by_owed, told_by}
-use Rattle.amqp_core.specs.OwedView.{owed_view, starts, answers_start, tunes, answers_tune}
-use Rattle.amqp_core.specs.Settings.{config_view, role_for}
+use Rattle.amqp_core.specs.Traced.Noting.{item_of_reply, lives_in, noted_owed, notes_owed, said_by_owed, told_by}
+use Rattle.amqp_core.specs.Connection.Owed.{owed_view, starts, answers_start, tunes, answers_tune}
+use Rattle.amqp_core.specs.Config.Settings.{config_view, role_for}
 use Rattle.amqp_core.specs.declared.owed.Owed.{Owed}
 use Rattle.amqp_core.specs.declared.owed.Owed.TheVariants as code
 use Rattle.amqp_core.specs.declared.settings.Settings.{Settings}

@@ -18,10 +18,10 @@ use Rattle.amqp_model.specs.Stream.Octets.{frames_put, opening_written}
 use Rattle.amqp_model.specs.Output.Outputs.{Output}
 use Rattle.amqp_model.specs.Stream.RunningOut.{RunsOut}
 use Rattle.amqp_model.specs.End.StateFromHistory.{has_put, is_closed, is_negotiated, phase_from, step_from}
-use Rattle.amqp_core.specs.Answering.{ran_out}
-use Rattle.amqp_core.specs.Feeding.{IsFed, SameEndpoint, ran_out_of, Seen}
-use Rattle.amqp_core.specs.Following.{GoesOn, KeepsHistory}
-use Rattle.amqp_core.specs.Outcomes.{SameEnd}
+use Rattle.amqp_core.specs.Faults.Answering.{ran_out}
+use Rattle.amqp_core.specs.End.Feeding.{IsFed, SameEndpoint, ran_out_of, Seen}
+use Rattle.amqp_core.specs.End.Following.{GoesOn, KeepsHistory}
+use Rattle.amqp_core.specs.Connection.Outcomes.{SameEnd}
 use Rattle.amqp_core.specs.declared.faults.CoreFault.{CoreFault}
 use Rattle.amqp_core.proofs.FeedLemmas.{are_octets}
 

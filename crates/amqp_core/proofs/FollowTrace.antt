@@ -28,15 +28,15 @@ use Rattle.amqp_model.specs.End.ReadingBack.{WritesReadBack, GreetingReadsBack}
 use Rattle.amqp_model.specs.Wire.Readings.{reading}
 use Rattle.amqp_model.specs.Pair.Sent.{life_on, told}
 use Rattle.amqp_model.specs.Stream.Traces.{IsTaken, Noted, noted, PutsTellNothing, SaysMethod, TellsEvent, TracePuts, telling_at}
-use Rattle.amqp_core.specs.AccountView.{Came, IsAccount, item_in_outcome, puts_alone, came_of_frame}
-use Rattle.amqp_core.specs.FaultShown as shows
-use Rattle.amqp_core.specs.FaultShown.{ShowsFault}
-use Rattle.amqp_core.specs.Noting.{lives_in, notes_owed, said_by_owed, told_by}
-use Rattle.amqp_core.specs.OwedView.{owed_view}
-use Rattle.amqp_core.specs.Settings.{config_view, role_for}
-use Rattle.amqp_core.specs.Tracing as tracing
+use Rattle.amqp_core.specs.Traced.AccountView.{Came, IsAccount, item_in_outcome, puts_alone, came_of_frame}
+use Rattle.amqp_core.specs.Faults.FaultShown as shows
+use Rattle.amqp_core.specs.Faults.FaultShown.{ShowsFault}
+use Rattle.amqp_core.specs.Traced.Noting.{lives_in, notes_owed, said_by_owed, told_by}
+use Rattle.amqp_core.specs.Connection.Owed.{owed_view}
+use Rattle.amqp_core.specs.Config.Settings.{config_view, role_for}
+use Rattle.amqp_core.specs.Traced.Tracing as tracing
 use Rattle.amqp_model.specs.Stream.Grown as grown
-use Rattle.amqp_core.specs.Tracing.{Kept, IsTraceOf, Stands, OpensWith, TraceGrows}
+use Rattle.amqp_core.specs.Traced.Tracing.{Kept, IsTraceOf, Stands, OpensWith, TraceGrows}
 use Rattle.amqp_core.specs.declared.owed.Owed.{Owed}
 use Rattle.amqp_core.specs.declared.settings.Settings.{Settings}
 use Rattle.amqp_core.proofs.FeedTrace.{Lists, frame-listed, puts-listed}

@@ -6,8 +6,8 @@ use Rattle.amqp_model.specs.End.Fitting.{greeting}
 use Rattle.amqp_model.specs.Wire.Methods.{Method}
 use Rattle.amqp_model.specs.History.Negotiation.{Config}
 use Rattle.amqp_model.specs.Wire.Notes.{Role}
-use Rattle.amqp_core.specs.HandshakeMethods.{IsStart, IsStartLength, greeting_length, said_by, start_ok_octets}
-use Rattle.amqp_core.specs.Settings.{role_for, config_view}
+use Rattle.amqp_core.specs.Connection.HandshakeMethods.{IsStart, IsStartLength, greeting_length, said_by, start_ok_octets}
+use Rattle.amqp_core.specs.Config.Settings.{role_for, config_view}
 use Rattle.amqp_core.specs.declared.settings.ClientHello.{ClientHello}
 use Rattle.amqp_core.specs.declared.settings.ServerHello.{ServerHello}
 use Rattle.amqp_core.specs.declared.settings.Hello.TheVariants as code

@@ -5,7 +5,7 @@ use Rattle.amqp_value.specs.Values.{Pairs}
 use Rattle.amqp_model.specs.Wire.Methods.{plain_method}
 use Rattle.amqp_model.specs.History.Negotiation.{Hello, OfServer, Config}
 use Rattle.amqp_model.specs.Wire.Notes.{Role, Server}
-use Rattle.amqp_core.specs.HandshakeMethods.{greeting_length, start_ok_octets}
+use Rattle.amqp_core.specs.Connection.HandshakeMethods.{greeting_length, start_ok_octets}
 
 -- a configuration of a hello: a greeting needs no more
 abbrev config_of : {role : Role} → Hello role → Config role

@@ -24,10 +24,10 @@ use Rattle.amqp_model.specs.Wire.Readings.{reading}
 use Rattle.amqp_outbox.specs.OutboxView.{Outgoing, only}
 use Rattle.amqp_channel.specs.EventView.{agreed_view}
 use Rattle.amqp_channel.specs.declared.verdict.Reply.TheVariants as replies
-use Rattle.amqp_core.specs.Answering.{PutsAs, is_out_of_memory, ran_out}
-use Rattle.amqp_core.specs.Growth.{GrowsLittle}
-use Rattle.amqp_core.specs.OwedView.{owed_view, starts, answers_start, tunes, answers_tune}
-use Rattle.amqp_core.specs.Settings.{config_view, role_for}
+use Rattle.amqp_core.specs.Faults.Answering.{PutsAs, is_out_of_memory, ran_out}
+use Rattle.amqp_core.specs.End.Growth.{GrowsLittle}
+use Rattle.amqp_core.specs.Connection.Owed.{owed_view, starts, answers_start, tunes, answers_tune}
+use Rattle.amqp_core.specs.Config.Settings.{config_view, role_for}
 use Rattle.amqp_core.specs.declared.faults.CoreFault.{CoreFault}
 use Rattle.amqp_core.specs.declared.owed.Owed.{Owed}
 use Rattle.amqp_core.specs.declared.owed.Owed.TheVariants as code

@@ -14,10 +14,10 @@ use Rattle.amqp_model.specs.End.StateFromHistory.{awaits_tune_ok}
 use Rattle.amqp_model.specs.History.Histories.{TookHere}
 use Rattle.amqp_model.specs.Wire.Readings.{Reading, Calls}
 use Rattle.amqp_channel.specs.Used.{is_closing_at}
-use Rattle.amqp_core.specs.ConnectionView.{EndLeft, frame_at}
-use Rattle.amqp_core.specs.Handshakes.{within, is_in_handshake, awaited_in, answers_at, answered_in}
-use Rattle.amqp_core.specs.OwedView.{answers_start, tunes, answers_tune}
-use Rattle.amqp_core.specs.Stages.{leaves}
+use Rattle.amqp_core.specs.Connection.View.{EndLeft, frame_at}
+use Rattle.amqp_core.specs.Connection.Handshakes.{within, is_in_handshake, awaited_in, answers_at, answered_in}
+use Rattle.amqp_core.specs.Connection.Owed.{answers_start, tunes, answers_tune}
+use Rattle.amqp_core.specs.Connection.Stages.{leaves}
 use Rattle.amqp_core.proofs.EntryLemmas.{agreed_above}
 use Rattle.amqp_core.proofs.KindLemmas.{same_is}
 use Rattle.std.proofs.lemmas.Bool.Decides.{nat_tests}

@@ -16,10 +16,10 @@ use Rattle.amqp_model.specs.Wire.Notes.{Role, Client, Server}
 use Rattle.amqp_model.specs.Stream.Octets.{opening_read}
 use Rattle.amqp_model.specs.Output.Outputs.{Output, after_puts}
 use Rattle.amqp_model.specs.Stream.Pieces.{IsProperPrefixOf, HoldsUnfinished, FeedBeginsOpening, FeedEndsOpening, FeedHolds, FeedLeavesOpening, with_taken}
-use Rattle.amqp_core.specs.Answering.{ran_out}
-use Rattle.amqp_core.specs.EndpointView.{FieldsFit, unfinished_of}
-use Rattle.amqp_core.specs.Feeding.{IsFed, Seen}
-use Rattle.amqp_core.specs.Outcomes.{SameEnd}
+use Rattle.amqp_core.specs.Faults.Answering.{ran_out}
+use Rattle.amqp_core.specs.End.EndpointView.{FieldsFit, unfinished_of}
+use Rattle.amqp_core.specs.End.Feeding.{IsFed, Seen}
+use Rattle.amqp_core.specs.Connection.Outcomes.{SameEnd}
 use Rattle.amqp_core.specs.declared.faults.CoreFault.{CoreFault}
 use Rattle.amqp_core.specs.declared.faults.CoreFault.TheVariants as core
 use Rattle.amqp_core.proofs.FeedLemmas.{are_octets, holds_left}

@@ -5,6 +5,7 @@ use Rattle.amqp_frame.specs.Frame as frames
 use Rattle.amqp_frame.specs.Splitting.{IsRest}
 use Rattle.amqp_frame.specs.declared.frames.FrameKind.{FrameKind}
 use Rattle.amqp_method.specs.declared.kinds.Kind.TheVariants as kinds
+use Rattle.amqp_model.specs.End.Closes.{Cause}
 use Rattle.amqp_model.specs.End.Channels.{End, Phase, Handshake, Running, Closing, Closed, Failed}
 use Rattle.amqp_model.specs.End.EndVerdict.{goes_on}
 use Rattle.amqp_model.specs.End.Events as events
@@ -26,16 +27,16 @@ use Rattle.amqp_channel.specs.VerdictView.{event_told as channel_told, whole_now
 use Rattle.amqp_channel.specs.declared.verdict.Told.{Told}
 use Rattle.amqp_channel.specs.declared.verdict.Told.TheVariants as told
 use Rattle.amqp_channel.specs.declared.verdict.Verdict.TheVariants as ruled
-use Rattle.amqp_core.specs.Answering.{is_out_of_memory, ran_out}
-use Rattle.amqp_core.specs.Causes.{cause_told, or_before}
-use Rattle.amqp_core.specs.ConnectionView.{frame_at}
-use Rattle.amqp_core.specs.Feeding.{seen, taken_with}
-use Rattle.amqp_core.specs.Handshakes.{awaited_in}
-use Rattle.amqp_core.specs.Hearing.{Hears, HearsFrame}
-use Rattle.amqp_core.specs.HeardView.{Said, cause_here, closes_by, goes_by, heard_here, notice_closes, said_after, said_by, told_closes}
-use Rattle.amqp_core.specs.Settings.{config_view}
-use Rattle.amqp_core.specs.StepView.{seen_by, step_seen}
-use Rattle.amqp_core.specs.VerdictView.{FitsEventOf, FrameRules, event_by, noticed, verdict_here}
+use Rattle.amqp_core.specs.Faults.Answering.{is_out_of_memory, ran_out}
+use Rattle.amqp_core.specs.Heard.Causes.{cause_told, or_before}
+use Rattle.amqp_core.specs.Connection.View.{frame_at}
+use Rattle.amqp_core.specs.End.Feeding.{seen, taken_with}
+use Rattle.amqp_core.specs.Connection.Handshakes.{awaited_in}
+use Rattle.amqp_core.specs.Heard.Hearing.{Hears, HearsFrame}
+use Rattle.amqp_core.specs.Heard.View.{Said, cause_here, closes_by, goes_by, heard_here, notice_closes, said_after, said_by, told_closes}
+use Rattle.amqp_core.specs.Config.Settings.{config_view}
+use Rattle.amqp_core.specs.Stream.StepView.{seen_by, step_seen}
+use Rattle.amqp_core.specs.Connection.Verdicts.{FitsEventOf, FrameRules, event_by, noticed, verdict_here}
 use Rattle.amqp_core.specs.declared.faults.CoreFault.{CoreFault}
 use Rattle.amqp_core.specs.declared.settings.Settings.{Settings}
 use Rattle.amqp_core.specs.declared.step.Report.{Report}
@@ -43,8 +44,8 @@ use Rattle.amqp_core.specs.declared.step.Step.{Step}
 use Rattle.amqp_core.specs.declared.taken.Taken.{Taken}
 use Rattle.amqp_core.specs.declared.verdict.Notice.{Notice}
 use Rattle.amqp_core.specs.declared.verdict.Notice.TheVariants as notice
-use Rattle.amqp_core.specs.declared.verdict.Verdict.{Verdict}
-use Rattle.amqp_core.specs.declared.verdict.Verdict.TheVariants.{OnChannel, Proceeds, Faults}
+use Rattle.amqp_core.specs.Connection.Rulings.{Ruling, OnChannel, OnConnection}
+use Rattle.amqp_core.specs.declared.verdict.Verdict.TheVariants.{Proceeds, Faults}
 use Rattle.amqp_core.proofs.AccountLemmas.{awaits_none, ends_frame, frame_or, is_begun, no_frames}
 use Rattle.amqp_core.proofs.KindLemmas.{same_is}
 use Rattle.amqp_core.proofs.LendLemmas.{event_is}
@@ -118,13 +119,13 @@ awaited_heard Closing number reading goes = none_either ((number == 0) && goes)
 awaited_heard Closed number reading goes = none_either ((number == 0) && goes)
 awaited_heard Failed number reading goes = none_either ((number == 0) && goes)
 
-goes_is : (settings : Settings) (end : End) (number : ℕ) (reading : Reading) (verdict : Verdict)
+goes_is : (settings : Settings) (end : End) (number : ℕ) (reading : Reading) (verdict : Ruling)
     → goes_by verdict ≡ goes_on (verdict_here settings end number reading verdict)
 goes_is settings end number reading (OnChannel (ruled.Proceeds said answer)) = refl
 goes_is settings end number reading (OnChannel ruled.RefusesContent) = refl
 goes_is settings end number reading (OnChannel (ruled.Faults code)) = refl
-goes_is settings end number reading (Proceeds notice stage owed) = refl
-goes_is settings end number reading (Faults fault) = refl
+goes_is settings end number reading (OnConnection (Proceeds notice stage owed)) = refl
+goes_is settings end number reading (OnConnection (Faults fault)) = refl
 
 -- What a close is about.
 
@@ -188,17 +189,17 @@ none_closes : (reading : Reading) → cause_here reading false ≡ None
 none_closes (Calls method) = refl
 none_closes reading = refl
 
-cause_is : (settings : Settings) (end : End) (number : ℕ) (reading : Reading) (verdict : Verdict)
+cause_is : (settings : Settings) (end : End) (number : ℕ) (reading : Reading) (verdict : Ruling)
     → cause_here reading (closes_by verdict) ≡ cause_told (event_by number (verdict_here settings end number reading verdict)) reading
 cause_is settings end number reading (OnChannel (ruled.Proceeds said answer)) =
     cause_of_told number (whole_now (end.channels number) reading) reading said
 cause_is settings end number reading (OnChannel ruled.RefusesContent) = none_closes reading
 cause_is settings end number reading (OnChannel (ruled.Faults code)) = none_closes reading
-cause_is settings end number reading (Proceeds notice stage owed) = cause_of_notice number reading notice
-cause_is settings end number reading (Faults fault) = none_closes reading
+cause_is settings end number reading (OnConnection (Proceeds notice stage owed)) = cause_of_notice number reading notice
+cause_is settings end number reading (OnConnection (Faults fault)) = none_closes reading
 
 -- the frame is a close where its verdict says so
-pub is_close : (verdict : Verdict) (method : Method) → FitsEventOf (Calls method) verdict → closes_by verdict ≡ true → IsClose method.kind
+pub is_close : (verdict : Ruling) (method : Method) → FitsEventOf (Calls method) verdict → closes_by verdict ≡ true → IsClose method.kind
 is_close (OnChannel (ruled.Proceeds told.ClosedByPeer answer)) method fits e = subst (λ k. IsClose k) (sym fits) tt
 is_close (OnChannel (ruled.Proceeds told.Method answer)) method fits e = absurd (false≢true e)
 is_close (OnChannel (ruled.Proceeds told.Begun answer)) method fits e = absurd (false≢true e)
@@ -213,23 +214,23 @@ is_close (OnChannel (ruled.Proceeds told.Discarded answer)) method fits e = absu
 is_close (OnChannel (ruled.Proceeds told.Quiet answer)) method fits e = absurd (false≢true e)
 is_close (OnChannel ruled.RefusesContent) method fits e = absurd (false≢true e)
 is_close (OnChannel (ruled.Faults code)) method fits e = absurd (false≢true e)
-is_close (Proceeds notice.ClosedByPeer stage owed) method fits e = subst (λ k. IsClose k) (sym fits) tt
-is_close (Proceeds notice.Quiet stage owed) method fits e = absurd (false≢true e)
-is_close (Proceeds notice.Discarded stage owed) method fits e = absurd (false≢true e)
-is_close (Proceeds notice.AnswerAsked stage owed) method fits e = absurd (false≢true e)
-is_close (Proceeds notice.LoginAsked stage owed) method fits e = absurd (false≢true e)
-is_close (Proceeds notice.OpenAsked stage owed) method fits e = absurd (false≢true e)
-is_close (Proceeds (notice.Negotiated agreed) stage owed) method fits e = absurd (false≢true e)
-is_close (Proceeds notice.ClosedByUs stage owed) method fits e = absurd (false≢true e)
-is_close (Proceeds notice.Blocked stage owed) method fits e = absurd (false≢true e)
-is_close (Proceeds notice.Unblocked stage owed) method fits e = absurd (false≢true e)
-is_close (Faults fault) method fits e = absurd (false≢true e)
+is_close (OnConnection (Proceeds notice.ClosedByPeer stage owed)) method fits e = subst (λ k. IsClose k) (sym fits) tt
+is_close (OnConnection (Proceeds notice.Quiet stage owed)) method fits e = absurd (false≢true e)
+is_close (OnConnection (Proceeds notice.Discarded stage owed)) method fits e = absurd (false≢true e)
+is_close (OnConnection (Proceeds notice.AnswerAsked stage owed)) method fits e = absurd (false≢true e)
+is_close (OnConnection (Proceeds notice.LoginAsked stage owed)) method fits e = absurd (false≢true e)
+is_close (OnConnection (Proceeds notice.OpenAsked stage owed)) method fits e = absurd (false≢true e)
+is_close (OnConnection (Proceeds (notice.Negotiated agreed) stage owed)) method fits e = absurd (false≢true e)
+is_close (OnConnection (Proceeds notice.ClosedByUs stage owed)) method fits e = absurd (false≢true e)
+is_close (OnConnection (Proceeds notice.Blocked stage owed)) method fits e = absurd (false≢true e)
+is_close (OnConnection (Proceeds notice.Unblocked stage owed)) method fits e = absurd (false≢true e)
+is_close (OnConnection (Faults fault)) method fits e = absurd (false≢true e)
 
 -- What is kept of a frame.
 
 pub said_is :
     (settings : Settings) (end : End) (number : ℕ) (kind : FrameKind) (payload : List ℕ) (reading : Reading)
-    (verdict : Verdict) (before : Said)
+    (verdict : Ruling) (before : Said)
     → FrameRules settings end number reading verdict → reading ≡ says (frame_at number kind payload)
     → said_by end.phase number reading verdict before
     ≡ said_after (config_view settings) end (frame_at number kind payload) before
@@ -256,15 +257,15 @@ unheard : (phase : Phase) (number : ℕ) (reading : Reading) → heard_here phas
 unheard phase number (Calls method) = none_goes (awaited_in phase method.kind) (number == 0) method
 unheard phase number reading = refl
 
-fault_closes : (verdict : Verdict) → goes_by verdict ≡ false → closes_by verdict ≡ false
+fault_closes : (verdict : Ruling) → goes_by verdict ≡ false → closes_by verdict ≡ false
 fault_closes (OnChannel (ruled.Proceeds said answer)) e = absurd (false≢true (sym e))
 fault_closes (OnChannel ruled.RefusesContent) e = refl
 fault_closes (OnChannel (ruled.Faults code)) e = refl
-fault_closes (Proceeds notice stage owed) e = absurd (false≢true (sym e))
-fault_closes (Faults fault) e = refl
+fault_closes (OnConnection (Proceeds notice stage owed)) e = absurd (false≢true (sym e))
+fault_closes (OnConnection (Faults fault)) e = refl
 
 -- nothing is, where a fault is found with it
-fault_keeps : (phase : Phase) (number : ℕ) (reading : Reading) (verdict : Verdict) (before : Said) → goes_by verdict ≡ false
+fault_keeps : (phase : Phase) (number : ℕ) (reading : Reading) (verdict : Ruling) (before : Said) → goes_by verdict ≡ false
     → said_by phase number reading verdict before ≡ before
 fault_keeps phase number reading verdict before e =
     let heard : heard_here phase number reading (goes_by verdict) ≡ None =
@@ -278,11 +279,23 @@ either_way (Ok value) goes P ok keeps = tt
 either_way (Err fault) true P ok keeps = absurd (false≢true (ok refl))
 either_way (Err fault) false P ok keeps = keeps refl
 
-pub fault_unheard : {A : Type 0} (result : Result A CoreFault) (phase : Phase) (number : ℕ) (reading : Reading) (verdict : Verdict) (before after : Said)
+pub fault_unheard : {A : Type 0} (result : Result A CoreFault) (phase : Phase) (number : ℕ) (reading : Reading) (verdict : Ruling) (before after : Said)
     → (goes_by verdict ≡ true → IsOk result) → after ≡ said_by phase number reading verdict before
     → OnErr result (after ≡ before)
 fault_unheard result phase number reading verdict before after ok is =
     either_way result (goes_by verdict) (after ≡ before) ok (λ e. is ∙ fault_keeps phase number reading verdict before e)
+
+-- On a connection that is Running no method is awaited, so only what a close is about is kept.
+
+none_awaited : (number : ℕ) (reading : Reading) (goes : Bool) → heard_here Running number reading goes ≡ None
+none_awaited number (Calls method) goes = refl
+none_awaited number reading goes = refl
+
+pub said_on : (number : ℕ) (reading : Reading) (verdict : Ruling) (now : Option Cause) (before after : Said)
+    → now ≡ cause_here reading (closes_by verdict) → after ≡ record { methods = before.methods; cause = or_before now before.cause }
+    → after ≡ said_by Running number reading verdict before
+said_on number reading verdict now before after now_is is =
+    is ∙ (λ i. record { methods = heard_after (sym (none_awaited number reading (goes_by verdict)) i) before.methods; cause = or_before (now_is i) before.cause })
 
 -- What is kept of a piece.
 

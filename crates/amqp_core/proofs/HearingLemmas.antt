@@ -9,6 +9,7 @@ use Rattle.amqp_model.specs.End.Events as events
 use Rattle.amqp_model.specs.End.Heard as model
 use Rattle.amqp_model.specs.End.Heard.{awaited_by, heard, heard_after, hears}
 use Rattle.amqp_model.specs.End.LawfulHistories.{then_put, then_taken}
+use Rattle.amqp_model.specs.End.Machine.{StandsFor}
 use Rattle.amqp_model.specs.History.Histories.{History}
 use Rattle.amqp_model.specs.History.Negotiation.{Config, PROTOCOL_HEADER, frame_limit}
 use Rattle.amqp_model.specs.Laws.HeardLaws.{HeardFollows, HeardStays, HearsAlike, KeepsHeard}
@@ -16,19 +17,20 @@ use Rattle.amqp_model.specs.Laws.OctetLaws.{CompletesFrame, EndpointStandsFor, F
 use Rattle.amqp_model.specs.Laws.StreamingLaws.{FeedsAlike}
 use Rattle.amqp_model.specs.Lent.Alike.{AlikeEndpoints, AlikeFeedings, OutcomeTelling, NothingYet, Failing, outcome_telling}
 use Rattle.amqp_model.specs.Stream.Endpoint.{Endpoint, Feeding, Outcome, Unfinished, Finished, Found, after_feed, awaits_opening, greeting, owed_at_fault}
+use Rattle.amqp_model.specs.Stream.Grown.{Grows}
 use Rattle.amqp_model.specs.Stream.Octets.{opening_written}
 use Rattle.amqp_model.specs.Wire.Frame.{Frame}
 use Rattle.amqp_model.specs.Wire.Methods.{MethodKind}
 use Rattle.amqp_model.specs.Wire.Notes.{Role}
 use Rattle.amqp_model.specs.Wire.Readings.{reading}
-use Rattle.amqp_core.specs.Answering.{Reports, Tells, is_out_of_memory, ran_out}
-use Rattle.amqp_core.specs.EndHeard.{HearsOn, is_kept}
-use Rattle.amqp_core.specs.Feeding.{AnswersPiece, seen}
-use Rattle.amqp_core.specs.HeardView.{Said, kept_of_kind, said_after}
-use Rattle.amqp_core.specs.Hearing.{Hears, HearsFrame}
-use Rattle.amqp_core.specs.Lending.{AnswersLent, LentSeen}
-use Rattle.amqp_core.specs.StreamHeard.{StreamHearsOn}
-use Rattle.amqp_core.specs.StreamHistory.{StreamGoesOn}
+use Rattle.amqp_core.specs.Faults.Answering.{Reports, Tells, is_out_of_memory, ran_out}
+use Rattle.amqp_core.specs.Heard.OfEnd.{HearsOn, is_kept}
+use Rattle.amqp_core.specs.End.Feeding.{AnswersPiece, seen}
+use Rattle.amqp_core.specs.Heard.View.{Said, kept_of_kind, said_after}
+use Rattle.amqp_core.specs.Heard.Hearing.{Hears, HearsFrame}
+use Rattle.amqp_core.specs.Stream.Lending.{AnswersLent, LentSeen}
+use Rattle.amqp_core.specs.Heard.OfStream.{StreamHearsOn}
+use Rattle.amqp_core.specs.Stream.History.{StreamGoesOn}
 use Rattle.amqp_core.specs.declared.faults.CoreFault.{CoreFault}
 use Rattle.amqp_core.specs.declared.faults.CoreFault.TheVariants as core
 use Rattle.amqp_core.specs.declared.taken.Taken.{Taken}
@@ -161,6 +163,34 @@ hears_on role config old history fed written piece new before after follows stay
 }
 hears_on role config old history fed written piece new before after follows stays taking stands kept by (refuses closed nothing) =
     absurd (false≢true (sym (ap takes_octets closed) ∙ taking))
+
+-- The same where a history grows by what comes of the piece, whatever else is kept beside.
+pub keeps_grown : (role : Role) (config : Config role) (old : Endpoint) (history after : History) (piece : List ℕ) (new : Feeding) (before kept : model.Heard)
+    → HeardFollows → HeardStays → takes_octets old.end.phase ≡ true
+    → StandsFor role config false old.end history → KeepsHeard role config before history
+    → HeardBy role config old piece new before kept
+    → Grows role config old piece new history after
+    → KeepsHeard role config kept after
+keeps_grown role config old history _ piece new before kept follows stays taking stands had by (Grows.waits outcome) =
+    keeps_same role config before kept history (by.waits outcome) had
+keeps_grown role config old history _ piece new before kept follows stays taking stands had by (Grows.greets awaits empty outcome) =
+    keeps_same role config before kept (then_put (map frame_of (greeting role config)) history) (by.greets awaits)
+    (stays role config history (map frame_of (greeting role config)) before had)
+keeps_grown role config old history _ piece new before kept follows stays taking stands had by (Grows.takes frame phase completes goes outcome) =
+    keeps_same role config (heard_after (hears config old.end frame) before) kept (then_taken config old.end frame history)
+    (by.takes frame phase completes (ap is_found outcome)) (follows role config old.end history frame before stands had)
+keeps_grown role config old history _ piece new before kept follows stays taking stands had by (Grows.faults frame fault phase completes verdict outcome) =
+    let later = then_taken config old.end frame history in
+    keeps_same role config before kept later (by.at_fault (ap is_found outcome))
+    (keeps_at_fault role config old.end frame fault before later verdict (follows role config old.end history frame before stands had))
+keeps_grown role config old history _ piece new before kept follows stays taking stands had by (Grows.tells kind phase shows outcome) =
+    let later = then_put (map frame_of (owed_at_fault config old.end kind)) history in
+    keeps_same role config before kept later (by.at_fault (ap is_found outcome))
+    (stays role config history (map frame_of (owed_at_fault config old.end kind)) before had)
+keeps_grown role config old history _ piece new before kept follows stays taking stands had by (Grows.differs awaits outcome) =
+    keeps_same role config before kept history (by.at_fault (ap is_found outcome)) had
+keeps_grown role config old history _ piece new before kept follows stays taking stands had by (Grows.refuses fault refused nothing) =
+    keeps_same role config before kept history (by.at_fault (ap (λ (f : Feeding). is_found f.outcome) nothing)) had
 
 -- At a lending end, by an end that gathers to which it is alike.
 

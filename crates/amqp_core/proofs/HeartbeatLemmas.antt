@@ -5,7 +5,7 @@ use Rattle.amqp_method.specs.Places.{argument_at, found, short_of}
 use Rattle.amqp_method.specs.declared.fields.FieldKind.TheVariants.{Short, Long}
 use Rattle.amqp_method.specs.declared.kinds.Kind.TheVariants as kinds
 use Rattle.amqp_model.specs.Wire.Methods.{MethodKind}
-use Rattle.amqp_core.specs.Handshakes.{SaysHeartbeat}
+use Rattle.amqp_core.specs.Connection.Handshakes.{SaysHeartbeat}
 
 by_kinds : (args : List Argument) → map kind_of args ≡ Short ∷ Long ∷ Short ∷ [] → found short_of (argument_at 2 args) ≢ None
 by_kinds [] e = cc

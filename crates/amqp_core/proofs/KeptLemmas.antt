@@ -10,9 +10,9 @@ use Rattle.amqp_model.specs.History.Negotiation.{frame_limit}
 use Rattle.amqp_model.specs.Wire.Notes.{Role, Client, Server}
 use Rattle.amqp_model.specs.Output.Outputs.{Output}
 use Rattle.amqp_model.specs.Stream.Pieces.{AreBegun, HoldsUnfinished, reads_frames}
-use Rattle.amqp_core.specs.ConnectionView.{connection_end}
-use Rattle.amqp_core.specs.EndpointView.{FieldsFit, IsSound, role_at, unfinished_of}
-use Rattle.amqp_core.specs.Kept.{IsKept}
+use Rattle.amqp_core.specs.Connection.View.{connection_end}
+use Rattle.amqp_core.specs.End.EndpointView.{FieldsFit, IsSound, role_at, unfinished_of}
+use Rattle.amqp_core.specs.End.Kept.{IsKept}
 use Rattle.amqp_core.specs.declared.endpoint.Endpoint.{Endpoint}
 use Rattle.amqp_core.proofs.FeedLemmas.{reads, unfinished_is}
 use Rattle.amqp_core.proofs.HearLemmas.{begun, heard_is}

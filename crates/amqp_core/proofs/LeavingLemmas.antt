@@ -9,8 +9,8 @@ use Rattle.amqp_model.specs.Wire.Methods.{Method, same_kind}
 use Rattle.amqp_model.specs.History.Negotiation.{Config}
 use Rattle.amqp_model.specs.Wire.Notes.{Role, Client, Server}
 use Rattle.amqp_model.specs.Wire.Readings.{Calls}
-use Rattle.amqp_core.specs.ConnectionView.{EndLeft}
-use Rattle.amqp_core.specs.Stages.{leaves}
+use Rattle.amqp_core.specs.Connection.View.{EndLeft}
+use Rattle.amqp_core.specs.Connection.Stages.{leaves}
 use Rattle.amqp_core.proofs.ConnectionLemmas.{leaving_verdict}
 use Rattle.amqp_core.proofs.KindLemmas.{same_is}
 

@@ -6,10 +6,10 @@ use Rattle.amqp_model.specs.Wire.Notes.{Role}
 use Rattle.amqp_model.specs.Stream.Traces.{IsPut, Noted, Other, telling_above, telling_at}
 use Rattle.amqp_channel.specs.Roles.{role_of}
 use Rattle.amqp_channel.specs.declared.side.Side.{Side}
-use Rattle.amqp_core.specs.CountView.{lives_view}
-use Rattle.amqp_core.specs.CountsLives.{CountsLives}
-use Rattle.amqp_core.specs.LifeCounts.{LifeCount, after_word, counted, counted_with, nothing_counted}
-use Rattle.amqp_core.specs.NoteView.{note_view, noted_as}
+use Rattle.amqp_core.specs.Traced.CountView.{lives_view}
+use Rattle.amqp_core.specs.Traced.CountsLives.{CountsLives}
+use Rattle.amqp_core.specs.Traced.LifeCounts.{LifeCount, after_word, counted, counted_with, nothing_counted}
+use Rattle.amqp_core.specs.Traced.Notes.{note_view, noted_as}
 use Rattle.amqp_core.specs.declared.lives.Lives.{Lives}
 use Rattle.amqp_core.specs.declared.notes.Note.{Note}
 use Rattle.amqp_core.proofs.LifeCountLemmas.{counted-last}

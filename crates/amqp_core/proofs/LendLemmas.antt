@@ -20,19 +20,19 @@ use Rattle.amqp_channel.specs.declared.verdict.Reply.{Reply}
 use Rattle.amqp_channel.specs.declared.verdict.Told.{Told}
 use Rattle.amqp_channel.specs.declared.verdict.Told.TheVariants as told
 use Rattle.amqp_channel.specs.declared.verdict.Verdict.TheVariants as ruled
-use Rattle.amqp_core.specs.ConnectionView.{frame_at}
-use Rattle.amqp_core.specs.EventRefView.{channel_close_lent, channel_lent, close_lent, blocked_lent, notice_lent}
-use Rattle.amqp_core.specs.Lending.{AlikeLeft}
-use Rattle.amqp_core.specs.Outcomes.{SameEnd}
-use Rattle.amqp_core.specs.Settings.{config_view, role_for}
-use Rattle.amqp_core.specs.VerdictView.{end_left, ended_if, event_by, fault_by, verdict_here, FitsVerdict, FrameRules}
+use Rattle.amqp_core.specs.Connection.View.{frame_at}
+use Rattle.amqp_core.specs.Stream.EventRefView.{channel_close_lent, channel_lent, close_lent, blocked_lent, notice_lent}
+use Rattle.amqp_core.specs.Stream.Lending.{AlikeLeft}
+use Rattle.amqp_core.specs.Connection.Outcomes.{SameEnd}
+use Rattle.amqp_core.specs.Config.Settings.{config_view, role_for}
+use Rattle.amqp_core.specs.Connection.Verdicts.{end_left, ended_if, event_by, fault_by, verdict_here, FitsVerdict, FrameRules}
 use Rattle.amqp_core.specs.declared.owed.Owed.{Owed}
 use Rattle.amqp_core.specs.declared.settings.Settings.{Settings}
 use Rattle.amqp_core.specs.declared.stage.Stage.{Stage}
 use Rattle.amqp_core.specs.declared.verdict.Notice.{Notice}
 use Rattle.amqp_core.specs.declared.verdict.Notice.TheVariants as notice
-use Rattle.amqp_core.specs.declared.verdict.Verdict.{Verdict}
-use Rattle.amqp_core.specs.declared.verdict.Verdict.TheVariants.{OnChannel, Proceeds}
+use Rattle.amqp_core.specs.Connection.Rulings.{Ruling, OnChannel, OnConnection}
+use Rattle.amqp_core.specs.declared.verdict.Verdict.TheVariants.{Proceeds}
 use Rattle.amqp_core.proofs.ReceiveLemmas.{left_is}
 use Rattle.amqp_core.proofs.StreamLemmas.{alike_left, left_onwards, same_left}
 
@@ -79,8 +79,8 @@ told_lends settings end number reading told.Discarded due fits = refl
 told_lends settings end number reading told.Quiet due fits = refl
 
 -- a frame that tells of the connection
-pub notice_lends : (settings : Settings) (end : End) (number : ℕ) (reading : Reading) (said : Notice) (stage : Stage) (due : Owed) → FitsVerdict end number reading (Proceeds said stage due)
-    → notice_lent number reading said ≡ lent number reading (maybe_telling (event_by number (verdict_here settings end number reading (Proceeds said stage due))))
+pub notice_lends : (settings : Settings) (end : End) (number : ℕ) (reading : Reading) (said : Notice) (stage : Stage) (due : Owed) → FitsVerdict end number reading (OnConnection (Proceeds said stage due))
+    → notice_lent number reading said ≡ lent number reading (maybe_telling (event_by number (verdict_here settings end number reading (OnConnection (Proceeds said stage due)))))
 notice_lends settings end number reading notice.Quiet stage due fits = refl
 notice_lends settings end number reading notice.Discarded stage due fits = refl
 notice_lends settings end number reading notice.AnswerAsked stage due fits = refl
@@ -100,7 +100,7 @@ events_are config end number events.RefusesContent = refl
 events_are config end number (events.Faults fault) = refl
 
 -- the event is the one of the definitions
-pub event_is : (settings : Settings) (end : End) (number : ℕ) (kind : FrameKind) (payload : List ℕ) (reading : Reading) (verdict : Verdict) → FrameRules settings end number reading verdict → reading ≡ says (frame_at number kind payload)
+pub event_is : (settings : Settings) (end : End) (number : ℕ) (kind : FrameKind) (payload : List ℕ) (reading : Reading) (verdict : Ruling) → FrameRules settings end number reading verdict → reading ≡ says (frame_at number kind payload)
     → event_by number (verdict_here settings end number reading verdict) ≡ event_of_frame (config_view settings) end (frame_at number kind payload)
 event_is settings end number kind payload reading verdict rules read =
     events_are (config_view settings) end number (verdict_here settings end number reading verdict)
@@ -118,7 +118,7 @@ ended_alike None one other a = alike_left one other a
 ended_alike (Some fault) one other a = record { phase = refl; agreed = a.agreed; no_channel = a.channels 0; channels = λ running n. a.channels n }
 
 pub left_alike :
-    (settings : Settings) (end mid after : End) (number : ℕ) (kind : FrameKind) (payload : List ℕ) (reading : Reading) (verdict : Verdict)
+    (settings : Settings) (end mid after : End) (number : ℕ) (kind : FrameKind) (payload : List ℕ) (reading : Reading) (verdict : Ruling)
     (fault : Option events.Fault)
     → FrameRules settings end number reading verdict → reading ≡ says (frame_at number kind payload)
     → AlikeEnds (end_left (role_for settings) number reading verdict end) mid

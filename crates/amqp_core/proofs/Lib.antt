@@ -58,3 +58,4 @@ pub mod LendLemmas
 pub mod StreamHistoryLemmas
 pub mod TurningLemmas
 pub mod CutLemmas
+pub mod AmountLemmas

@@ -9,7 +9,7 @@ use Rattle.amqp_model.specs.Wire.Notes.{Role, Kind, Note}
 use Rattle.amqp_model.specs.Wire.Readings.{reading, kind_of}
 use Rattle.amqp_model.specs.Pair.Sent.{life_on}
 use Rattle.amqp_model.specs.Stream.Traces.{Word, Other, IsPut, IsTaken, Noted, noted, trace, word_of}
-use Rattle.amqp_core.specs.LifeCounts.{LifeCount, nothing_counted, begins_life, after_word, counted_with, counted_from, counted}
+use Rattle.amqp_core.specs.Traced.LifeCounts.{LifeCount, nothing_counted, begins_life, after_word, counted_with, counted_from, counted}
 
 -- what the notes of a channel count to, the newest first
 abbrev count_of : Role → List Note → LifeCount

@@ -15,7 +15,7 @@ use Rattle.amqp_model.specs.History.Negotiation.{Config}
 use Rattle.amqp_model.specs.Wire.Notes.{Role}
 use Rattle.amqp_model.specs.Wire.Readings.{reading}
 use Rattle.amqp_model.specs.End.StateFromHistory.{channel_at}
-use Rattle.amqp_core.specs.OfHistory.{VerdictsAreOf}
+use Rattle.amqp_core.specs.End.OfHistory.{VerdictsAreOf}
 
 -- the record of each channel is what the channel's entries count to
 abbrev pub ReadsEach : Role → End → History → Type 0

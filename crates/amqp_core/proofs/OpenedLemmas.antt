@@ -13,7 +13,7 @@ use Rattle.amqp_model.specs.End.Machine.{after_start, after_start_ok, after_star
 use Rattle.amqp_model.specs.History.Negotiation.{Config}
 use Rattle.amqp_model.specs.Wire.Notes.{Role, Client, Server}
 use Rattle.amqp_model.specs.Wire.Readings.{Reading, Calls, is_call, reading as reading_of}
-use Rattle.amqp_core.specs.EndpointView.{is_opened}
+use Rattle.amqp_core.specs.End.EndpointView.{is_opened}
 
 either : (b : Bool) (one other : Phase) → is_opened one ≡ true → is_opened other ≡ true → is_opened (cond b one other) ≡ true
 either true one other p q = p

@@ -8,7 +8,7 @@ use Rattle.amqp_model.specs.Stream.Endpoint.{awaits_opening, greeting}
 use Rattle.amqp_model.specs.End.Machine.{end_after_owed}
 use Rattle.amqp_model.specs.History.Negotiation.{Config, Hello, OfServer, PROTOCOL_HEADER}
 use Rattle.amqp_model.specs.Wire.Notes.{Role, Client, Server}
-use Rattle.amqp_core.specs.Stages.{phase_at, agreed_at}
+use Rattle.amqp_core.specs.Connection.Stages.{phase_at, agreed_at}
 use Rattle.amqp_core.specs.declared.stage.Stage.{Stage}
 use Rattle.amqp_core.specs.declared.stage.Stage.TheVariants as code
 

@@ -12,9 +12,9 @@ use Rattle.amqp_model.specs.End.Machine.{end_after, end_after_owed, end_after_ta
 use Rattle.amqp_model.specs.History.Negotiation.{Config}
 use Rattle.amqp_model.specs.Wire.Notes.{Role, Client, Server}
 use Rattle.amqp_model.specs.Wire.Readings.{Reading}
-use Rattle.amqp_core.specs.ConnectionView.{EndLeft, frame_at}
-use Rattle.amqp_core.specs.Outcomes.{owed_for, owed_by, told_by, ended_by, SameEnd}
-use Rattle.amqp_core.specs.Stages.{leaves}
+use Rattle.amqp_core.specs.Connection.View.{EndLeft, frame_at}
+use Rattle.amqp_core.specs.Connection.Outcomes.{owed_for, owed_by, told_by, ended_by, SameEnd}
+use Rattle.amqp_core.specs.Connection.Stages.{leaves}
 
 fault_puts : (role : Role) (config : Config role) (phase : Phase) (agreed : Option Agreed) (number : ℕ) (channel : Channel) (fault : Fault) → methods_put (record { config = config; phase = phase; agreed = agreed; number = number; channel = channel }) (Faults fault) ≡ owed_for (leaves phase) fault
 fault_puts role config (Handshake step) agreed number channel (Peer code) = refl

@@ -12,10 +12,10 @@ use Rattle.amqp_model.specs.Wire.Notes.{Role}
 use Rattle.amqp_model.specs.Laws.OctetLaws.{EndpointStandsFor, FailedWrites, HasFailed, WroteFollows}
 use Rattle.amqp_model.specs.Stream.Octets.{frames_put, opening_written}
 use Rattle.amqp_model.specs.Output.Outputs.{Output, after_writing, output_octets}
-use Rattle.amqp_core.specs.Following.{KeepsHistory}
-use Rattle.amqp_core.specs.OutputOrder.{OutputInOrder, WroteGoesOn}
-use Rattle.amqp_core.specs.Tracing as tracing
-use Rattle.amqp_core.specs.Tracing.{IsTraceOf, IsWrittenInOrder, Kept, Stands}
+use Rattle.amqp_core.specs.End.Following.{KeepsHistory}
+use Rattle.amqp_core.specs.End.OutputOrder.{OutputInOrder, WroteGoesOn}
+use Rattle.amqp_core.specs.Traced.Tracing as tracing
+use Rattle.amqp_core.specs.Traced.Tracing.{IsTraceOf, IsWrittenInOrder, Kept, Stands}
 
 pub output_in_order : (role : Role) (config : Config role) (output : Output)
     → OutputFollowsRules → ((failed : Bool) (history : History) → ClosesArePutLast role config failed history)

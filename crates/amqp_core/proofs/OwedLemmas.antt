@@ -10,9 +10,9 @@ use Rattle.amqp_model.specs.Wire.Methods.{Method}
 use Rattle.amqp_model.specs.History.Negotiation.{Config, tune_ok}
 use Rattle.amqp_model.specs.Wire.Notes.{Role}
 use Rattle.amqp_outbox.specs.OutboxView.{Outgoing, with_staged}
-use Rattle.amqp_core.specs.HandshakeMethods.{IsOpen, IsTune}
-use Rattle.amqp_core.specs.OwedView.{starts, answers_start, tunes, answers_tune}
-use Rattle.amqp_core.specs.Settings.{role_for, config_view}
+use Rattle.amqp_core.specs.Connection.HandshakeMethods.{IsOpen, IsTune}
+use Rattle.amqp_core.specs.Connection.Owed.{starts, answers_start, tunes, answers_tune}
+use Rattle.amqp_core.specs.Config.Settings.{role_for, config_view}
 use Rattle.amqp_core.specs.declared.settings.ClientHello.{ClientHello}
 use Rattle.amqp_core.specs.declared.settings.ServerHello.{ServerHello}
 use Rattle.amqp_core.specs.declared.settings.Hello.TheVariants as code

@@ -13,7 +13,7 @@ use Rattle.amqp_channel.specs.Puts.{reading_as, after_payloads}
 use Rattle.amqp_channel.specs.Roles.{role_of}
 use Rattle.amqp_channel.specs.declared.site.Site.{Site}
 use Rattle.amqp_core.proofs.EndLemmas.{entry_above, set_here, set_twice}
-use Rattle.amqp_core.specs.Laws.{running_end, IsWritten, AreWritten, SayPayloads, PutsAsEnd}
+use Rattle.amqp_core.specs.Connection.OneChannel.{running_end, IsWritten, AreWritten, SayPayloads, PutsAsEnd}
 
 read_call : (reading : Reading) (method : Method) → payload_of reading ≡ contents.Calls method → reading ≡ Calls method
 read_call (Calls other) method e = cc

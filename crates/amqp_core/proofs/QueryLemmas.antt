@@ -35,10 +35,10 @@ use Rattle.amqp_model.specs.End.ReadingBack.{WritesReadBack}
 use Rattle.amqp_model.specs.End.StateFromHistory.{has_put, is_closed, is_negotiated, step_from}
 use Rattle.amqp_model.specs.History.States as states
 use Rattle.amqp_model.specs.History.States.{State}
-use Rattle.amqp_core.specs.Counted.{AgreedIs, DueIs, GatheredIs, IsOpenBy, PendingIs, PhaseIs, StateIs, agreed_counted, is_failed, phase_counted}
-use Rattle.amqp_core.specs.Stages.{phase_name}
-use Rattle.amqp_core.specs.Tracing as tracing
-use Rattle.amqp_core.specs.Tracing.{IsTraceOf, Kept, Stands}
+use Rattle.amqp_core.specs.End.Counted.{AgreedIs, DueIs, GatheredIs, IsOpenBy, PendingIs, PhaseIs, StateIs, agreed_counted, is_failed, phase_counted}
+use Rattle.amqp_core.specs.Connection.Stages.{phase_name}
+use Rattle.amqp_core.specs.Traced.Tracing as tracing
+use Rattle.amqp_core.specs.Traced.Tracing.{IsTraceOf, Kept, Stands}
 use Rattle.amqp_core.specs.declared.stage.Phase.{Phase}
 
 -- A channel whose state is Open has a life.

@@ -20,18 +20,19 @@ use Rattle.amqp_channel.specs.ChannelsView.{OnlyAt}
 use Rattle.amqp_channel.specs.declared.verdict.Verdict.TheVariants as ruled
 use Rattle.amqp_channel.specs.declared.verdict.Told.TheVariants as told
 use Rattle.amqp_channel.proofs.VerdictLemmas.{fits_event}
-use Rattle.amqp_core.specs.ConnectionView.{frame_at}
-use Rattle.amqp_core.specs.Dropping.{DropsReading, IsDropped}
-use Rattle.amqp_core.specs.Feeding.{IsMessage, SameButChannels}
-use Rattle.amqp_core.specs.Outcomes.{ended_by, owed_by, told_by, SameEnd}
-use Rattle.amqp_core.specs.Settings.{config_view, role_for}
-use Rattle.amqp_core.specs.Stages.{leaves}
-use Rattle.amqp_core.specs.VerdictView.{content_of, end_left, ended_if, event_by, fault_by, noticed, outcome_with, verdict_here, verdict_view, FitsEventOf, FitsVerdict, FrameRules}
+use Rattle.amqp_core.specs.Connection.View.{frame_at}
+use Rattle.amqp_core.specs.Connection.Dropping.{DropsReading, IsDropped}
+use Rattle.amqp_core.specs.End.Feeding.{IsMessage, SameButChannels}
+use Rattle.amqp_core.specs.Connection.Outcomes.{ended_by, owed_by, told_by, SameEnd}
+use Rattle.amqp_core.specs.Config.Settings.{config_view, role_for}
+use Rattle.amqp_core.specs.Connection.Stages.{leaves}
+use Rattle.amqp_core.specs.Connection.Verdicts.{content_of, end_left, ended_if, event_by, fault_by, noticed, outcome_with, verdict_here, verdict_view, FitsEventOf, FitsVerdict, FrameRules, StepsFrom}
 use Rattle.amqp_core.specs.declared.faults.CoreFault.{CoreFault}
 use Rattle.amqp_core.specs.declared.settings.Settings.{Settings}
 use Rattle.amqp_core.specs.declared.verdict.Notice.TheVariants as notice
+use Rattle.amqp_core.specs.Connection.Rulings.{Ruling, OnChannel, OnConnection}
 use Rattle.amqp_core.specs.declared.verdict.Verdict.{Verdict}
-use Rattle.amqp_core.specs.declared.verdict.Verdict.TheVariants.{OnChannel, Proceeds, Faults}
+use Rattle.amqp_core.specs.declared.verdict.Verdict.TheVariants.{Proceeds, Faults}
 use Rattle.amqp_core.proofs.ConnectionLemmas.{set_only}
 use Rattle.amqp_core.proofs.EntryLemmas.{with_channel}
 use Rattle.amqp_core.proofs.OutcomeLemmas.{end_is, owed_is, told_is}
@@ -44,16 +45,20 @@ with_channel_is end number after channel only same =
     ap (λ c. record { phase = end.phase; agreed = end.agreed; channels = c })
     (set_only number end.channels after only ∙ ap (λ c. set_channel number c end.channels) same)
 
-pub fits_event_of : (end : End) (number : ℕ) (reading : Reading) (verdict : Verdict) → FitsVerdict end number reading verdict → FitsEventOf reading verdict
+pub fits_event_of : (end : End) (number : ℕ) (reading : Reading) (verdict : Ruling) → FitsVerdict end number reading verdict → FitsEventOf reading verdict
 fits_event_of end number reading (OnChannel (ruled.Proceeds said answer)) fits = fits_event (end.channels number) reading said fits.2
 fits_event_of end number reading (OnChannel ruled.RefusesContent) fits = tt
 fits_event_of end number reading (OnChannel (ruled.Faults code)) fits = tt
-fits_event_of end number reading (Proceeds notice stage owed) fits = fits.0
-fits_event_of end number reading (Faults fault) fits = tt
+fits_event_of end number reading (OnConnection (Proceeds notice stage owed)) fits = fits.0
+fits_event_of end number reading (OnConnection (Faults fault)) fits = tt
+
+pub steps_from : (end : End) (number : ℕ) (reading : Reading) (verdict : Verdict) → FitsVerdict end number reading (OnConnection verdict) → StepsFrom end verdict
+steps_from end number reading (Proceeds notice stage owed) fits = fits.1
+steps_from end number reading (Faults fault) fits = tt
 
 -- the event looks at the content that is handed out alone
 pub handed_event :
-    (settings : Settings) (end : End) (number : ℕ) (reading : Reading) (verdict : Verdict)
+    (settings : Settings) (end : End) (number : ℕ) (reading : Reading) (verdict : Ruling)
     → event_by number (verdict_view settings number reading (content_of verdict (end.channels number) reading) verdict)
     ≡ event_by number (verdict_here settings end number reading verdict)
 handed_event settings end number reading (OnChannel (ruled.Proceeds told.Method answer)) = refl
@@ -70,8 +75,8 @@ handed_event settings end number reading (OnChannel (ruled.Proceeds told.Discard
 handed_event settings end number reading (OnChannel (ruled.Proceeds told.Quiet answer)) = refl
 handed_event settings end number reading (OnChannel ruled.RefusesContent) = refl
 handed_event settings end number reading (OnChannel (ruled.Faults code)) = refl
-handed_event settings end number reading (Proceeds notice stage owed) = refl
-handed_event settings end number reading (Faults fault) = refl
+handed_event settings end number reading (OnConnection (Proceeds notice stage owed)) = refl
+handed_event settings end number reading (OnConnection (Faults fault)) = refl
 
 -- What comes of a verdict, as the definitions say it.
 
@@ -81,7 +86,7 @@ with_is number events.RefusesContent = refl
 with_is number (events.Faults fault) = refl
 
 pub said_is :
-    (settings : Settings) (end : End) (number : ℕ) (kind : FrameKind) (payload : List ℕ) (reading : Reading) (verdict : Verdict)
+    (settings : Settings) (end : End) (number : ℕ) (kind : FrameKind) (payload : List ℕ) (reading : Reading) (verdict : Ruling)
     (event : Option events.Event) (fault : Option events.Fault)
     → FrameRules settings end number reading verdict → reading ≡ says (frame_at number kind payload)
     → event ≡ event_by number (verdict_here settings end number reading verdict)
@@ -103,7 +108,7 @@ if_is events.RefusesContent end = refl
 if_is (events.Faults fault) end = refl
 
 pub left_is :
-    (settings : Settings) (end mid after : End) (number : ℕ) (kind : FrameKind) (payload : List ℕ) (reading : Reading) (verdict : Verdict)
+    (settings : Settings) (end mid after : End) (number : ℕ) (kind : FrameKind) (payload : List ℕ) (reading : Reading) (verdict : Ruling)
     (fault : Option events.Fault)
     → FrameRules settings end number reading verdict → reading ≡ says (frame_at number kind payload)
     → mid ≡ end_left (role_for settings) number reading verdict end
@@ -119,7 +124,7 @@ left_is settings end mid after number kind payload reading verdict fault rules r
     subst (λ (r : Reading). SameEnd (end_after_taken (role_for settings) (config_view settings) end r (frame_at number kind payload)) after) read ended
 
 pub owes_is :
-    (settings : Settings) (end : End) (number : ℕ) (kind : FrameKind) (payload : List ℕ) (reading : Reading) (verdict : Verdict)
+    (settings : Settings) (end : End) (number : ℕ) (kind : FrameKind) (payload : List ℕ) (reading : Reading) (verdict : Ruling)
     → FrameRules settings end number reading verdict → reading ≡ says (frame_at number kind payload)
     → owed_by (leaves end.phase) number (verdict_here settings end number reading verdict)
     ≡ methods_put (facts_at (config_view settings) end number) (end_verdict (config_view settings) end (frame_at number kind payload))
@@ -129,7 +134,7 @@ owes_is settings end number kind payload reading verdict rules read =
     ∙ ap (λ r. methods_put (facts_at (config_view settings) end number) (taken_verdict (config_view settings) end number r)) read)
 
 pub put_is :
-    (settings : Settings) (end : End) (number : ℕ) (kind : FrameKind) (payload : List ℕ) (reading : Reading) (verdict : Verdict) (output : Output)
+    (settings : Settings) (end : End) (number : ℕ) (kind : FrameKind) (payload : List ℕ) (reading : Reading) (verdict : Ruling) (output : Output)
     → FrameRules settings end number reading verdict → reading ≡ says (frame_at number kind payload)
     → after_puts (map frame_of (owed_by (leaves end.phase) number (verdict_here settings end number reading verdict))) output
     ≡ after_puts (end_puts (config_view settings) end (frame_at number kind payload)) output
@@ -150,7 +155,7 @@ none_blocked number (Calls method) told = told
 none_blocked number reading told = told
 
 told_alone :
-    (settings : Settings) (end : End) (number : ℕ) (reading : Reading) (closing : Bool) (verdict : Verdict) → FitsVerdict end number reading verdict
+    (settings : Settings) (end : End) (number : ℕ) (reading : Reading) (closing : Bool) (verdict : Ruling) → FitsVerdict end number reading verdict
     → IsMessage (event_by number (verdict_here settings end number reading verdict))
     → ToldAlone number end (end_left (role_for settings) number reading verdict end) closing (verdict_here settings end number reading verdict)
 told_alone settings end number reading closing (OnChannel (ruled.Proceeds told.Method due)) fits is =
@@ -169,21 +174,21 @@ told_alone settings end number reading closing (OnChannel (ruled.Proceeds told.D
 told_alone settings end number reading closing (OnChannel (ruled.Proceeds told.Quiet due)) fits is = absurd is
 told_alone settings end number reading closing (OnChannel ruled.RefusesContent) fits is = absurd is
 told_alone settings end number reading closing (OnChannel (ruled.Faults code)) fits is = absurd is
-told_alone settings end number reading closing (Proceeds notice.Quiet stage owed) fits is = absurd is
-told_alone settings end number reading closing (Proceeds notice.Discarded stage owed) fits is = absurd is
-told_alone settings end number reading closing (Proceeds notice.AnswerAsked stage owed) fits is = absurd is
-told_alone settings end number reading closing (Proceeds notice.LoginAsked stage owed) fits is = absurd is
-told_alone settings end number reading closing (Proceeds notice.OpenAsked stage owed) fits is = absurd is
-told_alone settings end number reading closing (Proceeds (notice.Negotiated agreed) stage owed) fits is = absurd is
-told_alone settings end number reading closing (Proceeds notice.ClosedByPeer stage owed) fits is = absurd is
-told_alone settings end number reading closing (Proceeds notice.ClosedByUs stage owed) fits is = absurd is
-told_alone settings end number reading closing (Proceeds notice.Blocked stage owed) fits is = absurd (none_blocked number reading is)
-told_alone settings end number reading closing (Proceeds notice.Unblocked stage owed) fits is = absurd is
-told_alone settings end number reading closing (Faults fault) fits is = absurd is
+told_alone settings end number reading closing (OnConnection (Proceeds notice.Quiet stage owed)) fits is = absurd is
+told_alone settings end number reading closing (OnConnection (Proceeds notice.Discarded stage owed)) fits is = absurd is
+told_alone settings end number reading closing (OnConnection (Proceeds notice.AnswerAsked stage owed)) fits is = absurd is
+told_alone settings end number reading closing (OnConnection (Proceeds notice.LoginAsked stage owed)) fits is = absurd is
+told_alone settings end number reading closing (OnConnection (Proceeds notice.OpenAsked stage owed)) fits is = absurd is
+told_alone settings end number reading closing (OnConnection (Proceeds (notice.Negotiated agreed) stage owed)) fits is = absurd is
+told_alone settings end number reading closing (OnConnection (Proceeds notice.ClosedByPeer stage owed)) fits is = absurd is
+told_alone settings end number reading closing (OnConnection (Proceeds notice.ClosedByUs stage owed)) fits is = absurd is
+told_alone settings end number reading closing (OnConnection (Proceeds notice.Blocked stage owed)) fits is = absurd (none_blocked number reading is)
+told_alone settings end number reading closing (OnConnection (Proceeds notice.Unblocked stage owed)) fits is = absurd is
+told_alone settings end number reading closing (OnConnection (Faults fault)) fits is = absurd is
 
 -- so much of what is left and put, of an end whose channel 0 is none
 pub message_stays :
-    (settings : Settings) (end mid after : End) (number : ℕ) (reading : Reading) (verdict : Verdict) (event : Option events.Event)
+    (settings : Settings) (end mid after : End) (number : ℕ) (reading : Reading) (verdict : Ruling) (event : Option events.Event)
     (fault : Option events.Fault) (output : Output) (outgoing : Outgoing)
     → FitsVerdict end number reading verdict → event ≡ event_by number (verdict_here settings end number reading verdict)
     → mid ≡ end_left (role_for settings) number reading verdict end
@@ -201,7 +206,7 @@ message_stays settings end mid after number reading verdict event fault output o
       output = sym (ap (λ (o : Outgoing). o.output) puts ∙ ap (λ owed. after_puts (map frame_of owed) output) alone.owes);
     }
 
-pub where_ok : {A : Type 0} (result : Result A CoreFault) (P : Type 0) → P → OnOk result P
+pub where_ok : {A B : Type 0} (result : Result A B) (P : Type 0) → P → OnOk result P
 where_ok (Ok done) P p = p
 where_ok (Err fault) P p = tt
 

@@ -5,8 +5,8 @@ use Rattle.amqp_model.specs.End.Fitting.{HostFits}
 use Rattle.amqp_model.specs.History.Negotiation as model
 use Rattle.amqp_model.specs.History.Negotiation.{Config}
 use Rattle.amqp_model.specs.Wire.Notes.{Role}
-use Rattle.amqp_core.specs.Configs.{said_in, set_up_as}
-use Rattle.amqp_core.specs.Settings.{role_in, hello_view, role_for, config_view}
+use Rattle.amqp_core.specs.Config.Configs.{said_in, set_up_as}
+use Rattle.amqp_core.specs.Config.Settings.{role_in, hello_view, role_for, config_view}
 use Rattle.amqp_core.specs.declared.settings.ClientHello.{ClientHello}
 use Rattle.amqp_core.specs.declared.settings.ServerHello.{ServerHello}
 use Rattle.amqp_core.specs.declared.settings.Hello.{Hello}

@@ -11,7 +11,7 @@ use Rattle.amqp_model.specs.End.Fitting.{FrameMax, ChannelMax, HelloTooLong, Con
 use Rattle.amqp_model.specs.Wire.Methods.{Method, ReadsBack, method_at, method_read, plain_method}
 use Rattle.amqp_model.specs.History.Negotiation.{Config, FRAME_MIN}
 use Rattle.amqp_model.specs.Wire.Notes.{Role}
-use Rattle.amqp_core.specs.HandshakeMethods.{greeting_length}
+use Rattle.amqp_core.specs.Connection.HandshakeMethods.{greeting_length}
 
 -- numbers below 256 are octets
 pub are_octets : (octets : List ℕ) → ((k : ℕ) → get_or octets k 0 < 256) → AreOctets octets

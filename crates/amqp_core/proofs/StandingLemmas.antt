@@ -14,10 +14,10 @@ use Rattle.amqp_model.specs.Laws.OctetLaws.{EndpointStandsFor, HasFailed, WroteF
 use Rattle.amqp_model.specs.Stream.Octets.{FedAs, frames_put, opening_written}
 use Rattle.amqp_model.specs.Output.Outputs.{Output, output_octets}
 use Rattle.amqp_model.specs.Stream.RunningOut.{RanOut, RunsOut, RanOutWrites, out_of_memory}
-use Rattle.amqp_core.specs.FaultShown.{ShowsFault}
-use Rattle.amqp_core.specs.Feeding.{SameEndpoint, ran_out_of}
-use Rattle.amqp_core.specs.Tracing as tracing
-use Rattle.amqp_core.specs.Tracing.{Kept, Stands, ran_out, with_unfinished}
+use Rattle.amqp_core.specs.Faults.FaultShown.{ShowsFault}
+use Rattle.amqp_core.specs.End.Feeding.{SameEndpoint, ran_out_of}
+use Rattle.amqp_core.specs.Traced.Tracing as tracing
+use Rattle.amqp_core.specs.Traced.Tracing.{Kept, Stands, ran_out, with_unfinished}
 
 pub failed_takes : (phase : Phase) → phase ≡ Failed → takes_octets phase ≡ true → ⊥
 failed_takes phase e t = false≢true (sym (ap takes_octets e) ∙ t)

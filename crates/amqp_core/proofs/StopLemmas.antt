@@ -8,8 +8,8 @@ use Rattle.amqp_model.specs.End.Events.{Faults}
 use Rattle.amqp_model.specs.End.Machine.{end_after_owed}
 use Rattle.amqp_model.specs.History.Negotiation.{Config}
 use Rattle.amqp_model.specs.Wire.Notes.{Role}
-use Rattle.amqp_core.specs.Outcomes.{owed_for}
-use Rattle.amqp_core.specs.Stages.{leaves}
+use Rattle.amqp_core.specs.Connection.Outcomes.{owed_for}
+use Rattle.amqp_core.specs.Connection.Stages.{leaves}
 use Rattle.amqp_core.proofs.OutcomeLemmas.{owed_is, close_agreed, close_channels}
 
 owed_there : (role : Role) (config : Config role) (end : End) (kind : FrameFaultKind) → owed_at_fault config end kind ≡ owed_for (leaves end.phase) (fault_told kind)

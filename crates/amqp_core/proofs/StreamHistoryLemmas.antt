@@ -22,13 +22,13 @@ use Rattle.amqp_model.specs.Output.Outputs.{output_octets}
 use Rattle.amqp_model.specs.Stream.Endpoint.{Endpoint, after_ask, after_control, after_feed, after_wrote}
 use Rattle.amqp_model.specs.Stream.RunningOut.{RunsOut}
 use Rattle.amqp_model.specs.Wire.Notes.{Role}
-use Rattle.amqp_core.specs.Answering.{ran_out}
-use Rattle.amqp_core.specs.Asking.{AcceptsAsk}
-use Rattle.amqp_core.specs.Controlled.{frames_by}
-use Rattle.amqp_core.specs.Controlling.{AcceptsControl, verdict_at}
-use Rattle.amqp_core.specs.Feeding.{SameEndpoint, ran_out_of}
-use Rattle.amqp_core.specs.Lending.{AlikeEndpoint, IsLent, LentSeen}
-use Rattle.amqp_core.specs.StreamHistory.{StreamAskGoesOn, StreamAskIsOfHistory, StreamControlGoesOn, StreamControlIsOfHistory, StreamGoesOn, StreamWroteGoesOn, gathered_then}
+use Rattle.amqp_core.specs.Faults.Answering.{ran_out}
+use Rattle.amqp_core.specs.Asks.Asking.{AcceptsAsk}
+use Rattle.amqp_core.specs.Asks.Controlled.{frames_by}
+use Rattle.amqp_core.specs.Asks.Controlling.{AcceptsControl, verdict_at}
+use Rattle.amqp_core.specs.End.Feeding.{SameEndpoint, ran_out_of}
+use Rattle.amqp_core.specs.Stream.Lending.{AlikeEndpoint, IsLent, LentSeen}
+use Rattle.amqp_core.specs.Stream.History.{StreamAskGoesOn, StreamAskIsOfHistory, StreamControlGoesOn, StreamControlIsOfHistory, StreamGoesOn, StreamWroteGoesOn, gathered_then}
 use Rattle.amqp_core.specs.declared.faults.CoreFault.{CoreFault}
 use Rattle.amqp_core.proofs.AskedLemmas.{agreed_fits}
 use Rattle.amqp_core.proofs.FeedLemmas.{are_octets}

@@ -35,15 +35,15 @@ use Rattle.amqp_model.specs.Wire.Notes.{Role}
 use Rattle.amqp_model.specs.Wire.Readings.{Reading, reading}
 use Rattle.amqp_frame.specs.Splitting.{IsRest}
 use Rattle.amqp_outbox.specs.OutboxView.{Outgoing}
-use Rattle.amqp_core.specs.Answering.{answer_with, AnswersFrame, PutsAs, Tells, ran_out}
-use Rattle.amqp_core.specs.ConnectionView.{connection_end}
-use Rattle.amqp_core.specs.Bounded.{IsBounded}
-use Rattle.amqp_core.specs.EndpointView.{FieldsFit, IsSound, endpoint_view, is_opened, role_at, unfinished_of}
-use Rattle.amqp_core.specs.Feeding.{IsFed, SameEndpoint, taken_with}
-use Rattle.amqp_core.specs.Lending.{AlikeEndpoint, AlikeLeft, AnswersLent, EndsAlike, IsLent, LendsOf, LentSeen}
-use Rattle.amqp_core.specs.Outcomes.{SameEnd}
-use Rattle.amqp_core.specs.Settings.{config_view}
-use Rattle.amqp_core.specs.StepView.{heard_seen, seen_by, step_seen, told_of}
+use Rattle.amqp_core.specs.Faults.Answering.{answer_with, AnswersFrame, PutsAs, Tells, ran_out}
+use Rattle.amqp_core.specs.Connection.View.{connection_end}
+use Rattle.amqp_core.specs.End.Bounded.{IsBounded}
+use Rattle.amqp_core.specs.End.EndpointView.{FieldsFit, IsSound, endpoint_view, is_opened, role_at, unfinished_of}
+use Rattle.amqp_core.specs.End.Feeding.{IsFed, SameEndpoint, taken_with}
+use Rattle.amqp_core.specs.Stream.Lending.{AlikeEndpoint, AlikeLeft, AnswersLent, EndsAlike, IsLent, LendsOf, LentSeen}
+use Rattle.amqp_core.specs.Connection.Outcomes.{SameEnd}
+use Rattle.amqp_core.specs.Config.Settings.{config_view}
+use Rattle.amqp_core.specs.Stream.StepView.{heard_seen, seen_by, step_seen, told_of}
 use Rattle.amqp_core.specs.declared.step.Report.{Report}
 use Rattle.amqp_core.specs.declared.endpoint.Endpoint as kept
 use Rattle.amqp_core.specs.declared.step.Step.{Step}

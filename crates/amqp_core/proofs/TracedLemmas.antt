@@ -21,18 +21,18 @@ use Rattle.amqp_model.specs.Laws.OctetLaws.{EndpointStandsFor, FeedStaysClosed, 
 use Rattle.amqp_model.specs.Output.Outputs.{output_octets}
 use Rattle.amqp_model.specs.Stream.RunningOut.{RunsOut, RanOutWrites}
 use Rattle.amqp_model.specs.Stream.Traces.{Noted, PutsTellNothing, SaysMethod, TellsEvent, TracePuts}
-use Rattle.amqp_core.specs.AccountView.{IsAccount}
-use Rattle.amqp_core.specs.Asking.{RefusesAsk}
-use Rattle.amqp_core.specs.Answering.{Reports, is_out_of_memory, ran_out}
-use Rattle.amqp_core.specs.Following.{GoesOn}
-use Rattle.amqp_core.specs.Feeding.{IsFed, SameButChannels, SameEndpoint, ran_out_of, Seen}
-use Rattle.amqp_core.specs.Outcomes.{SameEnd}
-use Rattle.amqp_core.specs.Overs.{IsOver}
-use Rattle.amqp_core.specs.OwedView.{owed_view}
-use Rattle.amqp_core.specs.Settings.{config_view, role_for}
-use Rattle.amqp_core.specs.Tracing as tracing
+use Rattle.amqp_core.specs.Traced.AccountView.{IsAccount}
+use Rattle.amqp_core.specs.Asks.Asking.{RefusesAsk}
+use Rattle.amqp_core.specs.Faults.Answering.{Reports, is_out_of_memory, ran_out}
+use Rattle.amqp_core.specs.End.Following.{GoesOn}
+use Rattle.amqp_core.specs.End.Feeding.{IsFed, SameButChannels, SameEndpoint, ran_out_of, Seen}
+use Rattle.amqp_core.specs.Connection.Outcomes.{SameEnd}
+use Rattle.amqp_core.specs.Faults.Overs.{IsOver}
+use Rattle.amqp_core.specs.Connection.Owed.{owed_view}
+use Rattle.amqp_core.specs.Config.Settings.{config_view, role_for}
+use Rattle.amqp_core.specs.Traced.Tracing as tracing
 use Rattle.amqp_model.specs.Stream.Grown as grown
-use Rattle.amqp_core.specs.Tracing.{FedGrows, Kept, IsTraceOf, Stands, SameLists, TraceGoesOn, TraceGrows}
+use Rattle.amqp_core.specs.Traced.Tracing.{FedGrows, Kept, IsTraceOf, Stands, SameLists, TraceGoesOn, TraceGrows}
 use Rattle.amqp_core.specs.declared.faults.AskFault.{AskFault}
 use Rattle.amqp_core.specs.declared.faults.CoreFault.{CoreFault}
 use Rattle.amqp_core.specs.declared.faults.CoreFault.TheVariants as core

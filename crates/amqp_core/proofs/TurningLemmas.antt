@@ -15,10 +15,10 @@ use Rattle.amqp_model.specs.Stream.Pieces.{HoldsUnfinished}
 use Rattle.amqp_model.specs.Wire.Gathering.{Gathering, Nothing, HeaderDue, BodyDue}
 use Rattle.amqp_model.specs.Wire.Notes.{Role}
 use Rattle.amqp_channel.specs.LentView.{content_on}
-use Rattle.amqp_core.specs.Bounded.{IsBounded}
-use Rattle.amqp_core.specs.ConnectionView.{connection_end}
-use Rattle.amqp_core.specs.EndpointView.{FieldsFit, IsSound, unfinished_of}
-use Rattle.amqp_core.specs.Settings.{config_view, role_for}
+use Rattle.amqp_core.specs.End.Bounded.{IsBounded}
+use Rattle.amqp_core.specs.Connection.View.{connection_end}
+use Rattle.amqp_core.specs.End.EndpointView.{FieldsFit, IsSound, unfinished_of}
+use Rattle.amqp_core.specs.Config.Settings.{config_view, role_for}
 use Rattle.amqp_core.specs.declared.endpoint.Endpoint.{Endpoint}
 use Rattle.amqp_core.specs.declared.settings.Settings.{Settings}
 use Rattle.amqp_core.proofs.FeedLemmas.{sound_with}

@@ -32,18 +32,19 @@ use Rattle.amqp_channel.specs.declared.verdict.Verdict as channel_verdict
 use Rattle.amqp_channel.specs.declared.verdict.Verdict.TheVariants as ruled
 use Rattle.amqp_channel.specs.declared.side.Side.TheVariants as side
 use Rattle.amqp_channel.specs.declared.site.Site.{Site}
-use Rattle.amqp_core.specs.ConnectionView.{EndLeft, frame_at, site_at}
-use Rattle.amqp_core.specs.Handshakes.{answered_in, awaited_in, is_in_handshake, within}
-use Rattle.amqp_core.specs.Settings.{config_view, role_for, side_in}
-use Rattle.amqp_core.specs.Stages.{leaves, phase_at, agreed_at}
-use Rattle.amqp_core.specs.VerdictView.{end_at, FrameRules}
+use Rattle.amqp_core.specs.Connection.View.{EndLeft, frame_at, site_at}
+use Rattle.amqp_core.specs.Connection.Handshakes.{answered_in, awaited_in, is_in_handshake, within}
+use Rattle.amqp_core.specs.Config.Settings.{config_view, role_for, side_in}
+use Rattle.amqp_core.specs.Connection.Stages.{leaves, phase_at, agreed_at}
+use Rattle.amqp_core.specs.Connection.Verdicts.{end_at, FrameRules}
 use Rattle.amqp_core.specs.declared.verdict.Fault.TheVariants as faults
 use Rattle.amqp_core.specs.declared.owed.Owed.TheVariants as owed
 use Rattle.amqp_core.specs.declared.settings.Settings.{Settings}
 use Rattle.amqp_core.specs.declared.stage.Stage.{Stage}
 use Rattle.amqp_core.specs.declared.stage.Stage.TheVariants as stages
 use Rattle.amqp_core.specs.declared.verdict.Notice.TheVariants as notice
-use Rattle.amqp_core.specs.declared.verdict.Verdict.TheVariants.{OnChannel, Proceeds, Faults}
+use Rattle.amqp_core.specs.Connection.Rulings.{Ruling, OnChannel, OnConnection}
+use Rattle.amqp_core.specs.declared.verdict.Verdict.TheVariants.{Proceeds, Faults}
 use Rattle.amqp_core.proofs.ConnectionLemmas.{above_stays, beat_verdict, drops_above, drops_unread, unread_faults, unread_stays}
 use Rattle.amqp_core.proofs.EntryLemmas.{with_channel, taken_above, agreed_above, nothing_stays, IsNoCall}
 use Rattle.amqp_core.proofs.HandshakeLemmas as steps
@@ -55,7 +56,7 @@ pub crossing_rules :
     (settings : Settings) (agreed : Option code_agreed.Agreed) (channels : Channels) (method : Method)
     → same_kind method.kind kinds.ConnectionClose ≡ true
     → FrameRules settings (end_at (stages.Closing agreed) channels) 0 (Calls method)
-    (Proceeds notice.Quiet (stages.Closing agreed) owed.CloseOk)
+    (OnConnection (Proceeds notice.Quiet (stages.Closing agreed) owed.CloseOk))
 crossing_rules settings agreed channels method e =
     record {
       verdict = sym (close_verdict (role_for settings) (config_view settings) (end_at (stages.Closing agreed) channels) method refl e);
@@ -67,7 +68,7 @@ pub answered_rules :
     (settings : Settings) (agreed : Option code_agreed.Agreed) (channels : Channels) (method : Method)
     → same_kind method.kind kinds.ConnectionClose ≡ false → same_kind method.kind kinds.ConnectionCloseOk ≡ true
     → FrameRules settings (end_at (stages.Closing agreed) channels) 0 (Calls method)
-    (Proceeds notice.ClosedByUs (stages.Closed agreed) owed.Nothing)
+    (OnConnection (Proceeds notice.ClosedByUs (stages.Closed agreed) owed.Nothing))
 answered_rules settings agreed channels method e f =
     record {
       verdict = sym (close_ok_verdict (role_for settings) (config_view settings) (end_at (stages.Closing agreed) channels) method refl e f);
@@ -79,7 +80,7 @@ pub dropped_rules :
     (settings : Settings) (agreed : Option code_agreed.Agreed) (channels : Channels) (method : Method)
     → same_kind method.kind kinds.ConnectionClose ≡ false → same_kind method.kind kinds.ConnectionCloseOk ≡ false
     → FrameRules settings (end_at (stages.Closing agreed) channels) 0 (Calls method)
-    (Proceeds notice.Discarded (stages.Closing agreed) owed.Nothing)
+    (OnConnection (Proceeds notice.Discarded (stages.Closing agreed) owed.Nothing))
 dropped_rules settings agreed channels method e f =
     record {
       verdict = sym (other_verdict (role_for settings) (config_view settings) (end_at (stages.Closing agreed) channels) method refl e f);
@@ -92,7 +93,7 @@ pub ruleset leaving_rules = (crossing_rules, answered_rules, dropped_rules)
 pub above_rules :
     (settings : Settings) (agreed : Option code_agreed.Agreed) (channels : Channels) (number : ℕ) (reading : Reading) → 0 < number
     → FrameRules settings (end_at (stages.Closing agreed) channels) number reading
-    (Proceeds notice.Discarded (stages.Closing agreed) owed.Nothing)
+    (OnConnection (Proceeds notice.Discarded (stages.Closing agreed) owed.Nothing))
 above_rules settings agreed channels number reading above =
     record {
       verdict = sym (drops_above (role_for settings) (config_view settings) (end_at (stages.Closing agreed) channels) number reading refl above);
@@ -103,7 +104,7 @@ above_rules settings agreed channels number reading above =
 pub unread_rules :
     (settings : Settings) (agreed : Option code_agreed.Agreed) (channels : Channels) (number : ℕ) (reading : Reading) → IsNoCall reading
     → FrameRules settings (end_at (stages.Closing agreed) channels) number reading
-    (Proceeds notice.Discarded (stages.Closing agreed) owed.Nothing)
+    (OnConnection (Proceeds notice.Discarded (stages.Closing agreed) owed.Nothing))
 unread_rules settings agreed channels number reading h =
     record {
       verdict = sym (drops_unread (role_for settings) (config_view settings) (end_at (stages.Closing agreed) channels) number reading refl h);
@@ -123,7 +124,7 @@ pub close_rules :
     (settings : Settings) (stage : Stage) (agreed : Option code_agreed.Agreed) (channels : Channels) (method : Method)
     → leaves (phase_at stage) ≡ false → takes_frames (phase_at stage) ≡ true → method.kind ≡ kinds.ConnectionClose
     → agreed_at (stages.Closed agreed) ≡ agreed_at stage
-    → FrameRules settings (end_at stage channels) 0 (Calls method) (Proceeds notice.ClosedByPeer (stages.Closed agreed) owed.CloseOk)
+    → FrameRules settings (end_at stage channels) 0 (Calls method) (OnConnection (Proceeds notice.ClosedByPeer (stages.Closed agreed) owed.CloseOk))
 close_rules settings stage agreed channels method stays going close same =
     record {
       verdict = sym (steps.closed_verdict (role_for settings) (config_view settings) (phase_at stage) (agreed_at stage) method going stays close);
@@ -137,7 +138,7 @@ close_rules settings stage agreed channels method stays going close same =
 pub start_rules :
     (settings : Settings) (channels : Channels) (method : Method)
     → side_in settings.hello ≡ side.Client → method.kind ≡ kinds.ConnectionStart → settings.gated ≡ false
-    → FrameRules settings (end_at stages.AwaitsStart channels) 0 (Calls method) (Proceeds notice.Quiet stages.AwaitsTune owed.StartOk)
+    → FrameRules settings (end_at stages.AwaitsStart channels) 0 (Calls method) (OnConnection (Proceeds notice.Quiet stages.AwaitsTune owed.StartOk))
 start_rules settings channels method s k g =
     record {
       verdict = sym (steps.start_verdict (role_for settings) (config_view settings) None method (ap role_of s) k g);
@@ -148,7 +149,7 @@ start_rules settings channels method s k g =
 pub start_asked_rules :
     (settings : Settings) (channels : Channels) (method : Method)
     → side_in settings.hello ≡ side.Client → method.kind ≡ kinds.ConnectionStart → settings.gated ≡ true
-    → FrameRules settings (end_at stages.AwaitsStart channels) 0 (Calls method) (Proceeds notice.AnswerAsked stages.HoldsStart owed.Nothing)
+    → FrameRules settings (end_at stages.AwaitsStart channels) 0 (Calls method) (OnConnection (Proceeds notice.AnswerAsked stages.HoldsStart owed.Nothing))
 start_asked_rules settings channels method s k g =
     record {
       verdict = sym (steps.start_asks (role_for settings) (config_view settings) None method (ap role_of s) k g);
@@ -159,7 +160,7 @@ start_asked_rules settings channels method s k g =
 pub start_ok_rules :
     (settings : Settings) (channels : Channels) (method : Method)
     → side_in settings.hello ≡ side.Server → method.kind ≡ kinds.ConnectionStartOk → settings.gated ≡ false
-    → FrameRules settings (end_at stages.AwaitsStartOk channels) 0 (Calls method) (Proceeds notice.Quiet stages.AwaitsTuneOk owed.Tune)
+    → FrameRules settings (end_at stages.AwaitsStartOk channels) 0 (Calls method) (OnConnection (Proceeds notice.Quiet stages.AwaitsTuneOk owed.Tune))
 start_ok_rules settings channels method s k g =
     record {
       verdict = sym (steps.start_ok_verdict (role_for settings) (config_view settings) None method (ap role_of s) k g);
@@ -170,7 +171,7 @@ start_ok_rules settings channels method s k g =
 pub login_asked_rules :
     (settings : Settings) (channels : Channels) (method : Method)
     → side_in settings.hello ≡ side.Server → method.kind ≡ kinds.ConnectionStartOk → settings.gated ≡ true
-    → FrameRules settings (end_at stages.AwaitsStartOk channels) 0 (Calls method) (Proceeds notice.LoginAsked stages.HoldsLogin owed.Nothing)
+    → FrameRules settings (end_at stages.AwaitsStartOk channels) 0 (Calls method) (OnConnection (Proceeds notice.LoginAsked stages.HoldsLogin owed.Nothing))
 login_asked_rules settings channels method s k g =
     record {
       verdict = sym (steps.start_ok_asks (role_for settings) (config_view settings) None method (ap role_of s) k g);
@@ -182,7 +183,7 @@ pub open_rules :
     (settings : Settings) (agreed : code_agreed.Agreed) (channels : Channels) (method : Method)
     → side_in settings.hello ≡ side.Server → method.kind ≡ kinds.ConnectionOpen → settings.gated ≡ false
     → FrameRules settings (end_at (stages.AwaitsOpen agreed) channels) 0 (Calls method)
-    (Proceeds (notice.Negotiated agreed) (stages.Running agreed) owed.OpenOk)
+    (OnConnection (Proceeds (notice.Negotiated agreed) (stages.Running agreed) owed.OpenOk))
 open_rules settings agreed channels method s k g =
     record {
       verdict = sym (steps.open_verdict (role_for settings) (config_view settings) (agreed_view agreed) method (ap role_of s) k g);
@@ -194,7 +195,7 @@ pub open_asked_rules :
     (settings : Settings) (agreed : code_agreed.Agreed) (channels : Channels) (method : Method)
     → side_in settings.hello ≡ side.Server → method.kind ≡ kinds.ConnectionOpen → settings.gated ≡ true
     → FrameRules settings (end_at (stages.AwaitsOpen agreed) channels) 0 (Calls method)
-    (Proceeds notice.OpenAsked (stages.HoldsOpen agreed) owed.Nothing)
+    (OnConnection (Proceeds notice.OpenAsked (stages.HoldsOpen agreed) owed.Nothing))
 open_asked_rules settings agreed channels method s k g =
     record {
       verdict = sym (steps.open_asks (role_for settings) (config_view settings) (agreed_view agreed) method (ap role_of s) k g);
@@ -206,7 +207,7 @@ pub open_ok_rules :
     (settings : Settings) (agreed : code_agreed.Agreed) (channels : Channels) (method : Method)
     → side_in settings.hello ≡ side.Client → method.kind ≡ kinds.ConnectionOpenOk
     → FrameRules settings (end_at (stages.AwaitsOpenOk agreed) channels) 0 (Calls method)
-    (Proceeds (notice.Negotiated agreed) (stages.Running agreed) owed.Nothing)
+    (OnConnection (Proceeds (notice.Negotiated agreed) (stages.Running agreed) owed.Nothing))
 open_ok_rules settings agreed channels method s k =
     record {
       verdict = sym (steps.open_ok_verdict (role_for settings) (config_view settings) (agreed_view agreed) method (ap role_of s) k);
@@ -222,7 +223,7 @@ pub settled_rules :
     → agreed.frame_max ≡ negotiation.smaller settings.frame_max (number_at 1 method)
     → agreed.heartbeat ≡ min settings.heartbeat (number_at 2 method)
     → FrameRules settings (end_at stages.AwaitsTune channels) 0 (Calls method)
-    (Proceeds notice.Quiet (stages.AwaitsOpenOk agreed) (owed.TuneOkAndOpen agreed))
+    (OnConnection (Proceeds notice.Quiet (stages.AwaitsOpenOk agreed) (owed.TuneOkAndOpen agreed)))
 settled_rules settings agreed channels method s k small c f b =
     record {
       verdict = sym (steps.tune_verdict (role_for settings) (config_view settings) None agreed.channel_max agreed.frame_max agreed.heartbeat method (ap role_of s) k small c f b);
@@ -233,7 +234,7 @@ settled_rules settings agreed channels method s k small c f b =
 pub small_rules :
     (settings : Settings) (channels : Channels) (method : Method)
     → side_in settings.hello ≡ side.Client → method.kind ≡ kinds.ConnectionTune → tunes_too_small method ≡ true
-    → FrameRules settings (end_at stages.AwaitsTune channels) 0 (Calls method) (Faults (faults.Peer codes.FrameError))
+    → FrameRules settings (end_at stages.AwaitsTune channels) 0 (Calls method) (OnConnection (Faults (faults.Peer codes.FrameError)))
 small_rules settings channels method s k small =
     record {
       verdict = sym (steps.tune_fault (role_for settings) (config_view settings) None method (ap role_of s) k small);
@@ -248,7 +249,7 @@ pub within_rules :
     → side_in settings.hello ≡ side.Server → method.kind ≡ kinds.ConnectionTuneOk → agreed_in method ≡ agreed_view agreed
     → within settings.channel_max settings.frame_max (number_at 0 method) (number_at 1 method) ≡ true
     → FrameRules settings (end_at stages.AwaitsTuneOk channels) 0 (Calls method)
-    (Proceeds notice.Quiet (stages.AwaitsOpen agreed) owed.Nothing)
+    (OnConnection (Proceeds notice.Quiet (stages.AwaitsOpen agreed) owed.Nothing))
 within_rules settings agreed channels method s k same w =
     record {
       verdict = sym (steps.tune_ok_verdict (role_for settings) (config_view settings) None method (ap role_of s) k w);
@@ -262,7 +263,7 @@ pub past_rules :
     (settings : Settings) (channels : Channels) (method : Method)
     → side_in settings.hello ≡ side.Server → method.kind ≡ kinds.ConnectionTuneOk
     → within settings.channel_max settings.frame_max (number_at 0 method) (number_at 1 method) ≡ false
-    → FrameRules settings (end_at stages.AwaitsTuneOk channels) 0 (Calls method) (Faults faults.Fatal)
+    → FrameRules settings (end_at stages.AwaitsTuneOk channels) 0 (Calls method) (OnConnection (Faults faults.Fatal))
 past_rules settings channels method s k w =
     record {
       verdict = sym (steps.tune_ok_fault (role_for settings) (config_view settings) None method (ap role_of s) k w);
@@ -282,7 +283,7 @@ pub secure_rules :
     (settings : Settings) (stage : Stage) (channels : Channels) (method : Method) → is_in_handshake (phase_at stage) ≡ true
     → is_client (role_for settings) ≡ true → same_kind method.kind kinds.ConnectionClose ≡ false
     → same_kind method.kind kinds.ConnectionSecure ≡ true
-    → FrameRules settings (end_at stage channels) 0 (Calls method) (Faults (faults.Peer codes.NotImplemented))
+    → FrameRules settings (end_at stage channels) 0 (Calls method) (OnConnection (Faults (faults.Peer codes.NotImplemented)))
 secure_rules settings stage channels method h c close secure =
     let client : role_for settings ≡ Role.Client = client_is (role_for settings) c in
     record {
@@ -296,7 +297,7 @@ pub order_rules :
     → same_kind method.kind kinds.ConnectionClose ≡ false
     → (is_client (role_for settings) && same_kind method.kind kinds.ConnectionSecure) ≡ false
     → awaited_in (phase_at stage) method.kind ≡ false
-    → FrameRules settings (end_at stage channels) 0 (Calls method) (Faults (faults.Peer codes.CommandInvalid))
+    → FrameRules settings (end_at stage channels) 0 (Calls method) (OnConnection (Faults (faults.Peer codes.CommandInvalid)))
 order_rules settings stage channels method h close secure awaited =
     record {
       verdict = sym (steps.order_verdict (role_for settings) (config_view settings) (phase_at stage) (agreed_at stage) method h close secure awaited);
@@ -307,7 +308,7 @@ order_rules settings stage channels method h close secure awaited =
 pub wrong_rules :
     (settings : Settings) (stage : Stage) (channels : Channels) (method : Method) → is_in_handshake (phase_at stage) ≡ true
     → awaited_in (phase_at stage) method.kind ≡ true → answered_in (role_for settings) (phase_at stage) ≡ false
-    → FrameRules settings (end_at stage channels) 0 (Calls method) (Faults (faults.Peer codes.CommandInvalid))
+    → FrameRules settings (end_at stage channels) 0 (Calls method) (OnConnection (Faults (faults.Peer codes.CommandInvalid)))
 wrong_rules settings stage channels method h awaited wrong =
     record {
       verdict = sym (steps.wrong_verdict (role_for settings) (config_view settings) (phase_at stage) (agreed_at stage) method h awaited wrong);
@@ -321,7 +322,7 @@ pub ruleset step_rules = (secure_rules, order_rules, wrong_rules)
 
 pub quiet_rules :
     (settings : Settings) (stage : Stage) (channels : Channels) → takes_frames (phase_at stage) ≡ true → leaves (phase_at stage) ≡ false
-    → FrameRules settings (end_at stage channels) 0 (Beat true) (Proceeds notice.Quiet stage owed.Nothing)
+    → FrameRules settings (end_at stage channels) 0 (Beat true) (OnConnection (Proceeds notice.Quiet stage owed.Nothing))
 quiet_rules settings stage channels takes stays =
     record {
       verdict = sym (beat_verdict (role_for settings) (config_view settings) (end_at stage channels) 0 true takes stays);
@@ -332,7 +333,7 @@ quiet_rules settings stage channels takes stays =
 pub bad_beat_rules :
     (settings : Settings) (stage : Stage) (channels : Channels) (number : ℕ) (empty : Bool)
     → takes_frames (phase_at stage) ≡ true → leaves (phase_at stage) ≡ false → ((number == 0) && empty) ≡ false
-    → FrameRules settings (end_at stage channels) number (Beat empty) (Faults (faults.Peer codes.FrameError))
+    → FrameRules settings (end_at stage channels) number (Beat empty) (OnConnection (Faults (faults.Peer codes.FrameError)))
 bad_beat_rules settings stage channels number empty takes stays bad =
     record {
       verdict =
@@ -378,7 +379,7 @@ early_rules :
     (settings : Settings) (stage : Stage) (channels : Channels) (number : ℕ) (reading : Reading) (code : code_codes.CloseCode)
     → is_in_handshake (phase_at stage) ≡ true → is_free (channels_view channels number) ≡ true → IsNoBeat reading → IsNoCall reading
     → code_view code ≡ code_in_handshake reading
-    → FrameRules settings (end_at stage channels) number reading (Faults (faults.Peer code))
+    → FrameRules settings (end_at stage channels) number reading (OnConnection (Faults (faults.Peer code)))
 early_rules settings stage channels number reading code h free other none same =
     record {
       verdict =
@@ -390,27 +391,27 @@ early_rules settings stage channels number reading code h free other none same =
 
 pub early_unknown :
     (settings : Settings) (stage : Stage) (channels : Channels) (number : ℕ) → is_in_handshake (phase_at stage) ≡ true → is_free (channels_view channels number) ≡ true
-    → FrameRules settings (end_at stage channels) number UnknownMethod (Faults (faults.Peer codes.NotImplemented))
+    → FrameRules settings (end_at stage channels) number UnknownMethod (OnConnection (Faults (faults.Peer codes.NotImplemented)))
 early_unknown settings stage channels number h free = early_rules settings stage channels number UnknownMethod codes.NotImplemented h free tt tt refl
 
 pub early_malformed :
     (settings : Settings) (stage : Stage) (channels : Channels) (number : ℕ) → is_in_handshake (phase_at stage) ≡ true → is_free (channels_view channels number) ≡ true
-    → FrameRules settings (end_at stage channels) number MalformedMethod (Faults (faults.Peer codes.SyntaxError))
+    → FrameRules settings (end_at stage channels) number MalformedMethod (OnConnection (Faults (faults.Peer codes.SyntaxError)))
 early_malformed settings stage channels number h free = early_rules settings stage channels number MalformedMethod codes.SyntaxError h free tt tt refl
 
 pub early_header :
     (settings : Settings) (stage : Stage) (channels : Channels) (number size : ℕ) (properties : Properties) → is_in_handshake (phase_at stage) ≡ true → is_free (channels_view channels number) ≡ true
-    → FrameRules settings (end_at stage channels) number (HeaderOf size properties) (Faults (faults.Peer codes.CommandInvalid))
+    → FrameRules settings (end_at stage channels) number (HeaderOf size properties) (OnConnection (Faults (faults.Peer codes.CommandInvalid)))
 early_header settings stage channels number size properties h free = early_rules settings stage channels number (HeaderOf size properties) codes.CommandInvalid h free tt tt refl
 
 pub early_bad_header :
     (settings : Settings) (stage : Stage) (channels : Channels) (number : ℕ) → is_in_handshake (phase_at stage) ≡ true → is_free (channels_view channels number) ≡ true
-    → FrameRules settings (end_at stage channels) number MalformedHeader (Faults (faults.Peer codes.CommandInvalid))
+    → FrameRules settings (end_at stage channels) number MalformedHeader (OnConnection (Faults (faults.Peer codes.CommandInvalid)))
 early_bad_header settings stage channels number h free = early_rules settings stage channels number MalformedHeader codes.CommandInvalid h free tt tt refl
 
 pub early_body :
     (settings : Settings) (stage : Stage) (channels : Channels) (number : ℕ) (octets : List ℕ) → is_in_handshake (phase_at stage) ≡ true → is_free (channels_view channels number) ≡ true
-    → FrameRules settings (end_at stage channels) number (BodyOf octets) (Faults (faults.Peer codes.CommandInvalid))
+    → FrameRules settings (end_at stage channels) number (BodyOf octets) (OnConnection (Faults (faults.Peer codes.CommandInvalid)))
 early_body settings stage channels number octets h free = early_rules settings stage channels number (BodyOf octets) codes.CommandInvalid h free tt tt refl
 
 pub free_stays : (channel : model.Channel) → is_free channel ≡ true → is_closing_at channel ≡ false
@@ -423,7 +424,7 @@ free_stays (model.Open life) h = cc
 pub early_call :
     (settings : Settings) (stage : Stage) (channels : Channels) (number : ℕ) (method : Method) → is_in_handshake (phase_at stage) ≡ true
     → is_free (channels_view channels number) ≡ true → 0 < number
-    → FrameRules settings (end_at stage channels) number (Calls method) (Faults (faults.Peer codes.CommandInvalid))
+    → FrameRules settings (end_at stage channels) number (Calls method) (OnConnection (Faults (faults.Peer codes.CommandInvalid)))
 early_call settings stage channels number method h free above =
     record {
       verdict =
@@ -450,7 +451,7 @@ pub ruleset handshake_rules = (early_unknown, early_malformed, early_header, ear
 zero_fault :
     (settings : Settings) (agreed : code_agreed.Agreed) (channels : Channels) (reading : Reading) (code : code_codes.CloseCode) → IsNoCall reading
     → fault (code_view code) ≡ taken_verdict (config_view settings) (end_at (stages.Running agreed) channels) 0 reading
-    → FrameRules settings (end_at (stages.Running agreed) channels) 0 reading (Faults (faults.Peer code))
+    → FrameRules settings (end_at (stages.Running agreed) channels) 0 reading (OnConnection (Faults (faults.Peer code)))
 zero_fault settings agreed channels reading code none same =
     record {
       verdict = same;
@@ -460,27 +461,27 @@ zero_fault settings agreed channels reading code none same =
 
 pub zero_unknown :
     (settings : Settings) (agreed : code_agreed.Agreed) (channels : Channels)
-    → FrameRules settings (end_at (stages.Running agreed) channels) 0 UnknownMethod (Faults (faults.Peer codes.NotImplemented))
+    → FrameRules settings (end_at (stages.Running agreed) channels) 0 UnknownMethod (OnConnection (Faults (faults.Peer codes.NotImplemented)))
 zero_unknown settings agreed channels = zero_fault settings agreed channels UnknownMethod codes.NotImplemented tt refl
 
 pub zero_malformed :
     (settings : Settings) (agreed : code_agreed.Agreed) (channels : Channels)
-    → FrameRules settings (end_at (stages.Running agreed) channels) 0 MalformedMethod (Faults (faults.Peer codes.SyntaxError))
+    → FrameRules settings (end_at (stages.Running agreed) channels) 0 MalformedMethod (OnConnection (Faults (faults.Peer codes.SyntaxError)))
 zero_malformed settings agreed channels = zero_fault settings agreed channels MalformedMethod codes.SyntaxError tt refl
 
 pub zero_header :
     (settings : Settings) (agreed : code_agreed.Agreed) (channels : Channels) (size : ℕ) (properties : Properties)
-    → FrameRules settings (end_at (stages.Running agreed) channels) 0 (HeaderOf size properties) (Faults (faults.Peer codes.ChannelError))
+    → FrameRules settings (end_at (stages.Running agreed) channels) 0 (HeaderOf size properties) (OnConnection (Faults (faults.Peer codes.ChannelError)))
 zero_header settings agreed channels size properties = zero_fault settings agreed channels (HeaderOf size properties) codes.ChannelError tt refl
 
 pub zero_bad_header :
     (settings : Settings) (agreed : code_agreed.Agreed) (channels : Channels)
-    → FrameRules settings (end_at (stages.Running agreed) channels) 0 MalformedHeader (Faults (faults.Peer codes.ChannelError))
+    → FrameRules settings (end_at (stages.Running agreed) channels) 0 MalformedHeader (OnConnection (Faults (faults.Peer codes.ChannelError)))
 zero_bad_header settings agreed channels = zero_fault settings agreed channels MalformedHeader codes.ChannelError tt refl
 
 pub zero_body :
     (settings : Settings) (agreed : code_agreed.Agreed) (channels : Channels) (octets : List ℕ)
-    → FrameRules settings (end_at (stages.Running agreed) channels) 0 (BodyOf octets) (Faults (faults.Peer codes.ChannelError))
+    → FrameRules settings (end_at (stages.Running agreed) channels) 0 (BodyOf octets) (OnConnection (Faults (faults.Peer codes.ChannelError)))
 zero_body settings agreed channels octets = zero_fault settings agreed channels (BodyOf octets) codes.ChannelError tt refl
 
 pub ruleset zero_rules = (zero_unknown, zero_malformed, zero_header, zero_bad_header, zero_body)

@@ -41,8 +41,8 @@ fn with_event(octets: usize, parts: Option<EventParts>) -> Taken
 }
 
 impl Account {
-    ghost use Rattle.amqp_core.specs.AccountView.{taken_by, IsFresh};
-    ghost use Rattle.amqp_core.specs.Feeding.{seen};
+    ghost use Rattle.amqp_core.specs.Traced.AccountView.{taken_by, IsFresh};
+    ghost use Rattle.amqp_core.specs.End.Feeding.{seen};
 
     /// Nothing came yet.
     #[inline(always)]

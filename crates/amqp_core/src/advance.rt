@@ -4,15 +4,15 @@ ghost use Rattle.amqp_frame.specs.Frame.{lent};
 ghost use Rattle.amqp_model.specs.Stream.Endpoint.{after_feed, awaits_opening};
 ghost use Rattle.amqp_model.specs.Stream.Pieces.{reads_frames};
 ghost use Rattle.amqp_model.specs.End.EndVerdict.{takes_octets};
-ghost use Rattle.amqp_core.specs.Answering.{ran_out};
-ghost use Rattle.amqp_core.specs.Blamed.{tally_view, Blames};
-ghost use Rattle.amqp_core.specs.Dropping.{DropsInPlace};
-ghost use Rattle.amqp_core.specs.Hearing.{Hears};
-ghost use Rattle.amqp_core.specs.HeardView.{heard_view};
-ghost use Rattle.amqp_core.specs.Settings.{config_view};
-ghost use Rattle.amqp_core.specs.Stages.{phase_at};
-ghost use Rattle.amqp_core.specs.Lending.{IsLent};
-ghost use Rattle.amqp_core.specs.StepView.{step_seen};
+ghost use Rattle.amqp_core.specs.Faults.Answering.{ran_out};
+ghost use Rattle.amqp_core.specs.Faults.Blamed.{tally_view, Blames};
+ghost use Rattle.amqp_core.specs.Connection.Dropping.{DropsInPlace};
+ghost use Rattle.amqp_core.specs.Heard.Hearing.{Hears};
+ghost use Rattle.amqp_core.specs.Heard.View.{heard_view};
+ghost use Rattle.amqp_core.specs.Config.Settings.{config_view};
+ghost use Rattle.amqp_core.specs.Connection.Stages.{phase_at};
+ghost use Rattle.amqp_core.specs.Stream.Lending.{IsLent};
+ghost use Rattle.amqp_core.specs.Stream.StepView.{step_seen};
 
 use crate::account::Account;
 use crate::blame::Rule;
@@ -36,7 +36,7 @@ fn buffered_frame(splitter: &Splitter) -> FrameRef<'_>
 }
 
 impl Endpoint {
-    ghost use Rattle.amqp_core.specs.EndpointView.{endpoint_view, role_at, IsSound};
+    ghost use Rattle.amqp_core.specs.End.EndpointView.{endpoint_view, role_at, IsSound};
 
     /// Octets of the protocol header, at a server that awaits it.
     #[inline(never)]
@@ -52,7 +52,8 @@ impl Endpoint {
         ensures sound { IsSound self.new }
         ensures settings { self.new.connection.settings ≡ self.old.connection.settings }
         ensures tally { Blames (role_at self.old) result (endpoint_view self.old) piece.now
-            (after_feed (role_at self.old) (config_view self.old.connection.settings) (endpoint_view self.old) piece.now)
+            (after_feed (role_at self.old) (config_view self.old.connection.settings) (endpoint_view self.old)
+            piece.now)
             (tally_view self.old.tally) (tally_view self.new.tally) }
     {
         let mut account = Account::new();
@@ -80,7 +81,8 @@ impl Endpoint {
         ensures sound { IsSound self.new }
         ensures settings { self.new.connection.settings ≡ self.old.connection.settings }
         ensures tally { Blames (role_at self.old) result (endpoint_view self.old) piece.now
-            (after_feed (role_at self.old) (config_view self.old.connection.settings) (endpoint_view self.old) piece.now)
+            (after_feed (role_at self.old) (config_view self.old.connection.settings) (endpoint_view self.old)
+            piece.now)
             (tally_view self.old.tally) (tally_view self.new.tally) }
     {
         pieces::pieces_are_split();
@@ -156,7 +158,8 @@ impl Endpoint {
         ensures sound { IsSound self.new }
         ensures settings { self.new.connection.settings ≡ self.old.connection.settings }
         ensures tally { Blames (role_at self.old) result (endpoint_view self.old) piece.now
-            (after_feed (role_at self.old) (config_view self.old.connection.settings) (endpoint_view self.old) piece.now)
+            (after_feed (role_at self.old) (config_view self.old.connection.settings) (endpoint_view self.old)
+            piece.now)
             (tally_view self.old.tally) (tally_view self.new.tally) }
     {
         octets::cut_changes_nothing();

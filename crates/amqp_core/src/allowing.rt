@@ -3,9 +3,9 @@
 ghost use Rattle.std.specs.Prelude.{◌≡◌, Some, IfOk, IfErr, OnOk};
 ghost use Rattle.amqp_model.specs.End.Asks as asks;
 ghost use Rattle.amqp_model.specs.End.Asks.{lowest_free};
-ghost use Rattle.amqp_core.specs.AskNoting.{IsChannelOf, IsSizeOf};
-ghost use Rattle.amqp_core.specs.AskView.{lent_view};
-ghost use Rattle.amqp_core.specs.Asked.{IsAllowed, IsRefusal};
+ghost use Rattle.amqp_core.specs.Traced.AskNoting.{IsChannelOf, IsSizeOf};
+ghost use Rattle.amqp_core.specs.Asks.View.{lent_view};
+ghost use Rattle.amqp_core.specs.Asks.Asked.{IsAllowed, IsRefusal};
 
 use crate::asks::LentAsk;
 use crate::connection::Connection;
@@ -22,14 +22,15 @@ pub(crate) struct Place {
 }
 
 impl Connection {
-    ghost use Rattle.amqp_core.specs.ConnectionView.{connection_end};
+    ghost use Rattle.amqp_core.specs.Connection.View.{connection_end};
     ghost use Rattle.amqp_core.specs.declared.stage.Stage.TheVariants.{Running};
 
     /// The channel that an open takes, where it isn't refused.
     fn find_free(&self, agreed: Agreed) -> Result<u16, AskFault>
         requires { self.now.stage ≡ Running agreed }
         ensures allowed { OnOk result (IsAllowed self.now.settings (connection_end self.now) asks.Open) }
-        ensures refused { IfErr result (λ fault. IsRefusal self.now.settings (connection_end self.now) asks.Open fault) }
+        ensures refused { IfErr result (λ fault. IsRefusal self.now.settings (connection_end self.now) asks.Open
+            fault) }
         ensures lowest { IfOk result (λ number. lowest_free (connection_end self.now) ≡ Some number) }
     {
         match self.settings.hello.side() {
@@ -44,8 +45,10 @@ impl Connection {
     /// Where the frames of an ask go, or why it is refused.
     pub(crate) fn allow(&self, ask: LentAsk<'_>) -> Result<Place, AskFault>
         ensures allowed { OnOk result (IsAllowed self.now.settings (connection_end self.now) (lent_view ask.entry)) }
-        ensures refused { IfErr result (λ fault. IsRefusal self.now.settings (connection_end self.now) (lent_view ask.entry) fault) }
-        ensures channel { IfOk result (λ place. IsChannelOf (connection_end self.now) (lent_view ask.entry) place.channel) }
+        ensures refused { IfErr result (λ fault. IsRefusal self.now.settings (connection_end self.now)
+            (lent_view ask.entry) fault) }
+        ensures channel { IfOk result (λ place. IsChannelOf (connection_end self.now) (lent_view ask.entry)
+            place.channel) }
         ensures size { IfOk result (λ place. IsSizeOf (connection_end self.now).agreed place.frame_max) }
     {
         let agreed = self.running()?;
@@ -60,11 +63,11 @@ impl Connection {
                 let _agreed = self.allow_flow(channel)?;
                 channel
             }
-            LentAsk::CloseChannel(channel, _, _) => {
+            LentAsk::CloseChannel(channel, _, _, _) => {
                 let _agreed = self.allow_close(channel)?;
                 channel
             }
-            LentAsk::Close(_, _) => 0,
+            LentAsk::Close(_, _, _) => 0,
             LentAsk::Blocked(_) => {
                 let _agreed = self.allow_block()?;
                 0

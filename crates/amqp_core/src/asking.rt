@@ -6,13 +6,15 @@ ghost use Rattle.std.specs.Prelude.{◌≡◌, [], Some, IfOk, IfErr, OnOk};
 ghost use Rattle.amqp_model.specs.End.Asks as asks;
 ghost use Rattle.amqp_model.specs.End.Asks.{lowest_free};
 ghost use Rattle.amqp_channel.specs.Messages.{message_of};
-ghost use Rattle.amqp_core.specs.AskView.{lent_view};
-ghost use Rattle.amqp_core.specs.Asked.{number_taken, IsAccepted, IsRefused};
-ghost use Rattle.amqp_core.specs.LentLetter.{lent_letter};
+ghost use Rattle.amqp_core.specs.Asks.View.{lent_view};
+ghost use Rattle.amqp_core.specs.Asks.Asked.{number_taken, IsAccepted, IsRefused};
+ghost use Rattle.amqp_core.specs.Heard.View.{cause_view};
+ghost use Rattle.amqp_core.specs.Asks.LentLetter.{lent_letter};
 
 use crate::asks::LentAsk;
 use crate::connection::Connection;
 use crate::faults::AskFault;
+use crate::heard::Cause;
 use crate::lent_message::LentMessage;
 use crate::replies::bare;
 use crate::sending;
@@ -23,14 +25,16 @@ use amqp_outbox::Outbox;
 use amqp_value::ShortStr;
 
 impl Connection {
-    ghost use Rattle.amqp_core.specs.ConnectionView.{connection_end};
+    ghost use Rattle.amqp_core.specs.Connection.View.{connection_end};
 
     /// Opens the lowest channel that is free, which it answers.
     pub(crate) fn open_channel(&mut self, outbox: &mut Outbox) -> Result<u16, AskFault>
         requires staged { outbox.old.staged ≡ [] }
-        ensures accepted { OnOk result (IsAccepted self.old.settings asks.Open (connection_end self.old) (connection_end self.new) outbox.old outbox.new) }
+        ensures accepted { OnOk result (IsAccepted self.old.settings asks.Open (connection_end self.old)
+            (connection_end self.new) outbox.old outbox.new) }
         ensures number { IfOk result (λ number. lowest_free (connection_end self.old) ≡ Some number) }
-        ensures refused { IfErr result (λ fault. IsRefused self.old.settings asks.Open fault (connection_end self.old) (connection_end self.new) outbox.old outbox.new) }
+        ensures refused { IfErr result (λ fault. IsRefused self.old.settings asks.Open fault (connection_end self.old)
+            (connection_end self.new) outbox.old outbox.new) }
         ensures settings { self.new.settings ≡ self.old.settings }
     {
         let number = self.allow_open()?;
@@ -52,8 +56,12 @@ impl Connection {
         message: LentMessage<'_>,
     ) -> Result<(), AskFault>
         requires staged { outbox.old.staged ≡ [] }
-        ensures accepted { OnOk result (IsAccepted self.old.settings (asks.Send number (message_of (lent_letter message.entry))) (connection_end self.old) (connection_end self.new) outbox.old outbox.new) }
-        ensures refused { IfErr result (λ fault. IsRefused self.old.settings (asks.Send number (message_of (lent_letter message.entry))) fault (connection_end self.old) (connection_end self.new) outbox.old outbox.new) }
+        ensures accepted { OnOk result (IsAccepted self.old.settings
+            (asks.Send number (message_of (lent_letter message.entry))) (connection_end self.old)
+            (connection_end self.new) outbox.old outbox.new) }
+        ensures refused { IfErr result (λ fault. IsRefused self.old.settings
+            (asks.Send number (message_of (lent_letter message.entry))) fault (connection_end self.old)
+            (connection_end self.new) outbox.old outbox.new) }
         ensures settings { self.new.settings ≡ self.old.settings }
     {
         let agreed = self.allow_send(number, message)?;
@@ -81,8 +89,10 @@ impl Connection {
         active: bool,
     ) -> Result<(), AskFault>
         requires staged { outbox.old.staged ≡ [] }
-        ensures accepted { OnOk result (IsAccepted self.old.settings (asks.Flow number active) (connection_end self.old) (connection_end self.new) outbox.old outbox.new) }
-        ensures refused { IfErr result (λ fault. IsRefused self.old.settings (asks.Flow number active) fault (connection_end self.old) (connection_end self.new) outbox.old outbox.new) }
+        ensures accepted { OnOk result (IsAccepted self.old.settings (asks.Flow number active)
+            (connection_end self.old) (connection_end self.new) outbox.old outbox.new) }
+        ensures refused { IfErr result (λ fault. IsRefused self.old.settings (asks.Flow number active) fault
+            (connection_end self.old) (connection_end self.new) outbox.old outbox.new) }
         ensures settings { self.new.settings ≡ self.old.settings }
     {
         let agreed = self.allow_flow(number)?;
@@ -101,15 +111,18 @@ impl Connection {
         number: u16,
         code: u16,
         text: &ShortStr,
+        cause: Cause,
     ) -> Result<(), AskFault>
         requires staged { outbox.old.staged ≡ [] }
-        ensures accepted { OnOk result (IsAccepted self.old.settings (asks.CloseChannel number code text.now) (connection_end self.old) (connection_end self.new) outbox.old outbox.new) }
-        ensures refused { IfErr result (λ fault. IsRefused self.old.settings (asks.CloseChannel number code text.now) fault (connection_end self.old) (connection_end self.new) outbox.old outbox.new) }
+        ensures accepted { OnOk result (IsAccepted self.old.settings (asks.CloseChannel number code text.now
+            (cause_view cause)) (connection_end self.old) (connection_end self.new) outbox.old outbox.new) }
+        ensures refused { IfErr result (λ fault. IsRefused self.old.settings (asks.CloseChannel number code text.now
+            (cause_view cause)) fault (connection_end self.old) (connection_end self.new) outbox.old outbox.new) }
         ensures settings { self.new.settings ≡ self.old.settings }
     {
         let agreed = self.allow_close(number)?;
         let site = self.site(number, agreed.channel_max);
-        let method = sending::close(self.alloc, Kind::ChannelClose, code, text)?;
+        let method = sending::close(self.alloc, Kind::ChannelClose, code, text, cause)?;
         sending::stage_method(outbox, number, &method)?;
         self.channels.put_close(site);
         outbox.put();
@@ -122,14 +135,18 @@ impl Connection {
         outbox: &mut Outbox,
         code: u16,
         text: &ShortStr,
+        cause: Cause,
     ) -> Result<(), AskFault>
         requires staged { outbox.old.staged ≡ [] }
-        ensures accepted { OnOk result (IsAccepted self.old.settings (asks.Close code text.now) (connection_end self.old) (connection_end self.new) outbox.old outbox.new) }
-        ensures refused { IfErr result (λ fault. IsRefused self.old.settings (asks.Close code text.now) fault (connection_end self.old) (connection_end self.new) outbox.old outbox.new) }
+        ensures accepted { OnOk result (IsAccepted self.old.settings (asks.Close code text.now (cause_view cause))
+            (connection_end self.old) (connection_end self.new) outbox.old outbox.new) }
+        ensures refused { IfErr result (λ fault. IsRefused self.old.settings
+            (asks.Close code text.now (cause_view cause)) fault (connection_end self.old) (connection_end self.new)
+            outbox.old outbox.new) }
         ensures settings { self.new.settings ≡ self.old.settings }
     {
         let agreed = self.running()?;
-        let method = sending::close(self.alloc, Kind::ConnectionClose, code, text)?;
+        let method = sending::close(self.alloc, Kind::ConnectionClose, code, text, cause)?;
         sending::stage_method(outbox, 0, &method)?;
         self.stage = Stage::Closing(Some(agreed));
         outbox.put();
@@ -139,8 +156,10 @@ impl Connection {
     /// Says that the server takes no more contents, and why.
     pub(crate) fn blocked(&mut self, outbox: &mut Outbox, reason: &ShortStr) -> Result<(), AskFault>
         requires staged { outbox.old.staged ≡ [] }
-        ensures accepted { OnOk result (IsAccepted self.old.settings (asks.Blocked reason.now) (connection_end self.old) (connection_end self.new) outbox.old outbox.new) }
-        ensures refused { IfErr result (λ fault. IsRefused self.old.settings (asks.Blocked reason.now) fault (connection_end self.old) (connection_end self.new) outbox.old outbox.new) }
+        ensures accepted { OnOk result (IsAccepted self.old.settings (asks.Blocked reason.now)
+            (connection_end self.old) (connection_end self.new) outbox.old outbox.new) }
+        ensures refused { IfErr result (λ fault. IsRefused self.old.settings (asks.Blocked reason.now) fault
+            (connection_end self.old) (connection_end self.new) outbox.old outbox.new) }
         ensures settings { self.new.settings ≡ self.old.settings }
     {
         let _agreed = self.allow_block()?;
@@ -153,8 +172,10 @@ impl Connection {
     /// Says that the server takes contents again.
     pub(crate) fn unblocked(&mut self, outbox: &mut Outbox) -> Result<(), AskFault>
         requires staged { outbox.old.staged ≡ [] }
-        ensures accepted { OnOk result (IsAccepted self.old.settings asks.Unblocked (connection_end self.old) (connection_end self.new) outbox.old outbox.new) }
-        ensures refused { IfErr result (λ fault. IsRefused self.old.settings asks.Unblocked fault (connection_end self.old) (connection_end self.new) outbox.old outbox.new) }
+        ensures accepted { OnOk result (IsAccepted self.old.settings asks.Unblocked (connection_end self.old)
+            (connection_end self.new) outbox.old outbox.new) }
+        ensures refused { IfErr result (λ fault. IsRefused self.old.settings asks.Unblocked fault
+            (connection_end self.old) (connection_end self.new) outbox.old outbox.new) }
         ensures settings { self.new.settings ≡ self.old.settings }
     {
         let _agreed = self.allow_block()?;
@@ -171,9 +192,11 @@ impl Connection {
         ask: LentAsk<'_>,
     ) -> Result<Option<u16>, AskFault>
         requires staged { outbox.old.staged ≡ [] }
-        ensures accepted { OnOk result (IsAccepted self.old.settings (lent_view ask.entry) (connection_end self.old) (connection_end self.new) outbox.old outbox.new) }
+        ensures accepted { OnOk result (IsAccepted self.old.settings (lent_view ask.entry) (connection_end self.old)
+            (connection_end self.new) outbox.old outbox.new) }
         ensures number { IfOk result (λ number. number ≡ number_taken (connection_end self.old) (lent_view ask.entry)) }
-        ensures refused { IfErr result (λ fault. IsRefused self.old.settings (lent_view ask.entry) fault (connection_end self.old) (connection_end self.new) outbox.old outbox.new) }
+        ensures refused { IfErr result (λ fault. IsRefused self.old.settings (lent_view ask.entry) fault
+            (connection_end self.old) (connection_end self.new) outbox.old outbox.new) }
         ensures settings { self.new.settings ≡ self.old.settings }
     {
         match ask {
@@ -183,10 +206,10 @@ impl Connection {
             }
             LentAsk::Send(channel, message) => self.send(outbox, channel, message)?,
             LentAsk::Flow(channel, active) => self.flow(outbox, channel, active)?,
-            LentAsk::CloseChannel(channel, code, text) => {
-                self.close_channel(outbox, channel, code, text)?
+            LentAsk::CloseChannel(channel, code, text, cause) => {
+                self.close_channel(outbox, channel, code, text, cause)?
             }
-            LentAsk::Close(code, text) => self.close(outbox, code, text)?,
+            LentAsk::Close(code, text, cause) => self.close(outbox, code, text, cause)?,
             LentAsk::Blocked(reason) => self.blocked(outbox, reason)?,
             LentAsk::Unblocked => self.unblocked(outbox)?,
         }

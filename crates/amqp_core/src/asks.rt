@@ -1,11 +1,12 @@
 //! What an application asks of an end.
 ghost use Rattle.std.specs.Prelude.{◌≡◌, ◌<◌, IfOk};
 ghost use Rattle.amqp_channel.specs.Messages.{message_of};
-ghost use Rattle.amqp_core.specs.AskNoting.{count_asked, frames_of_message};
-ghost use Rattle.amqp_core.specs.AskView.{ask_view, lent_view};
-ghost use Rattle.amqp_core.specs.LentLetter.{lent_letter};
+ghost use Rattle.amqp_core.specs.Traced.AskNoting.{count_asked, frames_of_message};
+ghost use Rattle.amqp_core.specs.Asks.View.{ask_view, lent_view};
+ghost use Rattle.amqp_core.specs.Asks.LentLetter.{lent_letter};
 
 use crate::faults::OutOfMemory;
+use crate::heard::{Cause, NO_CAUSE};
 use crate::lent_message::LentMessage;
 use amqp_method::Message;
 use amqp_value::ShortStr;
@@ -30,14 +31,14 @@ pub enum Ask {
     Unblocked,
 }
 
-/// An ask whose message and texts are lent.
+/// An ask whose message and texts are lent. A close has its cause too.
 #[derive(Clone, Copy)]
 pub(crate) enum LentAsk<'a> {
     Open,
     Send(u16, LentMessage<'a>),
     Flow(u16, bool),
-    CloseChannel(u16, u16, &'a ShortStr),
-    Close(u16, &'a ShortStr),
+    CloseChannel(u16, u16, &'a ShortStr, Cause),
+    Close(u16, &'a ShortStr, Cause),
     Blocked(&'a ShortStr),
     Unblocked,
 }
@@ -69,8 +70,8 @@ impl LentAsk<'_> {
             LentAsk::Send(_, message) => frames_of(message, frame_max),
             LentAsk::Open
             | LentAsk::Flow(_, _)
-            | LentAsk::CloseChannel(_, _, _)
-            | LentAsk::Close(_, _)
+            | LentAsk::CloseChannel(_, _, _, _)
+            | LentAsk::Close(_, _, _)
             | LentAsk::Blocked(_)
             | LentAsk::Unblocked => 1,
         }
@@ -86,8 +87,10 @@ impl Ask {
             Ask::Open => LentAsk::Open,
             Ask::Send(channel, message) => LentAsk::Send(*channel, LentMessage::of(message)),
             Ask::Flow(channel, active) => LentAsk::Flow(*channel, *active),
-            Ask::CloseChannel(channel, code, text) => LentAsk::CloseChannel(*channel, *code, text),
-            Ask::Close(code, text) => LentAsk::Close(*code, text),
+            Ask::CloseChannel(channel, code, text) => LentAsk::CloseChannel(
+                *channel, *code, text, NO_CAUSE,
+            ),
+            Ask::Close(code, text) => LentAsk::Close(*code, text, NO_CAUSE),
             Ask::Blocked(reason) => LentAsk::Blocked(reason),
             Ask::Unblocked => LentAsk::Unblocked,
         }

@@ -59,7 +59,7 @@ pub enum Rule {
 }
 
 impl Rule {
-    ghost use Rattle.amqp_core.specs.Blamed.{code_there, rule_code};
+    ghost use Rattle.amqp_core.specs.Faults.Blamed.{code_there, rule_code};
 
     /// The code with which the connection is closed where the rule is broken. There is none where no close can be read.
     pub fn code(self) -> Option<CloseCode>
@@ -116,7 +116,7 @@ pub struct Blame {
 }
 
 impl Blame {
-    ghost use Rattle.amqp_core.specs.Blamed.{blame_view, code_there, octets_blamed, rule_code};
+    ghost use Rattle.amqp_core.specs.Faults.Blamed.{blame_view, code_there, octets_blamed, rule_code};
 
     /// Octets from there on that are no frame.
     pub(crate) fn of_octets(octet: u64, rule: Rule) -> Blame

@@ -1,7 +1,7 @@
 //! What an application sets an end up with.
 ghost use Rattle.std.specs.Prelude.{◌≡◌, false, IfOk};
-ghost use Rattle.amqp_core.specs.Configs.{set_up_as, settings_of};
-ghost use Rattle.amqp_core.specs.Settings.{role_for};
+ghost use Rattle.amqp_core.specs.Config.Configs.{set_up_as, settings_of};
+ghost use Rattle.amqp_core.specs.Config.Settings.{role_for};
 
 use crate::faults::OutOfMemory;
 use crate::roles::Role;
@@ -52,7 +52,8 @@ impl<R: Role> Config<R> {
 
     /// An equal configuration.
     pub fn copy(&self) -> Result<Config<R>, OutOfMemory>
-        ensures { IfOk result (λ copy. set_up_as (settings_of R.hello_of copy) ≡ set_up_as (settings_of R.hello_of self.now)) }
+        ensures { IfOk result (λ copy. set_up_as (settings_of R.hello_of copy)
+            ≡ set_up_as (settings_of R.hello_of self.now)) }
     {
         let hello = R::copy_hello(&self.hello)?;
         Ok(Config {

@@ -1,6 +1,6 @@
 //! What an end keeps of its connection.
-ghost use Rattle.amqp_core.specs.FreeBefore.{FreeBefore};
-ghost use Rattle.amqp_core.specs.Gathers.{Gathers};
+ghost use Rattle.amqp_core.specs.Connection.FreeBefore.{FreeBefore};
+ghost use Rattle.amqp_core.specs.Connection.Gathers.{Gathers};
 
 mod blaming;
 mod handshake;
@@ -29,8 +29,8 @@ pub(crate) struct Connection {
 impl Connection {
     ghost use Rattle.std.specs.Prelude.{◌≡◌};
     ghost use Rattle.amqp_model.specs.End.Machine.{as_failed, new_end};
-    ghost use Rattle.amqp_core.specs.ConnectionView.{connection_end, site_at};
-    ghost use Rattle.amqp_core.specs.Settings.{role_for};
+    ghost use Rattle.amqp_core.specs.Connection.View.{connection_end, site_at};
+    ghost use Rattle.amqp_core.specs.Config.Settings.{role_for};
 
     /// A connection as it begins.
     pub(crate) fn new(alloc: Global, settings: Settings) -> Connection

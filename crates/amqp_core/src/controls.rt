@@ -7,16 +7,17 @@ ghost use Rattle.amqp_method.specs.MethodView.{method_view};
 ghost use Rattle.amqp_model.specs.End.Controls as controls;
 ghost use Rattle.amqp_model.specs.End.Controls.{Control};
 ghost use Rattle.amqp_model.specs.Wire.Notes.{is_client};
-ghost use Rattle.amqp_core.specs.ControlView.{control_view};
-ghost use Rattle.amqp_core.specs.Controlled.{IsAllowed, IsControlled, IsRefusedControl, RefusesFirst};
-ghost use Rattle.amqp_core.specs.Decisions.{Decides, HoldsNone, holds_client};
-ghost use Rattle.amqp_core.specs.Handshakes.{is_in_handshake};
-ghost use Rattle.amqp_core.specs.Settings.{role_for};
-ghost use Rattle.amqp_core.specs.Stages.{phase_at};
+ghost use Rattle.amqp_core.specs.Asks.ControlView.{control_view};
+ghost use Rattle.amqp_core.specs.Asks.Controlled.{IsAllowed, IsControlled, IsRefusedControl, RefusesFirst};
+ghost use Rattle.amqp_core.specs.Connection.Decisions.{Decides, HoldsNone, holds_client};
+ghost use Rattle.amqp_core.specs.Connection.Handshakes.{is_in_handshake};
+ghost use Rattle.amqp_core.specs.Config.Settings.{role_for};
+ghost use Rattle.amqp_core.specs.Connection.Stages.{phase_at};
 
 use crate::connection::Connection;
 use crate::faults::AskFault;
 use crate::greeting::tune;
+use crate::heard::NO_CAUSE;
 use crate::replies::bare;
 use crate::sending;
 use crate::stage::Stage;
@@ -45,7 +46,7 @@ struct Decision {
 }
 
 impl Connection {
-    ghost use Rattle.amqp_core.specs.ConnectionView.{connection_end};
+    ghost use Rattle.amqp_core.specs.Connection.View.{connection_end};
 
     /// Nothing, where a server holds a login or an open.
     fn allow_client(&self) -> Result<(), AskFault>
@@ -70,8 +71,10 @@ impl Connection {
         response: &[u8],
         locale: &ShortStr,
     ) -> Result<(), AskFault>
-        ensures allowed { OnOk result (IsAllowed self.now.settings (controls.AnswerStart mechanism.now response.now locale.now) (connection_end self.now)) }
-        ensures refused { IfErr result (λ fault. RefusesFirst self.now.settings (controls.AnswerStart mechanism.now response.now locale.now) (connection_end self.now) fault) }
+        ensures allowed { OnOk result (IsAllowed self.now.settings (controls.AnswerStart mechanism.now response.now
+            locale.now) (connection_end self.now)) }
+        ensures refused { IfErr result (λ fault. RefusesFirst self.now.settings (controls.AnswerStart mechanism.now
+            response.now locale.now) (connection_end self.now) fault) }
     {
         match self.stage {
             Stage::HoldsStart => self.settings.allow_answer(mechanism, response, locale),
@@ -93,8 +96,10 @@ impl Connection {
 
     /// Why a heartbeat, or what the application decides, is refused, if it is. It takes no memory.
     pub(crate) fn allow_control(&self, control: LentControl<'_>) -> Result<(), AskFault>
-        ensures allowed { OnOk result (IsAllowed self.now.settings (control_view control.entry) (connection_end self.now)) }
-        ensures refused { IfErr result (λ fault. RefusesFirst self.now.settings (control_view control.entry) (connection_end self.now) fault) }
+        ensures allowed { OnOk result (IsAllowed self.now.settings (control_view control.entry)
+            (connection_end self.now)) }
+        ensures refused { IfErr result (λ fault. RefusesFirst self.now.settings (control_view control.entry)
+            (connection_end self.now) fault) }
     {
         match control {
             LentControl::Beat => {
@@ -112,8 +117,10 @@ impl Connection {
     /// Puts a heartbeat.
     fn beat(&mut self, outbox: &mut Outbox) -> Result<(), AskFault>
         requires staged { outbox.old.staged ≡ [] }
-        ensures accepted { OnOk result (IsControlled self.old.settings controls.Beat (connection_end self.old) (connection_end self.new) outbox.old outbox.new) }
-        ensures refused { IfErr result (λ fault. IsRefusedControl self.old.settings controls.Beat fault (connection_end self.old) (connection_end self.new) outbox.old outbox.new) }
+        ensures accepted { OnOk result (IsControlled self.old.settings controls.Beat (connection_end self.old)
+            (connection_end self.new) outbox.old outbox.new) }
+        ensures refused { IfErr result (λ fault. IsRefusedControl self.old.settings controls.Beat fault
+            (connection_end self.old) (connection_end self.new) outbox.old outbox.new) }
         ensures settings { self.new.settings ≡ self.old.settings }
     {
         let _agreed = self.running()?;
@@ -124,9 +131,11 @@ impl Connection {
 
     /// A server admits the login that it holds with tune, and the open with open-ok.
     fn admission(&self) -> Result<Decision, AskFault>
-        ensures decides { IfOk result (λ decision. Decides self.now.settings controls.Admit self.now.stage decision.then (method_view decision.method)) }
+        ensures decides { IfOk result (λ decision. Decides self.now.settings controls.Admit self.now.stage
+            decision.then (method_view decision.method)) }
         ensures early { OnOk result (is_in_handshake (phase_at self.now.stage) ≡ true) }
-        ensures refused { IfErr result (λ fault. RefusesFirst self.now.settings controls.Admit (connection_end self.now) fault) }
+        ensures refused { IfErr result (λ fault. RefusesFirst self.now.settings controls.Admit
+            (connection_end self.now) fault) }
     {
         self.allow_client()?;
         match self.stage {
@@ -158,12 +167,14 @@ impl Connection {
 
     /// A server refuses the login or the open that it holds: it closes the connection.
     fn refusal_of_login(&self, code: u16, text: &ShortStr) -> Result<Decision, AskFault>
-        ensures decides { IfOk result (λ decision. Decides self.now.settings (controls.Refuse code text.now) self.now.stage decision.then (method_view decision.method)) }
+        ensures decides { IfOk result (λ decision. Decides self.now.settings (controls.Refuse code text.now)
+            self.now.stage decision.then (method_view decision.method)) }
         ensures early { OnOk result (is_in_handshake (phase_at self.now.stage) ≡ true) }
-        ensures refused { IfErr result (λ fault. RefusesFirst self.now.settings (controls.Refuse code text.now) (connection_end self.now) fault) }
+        ensures refused { IfErr result (λ fault. RefusesFirst self.now.settings (controls.Refuse code text.now)
+            (connection_end self.now) fault) }
     {
         self.allow_client()?;
-        let method = sending::close(self.alloc, Kind::ConnectionClose, code, text)?;
+        let method = sending::close(self.alloc, Kind::ConnectionClose, code, text, NO_CAUSE)?;
         Ok(Decision {
             method,
             then: Stage::Closing(self.stage.agreed()),
@@ -177,9 +188,11 @@ impl Connection {
         response: &[u8],
         locale: &ShortStr,
     ) -> Result<Decision, AskFault>
-        ensures decides { IfOk result (λ decision. Decides self.now.settings (controls.AnswerStart mechanism.now response.now locale.now) self.now.stage decision.then (method_view decision.method)) }
+        ensures decides { IfOk result (λ decision. Decides self.now.settings (controls.AnswerStart mechanism.now
+            response.now locale.now) self.now.stage decision.then (method_view decision.method)) }
         ensures early { OnOk result (is_in_handshake (phase_at self.now.stage) ≡ true) }
-        ensures refused { IfErr result (λ fault. RefusesFirst self.now.settings (controls.AnswerStart mechanism.now response.now locale.now) (connection_end self.now) fault) }
+        ensures refused { IfErr result (λ fault. RefusesFirst self.now.settings (controls.AnswerStart mechanism.now
+            response.now locale.now) (connection_end self.now) fault) }
     {
         match self.stage {
             Stage::HoldsStart => {
@@ -211,10 +224,14 @@ impl Connection {
     fn put_decision(&mut self, outbox: &mut Outbox, decision: Decision) -> Result<(), AskFault>
         requires staged { outbox.old.staged ≡ [] }
         requires early { is_in_handshake (phase_at self.old.stage) ≡ true }
-        ensures accepted { OnOk result ((control : Control) → Decides self.old.settings control self.old.stage decision.then (method_view decision.method)
-            → IsControlled self.old.settings control (connection_end self.old) (connection_end self.new) outbox.old outbox.new) }
-        ensures refused { IfErr result (λ fault. (control : Control) → Decides self.old.settings control self.old.stage decision.then (method_view decision.method)
-            → IsRefusedControl self.old.settings control fault (connection_end self.old) (connection_end self.new) outbox.old outbox.new) }
+        ensures accepted { OnOk result ((control : Control)
+            → Decides self.old.settings control self.old.stage decision.then (method_view decision.method)
+            → IsControlled self.old.settings control (connection_end self.old) (connection_end self.new) outbox.old
+            outbox.new) }
+        ensures refused { IfErr result (λ fault. (control : Control)
+            → Decides self.old.settings control self.old.stage decision.then (method_view decision.method)
+            → IsRefusedControl self.old.settings control fault (connection_end self.old) (connection_end self.new)
+            outbox.old outbox.new) }
         ensures settings { self.new.settings ≡ self.old.settings }
     {
         sending::stage_method(outbox, 0, &decision.method)?;
@@ -230,8 +247,10 @@ impl Connection {
         control: LentControl<'_>,
     ) -> Result<(), AskFault>
         requires staged { outbox.old.staged ≡ [] }
-        ensures accepted { OnOk result (IsControlled self.old.settings (control_view control.entry) (connection_end self.old) (connection_end self.new) outbox.old outbox.new) }
-        ensures refused { IfErr result (λ fault. IsRefusedControl self.old.settings (control_view control.entry) fault (connection_end self.old) (connection_end self.new) outbox.old outbox.new) }
+        ensures accepted { OnOk result (IsControlled self.old.settings (control_view control.entry)
+            (connection_end self.old) (connection_end self.new) outbox.old outbox.new) }
+        ensures refused { IfErr result (λ fault. IsRefusedControl self.old.settings (control_view control.entry) fault
+            (connection_end self.old) (connection_end self.new) outbox.old outbox.new) }
         ensures settings { self.new.settings ≡ self.old.settings }
     {
         match control {

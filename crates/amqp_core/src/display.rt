@@ -96,7 +96,8 @@ fn write_send<W: fmt::Write>(
     channel: u16,
     message: &Message,
 ) -> fmt::Result
-    ensures { WritesOnOk W.write_str_gives f.old result (channel_text (codes "send") channel ++ (codes " " ++ text_of_message (message_view message.now))) f.new }
+    ensures { WritesOnOk W.write_str_gives f.old result (channel_text (codes "send") channel
+        ++ (codes " " ++ text_of_message (message_view message.now))) f.new }
 {
     write_channel(f, "send", channel)?;
     write!(f, " {message}")
@@ -127,7 +128,8 @@ fn write_close_channel<W: fmt::Write>(
     code: u16,
     text: &ShortStr,
 ) -> fmt::Result
-    ensures { WritesOnOk W.write_str_gives f.old result (channel_text (codes "close-channel") channel ++ (codes " " ++ closing_text code text.now)) f.new }
+    ensures { WritesOnOk W.write_str_gives f.old result (channel_text (codes "close-channel") channel
+        ++ (codes " " ++ closing_text code text.now)) f.new }
 {
     write_channel(f, "close-channel", channel)?;
     f.write_str(" ")?;

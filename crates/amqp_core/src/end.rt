@@ -3,12 +3,12 @@ ghost use Rattle.std.specs.Option.{option_copied};
 ghost use Rattle.std.specs.Prelude.{ℕ, List, ◌≡◌, ◌≢◌, ◌<◌, ◌≤◌, true, false, [], length, IsOk, IfOk, IfErr, OnOk, MatchOption, Some, None, Err};
 ghost use Rattle.amqp_method.specs.HeaderView.{properties_view};
 ghost use Rattle.amqp_method.specs.Kinds.{has_content};
-ghost use Rattle.amqp_method.specs.Messages.{letter_with};
 ghost use Rattle.amqp_method.specs.MessageView.{message_view};
 ghost use Rattle.amqp_method.specs.MethodView.{method_view};
 ghost use Rattle.amqp_model.specs.Output.ArrangementRules.{FollowsRules};
 ghost use Rattle.amqp_model.specs.End.Answers.{channel_state, gathered, reply_due};
 ghost use Rattle.amqp_model.specs.End.Asks as asks;
+ghost use Rattle.amqp_model.specs.End.Closes.{cause_of, no_cause};
 ghost use Rattle.amqp_model.specs.End.Asks.{lowest_free, refusal};
 ghost use Rattle.amqp_model.specs.End.Bounds.{OthersAreFree};
 ghost use Rattle.amqp_model.specs.End.Controls as controls;
@@ -21,36 +21,36 @@ ghost use Rattle.amqp_model.specs.History.Negotiation as negotiation;
 ghost use Rattle.amqp_model.specs.History.Negotiation.{frame_limit};
 ghost use Rattle.amqp_model.specs.Laws.OctetLaws.{EndpointStandsFor};
 ghost use Rattle.amqp_model.specs.Output.Outputs.{output_octets, waiting_on};
-ghost use Rattle.amqp_core.specs.AccountView.{IsFresh, note_there};
-ghost use Rattle.amqp_core.specs.Answering.{ran_out};
-ghost use Rattle.amqp_core.specs.AskNoting.{IsChannelOf, IsSizeOf};
-ghost use Rattle.amqp_core.specs.AskView.{ask_view, lent_view};
-ghost use Rattle.amqp_core.specs.Asked.{number_taken};
-ghost use Rattle.amqp_core.specs.Asking.{AcceptsAsk, RefusesAsk};
-ghost use Rattle.amqp_core.specs.Bounded.{IsBounded};
-ghost use Rattle.amqp_core.specs.Configs.{settings_of};
-ghost use Rattle.amqp_core.specs.ControlView.{control_view};
-ghost use Rattle.amqp_core.specs.Controlled.{refusal_by};
-ghost use Rattle.amqp_core.specs.Controlling.{RefusesControl, verdict_at};
-ghost use Rattle.amqp_core.specs.Counted.{heartbeat_in};
-ghost use Rattle.amqp_core.specs.Counters.{counted_with, counts_octets, nothing_counted};
-ghost use Rattle.amqp_core.specs.EndpointView.{role_at};
+ghost use Rattle.amqp_core.specs.Traced.AccountView.{IsFresh, note_there};
+ghost use Rattle.amqp_core.specs.Faults.Answering.{ran_out};
+ghost use Rattle.amqp_core.specs.Traced.AskNoting.{IsChannelOf, IsSizeOf};
+ghost use Rattle.amqp_core.specs.Asks.View.{ask_view, lent_view};
+ghost use Rattle.amqp_core.specs.Asks.Asked.{content_asked};
+ghost use Rattle.amqp_core.specs.Asks.Asking.{AcceptsAsk, RefusesAsk};
+ghost use Rattle.amqp_core.specs.End.Bounded.{IsBounded};
+ghost use Rattle.amqp_core.specs.Config.Configs.{settings_of};
+ghost use Rattle.amqp_core.specs.Asks.ControlView.{control_view};
+ghost use Rattle.amqp_core.specs.Asks.Controlled.{refusal_by};
+ghost use Rattle.amqp_core.specs.Asks.Controlling.{RefusesControl, verdict_at};
+ghost use Rattle.amqp_core.specs.End.Counted.{heartbeat_in};
+ghost use Rattle.amqp_core.specs.End.Counters.{counted_with, counts_octets, nothing_counted};
+ghost use Rattle.amqp_core.specs.End.EndpointView.{role_at};
 ghost use Rattle.std.proofs.Props.{props};
 ghost use Rattle.amqp_channel.specs.EventView.{agreed_there};
 ghost use Rattle.amqp_channel.specs.PartsView.{parts_there};
 ghost use Rattle.amqp_channel.specs.Messages.{message_of};
 ghost use Rattle.amqp_channel.specs.Roles.{role_of};
 ghost use Rattle.amqp_channel.specs.StateView.{state_view};
-ghost use Rattle.amqp_core.specs.Kept.{IsKept, agreed_prop};
-ghost use Rattle.amqp_core.specs.Faults.{config_fault_view};
-ghost use Rattle.amqp_core.specs.Dropping.{DropsInPlace};
-ghost use Rattle.amqp_core.specs.EndHeard.{IsLastHeard};
-ghost use Rattle.amqp_core.specs.Hearing.{Hears};
-ghost use Rattle.amqp_core.specs.HeardView.{cause_there, kept_of_kind, method_there, nothing_said};
-ghost use Rattle.amqp_core.specs.Feeding.{event_in, seen, IsFed, IsMessage, SameButChannels};
-ghost use Rattle.amqp_core.specs.Following.{GoesOn};
-ghost use Rattle.amqp_core.specs.Settings.{config_view, role_for};
-ghost use Rattle.amqp_core.specs.Stages.{phase_name};
+ghost use Rattle.amqp_core.specs.End.Kept.{IsKept, agreed_prop};
+ghost use Rattle.amqp_core.specs.Faults.Numbers.{config_fault_view};
+ghost use Rattle.amqp_core.specs.Connection.Dropping.{DropsInPlace};
+ghost use Rattle.amqp_core.specs.Heard.OfEnd.{IsLastHeard};
+ghost use Rattle.amqp_core.specs.Heard.Hearing.{Hears};
+ghost use Rattle.amqp_core.specs.Heard.View.{cause_there, cause_view, kept_of_kind, method_there, nothing_said};
+ghost use Rattle.amqp_core.specs.End.Feeding.{event_in, seen, IsFed, IsMessage, SameButChannels};
+ghost use Rattle.amqp_core.specs.End.Following.{GoesOn};
+ghost use Rattle.amqp_core.specs.Config.Settings.{config_view, role_for};
+ghost use Rattle.amqp_core.specs.Connection.Stages.{phase_name};
 
 use crate::account::Account;
 use crate::allowing::Place;
@@ -60,7 +60,7 @@ use crate::config::Config;
 use crate::controls::LentControl;
 use crate::endpoint::Endpoint;
 use crate::faults::{AskFault, ConfigFault, CoreFault};
-use crate::heard::{Cause, Heard};
+use crate::heard::{Cause, Heard, NO_CAUSE};
 use crate::lent_message::LentMessage;
 use crate::notes::Note;
 use crate::roles::Role;
@@ -115,19 +115,19 @@ fn counted(before: u64, took: Option<Note>) -> u64
 }
 
 impl<R: Role> End<R> {
-    ghost use Rattle.amqp_core.specs.AccountView.{IsAccount, came_by, taken_by};
-    ghost use Rattle.amqp_core.specs.Beginning.{BeginsHistory};
-    ghost use Rattle.amqp_core.specs.Blamed.{blame_view, Blames};
-    ghost use Rattle.amqp_core.specs.Counters.{CountsFrame};
-    ghost use Rattle.amqp_core.specs.EndControls.{Controlled};
-    ghost use Rattle.amqp_core.specs.EndAsks.{AnswersLowest, AnswersNumber, Asked};
-    ghost use Rattle.amqp_core.specs.EndView.{config_at, counters_of, endpoint_of, heard_in, role_played, settings_at};
-    ghost use Rattle.amqp_core.specs.Feeds.{Feeds, fed_to};
-    ghost use Rattle.amqp_core.specs.FeedFaults.{FeedFaults};
-    ghost use Rattle.amqp_core.specs.Feeding.{SameEndpoint, ran_out_of};
-    ghost use Rattle.amqp_core.specs.Growth.{GrowsLittle};
-    ghost use Rattle.amqp_core.specs.Overs.{IsOver};
-    ghost use Rattle.amqp_core.specs.Queries.{AgreedOfHistory, DueOfHistory, GatheredOfHistory, HeartbeatOfHistory, OutputIsInOrder, PendingOfHistory, PhaseOfHistory, StateOfHistory, VerdictsOfHistory, WritesOn};
+    ghost use Rattle.amqp_core.specs.Traced.AccountView.{IsAccount, came_by, taken_by};
+    ghost use Rattle.amqp_core.specs.End.Beginning.{BeginsHistory};
+    ghost use Rattle.amqp_core.specs.Faults.Blamed.{blame_view, Blames};
+    ghost use Rattle.amqp_core.specs.End.Counters.{CountsFrame};
+    ghost use Rattle.amqp_core.specs.End.Controls.{Controlled};
+    ghost use Rattle.amqp_core.specs.End.Asks.{AnswersLowest, AnswersNumber, Asked};
+    ghost use Rattle.amqp_core.specs.End.View.{config_at, counters_of, endpoint_of, heard_in, role_played, settings_at};
+    ghost use Rattle.amqp_core.specs.End.Feeds.{Feeds, fed_to};
+    ghost use Rattle.amqp_core.specs.Faults.FeedFaults.{FeedFaults};
+    ghost use Rattle.amqp_core.specs.End.Feeding.{SameEndpoint, ran_out_of};
+    ghost use Rattle.amqp_core.specs.End.Growth.{GrowsLittle};
+    ghost use Rattle.amqp_core.specs.Faults.Overs.{IsOver};
+    ghost use Rattle.amqp_core.specs.End.Queries.{AgreedOfHistory, DueOfHistory, GatheredOfHistory, HeartbeatOfHistory, OutputIsInOrder, PendingOfHistory, PhaseOfHistory, StateOfHistory, VerdictsOfHistory, WritesOn};
 
     /// An end as it begins. A client has the protocol header to write, a server nothing.
     pub fn new(alloc: Global, config: Config<R>) -> Result<End<R>, ConfigFault>
@@ -138,7 +138,8 @@ impl<R: Role> End<R> {
         ensures history { IfOk result (λ end. BeginsHistory end) }
         ensures counters { IfOk result (λ end. counters_of end ≡ nothing_counted) }
         ensures heard { IfOk result (λ end. heard_in end ≡ nothing_said) }
-        ensures fault { IfErr result (λ fault. config_fault_view fault ≡ config_fault (role_for (settings_of R.hello_of config)) (config_view (settings_of R.hello_of config))) }
+        ensures fault { IfErr result (λ fault. config_fault_view fault
+            ≡ config_fault (role_for (settings_of R.hello_of config)) (config_view (settings_of R.hello_of config))) }
     {
         octets::octets_follow();
         fitting::owed_read_back();
@@ -168,7 +169,8 @@ impl<R: Role> End<R> {
         ensures progress { IfOk result (λ taken. piece.now ≢ [] → 0 < taken.octets) }
         // A frame that is taken is counted, and no octets are.
         ensures frames { takes_octets (endpoint_of self.old).end.phase ≡ true → ran_out result ≡ false
-            → CountsFrame (role_played self.old) (config_at self.old) (endpoint_of self.old) piece.now (fed_to self.old piece.now) (counters_of self.old) (counters_of self.new) }
+            → CountsFrame (role_played self.old) (config_at self.old) (endpoint_of self.old) piece.now
+            (fed_to self.old piece.now) (counters_of self.old) (counters_of self.new) }
         ensures octets { (counters_of self.new).octets ≡ (counters_of self.old).octets }
     {
         octets::cut_changes_nothing();
@@ -182,20 +184,29 @@ impl<R: Role> End<R> {
     /// Takes octets as [`End::feed`] does, and accounts for what came of them.
     pub(crate) fn advance(&mut self, piece: &[u8], account: &mut Account) -> Result<(), CoreFault>
         requires fresh { IsFresh account.old }
-        ensures fed { IsFed (taken_by result account.new) (endpoint_of self.old) (after_feed (role_played self.old) (config_at self.old) (endpoint_of self.old) piece.now) (endpoint_of self.new) }
+        ensures fed { IsFed (taken_by result account.new) (endpoint_of self.old) (after_feed (role_played self.old)
+            (config_at self.old) (endpoint_of self.old) piece.now) (endpoint_of self.new) }
         ensures within { IfOk (taken_by result account.new) (λ taken. taken.octets ≤ length piece.now) }
         ensures progress { IfOk (taken_by result account.new) (λ taken. piece.now ≢ [] → 0 < taken.octets) }
         ensures in_place { DropsInPlace (role_played self.old) (endpoint_of self.old) piece.now → IsOk result }
-        ensures history { (history : History) (fed written : List ℕ) → EndpointStandsFor (role_played self.old) (config_at self.old) (endpoint_of self.old) history fed written
-            → ∥ GoesOn (role_played self.old) (config_at self.old) (ran_out result) (endpoint_of self.old) history fed written piece.now (after_feed (role_played self.old) (config_at self.old) (endpoint_of self.old) piece.now) (endpoint_of self.new) ∥₁ }
+        ensures history { (history : History) (fed written : List ℕ)
+            → EndpointStandsFor (role_played self.old) (config_at self.old) (endpoint_of self.old) history fed written
+            → ∥ GoesOn (role_played self.old) (config_at self.old) (ran_out result) (endpoint_of self.old) history fed
+            written piece.now (after_feed (role_played self.old) (config_at self.old) (endpoint_of self.old)
+            piece.now) (endpoint_of self.new) ∥₁ }
         ensures memory { ran_out result ≡ true → takes_octets (endpoint_of self.old).end.phase ≡ true }
-        ensures account { takes_octets (endpoint_of self.old).end.phase ≡ true → ran_out result ≡ false → IsAccount (role_played self.old) (config_at self.old) (endpoint_of self.old) piece.now (after_feed (role_played self.old) (config_at self.old) (endpoint_of self.old) piece.now) account.new.octets (came_by (settings_at self.old) account.new (event_in (taken_by result account.new))) }
+        ensures account { takes_octets (endpoint_of self.old).end.phase ≡ true → ran_out result ≡ false
+            → IsAccount (role_played self.old) (config_at self.old) (endpoint_of self.old) piece.now
+            (after_feed (role_played self.old) (config_at self.old) (endpoint_of self.old) piece.now)
+            account.new.octets (came_by (settings_at self.old) account.new (event_in (taken_by result account.new))) }
         // A message that is told leaves all but its channel as it was.
-        ensures message { OnOk result (IsMessage (parts_there account.new.parts) → SameButChannels (endpoint_of self.old) (endpoint_of self.new)) }
+        ensures message { OnOk result (IsMessage (parts_there account.new.parts)
+            → SameButChannels (endpoint_of self.old) (endpoint_of self.new)) }
         ensures grows { GrowsLittle (endpoint_of self.old).output (endpoint_of self.new).output }
         ensures heard { Hears (role_played self.old) (config_at self.old) result (endpoint_of self.old) piece.now
             (fed_to self.old piece.now) (heard_in self.old) (heard_in self.new) }
-        ensures frames { (counters_of self.new).frames ≡ counted_with (note_there account.new.took) (counters_of self.old).frames }
+        ensures frames { (counters_of self.new).frames ≡ counted_with (note_there account.new.took)
+            (counters_of self.old).frames }
         ensures octets { (counters_of self.new).octets ≡ (counters_of self.old).octets }
         ensures tally { Blames (role_played self.old) result (endpoint_of self.old) piece.now
             (after_feed (role_played self.old) (config_at self.old) (endpoint_of self.old) piece.now)
@@ -233,7 +244,8 @@ impl<R: Role> End<R> {
 
     /// The fault that a feed answers of an end that is closed, or has failed.
     pub(crate) fn over(&self) -> Option<CoreFault>
-        ensures { MatchOption result (takes_octets (endpoint_of self.now).end.phase ≡ true) (IsOver (endpoint_of self.now).end.phase) }
+        ensures { MatchOption result (takes_octets (endpoint_of self.now).end.phase ≡ true)
+            (IsOver (endpoint_of self.now).end.phase) }
     {
         if self.inner.connection.stage.is_closed() {
             return Some(CoreFault::Closed);
@@ -448,9 +460,12 @@ impl<R: Role> End<R> {
 
     /// Where the frames of an ask go, or why it is refused.
     pub(crate) fn allow(&self, ask: LentAsk<'_>) -> Result<Place, AskFault>
-        ensures allowed { OnOk result (refusal (role_played self.now) (endpoint_of self.now).end (lent_view ask.entry) ≡ None) }
-        ensures refused { IfErr result (λ fault. RefusesAsk (role_played self.now) (lent_view ask.entry) fault (endpoint_of self.now) (endpoint_of self.now)) }
-        ensures channel { IfOk result (λ place. IsChannelOf (endpoint_of self.now).end (lent_view ask.entry) place.channel) }
+        ensures allowed { OnOk result (refusal (role_played self.now) (endpoint_of self.now).end (lent_view ask.entry)
+            ≡ None) }
+        ensures refused { IfErr result (λ fault. RefusesAsk (role_played self.now) (lent_view ask.entry) fault
+            (endpoint_of self.now) (endpoint_of self.now)) }
+        ensures channel { IfOk result (λ place. IsChannelOf (endpoint_of self.now).end (lent_view ask.entry)
+            place.channel) }
         ensures size { IfOk result (λ place. IsSizeOf (endpoint_of self.now).end.agreed place.frame_max) }
         ensures least { IfOk result (λ place. negotiation.FRAME_MIN ≤ place.frame_max) }
     {
@@ -459,8 +474,10 @@ impl<R: Role> End<R> {
 
     /// Why a heartbeat, or what the application decides, is refused, if it is. It takes no memory.
     pub(crate) fn allow_control(&self, control: LentControl<'_>) -> Result<(), AskFault>
-        ensures allowed { OnOk result (refusal_by (verdict_at (role_played self.now) (config_at self.now) (control_view control.entry) (endpoint_of self.now)) ≡ None) }
-        ensures refused { IfErr result (λ fault. RefusesControl (role_played self.now) (config_at self.now) (control_view control.entry) fault (endpoint_of self.now) (endpoint_of self.now)) }
+        ensures allowed { OnOk result (refusal_by (verdict_at (role_played self.now) (config_at self.now)
+            (control_view control.entry) (endpoint_of self.now)) ≡ None) }
+        ensures refused { IfErr result (λ fault. RefusesControl (role_played self.now) (config_at self.now)
+            (control_view control.entry) fault (endpoint_of self.now) (endpoint_of self.now)) }
     {
         self.inner.allow_control(control)
     }
@@ -548,8 +565,11 @@ impl<R: Role> End<R> {
         properties: &Properties,
         body: &[u8],
     ) -> Result<(), AskFault>
-        ensures asked { has_content (method_view method.now).kind ≡ true → Asked self.old (asks.Send channel (message_of (letter_with (method_view method.now) (properties_view properties.now) body.now))) result self.new }
-        ensures alone { has_content (method_view method.now).kind ≡ false → (result ≡ Err AskFault.NotSendable) × (self.new ≡ self.old) }
+        ensures asked { has_content (method_view method.now).kind ≡ true
+            → Asked self.old (content_asked channel (method_view method.now) (properties_view properties.now)
+            body.now) result self.new }
+        ensures alone { has_content (method_view method.now).kind ≡ false → (result ≡ Err AskFault.NotSendable)
+            × (self.new ≡ self.old) }
     {
         if !method.has_content() {
             return Err(AskFault::NotSendable);
@@ -574,17 +594,59 @@ impl<R: Role> End<R> {
         code: u16,
         text: &ShortStr,
     ) -> Result<(), AskFault>
-        ensures { Asked self.old (asks.CloseChannel channel code text.now) result self.new }
+        ensures { Asked self.old (asks.CloseChannel channel code text.now no_cause) result self.new }
     {
-        self.inner.ask(LentAsk::CloseChannel(channel, code, text))?;
+        self.put_channel_close(channel, code, text, NO_CAUSE)
+    }
+
+    /// Closes a channel for a method of this kind: the close names its class and its method, which the other end
+    /// reads as the cause.
+    pub fn close_channel_for(
+        &mut self,
+        channel: u16,
+        code: u16,
+        text: &ShortStr,
+        kind: Kind,
+    ) -> Result<(), AskFault>
+        ensures { Asked self.old (asks.CloseChannel channel code text.now (cause_of kind)) result self.new }
+    {
+        let cause = Cause::by(kind);
+        self.put_channel_close(channel, code, text, cause)
+    }
+
+    fn put_channel_close(
+        &mut self,
+        channel: u16,
+        code: u16,
+        text: &ShortStr,
+        cause: Cause,
+    ) -> Result<(), AskFault>
+        ensures { Asked self.old (asks.CloseChannel channel code text.now (cause_view cause)) result self.new }
+    {
+        self.inner
+            .ask(LentAsk::CloseChannel(channel, code, text, cause))?;
         Ok(())
     }
 
     /// Closes the connection, with a code and a text.
     pub fn close(&mut self, code: u16, text: &ShortStr) -> Result<(), AskFault>
-        ensures { Asked self.old (asks.Close code text.now) result self.new }
+        ensures { Asked self.old (asks.Close code text.now no_cause) result self.new }
     {
-        self.inner.ask(LentAsk::Close(code, text))?;
+        self.put_close(code, text, NO_CAUSE)
+    }
+
+    /// Closes the connection for a method of this kind, as [`End::close_channel_for`] does a channel.
+    pub fn close_for(&mut self, code: u16, text: &ShortStr, kind: Kind) -> Result<(), AskFault>
+        ensures { Asked self.old (asks.Close code text.now (cause_of kind)) result self.new }
+    {
+        let cause = Cause::by(kind);
+        self.put_close(code, text, cause)
+    }
+
+    fn put_close(&mut self, code: u16, text: &ShortStr, cause: Cause) -> Result<(), AskFault>
+        ensures { Asked self.old (asks.Close code text.now (cause_view cause)) result self.new }
+    {
+        self.inner.ask(LentAsk::Close(code, text, cause))?;
         Ok(())
     }
 

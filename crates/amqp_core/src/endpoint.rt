@@ -14,23 +14,23 @@ ghost use Rattle.amqp_model.specs.Output.Outputs.{output_octets};
 ghost use Rattle.amqp_model.specs.Stream.Pieces.{reads_frames};
 ghost use Rattle.amqp_outbox.specs.OutboxView.{begins_with};
 ghost use Rattle.amqp_channel.specs.Roles.{role_of};
-ghost use Rattle.amqp_core.specs.AccountView.{IsFresh};
-ghost use Rattle.amqp_core.specs.Blamed.{Blames};
-ghost use Rattle.amqp_core.specs.AskNoting.{IsChannelOf, IsSizeOf};
-ghost use Rattle.amqp_core.specs.AskView.{lent_view};
-ghost use Rattle.amqp_core.specs.Asked.{number_taken};
-ghost use Rattle.amqp_core.specs.Asking.{AcceptsAsk, RefusesAsk};
-ghost use Rattle.amqp_core.specs.Answering.{ran_out};
-ghost use Rattle.amqp_core.specs.ControlView.{control_view};
-ghost use Rattle.amqp_core.specs.Controlled.{refusal_by};
-ghost use Rattle.amqp_core.specs.Controlling.{AcceptsControl, RefusesControl, verdict_at};
-ghost use Rattle.amqp_core.specs.Dropping.{DropsInPlace};
-ghost use Rattle.amqp_core.specs.Hearing.{Hears};
-ghost use Rattle.amqp_core.specs.HeardView.{heard_view};
+ghost use Rattle.amqp_core.specs.Traced.AccountView.{IsFresh};
+ghost use Rattle.amqp_core.specs.Faults.Blamed.{Blames};
+ghost use Rattle.amqp_core.specs.Traced.AskNoting.{IsChannelOf, IsSizeOf};
+ghost use Rattle.amqp_core.specs.Asks.View.{lent_view};
+ghost use Rattle.amqp_core.specs.Asks.Asked.{number_taken};
+ghost use Rattle.amqp_core.specs.Asks.Asking.{AcceptsAsk, RefusesAsk};
+ghost use Rattle.amqp_core.specs.Faults.Answering.{ran_out};
+ghost use Rattle.amqp_core.specs.Asks.ControlView.{control_view};
+ghost use Rattle.amqp_core.specs.Asks.Controlled.{refusal_by};
+ghost use Rattle.amqp_core.specs.Asks.Controlling.{AcceptsControl, RefusesControl, verdict_at};
+ghost use Rattle.amqp_core.specs.Connection.Dropping.{DropsInPlace};
+ghost use Rattle.amqp_core.specs.Heard.Hearing.{Hears};
+ghost use Rattle.amqp_core.specs.Heard.View.{heard_view};
 ghost use Rattle.amqp_channel.specs.PartsView.{parts_there};
-ghost use Rattle.amqp_core.specs.Feeding.{event_in, ran_out_of, IsFed, IsMessage, SameButChannels, SameEndpoint};
-ghost use Rattle.amqp_core.specs.Settings.{config_view, role_for};
-ghost use Rattle.amqp_core.specs.Stages.{agreed_at, phase_at};
+ghost use Rattle.amqp_core.specs.End.Feeding.{event_in, ran_out_of, IsFed, IsMessage, SameButChannels, SameEndpoint};
+ghost use Rattle.amqp_core.specs.Config.Settings.{config_view, role_for};
+ghost use Rattle.amqp_core.specs.Connection.Stages.{agreed_at, phase_at};
 
 use crate::account::Account;
 use crate::allowing::Place;
@@ -108,10 +108,10 @@ fn begun(alloc: Global, side: Side) -> Result<Outbox, OutOfMemory>
 }
 
 impl Endpoint {
-    ghost use Rattle.amqp_core.specs.AccountView.{IsAccount, came_by, taken_by};
-    ghost use Rattle.amqp_core.specs.Blamed.{no_octets, tally_view};
-    ghost use Rattle.amqp_core.specs.EndpointView.{endpoint_view, role_at, IsSound};
-    ghost use Rattle.amqp_core.specs.Growth.{GrowsLittle};
+    ghost use Rattle.amqp_core.specs.Traced.AccountView.{IsAccount, came_by, taken_by};
+    ghost use Rattle.amqp_core.specs.Faults.Blamed.{no_octets, tally_view};
+    ghost use Rattle.amqp_core.specs.End.EndpointView.{endpoint_view, role_at, IsSound};
+    ghost use Rattle.amqp_core.specs.End.Growth.{GrowsLittle};
 
     /// Octets of the protocol header, at a server that awaits it.
     #[inline(never)]
@@ -119,15 +119,22 @@ impl Endpoint {
         requires sound { IsSound self.old }
         requires fresh { IsFresh account.old }
         requires awaits { awaits_opening (role_at self.old) (phase_at self.old.connection.stage) ≡ true }
-        ensures fed { IsFed (taken_by result account.new) (endpoint_view self.old) (after_feed (role_at self.old) (config_view self.old.connection.settings) (endpoint_view self.old) piece.now) (endpoint_view self.new) }
-        ensures account { ran_out result ≡ false → IsAccount (role_at self.old) (config_view self.old.connection.settings) (endpoint_view self.old) piece.now (after_feed (role_at self.old) (config_view self.old.connection.settings) (endpoint_view self.old) piece.now) account.new.octets (came_by self.old.connection.settings account.new (event_in (taken_by result account.new))) }
+        ensures fed { IsFed (taken_by result account.new) (endpoint_view self.old) (after_feed (role_at self.old)
+            (config_view self.old.connection.settings) (endpoint_view self.old) piece.now) (endpoint_view self.new) }
+        ensures account { ran_out result ≡ false
+            → IsAccount (role_at self.old) (config_view self.old.connection.settings) (endpoint_view self.old)
+            piece.now (after_feed (role_at self.old) (config_view self.old.connection.settings)
+            (endpoint_view self.old) piece.now) account.new.octets (came_by self.old.connection.settings account.new
+            (event_in (taken_by result account.new))) }
         // A message that is told leaves all but its channel as it was.
-        ensures message { OnOk result (IsMessage (parts_there account.new.parts) → SameButChannels (endpoint_view self.old) (endpoint_view self.new)) }
+        ensures message { OnOk result (IsMessage (parts_there account.new.parts)
+            → SameButChannels (endpoint_view self.old) (endpoint_view self.new)) }
         ensures grows { GrowsLittle (endpoint_view self.old).output (endpoint_view self.new).output }
         ensures sound { IsSound self.new }
         ensures settings { self.new.connection.settings ≡ self.old.connection.settings }
         ensures tally { Blames (role_at self.old) result (endpoint_view self.old) piece.now
-            (after_feed (role_at self.old) (config_view self.old.connection.settings) (endpoint_view self.old) piece.now)
+            (after_feed (role_at self.old) (config_view self.old.connection.settings) (endpoint_view self.old)
+            piece.now)
             (tally_view self.old.tally) (tally_view self.new.tally) }
     {
         pieces::pieces_are_compared();
@@ -173,12 +180,18 @@ impl Endpoint {
         requires gathers { self.old.connection.settings.lends ≡ false }
         requires fresh { IsFresh account.old }
         requires reads { reads_frames (role_at self.old) (phase_at self.old.connection.stage) ≡ true }
-        ensures fed { IsFed (taken_by result account.new) (endpoint_view self.old) (after_feed (role_at self.old) (config_view self.old.connection.settings) (endpoint_view self.old) piece.now) (endpoint_view self.new) }
+        ensures fed { IsFed (taken_by result account.new) (endpoint_view self.old) (after_feed (role_at self.old)
+            (config_view self.old.connection.settings) (endpoint_view self.old) piece.now) (endpoint_view self.new) }
         // A frame that is dropped takes no memory, where it lies whole in the piece.
         ensures in_place { DropsInPlace (role_at self.old) (endpoint_view self.old) piece.now → IsOk result }
-        ensures account { ran_out result ≡ false → IsAccount (role_at self.old) (config_view self.old.connection.settings) (endpoint_view self.old) piece.now (after_feed (role_at self.old) (config_view self.old.connection.settings) (endpoint_view self.old) piece.now) account.new.octets (came_by self.old.connection.settings account.new (event_in (taken_by result account.new))) }
+        ensures account { ran_out result ≡ false
+            → IsAccount (role_at self.old) (config_view self.old.connection.settings) (endpoint_view self.old)
+            piece.now (after_feed (role_at self.old) (config_view self.old.connection.settings)
+            (endpoint_view self.old) piece.now) account.new.octets (came_by self.old.connection.settings account.new
+            (event_in (taken_by result account.new))) }
         // A message that is told leaves all but its channel as it was.
-        ensures message { OnOk result (IsMessage (parts_there account.new.parts) → SameButChannels (endpoint_view self.old) (endpoint_view self.new)) }
+        ensures message { OnOk result (IsMessage (parts_there account.new.parts)
+            → SameButChannels (endpoint_view self.old) (endpoint_view self.new)) }
         ensures heard { Hears (role_at self.old) (config_view self.old.connection.settings) result
             (endpoint_view self.old) piece.now (after_feed (role_at self.old) (config_view self.old.connection.settings)
             (endpoint_view self.old) piece.now) (heard_view heard.old) (heard_view heard.new) }
@@ -186,7 +199,8 @@ impl Endpoint {
         ensures sound { IsSound self.new }
         ensures settings { self.new.connection.settings ≡ self.old.connection.settings }
         ensures tally { Blames (role_at self.old) result (endpoint_view self.old) piece.now
-            (after_feed (role_at self.old) (config_view self.old.connection.settings) (endpoint_view self.old) piece.now)
+            (after_feed (role_at self.old) (config_view self.old.connection.settings) (endpoint_view self.old)
+            piece.now)
             (tally_view self.old.tally) (tally_view self.new.tally) }
     {
         pieces::pieces_are_split();
@@ -251,15 +265,21 @@ impl Endpoint {
         requires sound { IsSound self.old }
         requires gathers { self.old.connection.settings.lends ≡ false }
         requires fresh { IsFresh account.old }
-        ensures fed { IsFed (taken_by result account.new) (endpoint_view self.old) (after_feed (role_at self.old) (config_view self.old.connection.settings) (endpoint_view self.old) piece.now) (endpoint_view self.new) }
+        ensures fed { IsFed (taken_by result account.new) (endpoint_view self.old) (after_feed (role_at self.old)
+            (config_view self.old.connection.settings) (endpoint_view self.old) piece.now) (endpoint_view self.new) }
         ensures memory { ran_out result ≡ true → takes_octets (phase_at self.old.connection.stage) ≡ true }
         // A frame that is dropped takes no memory, where it lies whole in the piece.
         ensures in_place { DropsInPlace (role_at self.old) (endpoint_view self.old) piece.now → IsOk result }
         ensures within { IfOk (taken_by result account.new) (λ taken. taken.octets ≤ length piece.now) }
         ensures progress { IfOk (taken_by result account.new) (λ taken. piece.now ≢ [] → 0 < taken.octets) }
-        ensures account { takes_octets (phase_at self.old.connection.stage) ≡ true → ran_out result ≡ false → IsAccount (role_at self.old) (config_view self.old.connection.settings) (endpoint_view self.old) piece.now (after_feed (role_at self.old) (config_view self.old.connection.settings) (endpoint_view self.old) piece.now) account.new.octets (came_by self.old.connection.settings account.new (event_in (taken_by result account.new))) }
+        ensures account { takes_octets (phase_at self.old.connection.stage) ≡ true → ran_out result ≡ false
+            → IsAccount (role_at self.old) (config_view self.old.connection.settings) (endpoint_view self.old)
+            piece.now (after_feed (role_at self.old) (config_view self.old.connection.settings)
+            (endpoint_view self.old) piece.now) account.new.octets (came_by self.old.connection.settings account.new
+            (event_in (taken_by result account.new))) }
         // A message that is told leaves all but its channel as it was.
-        ensures message { OnOk result (IsMessage (parts_there account.new.parts) → SameButChannels (endpoint_view self.old) (endpoint_view self.new)) }
+        ensures message { OnOk result (IsMessage (parts_there account.new.parts)
+            → SameButChannels (endpoint_view self.old) (endpoint_view self.new)) }
         ensures heard { Hears (role_at self.old) (config_view self.old.connection.settings) result
             (endpoint_view self.old) piece.now (after_feed (role_at self.old) (config_view self.old.connection.settings)
             (endpoint_view self.old) piece.now) (heard_view heard.old) (heard_view heard.new) }
@@ -267,7 +287,8 @@ impl Endpoint {
         ensures sound { IsSound self.new }
         ensures settings { self.new.connection.settings ≡ self.old.connection.settings }
         ensures tally { Blames (role_at self.old) result (endpoint_view self.old) piece.now
-            (after_feed (role_at self.old) (config_view self.old.connection.settings) (endpoint_view self.old) piece.now)
+            (after_feed (role_at self.old) (config_view self.old.connection.settings) (endpoint_view self.old)
+            piece.now)
             (tally_view self.old.tally) (tally_view self.new.tally) }
     {
         octets::cut_changes_nothing();
@@ -344,9 +365,12 @@ impl Endpoint {
     /// Where the frames of an ask go, or why it is refused.
     pub(crate) fn allow(&self, ask: LentAsk<'_>) -> Result<Place, AskFault>
         requires { IsSound self.now }
-        ensures allowed { OnOk result (refusal (role_at self.now) (endpoint_view self.now).end (lent_view ask.entry) ≡ None) }
-        ensures refused { IfErr result (λ fault. RefusesAsk (role_at self.now) (lent_view ask.entry) fault (endpoint_view self.now) (endpoint_view self.now)) }
-        ensures channel { IfOk result (λ place. IsChannelOf (endpoint_view self.now).end (lent_view ask.entry) place.channel) }
+        ensures allowed { OnOk result (refusal (role_at self.now) (endpoint_view self.now).end (lent_view ask.entry)
+            ≡ None) }
+        ensures refused { IfErr result (λ fault. RefusesAsk (role_at self.now) (lent_view ask.entry) fault
+            (endpoint_view self.now) (endpoint_view self.now)) }
+        ensures channel { IfOk result (λ place. IsChannelOf (endpoint_view self.now).end (lent_view ask.entry)
+            place.channel) }
         ensures size { IfOk result (λ place. IsSizeOf (endpoint_view self.now).end.agreed place.frame_max) }
         ensures least { IfOk result (λ place. negotiation.FRAME_MIN ≤ place.frame_max) }
     {
@@ -356,8 +380,11 @@ impl Endpoint {
 
     /// Why a heartbeat, or what an application decides in the handshake, is refused, if it is. It takes no memory.
     pub(crate) fn allow_control(&self, control: LentControl<'_>) -> Result<(), AskFault>
-        ensures allowed { OnOk result (refusal_by (verdict_at (role_at self.now) (config_view self.now.connection.settings) (control_view control.entry) (endpoint_view self.now)) ≡ None) }
-        ensures refused { IfErr result (λ fault. RefusesControl (role_at self.now) (config_view self.now.connection.settings) (control_view control.entry) fault (endpoint_view self.now) (endpoint_view self.now)) }
+        ensures allowed { OnOk result (refusal_by (verdict_at (role_at self.now)
+            (config_view self.now.connection.settings) (control_view control.entry) (endpoint_view self.now)) ≡ None) }
+        ensures refused { IfErr result (λ fault. RefusesControl (role_at self.now)
+            (config_view self.now.connection.settings) (control_view control.entry) fault (endpoint_view self.now)
+            (endpoint_view self.now)) }
     {
         controls::controls_follow();
         self.connection.allow_control(control)
@@ -366,8 +393,11 @@ impl Endpoint {
     /// A heartbeat, or what an application decides in the handshake: it is refused, or its frame is put.
     pub(crate) fn control(&mut self, control: LentControl<'_>) -> Result<(), AskFault>
         requires { IsSound self.old }
-        ensures accepted { OnOk result (AcceptsControl (role_at self.old) (config_view self.old.connection.settings) (control_view control.entry) (endpoint_view self.old) (endpoint_view self.new)) }
-        ensures refused { IfErr result (λ fault. RefusesControl (role_at self.old) (config_view self.old.connection.settings) (control_view control.entry) fault (endpoint_view self.old) (endpoint_view self.new)) }
+        ensures accepted { OnOk result (AcceptsControl (role_at self.old) (config_view self.old.connection.settings)
+            (control_view control.entry) (endpoint_view self.old) (endpoint_view self.new)) }
+        ensures refused { IfErr result (λ fault. RefusesControl (role_at self.old)
+            (config_view self.old.connection.settings) (control_view control.entry) fault (endpoint_view self.old)
+            (endpoint_view self.new)) }
         ensures sound { IsSound self.new }
         ensures settings { self.new.connection.settings ≡ self.old.connection.settings }
         ensures tally { tally_view self.new.tally ≡ tally_view self.old.tally }
@@ -384,9 +414,12 @@ impl Endpoint {
     /// What an application asks: it is refused, or its frames are put. The answer is the channel that an open takes.
     pub(crate) fn ask(&mut self, ask: LentAsk<'_>) -> Result<Option<u16>, AskFault>
         requires { IsSound self.old }
-        ensures accepted { OnOk result (AcceptsAsk (role_at self.old) (config_view self.old.connection.settings) (lent_view ask.entry) (endpoint_view self.old) (endpoint_view self.new)) }
-        ensures number { IfOk result (λ number. number ≡ number_taken (endpoint_view self.old).end (lent_view ask.entry)) }
-        ensures refused { IfErr result (λ fault. RefusesAsk (role_at self.old) (lent_view ask.entry) fault (endpoint_view self.old) (endpoint_view self.new)) }
+        ensures accepted { OnOk result (AcceptsAsk (role_at self.old) (config_view self.old.connection.settings)
+            (lent_view ask.entry) (endpoint_view self.old) (endpoint_view self.new)) }
+        ensures number { IfOk result (λ number. number ≡ number_taken (endpoint_view self.old).end
+            (lent_view ask.entry)) }
+        ensures refused { IfErr result (λ fault. RefusesAsk (role_at self.old) (lent_view ask.entry) fault
+            (endpoint_view self.old) (endpoint_view self.new)) }
         ensures sound { IsSound self.new }
         ensures settings { self.new.connection.settings ≡ self.old.connection.settings }
         ensures tally { tally_view self.new.tally ≡ tally_view self.old.tally }

@@ -4,7 +4,7 @@ ghost use Rattle.amqp_method.specs.MethodRefView.{lent_call};
 ghost use Rattle.amqp_model.specs.End.Events.{reason_in};
 ghost use Rattle.amqp_model.specs.Wire.Methods.{octets_at};
 ghost use Rattle.amqp_channel.specs.Reasons.{IsClose};
-ghost use Rattle.amqp_core.specs.EventRefView.{blocked_lent, channel_close_lent, close_lent, event_ref_there, is_close_kind, method_lent, reason_ref_view};
+ghost use Rattle.amqp_core.specs.Stream.EventRefView.{blocked_lent, channel_close_lent, close_lent, event_ref_there, is_close_kind, method_lent, reason_ref_view};
 ghost use Rattle.amqp_model.specs.Lent.Alike.{part_lent};
 ghost use Rattle.amqp_channel.specs.ReadingView.{reading_view};
 

@@ -4,8 +4,8 @@ ghost use Rattle.amqp_channel.specs.EventView.{event_there};
 ghost use Rattle.amqp_channel.specs.Messages.{message_of};
 ghost use Rattle.amqp_method.specs.MessageView.{message_view};
 ghost use Rattle.amqp_method.specs.MethodRefView.{lent_call};
-ghost use Rattle.amqp_core.specs.EventRefOwned.{IsOwned, IsOwnedMessage, IsOwnedReason, IsOwnedText};
-ghost use Rattle.amqp_core.specs.EventRefView.{event_ref_view, reason_ref_view};
+ghost use Rattle.amqp_core.specs.Stream.EventRefOwned.{IsOwned, IsOwnedMessage, IsOwnedReason, IsOwnedText};
+ghost use Rattle.amqp_core.specs.Stream.EventRefView.{event_ref_view, reason_ref_view};
 
 use crate::event_ref::{EventRef, ReasonRef};
 use crate::faults::OutOfMemory;

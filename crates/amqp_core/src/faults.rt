@@ -4,7 +4,7 @@ ghost use Rattle.amqp_outbox.specs.OutboxFaults.{out_of_memory};
 ghost use Rattle.amqp_core.specs.declared.faults.CoreFault.TheVariants as core_faults;
 ghost use Rattle.amqp_core.specs.declared.faults.ConfigFault.TheVariants as config_faults;
 ghost use Rattle.amqp_core.specs.declared.faults.AskFault.TheVariants as ask_faults;
-ghost use Rattle.amqp_core.specs.Faults.{core_fault_number, config_fault_number, ask_fault_number};
+ghost use Rattle.amqp_core.specs.Faults.Numbers.{core_fault_number, config_fault_number, ask_fault_number};
 
 use amqp_channel::CloseCode;
 use amqp_outbox::StageFault;

@@ -3,7 +3,7 @@ ghost use Rattle.std.specs.Prelude.{◌≡◌, IfOk};
 ghost use Rattle.amqp_value.specs.Tables.{table_view};
 ghost use Rattle.amqp_method.specs.MethodView.{method_view};
 ghost use Rattle.amqp_model.specs.End.Fitting as fitting;
-ghost use Rattle.amqp_core.specs.HandshakeMethods.{IsStart, IsOpen, IsTune, start_ok_saying};
+ghost use Rattle.amqp_core.specs.Connection.HandshakeMethods.{IsStart, IsOpen, IsTune, start_ok_saying};
 
 use crate::faults::OutOfMemory;
 use crate::settings::{ClientHello, Hello, ServerHello, Settings};
@@ -36,7 +36,8 @@ pub(crate) fn start_ok(
     response: &[u8],
     locale: &ShortStr,
 ) -> Result<Method, OutOfMemory>
-    ensures { IfOk result (λ m. method_view m ≡ start_ok_saying (table_view properties.now) mechanism.now response.now locale.now) }
+    ensures { IfOk result (λ m. method_view m ≡ start_ok_saying (table_view properties.now) mechanism.now response.now
+        locale.now) }
 {
     let properties = Arg::Table(properties.copy()?);
     let mechanism = Arg::ShortStr(mechanism.copy()?);
@@ -57,7 +58,8 @@ pub(crate) fn open(alloc: Global, hello: &ClientHello) -> Result<Method, OutOfMe
 
 /// A server's limits, and the heartbeat that it wants.
 pub(crate) fn tune(alloc: Global, settings: &Settings) -> Result<Method, OutOfMemory>
-    ensures { IfOk result (λ m. IsTune settings.now.channel_max settings.now.frame_max settings.now.heartbeat (method_view m)) }
+    ensures { IfOk result (λ m. IsTune settings.now.channel_max settings.now.frame_max settings.now.heartbeat
+        (method_view m)) }
 {
     let channels = Arg::Short(settings.channel_max);
     let heartbeat = Arg::Short(settings.heartbeat);
@@ -66,7 +68,7 @@ pub(crate) fn tune(alloc: Global, settings: &Settings) -> Result<Method, OutOfMe
 }
 
 impl Settings {
-    ghost use Rattle.amqp_core.specs.Settings.{role_for, config_view};
+    ghost use Rattle.amqp_core.specs.Config.Settings.{role_for, config_view};
 
     /// The method that has an end's properties: a client's start-ok, a server's start.
     pub(crate) fn greeting(&self, alloc: Global) -> Result<Method, OutOfMemory>

@@ -1,26 +1,44 @@
-//! What an end keeps of what the other end said: the methods of the handshake, and what its last close was about.
+//! What a close is about; and what an end keeps of what the other end said: the methods of the handshake, and what
+//! its last close was about.
 ghost use Rattle.std.specs.Prelude.{◌≡◌, true, Some, None, option_copied};
 ghost use Rattle.amqp_method.specs.Kinds.{kind_with};
 ghost use Rattle.amqp_method.specs.MethodRefView.{lent_call};
 ghost use Rattle.amqp_method.specs.MethodView.{method_view};
 ghost use Rattle.amqp_model.specs.End.Heard.{heard_after, nothing_heard};
 ghost use Rattle.amqp_channel.specs.Reasons.{IsClose};
-ghost use Rattle.amqp_core.specs.Causes.{cause_in};
-ghost use Rattle.amqp_core.specs.Handshakes.{awaits_at};
+ghost use Rattle.amqp_core.specs.Heard.Causes.{cause_in};
+ghost use Rattle.amqp_core.specs.Connection.Handshakes.{awaits_at};
 
 use crate::stage::Stage;
 use amqp_method::{Kind, Method, MethodRef};
 
-/// What a close is about: the class and the method of the frame for which the other end closed. Both are 0 where it
-/// names none.
+/// What a close is about: the class and the method of the frame for which an end closed. Both are 0 where it names
+/// none.
 #[derive(Clone, Copy, PartialEq, Eq, Debug)]
 pub struct Cause {
     pub class_id: u16,
     pub method_id: u16,
 }
 
+/// No method.
+pub(crate) const NO_CAUSE: Cause = Cause {
+    class_id: 0,
+    method_id: 0,
+};
+
 impl Cause {
-    ghost use Rattle.amqp_core.specs.HeardView.{cause_view};
+    ghost use Rattle.amqp_model.specs.End.Closes.{cause_of};
+    ghost use Rattle.amqp_core.specs.Heard.View.{cause_view};
+
+    /// A method of this kind is the cause.
+    pub(crate) fn by(kind: Kind) -> Cause
+        ensures { cause_view result ≡ cause_of kind }
+    {
+        Cause {
+            class_id: kind.class_id(),
+            method_id: kind.method_id(),
+        }
+    }
 
     /// The method that these numbers name, if there is one.
     pub fn kind(self) -> Option<Kind>
@@ -75,7 +93,7 @@ impl Drop for Heard {
 }
 
 impl Heard {
-    ghost use Rattle.amqp_core.specs.HeardView.{heard_view, kept_of_kind, method_there, methods_view, nothing_said};
+    ghost use Rattle.amqp_core.specs.Heard.View.{heard_view, kept_of_kind, method_there, methods_view, nothing_said};
 
     /// Nothing was heard yet.
     pub(crate) fn nothing() -> Heard

@@ -8,12 +8,12 @@ ghost use Rattle.amqp_model.specs.Wire.Items.{FlowOkItem};
 ghost use Rattle.amqp_model.specs.Stream.Traces as traces;
 ghost use Rattle.amqp_model.specs.Stream.Traces.{IsPut, telling_above, telling_at};
 ghost use Rattle.amqp_channel.specs.Roles.{role_of};
-ghost use Rattle.amqp_core.specs.AccountView.{note_there};
-ghost use Rattle.amqp_core.specs.AskNoting.{count_asked, notes_asked};
-ghost use Rattle.amqp_core.specs.AskView.{lent_view};
-ghost use Rattle.amqp_core.specs.CountsLives.{CountsLives};
-ghost use Rattle.amqp_core.specs.NoteView.{item_there, note_view, noted_as, word_view};
-ghost use Rattle.amqp_core.specs.Noting.{lives_in, notes_owed, said_by_owed, told_by, word_of_reply as reply_word};
+ghost use Rattle.amqp_core.specs.Traced.AccountView.{note_there};
+ghost use Rattle.amqp_core.specs.Traced.AskNoting.{count_asked, notes_asked};
+ghost use Rattle.amqp_core.specs.Asks.View.{lent_view};
+ghost use Rattle.amqp_core.specs.Traced.CountsLives.{CountsLives};
+ghost use Rattle.amqp_core.specs.Traced.Notes.{item_there, note_view, noted_as, word_view};
+ghost use Rattle.amqp_core.specs.Traced.Noting.{lives_in, notes_owed, said_by_owed, told_by, word_of_reply as reply_word};
 
 use crate::account::Account;
 use crate::allowing::Place;
@@ -95,7 +95,7 @@ fn word_of_reply(reply: Reply) -> Word
 }
 
 impl Ledger {
-    ghost use Rattle.amqp_core.specs.LedgerView.{GivesBack, HasRoom, notes_in, said_in, told_in};
+    ghost use Rattle.amqp_core.specs.Traced.LedgerView.{GivesBack, HasRoom, notes_in, said_in, told_in};
 
     pub(crate) fn new(alloc: Global, side: Side) -> Ledger
         ensures notes { notes_in result ≡ [] }
@@ -215,7 +215,8 @@ impl Ledger {
     /// An item is said, if there is one.
     fn say(&mut self, channel: u16, item: Option<Item>)
         requires room { vec_len self.old.said < vec_capacity self.old.said }
-        ensures said { said_in self.new ≡ said_in self.old ++ telling_at channel (lives_in (role_of self.old.side) (notes_in self.old) channel) (item_there item) }
+        ensures said { said_in self.new ≡ said_in self.old ++ telling_at channel (lives_in (role_of self.old.side)
+            (notes_in self.old) channel) (item_there item) }
         ensures notes_same { self.new.notes ≡ self.old.notes }
         ensures lives_same { self.new.lives ≡ self.old.lives }
         ensures told_same { self.new.told ≡ self.old.told }
@@ -240,8 +241,10 @@ impl Ledger {
     pub(crate) fn put(&mut self, ask: LentAsk<'_>, place: Place, item: Option<Item>)
         requires size { 8 < place.frame_max }
         requires room { HasRoom self.old (count_asked place.frame_max (lent_view ask)) 0 }
-        ensures notes { notes_in self.new ≡ notes_in self.old ++ notes_asked place.frame_max place.channel (lent_view ask.entry) }
-        ensures said { said_in self.new ≡ said_in self.old ++ telling_at place.channel (lives_in (role_of self.old.side) (notes_in self.old) place.channel) (item_there item) }
+        ensures notes { notes_in self.new ≡ notes_in self.old ++ notes_asked place.frame_max place.channel
+            (lent_view ask.entry) }
+        ensures said { said_in self.new ≡ said_in self.old ++ telling_at place.channel
+            (lives_in (role_of self.old.side) (notes_in self.old) place.channel) (item_there item) }
         ensures told_same { self.new.told ≡ self.old.told }
         ensures fed_same { self.new.fed ≡ self.old.fed }
         ensures written_same { self.new.written ≡ self.old.written }
@@ -252,9 +255,9 @@ impl Ledger {
         match ask {
             LentAsk::Open => self.note(Note::put(channel, Word::Open)),
             LentAsk::Flow(_, _) => self.note(Note::put(channel, Word::Flow)),
-            LentAsk::CloseChannel(_, _, _) => self.note(Note::put(channel, Word::Close)),
+            LentAsk::CloseChannel(_, _, _, _) => self.note(Note::put(channel, Word::Close)),
             LentAsk::Send(_, _) => self.note_others(channel, ask.frames(place.frame_max)),
-            LentAsk::Close(_, _) => self.note_other(channel),
+            LentAsk::Close(_, _, _) => self.note_other(channel),
             LentAsk::Blocked(_) => self.note_other(channel),
             LentAsk::Unblocked => self.note_other(channel),
         }
@@ -298,7 +301,8 @@ impl Ledger {
     /// A flow-ok is said in the life that its channel has then.
     fn say_flow_ok(&mut self, channel: u16, active: bool)
         requires room { vec_len self.old.said < vec_capacity self.old.said }
-        ensures said { said_in self.new ≡ said_in self.old ++ telling_above channel (lives_in (role_of self.old.side) (notes_in self.old) channel) (Some (FlowOkItem active)) }
+        ensures said { said_in self.new ≡ said_in self.old ++ telling_above channel (lives_in (role_of self.old.side)
+            (notes_in self.old) channel) (Some (FlowOkItem active)) }
         ensures notes_same { self.new.notes ≡ self.old.notes }
         ensures lives_same { self.new.lives ≡ self.old.lives }
         ensures told_same { self.new.told ≡ self.old.told }
@@ -323,7 +327,8 @@ impl Ledger {
     /// What is said by what an end owes: a flow-ok.
     fn say_owed(&mut self, owed: Owed)
         requires room { vec_len self.old.said < vec_capacity self.old.said }
-        ensures said { said_in self.new ≡ said_in self.old ++ said_by_owed (lives_in (role_of self.old.side) (notes_in self.old)) owed }
+        ensures said { said_in self.new ≡ said_in self.old
+            ++ said_by_owed (lives_in (role_of self.old.side) (notes_in self.old)) owed }
         ensures notes_same { self.new.notes ≡ self.old.notes }
         ensures lives_same { self.new.lives ≡ self.old.lives }
         ensures told_same { self.new.told ≡ self.old.told }
@@ -340,7 +345,8 @@ impl Ledger {
     /// An item is acted on, if there is one.
     fn tell(&mut self, channel: u16, item: Option<Item>)
         requires room { vec_len self.old.told < vec_capacity self.old.told }
-        ensures told { told_in self.new ≡ told_in self.old ++ telling_at channel (lives_in (role_of self.old.side) (notes_in self.old) channel) (item_there item) }
+        ensures told { told_in self.new ≡ told_in self.old ++ telling_at channel (lives_in (role_of self.old.side)
+            (notes_in self.old) channel) (item_there item) }
         ensures notes_same { self.new.notes ≡ self.old.notes }
         ensures lives_same { self.new.lives ≡ self.old.lives }
         ensures said_same { self.new.said ≡ self.old.said }
@@ -364,9 +370,14 @@ impl Ledger {
     /// What came of a piece, of which these octets were taken, and the item that it told.
     pub(crate) fn enter(&mut self, octets: &[u8], account: &Account, item: Option<Item>)
         requires { HasRoom self.old 3 (length octets.now) }
-        ensures notes { notes_in self.new ≡ notes_in self.old ++ (option_to_list (note_there account.now.took) ++ notes_owed (role_of self.old.side) account.now.owed) }
-        ensures told { told_in self.new ≡ told_in self.old ++ told_by (lives_in (role_of self.old.side) (notes_in self.old)) (note_there account.now.took) (item_there item) }
-        ensures said { said_in self.new ≡ said_in self.old ++ said_by_owed (lives_in (role_of self.old.side) (notes_in self.old ++ option_to_list (note_there account.now.took))) account.now.owed }
+        ensures notes { notes_in self.new ≡ notes_in self.old ++ (option_to_list (note_there account.now.took)
+            ++ notes_owed (role_of self.old.side) account.now.owed) }
+        ensures told { told_in self.new ≡ told_in self.old
+            ++ told_by (lives_in (role_of self.old.side) (notes_in self.old)) (note_there account.now.took)
+            (item_there item) }
+        ensures said { said_in self.new ≡ said_in self.old
+            ++ said_by_owed (lives_in (role_of self.old.side) (notes_in self.old
+            ++ option_to_list (note_there account.now.took))) account.now.owed }
         ensures fed { self.new.fed.items ≡ self.old.fed.items ++ octets.now }
         ensures written_same { self.new.written ≡ self.old.written }
         ensures side { self.new.side ≡ self.old.side }

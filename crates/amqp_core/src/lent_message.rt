@@ -1,5 +1,5 @@
 //! Messages whose parts are lent, so that sending copies none of them but into the output.
-ghost use Rattle.amqp_core.specs.LentForm.{KindFits};
+ghost use Rattle.amqp_core.specs.Asks.LentForm.{KindFits};
 
 use crate::faults::OutOfMemory;
 use amqp_method::{Message, Method, Properties};
@@ -27,7 +27,7 @@ impl<'a> LentMessage<'a> {
     ghost use Rattle.amqp_method.specs.MessageView.{message_view};
     ghost use Rattle.amqp_method.specs.MethodView.{method_view};
     ghost use Rattle.amqp_channel.specs.Messages.{message_of};
-    ghost use Rattle.amqp_core.specs.LentLetter.{lent_letter};
+    ghost use Rattle.amqp_core.specs.Asks.LentLetter.{lent_letter};
 
     /// A message, lent.
     pub(crate) fn of(message: &'a Message) -> LentMessage<'a>
@@ -68,7 +68,8 @@ impl<'a> LentMessage<'a> {
     /// The properties and the body of the content, if the message has one.
     pub(crate) fn content_parts(self) -> Option<(&'a Properties, &'a [u8])>
         ensures { MatchOption result ((lent_letter self.entry).properties ≡ None)
-            (λ p. ((lent_letter self.entry).properties ≡ Some (properties_view p.0.now)) × ((lent_letter self.entry).body ≡ p.1.now)) }
+            (λ p. ((lent_letter self.entry).properties ≡ Some (properties_view p.0.now))
+            × ((lent_letter self.entry).body ≡ p.1.now)) }
     {
         match self.form {
             Form::Plain(_) => None,

@@ -4,8 +4,8 @@
 ghost use Rattle.std.specs.Prelude.{◌≡◌, ◌<◌, ◌≤◌, ◌+◌, ◌^◌, ℕ, suc, OnOk, OnErr};
 ghost use Rattle.std.specs.HashMap.{spare};
 ghost use Rattle.amqp_channel.specs.Roles.{role_of};
-ghost use Rattle.amqp_core.specs.LifeCounts.{after_word, counted_with, nothing_counted};
-ghost use Rattle.amqp_core.specs.NoteView.{note_view};
+ghost use Rattle.amqp_core.specs.Traced.LifeCounts.{after_word, counted_with, nothing_counted};
+ghost use Rattle.amqp_core.specs.Traced.Notes.{note_view};
 
 use crate::faults::OutOfMemory;
 use crate::notes::{Direction, Note, Word};
@@ -29,7 +29,7 @@ pub(crate) struct Lives {
 }
 
 impl Count {
-    ghost use Rattle.amqp_core.specs.CountView.{count_view};
+    ghost use Rattle.amqp_core.specs.Traced.CountView.{count_view};
 
     fn new() -> Count
         ensures { count_view result ≡ nothing_counted }
@@ -43,7 +43,8 @@ impl Count {
     /// One more note is counted.
     fn after(self, side: Side, note: Note) -> Count
         requires { self.lives + 1 < 2 ^ 64 }
-        ensures { count_view result ≡ after_word (role_of side) (note_view note).direction (note_view note).word (count_view self) }
+        ensures { count_view result ≡ after_word (role_of side) (note_view note).direction (note_view note).word
+            (count_view self) }
     {
         let mut after = self;
         match (note.direction, note.word, side) {
@@ -62,7 +63,7 @@ impl Count {
 }
 
 impl Lives {
-    ghost use Rattle.amqp_core.specs.CountView.{count_view, lives_view};
+    ghost use Rattle.amqp_core.specs.Traced.CountView.{count_view, lives_view};
 
     pub(crate) fn new(alloc: Global) -> Lives
         ensures { (channel : ℕ) → lives_view result channel ≡ nothing_counted }
@@ -101,7 +102,8 @@ impl Lives {
     pub(crate) fn note(&mut self, side: Side, note: Note)
         requires room { 0 < spare self.old.counts }
         requires least { (lives_view self.old note.channel).lives + 1 < 2 ^ 64 }
-        ensures counts { (channel : ℕ) → lives_view self.new channel ≡ counted_with (role_of side) channel (note_view note) (lives_view self.old channel) }
+        ensures counts { (channel : ℕ) → lives_view self.new channel ≡ counted_with (role_of side) channel
+            (note_view note) (lives_view self.old channel) }
         ensures spare { spare self.old.counts ≤ spare self.new.counts + 1 }
     {
         let count = self.count(note.channel).after(side, note);

@@ -4,7 +4,7 @@ ghost use Rattle.amqp_method.specs.MethodRefView.{lent_call};
 ghost use Rattle.amqp_model.specs.Wire.Readings.{Calls, kind_of};
 ghost use Rattle.amqp_model.specs.Stream.Traces.{IsPut, IsTaken, word_of};
 ghost use Rattle.amqp_channel.specs.ReadingView.{reading_view};
-ghost use Rattle.amqp_core.specs.NoteView.{note_view, noted_as, word_view};
+ghost use Rattle.amqp_core.specs.Traced.Notes.{note_view, noted_as, word_view};
 
 use amqp_channel::Reading;
 use amqp_method::{Kind, MethodRef};

@@ -6,9 +6,9 @@ ghost use Rattle.amqp_model.specs.End.Machine.{as_failed, end_after_owed};
 ghost use Rattle.amqp_model.specs.History.Negotiation.{PROTOCOL_HEADER as HEADER};
 ghost use Rattle.amqp_model.specs.Output.Outputs.{after_puts};
 ghost use Rattle.amqp_outbox.specs.OutboxView.{only};
-ghost use Rattle.amqp_core.specs.ConnectionView.{connection_end};
-ghost use Rattle.amqp_core.specs.Outcomes.{SameEnd};
-ghost use Rattle.amqp_core.specs.Settings.{config_view, role_for};
+ghost use Rattle.amqp_core.specs.Connection.View.{connection_end};
+ghost use Rattle.amqp_core.specs.Connection.Outcomes.{SameEnd};
+ghost use Rattle.amqp_core.specs.Config.Settings.{config_view, role_for};
 
 use crate::connection::{Connection, put_owed};
 use crate::faults::OutOfMemory;
@@ -22,7 +22,8 @@ fn agreeing(octets: &[u8], wanted: &[u8]) -> usize
     ensures within { result ≤ length octets.now }
     ensures wanted { result ≤ length wanted.now }
     ensures same { take result octets.now ≡ take result wanted.now }
-    ensures differs { result < length octets.now → result < length wanted.now → slice_index octets.now result ≢ slice_index wanted.now result }
+    ensures differs { result < length octets.now → result < length wanted.now → slice_index octets.now result
+        ≢ slice_index wanted.now result }
 {
     let mut count = 0;
     while count < octets.len() && count < wanted.len() {
@@ -40,7 +41,8 @@ pub(crate) fn going_on(heard: usize, octets: &[u8]) -> usize
     ensures within { result ≤ length octets.now }
     ensures room { heard + result ≤ 8 }
     ensures same { take heard HEADER ++ take result octets.now ≡ take (heard + result) HEADER }
-    ensures differs { result < length octets.now → heard + result < 8 → slice_index octets.now result ≢ slice_index HEADER (heard + result) }
+    ensures differs { result < length octets.now → heard + result < 8 → slice_index octets.now result
+        ≢ slice_index HEADER (heard + result) }
 {
     agreeing(octets, &PROTOCOL_HEADER[heard..])
 }
@@ -50,8 +52,12 @@ impl Connection {
     pub(crate) fn greet(&mut self, outbox: &mut Outbox) -> Result<(), OutOfMemory>
         requires awaited { awaits_opening (role_for self.old.settings) (connection_end self.old).phase ≡ true }
         requires staged { outbox.old.staged ≡ [] }
-        ensures end { OnOk result (connection_end self.new ≡ end_after_owed (role_for self.old.settings) (config_view self.old.settings) (greeting (role_for self.old.settings) (config_view self.old.settings)) (connection_end self.old)) }
-        ensures output { OnOk result (outbox.new ≡ only (after_puts (map frame_of (greeting (role_for self.old.settings) (config_view self.old.settings))) outbox.old.output)) }
+        ensures end { OnOk result (connection_end self.new ≡ end_after_owed (role_for self.old.settings)
+            (config_view self.old.settings) (greeting (role_for self.old.settings) (config_view self.old.settings))
+            (connection_end self.old)) }
+        ensures output { OnOk result (outbox.new
+            ≡ only (after_puts (map frame_of (greeting (role_for self.old.settings) (config_view self.old.settings)))
+            outbox.old.output)) }
         ensures failed { OnErr result (connection_end self.new ≡ as_failed (connection_end self.old)) }
         ensures same { OnErr result (outbox.new ≡ only outbox.old.output) }
         ensures settings { self.new.settings ≡ self.old.settings }

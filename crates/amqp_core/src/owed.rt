@@ -6,8 +6,8 @@ ghost use Rattle.amqp_outbox.specs.OutboxView.{with_staged};
 ghost use Rattle.amqp_channel.specs.Closes.{code_view};
 ghost use Rattle.amqp_channel.specs.EventView.{agreed_view};
 ghost use Rattle.amqp_channel.specs.VerdictView.{reply_kind};
-ghost use Rattle.amqp_core.specs.OwedView.{owed_view, starts, answers_start, tunes, answers_tune};
-ghost use Rattle.amqp_core.specs.Settings.{role_for, config_view};
+ghost use Rattle.amqp_core.specs.Connection.Owed.{owed_view, starts, answers_start, tunes, answers_tune};
+ghost use Rattle.amqp_core.specs.Config.Settings.{role_for, config_view};
 
 use crate::greeting::{open, tune};
 use crate::replies::{bare, close, flow_ok, tune_ok};
@@ -35,7 +35,8 @@ pub(crate) enum Owed {
 
 /// Stages the server's start.
 fn stage_start(alloc: Global, settings: &Settings, outbox: &mut Outbox) -> Result<(), StageFault>
-    ensures ok { OnOk result (outbox.new ≡ with_staged outbox.old (map frame_of (starts (role_for settings.now) (config_view settings.now)))) }
+    ensures ok { OnOk result (outbox.new ≡ with_staged outbox.old
+        (map frame_of (starts (role_for settings.now) (config_view settings.now)))) }
     ensures err { OnErr result (outbox.new.output ≡ outbox.old.output) }
 {
     match &settings.hello {
@@ -49,7 +50,8 @@ fn stage_start(alloc: Global, settings: &Settings, outbox: &mut Outbox) -> Resul
 
 /// Stages the client's start-ok.
 fn stage_start_ok(alloc: Global, settings: &Settings, outbox: &mut Outbox) -> Result<(), StageFault>
-    ensures ok { OnOk result (outbox.new ≡ with_staged outbox.old (map frame_of (answers_start (role_for settings.now) (config_view settings.now)))) }
+    ensures ok { OnOk result (outbox.new ≡ with_staged outbox.old
+        (map frame_of (answers_start (role_for settings.now) (config_view settings.now)))) }
     ensures err { OnErr result (outbox.new.output ≡ outbox.old.output) }
 {
     match &settings.hello {
@@ -63,7 +65,8 @@ fn stage_start_ok(alloc: Global, settings: &Settings, outbox: &mut Outbox) -> Re
 
 /// Stages the server's tune.
 fn stage_tune(alloc: Global, settings: &Settings, outbox: &mut Outbox) -> Result<(), StageFault>
-    ensures ok { OnOk result (outbox.new ≡ with_staged outbox.old (map frame_of (tunes (role_for settings.now) (config_view settings.now)))) }
+    ensures ok { OnOk result (outbox.new ≡ with_staged outbox.old
+        (map frame_of (tunes (role_for settings.now) (config_view settings.now)))) }
     ensures err { OnErr result (outbox.new.output ≡ outbox.old.output) }
 {
     match &settings.hello {
@@ -82,7 +85,8 @@ fn stage_tune_ok(
     agreed: Agreed,
     outbox: &mut Outbox,
 ) -> Result<(), StageFault>
-    ensures ok { OnOk result (outbox.new ≡ with_staged outbox.old (map frame_of (answers_tune (role_for settings.now) (config_view settings.now) (agreed_view agreed)))) }
+    ensures ok { OnOk result (outbox.new ≡ with_staged outbox.old
+        (map frame_of (answers_tune (role_for settings.now) (config_view settings.now) (agreed_view agreed)))) }
     ensures err { OnErr result (outbox.new.output ≡ outbox.old.output) }
 {
     match &settings.hello {
@@ -103,7 +107,8 @@ fn stage_reply(
     reply: Reply,
     outbox: &mut Outbox,
 ) -> Result<(), StageFault>
-    ensures ok { OnOk result (outbox.new ≡ with_staged outbox.old (map frame_of (map (on_channel number) (reply_to (Some (reply_kind reply)))))) }
+    ensures ok { OnOk result (outbox.new ≡ with_staged outbox.old
+        (map frame_of (map (on_channel number) (reply_to (Some (reply_kind reply)))))) }
     ensures err { OnErr result (outbox.new.output ≡ outbox.old.output) }
 {
     match reply {
@@ -132,7 +137,8 @@ fn stage_channel_close(
     code: CloseCode,
     outbox: &mut Outbox,
 ) -> Result<(), StageFault>
-    ensures ok { OnOk result (outbox.new ≡ with_staged outbox.old (frame_of (channel_close number (code_view code)) ∷ [])) }
+    ensures ok { OnOk result (outbox.new ≡ with_staged outbox.old (frame_of (channel_close number (code_view code)) ∷
+        [])) }
     ensures err { OnErr result (outbox.new.output ≡ outbox.old.output) }
 {
     let method = close(alloc, Kind::ChannelClose, code)?;
@@ -141,7 +147,7 @@ fn stage_channel_close(
 
 impl Owed {
     ghost use Rattle.std.specs.Prelude.{IsOk};
-    ghost use Rattle.amqp_core.specs.OwedView.{IsNothing};
+    ghost use Rattle.amqp_core.specs.Connection.Owed.{IsNothing};
 
     /// Stages the frames of what is owed, after those that are staged.
     pub(crate) fn stage(

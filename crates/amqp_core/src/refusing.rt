@@ -12,9 +12,9 @@ ghost use Rattle.amqp_channel.specs.LentView.{content_on};
 ghost use Rattle.amqp_channel.specs.LifeView.{life_on, IsOther};
 ghost use Rattle.amqp_channel.specs.Messages.{message_of};
 ghost use Rattle.amqp_channel.specs.Roles.{role_of};
-ghost use Rattle.amqp_core.specs.LentLetter.{lent_letter};
+ghost use Rattle.amqp_core.specs.Asks.LentLetter.{lent_letter};
 ghost use Rattle.amqp_channel.specs.StandingView.{paused_in, requests_in};
-ghost use Rattle.amqp_core.specs.Refusals.{refusal_there, refusal_in, reply_refusal, passes as is_passed, is_too_large as is_longer};
+ghost use Rattle.amqp_core.specs.Asks.Refusals.{refusal_there, refusal_in, reply_refusal, passes as is_passed, is_too_large as is_longer};
 
 use crate::connection::Connection;
 use crate::faults::AskFault;
@@ -128,16 +128,17 @@ fn refusal_of_message(
 impl Connection {
     ghost use Rattle.amqp_model.specs.End.Asks as asks;
     ghost use Rattle.amqp_model.specs.End.Asks.{is_free, is_running, lowest_free, refusal};
+    ghost use Rattle.amqp_model.specs.End.Closes.{Cause};
     ghost use Rattle.amqp_model.specs.Wire.Notes.{Client, Role, Server};
     ghost use Rattle.amqp_model.specs.Wire.Readings.{Calls, kind_of};
     ghost use Rattle.amqp_channel.specs.ChannelsView.{channels_view};
     ghost use Rattle.amqp_channel.specs.Used.{is_open_at};
-    ghost use Rattle.amqp_core.specs.Asked.{IsAllowed, IsRefusal};
-    ghost use Rattle.amqp_core.specs.ConnectionView.{connection_end};
-    ghost use Rattle.amqp_core.specs.Faults.{refusal_view};
-    ghost use Rattle.amqp_core.specs.Refusals.{refused_on, IsOpenIn};
-    ghost use Rattle.amqp_core.specs.Settings.{role_for};
-    ghost use Rattle.amqp_core.specs.Stages.{phase_at};
+    ghost use Rattle.amqp_core.specs.Asks.Asked.{IsAllowed, IsRefusal};
+    ghost use Rattle.amqp_core.specs.Connection.View.{connection_end};
+    ghost use Rattle.amqp_core.specs.Faults.Numbers.{refusal_view};
+    ghost use Rattle.amqp_core.specs.Asks.Refusals.{refused_on, IsOpenIn};
+    ghost use Rattle.amqp_core.specs.Config.Settings.{role_for};
+    ghost use Rattle.amqp_core.specs.Connection.Stages.{phase_at};
     ghost use Rattle.amqp_core.specs.declared.stage.Stage.TheVariants.{Running};
 
     /// What was agreed on a connection that is Running.
@@ -145,7 +146,8 @@ impl Connection {
         ensures running { IfOk result (λ agreed. self.now.stage ≡ Running agreed) }
         ensures idle { OnErr result (is_running (phase_at self.now.stage) ≡ false) }
         ensures not_running { IfErr result (λ fault. fault ≡ AskFault.NotRunning) }
-        ensures refused { IfErr result (λ fault. (role : Role) (ask : asks.Ask) → refusal_view fault ≡ refusal role (connection_end self.now) ask) }
+        ensures refused { IfErr result (λ fault. (role : Role) (ask : asks.Ask)
+            → refusal_view fault ≡ refusal role (connection_end self.now) ask) }
     {
         match self.stage {
             Stage::Running(agreed) => Ok(agreed),
@@ -170,7 +172,8 @@ impl Connection {
         requires { self.now.stage ≡ Running agreed }
         ensures open { IfOk result (λ standing. IsOpenIn (connection_end self.now) number
             (life_on (content_on (channels_view self.now.channels number)) standing.now)) }
-        ensures refused { IfErr result (λ fault. (later : List (Option Refusal)) → refusal_view fault ≡ refused_on (connection_end self.now) number later) }
+        ensures refused { IfErr result (λ fault. (later : List (Option Refusal))
+            → refusal_view fault ≡ refused_on (connection_end self.now) number later) }
     {
         if number == 0 || agreed.channel_max < number {
             return Err(AskFault::BadChannel);
@@ -187,7 +190,8 @@ impl Connection {
     /// The channel that an open takes, where it isn't refused.
     pub(crate) fn allow_open(&mut self) -> Result<u16, AskFault>
         ensures allowed { OnOk result (IsAllowed self.old.settings (connection_end self.old) asks.Open) }
-        ensures refused { IfErr result (λ fault. IsRefusal self.old.settings (connection_end self.old) asks.Open fault) }
+        ensures refused { IfErr result (λ fault. IsRefusal self.old.settings (connection_end self.old) asks.Open
+            fault) }
         ensures running { OnOk result (is_running (connection_end self.old).phase ≡ true) }
         ensures lowest { IfOk result (λ number. lowest_free (connection_end self.old) ≡ Some number) }
         ensures above { IfOk result (λ number. 0 < number) }
@@ -213,8 +217,10 @@ impl Connection {
         number: u16,
         message: LentMessage<'_>,
     ) -> Result<Agreed, AskFault>
-        ensures allowed { OnOk result (IsAllowed self.now.settings (connection_end self.now) (asks.Send number (message_of (lent_letter message.entry)))) }
-        ensures refused { IfErr result (λ fault. IsRefusal self.now.settings (connection_end self.now) (asks.Send number (message_of (lent_letter message.entry))) fault) }
+        ensures allowed { OnOk result (IsAllowed self.now.settings (connection_end self.now)
+            (asks.Send number (message_of (lent_letter message.entry)))) }
+        ensures refused { IfErr result (λ fault. IsRefusal self.now.settings (connection_end self.now)
+            (asks.Send number (message_of (lent_letter message.entry))) fault) }
         ensures running { IfOk result (λ agreed. self.now.stage ≡ Running agreed) }
         ensures above { OnOk result (0 < number) }
         ensures open { OnOk result (is_open_at (channels_view self.now.channels number) ≡ true) }
@@ -232,8 +238,10 @@ impl Connection {
 
     /// What was agreed, where a flow isn't refused.
     pub(crate) fn allow_flow(&self, number: u16) -> Result<Agreed, AskFault>
-        ensures allowed { OnOk result ((active : Bool) → IsAllowed self.now.settings (connection_end self.now) (asks.Flow number active)) }
-        ensures refused { IfErr result (λ fault. (active : Bool) → IsRefusal self.now.settings (connection_end self.now) (asks.Flow number active) fault) }
+        ensures allowed { OnOk result ((active : Bool) → IsAllowed self.now.settings (connection_end self.now)
+            (asks.Flow number active)) }
+        ensures refused { IfErr result (λ fault. (active : Bool)
+            → IsRefusal self.now.settings (connection_end self.now) (asks.Flow number active) fault) }
         ensures running { IfOk result (λ agreed. self.now.stage ≡ Running agreed) }
         ensures above { OnOk result (0 < number) }
         ensures open { OnOk result (is_open_at (channels_view self.now.channels number) ≡ true) }
@@ -248,8 +256,10 @@ impl Connection {
 
     /// What was agreed, where a close of a channel isn't refused.
     pub(crate) fn allow_close(&self, number: u16) -> Result<Agreed, AskFault>
-        ensures allowed { OnOk result ((code : ℕ) (text : List ℕ) → IsAllowed self.now.settings (connection_end self.now) (asks.CloseChannel number code text)) }
-        ensures refused { IfErr result (λ fault. (code : ℕ) (text : List ℕ) → IsRefusal self.now.settings (connection_end self.now) (asks.CloseChannel number code text) fault) }
+        ensures allowed { OnOk result ((code : ℕ) (text : List ℕ) (cause : Cause)
+            → IsAllowed self.now.settings (connection_end self.now) (asks.CloseChannel number code text cause)) }
+        ensures refused { IfErr result (λ fault. (code : ℕ) (text : List ℕ) (cause : Cause)
+            → IsRefusal self.now.settings (connection_end self.now) (asks.CloseChannel number code text cause) fault) }
         ensures running { IfOk result (λ agreed. self.now.stage ≡ Running agreed) }
         ensures above { OnOk result (0 < number) }
         ensures open { OnOk result (is_open_at (channels_view self.now.channels number) ≡ true) }
@@ -261,10 +271,13 @@ impl Connection {
 
     /// What was agreed, where it isn't refused to say that contents are taken or not.
     pub(crate) fn allow_block(&self) -> Result<Agreed, AskFault>
-        ensures allowed { OnOk result ((reason : List ℕ) → IsAllowed self.now.settings (connection_end self.now) (asks.Blocked reason)) }
+        ensures allowed { OnOk result ((reason : List ℕ) → IsAllowed self.now.settings (connection_end self.now)
+            (asks.Blocked reason)) }
         ensures unblocking { OnOk result (IsAllowed self.now.settings (connection_end self.now) asks.Unblocked) }
-        ensures refused { IfErr result (λ fault. (reason : List ℕ) → IsRefusal self.now.settings (connection_end self.now) (asks.Blocked reason) fault) }
-        ensures no_unblocking { IfErr result (λ fault. IsRefusal self.now.settings (connection_end self.now) asks.Unblocked fault) }
+        ensures refused { IfErr result (λ fault. (reason : List ℕ)
+            → IsRefusal self.now.settings (connection_end self.now) (asks.Blocked reason) fault) }
+        ensures no_unblocking { IfErr result (λ fault. IsRefusal self.now.settings (connection_end self.now)
+            asks.Unblocked fault) }
         ensures running { IfOk result (λ agreed. self.now.stage ≡ Running agreed) }
         ensures server { OnOk result (role_for self.now.settings ≡ Server) }
     {

@@ -13,8 +13,8 @@ pub trait Role {
     ghost use Rattle.std.specs.Prelude.{◌≡◌, IfOk};
     ghost use Rattle.amqp_model.specs.Wire.Notes.{Role as Played, is_client as is_client_role};
     ghost use Rattle.amqp_channel.specs.Roles.{role_of, sent_by, taken_by};
-    ghost use Rattle.amqp_core.specs.Configs.{said_in};
-    ghost use Rattle.amqp_core.specs.Settings.{role_in};
+    ghost use Rattle.amqp_core.specs.Config.Configs.{said_in};
+    ghost use Rattle.amqp_core.specs.Config.Settings.{role_in};
     ghost use Rattle.amqp_core.specs.declared.settings.Hello.{Hello as Said};
 
     /// What an end of this role says of itself in the handshake: a [`ClientHello`] or a [`ServerHello`].

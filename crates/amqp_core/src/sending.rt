@@ -10,7 +10,7 @@ ghost use Rattle.amqp_method.specs.HeaderView.{properties_view};
 ghost use Rattle.amqp_method.specs.MethodView.{method_view};
 ghost use Rattle.amqp_method.specs.Properties.{header};
 ghost use Rattle.amqp_model.specs.End.Asks.{payload_frame, message_payloads, Send};
-ghost use Rattle.amqp_model.specs.End.Closes.{close_as, flow_as, method_frame};
+ghost use Rattle.amqp_model.specs.End.Closes.{close_for, flow_as, method_frame};
 ghost use Rattle.amqp_model.specs.Wire.Contents.{pieces};
 ghost use Rattle.amqp_model.specs.End.Controls.{heartbeat_frame};
 ghost use Rattle.amqp_model.specs.Wire.Methods.{ReadsBack};
@@ -19,10 +19,12 @@ ghost use Rattle.amqp_outbox.specs.OutboxFrames.{header_frame, body_frame, Heade
 ghost use Rattle.amqp_outbox.specs.OutboxView.{with_staged};
 ghost use Rattle.amqp_channel.specs.Messages.{message_of};
 ghost use Rattle.amqp_channel.specs.Reasons.{IsClose};
-ghost use Rattle.amqp_core.specs.Faults.{refusal_view};
-ghost use Rattle.amqp_core.specs.LentLetter.{lent_letter};
+ghost use Rattle.amqp_core.specs.Faults.Numbers.{refusal_view};
+ghost use Rattle.amqp_core.specs.Heard.View.{cause_view};
+ghost use Rattle.amqp_core.specs.Asks.LentLetter.{lent_letter};
 
 use crate::faults::AskFault;
+use crate::heard::Cause;
 use crate::lent_message::LentMessage;
 use amqp_method::{Arg, Kind, Method, Properties};
 use amqp_outbox::Outbox;
@@ -60,9 +62,10 @@ pub(crate) fn close(
     kind: Kind,
     code: u16,
     text: &ShortStr,
+    cause: Cause,
 ) -> Result<Method, AskFault>
     requires { IsClose kind }
-    ensures ok { IfOk result (λ method. method_view method ≡ close_as kind code text.now) }
+    ensures ok { IfOk result (λ method. method_view method ≡ close_for kind code text.now (cause_view cause)) }
     ensures short { FitsShort text.now }
     ensures err { IfErr result (λ fault. refusal_view fault ≡ None) }
 {
@@ -73,8 +76,8 @@ pub(crate) fn close(
     let args = [
         Arg::Short(code),
         Arg::ShortStr(text),
-        Arg::Short(0),
-        Arg::Short(0),
+        Arg::Short(cause.class_id),
+        Arg::Short(cause.method_id),
     ];
     let Ok(args) = Vec::from_array(alloc, args) else {
         return Err(AskFault::OutOfMemory);
@@ -83,7 +86,8 @@ pub(crate) fn close(
 }
 
 pub(crate) fn blocked(alloc: Global, reason: &ShortStr) -> Result<Method, AskFault>
-    ensures ok { IfOk result (λ method. method_view method ≡ call Kind.ConnectionBlocked (short_string reason.now ∷ [])) }
+    ensures ok { IfOk result (λ method. method_view method ≡ call Kind.ConnectionBlocked
+        (short_string reason.now ∷ [])) }
     ensures short { FitsShort reason.now }
     ensures err { IfErr result (λ fault. refusal_view fault ≡ None) }
 {
@@ -103,7 +107,8 @@ pub(crate) fn stage_method(
     channel: u16,
     method: &Method,
 ) -> Result<(), AskFault>
-    ensures ok { OnOk result (outbox.new ≡ with_staged outbox.old (method_frame channel (method_view method.now) ∷ [])) }
+    ensures ok { OnOk result (outbox.new ≡ with_staged outbox.old (method_frame channel (method_view method.now) ∷
+        [])) }
     ensures reads_back { OnOk result (ReadsBack (method_view method.now)) }
     ensures err { IfErr result (λ fault. refusal_view fault ≡ None) }
     ensures same { OnErr result (outbox.new ≡ outbox.old) }
@@ -133,7 +138,8 @@ fn stage_header(
     properties: &Properties,
     body: &[u8],
 ) -> Result<(), AskFault>
-    ensures ok { OnOk result (outbox.new ≡ with_staged outbox.old (header_frame channel (header (length body.now) (properties_view properties.now)) ∷ [])) }
+    ensures ok { OnOk result (outbox.new ≡ with_staged outbox.old
+        (header_frame channel (header (length body.now) (properties_view properties.now)) ∷ [])) }
     ensures reads_back { OnOk result (HeaderReadsBack (header (length body.now) (properties_view properties.now))) }
     ensures err { IfErr result (λ fault. refusal_view fault ≡ None) }
     ensures same { OnErr result (outbox.new ≡ outbox.old) }
@@ -185,7 +191,8 @@ pub(crate) fn stage_message(
     message: LentMessage<'_>,
 ) -> Result<(), AskFault>
     requires { 8 < frame_max }
-    ensures ok { OnOk result (outbox.new ≡ with_staged outbox.old (map (payload_frame channel) (message_payloads frame_max (message_of (lent_letter message.entry))))) }
+    ensures ok { OnOk result (outbox.new ≡ with_staged outbox.old (map (payload_frame channel)
+        (message_payloads frame_max (message_of (lent_letter message.entry))))) }
     ensures reads_back { OnOk result (AskReadsBack (Send channel (message_of (lent_letter message.entry)))) }
     ensures err { IfErr result (λ fault. refusal_view fault ≡ None) }
     ensures output { outbox.new.output ≡ outbox.old.output }

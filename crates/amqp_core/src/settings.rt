@@ -10,11 +10,11 @@ ghost use Rattle.amqp_model.specs.End.Closes.{method_frame};
 ghost use Rattle.amqp_model.specs.End.Controls.{answers_in, puts_short, AnswerStart};
 ghost use Rattle.amqp_model.specs.End.Fitting.{ConfigWrites, HostFits, config_fault};
 ghost use Rattle.amqp_model.specs.History.Negotiation as negotiation;
-ghost use Rattle.amqp_core.specs.Controlled.{refusal_by};
-ghost use Rattle.amqp_core.specs.Decisions.{Decides};
-ghost use Rattle.amqp_core.specs.Faults.{config_fault_view, refusal_view};
-ghost use Rattle.amqp_core.specs.HandshakeMethods.{IsStartLength, greeting_length, said_by, start_ok_octets};
-ghost use Rattle.amqp_core.specs.Settings.{client_hello_view, server_hello_view, hello_view, side_in};
+ghost use Rattle.amqp_core.specs.Asks.Controlled.{refusal_by};
+ghost use Rattle.amqp_core.specs.Connection.Decisions.{Decides};
+ghost use Rattle.amqp_core.specs.Faults.Numbers.{config_fault_view, refusal_view};
+ghost use Rattle.amqp_core.specs.Connection.HandshakeMethods.{IsStartLength, greeting_length, said_by, start_ok_octets};
+ghost use Rattle.amqp_core.specs.Config.Settings.{client_hello_view, server_hello_view, hello_view, side_in};
 
 use crate::faults::{AskFault, ConfigFault, OutOfMemory};
 use crate::greeting::start_ok;
@@ -109,7 +109,8 @@ impl ClientHello {
         response: &[u8],
         locale: &ShortStr,
     ) -> Result<(), AskFault>
-        ensures short { OnOk result (nat_lt negotiation.FRAME_MIN (frame_length (method_frame 0 (said_by self.now mechanism.now response.now locale.now))) ≡ false) }
+        ensures short { OnOk result (nat_lt negotiation.FRAME_MIN
+            (frame_length (method_frame 0 (said_by self.now mechanism.now response.now locale.now))) ≡ false) }
         ensures refused { IfErr result (λ fault. refusal_view fault
             ≡ refusal_by (puts_short (method_frame 0 (said_by self.now mechanism.now response.now locale.now)))) }
     {
@@ -129,7 +130,8 @@ impl ClientHello {
         locale: &ShortStr,
     ) -> Result<Method, AskFault>
         ensures ok { IfOk result (λ m. method_view m ≡ said_by self.now mechanism.now response.now locale.now) }
-        ensures short { OnOk result (nat_lt negotiation.FRAME_MIN (frame_length (method_frame 0 (said_by self.now mechanism.now response.now locale.now))) ≡ false) }
+        ensures short { OnOk result (nat_lt negotiation.FRAME_MIN
+            (frame_length (method_frame 0 (said_by self.now mechanism.now response.now locale.now))) ≡ false) }
         ensures refused { IfErr result (λ fault. refusal_view fault
             ≡ refusal_by (puts_short (method_frame 0 (said_by self.now mechanism.now response.now locale.now)))) }
     {
@@ -221,7 +223,7 @@ pub(crate) struct Settings {
 }
 
 impl Settings {
-    ghost use Rattle.amqp_core.specs.Settings.{role_for, config_view};
+    ghost use Rattle.amqp_core.specs.Config.Settings.{role_for, config_view};
 
     /// How long the frame of the greeting would be, which is a client's start-ok or a server's start.
     fn greeting_length(&self) -> u64
@@ -241,7 +243,8 @@ impl Settings {
     /// Why an end can't be set up so, if it can't. It takes no memory.
     pub(crate) fn fault(&self) -> Option<ConfigFault>
         ensures none { (result ≡ None) ↔ (config_fault (role_for self.now) (config_view self.now) ≡ None) }
-        ensures fault { IfSome result (λ f. config_fault_view f ≡ config_fault (role_for self.now) (config_view self.now)) }
+        ensures fault { IfSome result (λ f. config_fault_view f ≡ config_fault (role_for self.now)
+            (config_view self.now)) }
     {
         let frame_max = u64::from(self.frame_max);
         if frame_max < FRAME_MIN || FRAME_MOST < frame_max {
@@ -278,9 +281,11 @@ impl Settings {
         locale: &ShortStr,
     ) -> Result<(), AskFault>
         ensures allowed { OnOk result (refusal_by
-            (answers_in (role_for self.now) (config_view self.now) (Handshake HoldsStart) mechanism.now response.now locale.now) ≡ None) }
+            (answers_in (role_for self.now) (config_view self.now) (Handshake HoldsStart) mechanism.now response.now
+            locale.now) ≡ None) }
         ensures refused { IfErr result (λ fault. refusal_view fault
-            ≡ refusal_by (answers_in (role_for self.now) (config_view self.now) (Handshake HoldsStart) mechanism.now response.now locale.now)) }
+            ≡ refusal_by (answers_in (role_for self.now) (config_view self.now) (Handshake HoldsStart) mechanism.now
+            response.now locale.now)) }
     {
         match &self.hello {
             Hello::Client(hello) => hello.allow_answer(mechanism, response, locale),
@@ -297,9 +302,11 @@ impl Settings {
         response: &[u8],
         locale: &ShortStr,
     ) -> Result<Method, AskFault>
-        ensures decides { IfOk result (λ m. Decides self.now (AnswerStart mechanism.now response.now locale.now) Stage.HoldsStart Stage.AwaitsTune (method_view m)) }
+        ensures decides { IfOk result (λ m. Decides self.now (AnswerStart mechanism.now response.now locale.now)
+            Stage.HoldsStart Stage.AwaitsTune (method_view m)) }
         ensures refused { IfErr result (λ fault. refusal_view fault
-            ≡ refusal_by (answers_in (role_for self.now) (config_view self.now) (Handshake HoldsStart) mechanism.now response.now locale.now)) }
+            ≡ refusal_by (answers_in (role_for self.now) (config_view self.now) (Handshake HoldsStart) mechanism.now
+            response.now locale.now)) }
     {
         match &self.hello {
             Hello::Client(hello) => hello.answer(alloc, mechanism, response, locale),

@@ -7,15 +7,15 @@
 //!
 //! A fault of the peer, or out of memory, leads from each but Closed to Failed. An end that is gated holds start, the
 //! login or open until its application has answered.
-ghost use Rattle.std.specs.Prelude.{◌≡◌, ◌≢◌, true, false, None};
+ghost use Rattle.std.specs.Prelude.{◌≡◌, ◌≢◌, true, false, None, IfSome};
 ghost use Rattle.amqp_model.specs.End.Channels as model;
 ghost use Rattle.amqp_model.specs.End.EndVerdict.{takes_octets};
 ghost use Rattle.amqp_model.specs.End.Machine.{new_end};
 ghost use Rattle.amqp_channel.specs.Roles.{role_of};
 ghost use Rattle.amqp_channel.specs.EventView.{agreed_there};
-ghost use Rattle.amqp_core.specs.Counted.{heartbeat_in};
-ghost use Rattle.amqp_core.specs.Decisions.{holds_client};
-ghost use Rattle.amqp_core.specs.Stages.{agreed_at, phase_at, phase_name, leaves};
+ghost use Rattle.amqp_core.specs.End.Counted.{heartbeat_in};
+ghost use Rattle.amqp_core.specs.Connection.Decisions.{holds_client};
+ghost use Rattle.amqp_core.specs.Connection.Stages.{agreed_at, phase_at, phase_name, leaves};
 
 use amqp_channel::{Agreed, Side};
 
@@ -102,6 +102,29 @@ impl Stage {
             | Stage::AwaitsOpenOk(agreed)
             | Stage::Running(agreed) => Some(agreed),
             Stage::Closing(agreed) | Stage::Closed(agreed) | Stage::Failed(agreed) => agreed,
+        }
+    }
+
+    /// What was agreed, where the connection is Running.
+    pub(crate) fn running(self) -> Option<Agreed>
+        ensures running { IfSome result (λ agreed. self ≡ Stage.Running agreed) }
+        ensures not { result ≡ None → phase_at self ≢ model.Running }
+    {
+        match self {
+            Stage::Running(agreed) => Some(agreed),
+            Stage::AwaitsProtocolHeader
+            | Stage::AwaitsStart
+            | Stage::HoldsStart
+            | Stage::AwaitsStartOk
+            | Stage::HoldsLogin
+            | Stage::AwaitsTune
+            | Stage::AwaitsTuneOk
+            | Stage::AwaitsOpen(_)
+            | Stage::HoldsOpen(_)
+            | Stage::AwaitsOpenOk(_)
+            | Stage::Closing(_)
+            | Stage::Closed(_)
+            | Stage::Failed(_) => None,
         }
     }
 

@@ -6,10 +6,10 @@ ghost use Rattle.std.specs.Prelude.{◌≡◌, IsOk, Option};
 ghost use Rattle.amqp_frame.specs.Frame.{Frame};
 ghost use Rattle.amqp_channel.specs.PartsView.{parts_there};
 ghost use Rattle.amqp_channel.specs.ReadingView.{reading_view};
-ghost use Rattle.amqp_core.specs.Answering.{ran_out};
-ghost use Rattle.amqp_core.specs.Blamed.{code_found};
-ghost use Rattle.amqp_core.specs.StepView.{came_lent, heard_seen, quiet_there, read_at, seen_by, step_seen};
-ghost use Rattle.amqp_core.specs.EventRefView.{channel_lent, event_ref_there, notice_lent, report_lent};
+ghost use Rattle.amqp_core.specs.Faults.Answering.{ran_out};
+ghost use Rattle.amqp_core.specs.Faults.Blamed.{code_found};
+ghost use Rattle.amqp_core.specs.Stream.StepView.{came_lent, heard_seen, quiet_there, read_at, seen_by, step_seen};
+ghost use Rattle.amqp_core.specs.Stream.EventRefView.{channel_lent, event_ref_there, notice_lent, report_lent};
 
 use crate::account::Account;
 use crate::event_ref::{
@@ -110,7 +110,8 @@ pub(crate) fn step_of<'a>(
     lying: Lying<'a>,
     answer: Result<Report, CoreFault>,
 ) -> Result<Step<'a>, CoreFault>
-    ensures seen { (given : Option Frame) → step_seen result given ≡ seen_by answer octets number (read_at lying.entry given) }
+    ensures seen { (given : Option Frame) → step_seen result given ≡ seen_by answer octets number
+        (read_at lying.entry given) }
     ensures ok { IsOk answer → IsOk result }
     ensures code { code_found result ≡ code_found answer }
     ensures memory { ran_out result ≡ ran_out answer }

@@ -16,14 +16,14 @@ ghost use Rattle.amqp_model.specs.Stream.Endpoint.{after_wrote};
 ghost use Rattle.amqp_channel.specs.EventView.{agreed_there};
 ghost use Rattle.amqp_channel.specs.Messages.{message_of};
 ghost use Rattle.amqp_channel.specs.StateView.{state_view};
-ghost use Rattle.amqp_core.specs.AskView.{ask_view, lent_view};
-ghost use Rattle.amqp_core.specs.Bounded.{IsBounded};
-ghost use Rattle.amqp_core.specs.Counters.{counted_in};
-ghost use Rattle.amqp_core.specs.EndpointView.{role_at};
-ghost use Rattle.amqp_core.specs.EventRefView.{event_ref_there};
-ghost use Rattle.amqp_core.specs.Kept.{IsKept, agreed_prop};
-ghost use Rattle.amqp_core.specs.Stages.{phase_name};
-ghost use Rattle.amqp_core.specs.StepView.{came_lent, step_seen};
+ghost use Rattle.amqp_core.specs.Asks.View.{ask_view, lent_view};
+ghost use Rattle.amqp_core.specs.End.Bounded.{IsBounded};
+ghost use Rattle.amqp_core.specs.End.Counters.{counted_in};
+ghost use Rattle.amqp_core.specs.End.EndpointView.{role_at};
+ghost use Rattle.amqp_core.specs.Stream.EventRefView.{event_ref_there};
+ghost use Rattle.amqp_core.specs.End.Kept.{IsKept, agreed_prop};
+ghost use Rattle.amqp_core.specs.Connection.Stages.{phase_name};
+ghost use Rattle.amqp_core.specs.Stream.StepView.{came_lent, step_seen};
 
 use crate::asks::{Ask, LentAsk};
 use crate::endpoint::Endpoint;
@@ -85,10 +85,10 @@ fn counted(before: u64, answer: &Result<Step<'_>, CoreFault>) -> u64
 }
 
 impl<R: Role> StreamEnd<R> {
-    ghost use Rattle.amqp_core.specs.Lends.{Lends};
-    ghost use Rattle.amqp_core.specs.StreamAsks.{StreamAnswersLowest, StreamAnswersNumber, StreamAsked};
-    ghost use Rattle.amqp_core.specs.StreamQueries.{AgreedOfHistory, CameOfHistory, DueOfHistory, OutputIsInOrder, PendingOfHistory, PhaseOfHistory, StateOfHistory, WritesOn};
-    ghost use Rattle.amqp_core.specs.StreamView.{config_at, counters_of, endpoint_of, given_in, role_played, settings_at, taken_seen};
+    ghost use Rattle.amqp_core.specs.Stream.Lends.{Lends};
+    ghost use Rattle.amqp_core.specs.Stream.Asks.{StreamAnswersLowest, StreamAnswersNumber, StreamAsked};
+    ghost use Rattle.amqp_core.specs.Stream.Queries.{AgreedOfHistory, CameOfHistory, DueOfHistory, OutputIsInOrder, PendingOfHistory, PhaseOfHistory, StateOfHistory, WritesOn};
+    ghost use Rattle.amqp_core.specs.Stream.View.{config_at, counters_of, endpoint_of, given_in, role_played, settings_at, taken_seen};
     ghost use Rattle.amqp_core.specs.contracts.stream.StreamEnd.{the_row};
 
     /// Takes octets of a piece, as [`End::feed`](crate::End::feed) does, and lends what they tell: from the piece

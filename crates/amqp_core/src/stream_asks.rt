@@ -1,37 +1,40 @@
 //! What an application asks of an end whose events lend, and what such an end answers of itself: as
 //! [`End`](crate::End) does.
-ghost use Rattle.std.specs.Prelude.{◌≡◌, ◌≤◌, ◌<◌, true, false, length, None, Some, Err, IfOk, MatchOption};
+ghost use Rattle.std.specs.Prelude.{◌≡◌, ◌≢◌, ◌≤◌, ◌<◌, true, false, [], length, None, Some, Err, IfOk, MatchOption, OnOk, OnErr};
 ghost use Rattle.std.specs.Option.{option_copied};
 ghost use Rattle.amqp_method.specs.HeaderView.{properties_view};
 ghost use Rattle.amqp_method.specs.Kinds.{has_content};
 ghost use Rattle.amqp_method.specs.MessageView.{message_view};
-ghost use Rattle.amqp_method.specs.Messages.{letter_with};
 ghost use Rattle.amqp_method.specs.MethodView.{method_view};
 ghost use Rattle.amqp_model.specs.Output.ArrangementRules.{FollowsRules};
 ghost use Rattle.amqp_model.specs.End.Answers.{channel_state, gathered, reply_due};
 ghost use Rattle.amqp_model.specs.End.Asks as asks;
+ghost use Rattle.amqp_model.specs.End.Closes.{cause_of, no_cause};
 ghost use Rattle.amqp_model.specs.End.Bounds.{OthersAreFree};
 ghost use Rattle.amqp_model.specs.End.EndVerdict.{takes_octets};
 ghost use Rattle.amqp_model.specs.End.Heard.{nothing_heard};
 ghost use Rattle.amqp_model.specs.History.Negotiation.{frame_limit};
-ghost use Rattle.amqp_model.specs.Output.Outputs.{output_octets, waiting_on};
+ghost use Rattle.amqp_model.specs.Output.Outputs.{output_octets, waiting_on, after_puts};
 ghost use Rattle.amqp_model.specs.Stream.Endpoint.{after_wrote};
+ghost use Rattle.amqp_outbox.specs.OutboxFaults.{begun};
+ghost use Rattle.amqp_outbox.specs.OutboxView.{only};
 ghost use Rattle.amqp_channel.specs.EventView.{agreed_there};
 ghost use Rattle.amqp_channel.specs.Messages.{message_of};
 ghost use Rattle.amqp_channel.specs.StateView.{state_view};
-ghost use Rattle.amqp_core.specs.AskView.{ask_view, lent_view};
-ghost use Rattle.amqp_core.specs.Bounded.{IsBounded};
-ghost use Rattle.amqp_core.specs.Counted.{heartbeat_in};
-ghost use Rattle.amqp_core.specs.Counters.{counts_octets};
-ghost use Rattle.amqp_core.specs.EndHeard.{IsLastHeard};
-ghost use Rattle.amqp_core.specs.HeardView.{cause_there, kept_of_kind, method_there};
-ghost use Rattle.amqp_core.specs.LentLetter.{lent_letter};
-ghost use Rattle.amqp_core.specs.Stages.{phase_name};
+ghost use Rattle.amqp_core.specs.Asks.Asked.{content_asked};
+ghost use Rattle.amqp_core.specs.Asks.View.{ask_view, lent_view};
+ghost use Rattle.amqp_core.specs.End.Bounded.{IsBounded};
+ghost use Rattle.amqp_core.specs.End.Counted.{heartbeat_in};
+ghost use Rattle.amqp_core.specs.End.Counters.{counts_octets};
+ghost use Rattle.amqp_core.specs.Heard.OfEnd.{IsLastHeard};
+ghost use Rattle.amqp_core.specs.Heard.View.{cause_there, cause_view, kept_of_kind, method_there};
+ghost use Rattle.amqp_core.specs.Asks.LentLetter.{lent_letter};
+ghost use Rattle.amqp_core.specs.Connection.Stages.{phase_name};
 
 use crate::asks::{Ask, LentAsk};
 use crate::blame::Blame;
 use crate::faults::AskFault;
-use crate::heard::Cause;
+use crate::heard::{Cause, NO_CAUSE};
 use crate::lent_message::LentMessage;
 use crate::roles::Role;
 use crate::stage::Phase;
@@ -39,13 +42,14 @@ use crate::stream::StreamEnd;
 use amqp_channel::{Agreed, ChannelState};
 use amqp_method::{Kind, Message, Method, Properties};
 use amqp_model::{answers, arrangement, bounds, fitting, octets, one_end, replies, streaming};
+use amqp_outbox::{HandOverFault, SendQueue};
 use amqp_value::ShortStr;
 
 impl<R: Role> StreamEnd<R> {
-    ghost use Rattle.amqp_core.specs.Blamed.{blame_view};
-    ghost use Rattle.amqp_core.specs.StreamAsks.{StreamAnswersLowest, StreamAnswersNumber, StreamAsked};
-    ghost use Rattle.amqp_core.specs.StreamQueries.{AgreedOfHistory, CameOfHistory, DueOfHistory, OutputIsInOrder, PendingOfHistory, PhaseOfHistory, StateOfHistory, WritesOn};
-    ghost use Rattle.amqp_core.specs.StreamView.{config_at, counters_of, endpoint_of, heard_in, role_played, settings_at};
+    ghost use Rattle.amqp_core.specs.Faults.Blamed.{blame_view};
+    ghost use Rattle.amqp_core.specs.Stream.Asks.{StreamAnswersLowest, StreamAnswersNumber, StreamAsked};
+    ghost use Rattle.amqp_core.specs.Stream.Queries.{AgreedOfHistory, CameOfHistory, DueOfHistory, OutputIsInOrder, PendingOfHistory, PhaseOfHistory, StateOfHistory, WritesOn};
+    ghost use Rattle.amqp_core.specs.Stream.View.{config_at, counters_of, endpoint_of, heard_in, role_played, settings_at};
 
     /// The octets to send next. They stay until [`StreamEnd::wrote`] says that they were sent.
     pub fn output(&self) -> &[u8]
@@ -88,6 +92,45 @@ impl<R: Role> StreamEnd<R> {
         streaming::alike_endpoints_stay_alike();
         self.inner.wrote(octets);
         self.octets_written = self.octets_written.saturating_add(octets as u64);
+    }
+
+    /// Adds what waits to a queue, and counts it as sent here: all of it, or nothing.
+    ///
+    /// The output is one slice, so a put that goes before others moves octets. In the queue it moves none: an end that
+    /// sends beside much that waits hands its output over after each call that puts. What the queue has is what is to
+    /// be sent then.
+    ///
+    ///     end.send(channel, &message)?;
+    ///     end.hand_over(&mut queue)?;
+    ///     let mut pieces = queue.pieces();
+    ///     while let Some(piece) = pieces.next_piece() {
+    ///         socket.write_all(piece)?;
+    ///     }
+    ///
+    /// The frames leave the queue in the fair order, from the frame that was begun there most recently. Where the
+    /// answer is `Begun`, send what the queue has and then [`StreamEnd::output`]: so it is with the protocol header of
+    /// a client.
+    pub fn hand_over(&mut self, queue: &mut SendQueue) -> Result<(), HandOverFault>
+        ensures added { OnOk result
+            (queue.new ≡ only (after_puts (endpoint_of self.old).output.row queue.old.output)) }
+        ensures none_begun { OnOk result ((endpoint_of self.old).output.ahead ≡ []) }
+        ensures begun { result ≡ Err begun → (endpoint_of self.old).output.ahead ≢ [] }
+        ensures queue { OnErr result (queue.new.output ≡ queue.old.output) }
+        ensures written { OnOk result (endpoint_of self.new
+            ≡ after_wrote (length (output_octets (endpoint_of self.old).output)) (endpoint_of self.old)) }
+        ensures history { OnOk result
+            (WritesOn self.old (length (output_octets (endpoint_of self.old).output)) self.new) }
+        ensures counters { OnOk result (counters_of self.new
+            ≡ counts_octets (length (output_octets (endpoint_of self.old).output)) (counters_of self.old)) }
+        ensures same { OnErr result (endpoint_of self.new ≡ endpoint_of self.old) }
+        ensures counters_same { OnErr result (counters_of self.new ≡ counters_of self.old) }
+        ensures heard { heard_in self.new ≡ heard_in self.old }
+        ensures settings { settings_at self.new ≡ settings_at self.old }
+    {
+        self.inner.outbox.copy_into(queue)?;
+        let octets = self.waiting_in_all();
+        self.wrote(octets);
+        Ok(())
     }
 
     /// What the other end said in the handshake: as [`End::heard`](crate::End::heard).
@@ -285,8 +328,11 @@ impl<R: Role> StreamEnd<R> {
         properties: &Properties,
         body: &[u8],
     ) -> Result<(), AskFault>
-        ensures asked { has_content (method_view method.now).kind ≡ true → StreamAsked self.old (asks.Send channel (message_of (letter_with (method_view method.now) (properties_view properties.now) body.now))) result self.new }
-        ensures alone { has_content (method_view method.now).kind ≡ false → (result ≡ Err AskFault.NotSendable) × (self.new ≡ self.old) }
+        ensures asked { has_content (method_view method.now).kind ≡ true
+            → StreamAsked self.old (content_asked channel (method_view method.now) (properties_view properties.now)
+            body.now) result self.new }
+        ensures alone { has_content (method_view method.now).kind ≡ false → (result ≡ Err AskFault.NotSendable)
+            × (self.new ≡ self.old) }
     {
         if !method.has_content() {
             return Err(AskFault::NotSendable);
@@ -310,17 +356,58 @@ impl<R: Role> StreamEnd<R> {
         code: u16,
         text: &ShortStr,
     ) -> Result<(), AskFault>
-        ensures { StreamAsked self.old (asks.CloseChannel channel code text.now) result self.new }
+        ensures { StreamAsked self.old (asks.CloseChannel channel code text.now no_cause) result self.new }
     {
-        self.put_ask(LentAsk::CloseChannel(channel, code, text))?;
+        self.put_channel_close(channel, code, text, NO_CAUSE)
+    }
+
+    /// Closes a channel for a method of this kind: the close names its class and its method, which the other end
+    /// reads as the cause.
+    pub fn close_channel_for(
+        &mut self,
+        channel: u16,
+        code: u16,
+        text: &ShortStr,
+        kind: Kind,
+    ) -> Result<(), AskFault>
+        ensures { StreamAsked self.old (asks.CloseChannel channel code text.now (cause_of kind)) result self.new }
+    {
+        let cause = Cause::by(kind);
+        self.put_channel_close(channel, code, text, cause)
+    }
+
+    fn put_channel_close(
+        &mut self,
+        channel: u16,
+        code: u16,
+        text: &ShortStr,
+        cause: Cause,
+    ) -> Result<(), AskFault>
+        ensures { StreamAsked self.old (asks.CloseChannel channel code text.now (cause_view cause)) result self.new }
+    {
+        self.put_ask(LentAsk::CloseChannel(channel, code, text, cause))?;
         Ok(())
     }
 
     /// Closes the connection, with a code and a text.
     pub fn close(&mut self, code: u16, text: &ShortStr) -> Result<(), AskFault>
-        ensures { StreamAsked self.old (asks.Close code text.now) result self.new }
+        ensures { StreamAsked self.old (asks.Close code text.now no_cause) result self.new }
     {
-        self.put_ask(LentAsk::Close(code, text))?;
+        self.put_close(code, text, NO_CAUSE)
+    }
+
+    /// Closes the connection for a method of this kind, as [`StreamEnd::close_channel_for`] does a channel.
+    pub fn close_for(&mut self, code: u16, text: &ShortStr, kind: Kind) -> Result<(), AskFault>
+        ensures { StreamAsked self.old (asks.Close code text.now (cause_of kind)) result self.new }
+    {
+        let cause = Cause::by(kind);
+        self.put_close(code, text, cause)
+    }
+
+    fn put_close(&mut self, code: u16, text: &ShortStr, cause: Cause) -> Result<(), AskFault>
+        ensures { StreamAsked self.old (asks.Close code text.now (cause_view cause)) result self.new }
+    {
+        self.put_ask(LentAsk::Close(code, text, cause))?;
         Ok(())
     }
 

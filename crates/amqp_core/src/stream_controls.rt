@@ -1,6 +1,6 @@
 //! What an application does with the connection of an end whose events lend, besides its asks: as [`End`](crate::End) does.
 ghost use Rattle.amqp_model.specs.End.Controls as controls;
-ghost use Rattle.amqp_core.specs.ControlView.{control_view};
+ghost use Rattle.amqp_core.specs.Asks.ControlView.{control_view};
 
 use crate::controls::LentControl;
 use crate::faults::AskFault;
@@ -10,7 +10,7 @@ use amqp_model::{controls as control_laws, fitting};
 use amqp_value::ShortStr;
 
 impl<R: Role> StreamEnd<R> {
-    ghost use Rattle.amqp_core.specs.StreamControls.{StreamControlled};
+    ghost use Rattle.amqp_core.specs.Stream.Controls.{StreamControlled};
 
     /// Puts a heartbeat, or what the application decides in the handshake.
     fn control(&mut self, control: LentControl<'_>) -> Result<(), AskFault>
@@ -50,7 +50,8 @@ impl<R: Role> StreamEnd<R> {
         response: &[u8],
         locale: &ShortStr,
     ) -> Result<(), AskFault>
-        ensures { StreamControlled self.old (controls.AnswerStart mechanism.now response.now locale.now) result self.new }
+        ensures { StreamControlled self.old (controls.AnswerStart mechanism.now response.now locale.now) result
+            self.new }
     {
         self.control(LentControl::AnswerStart(mechanism, response, locale))
     }

@@ -12,7 +12,7 @@ pub(crate) struct Tally {
 }
 
 impl Tally {
-    ghost use Rattle.amqp_core.specs.Blamed.{blames_octets, code_told, counted, no_octets, tally_view, IsBroken};
+    ghost use Rattle.amqp_core.specs.Faults.Blamed.{blames_octets, code_told, counted, no_octets, tally_view, IsBroken};
 
     pub(crate) fn new() -> Tally
         ensures { tally_view result ≡ no_octets }

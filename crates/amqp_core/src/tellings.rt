@@ -2,10 +2,10 @@
 ghost use Rattle.std.specs.Prelude.{◌≡◌, IfOk, OnErr};
 ghost use Rattle.amqp_model.specs.Stream.Traces.{item_in_event};
 ghost use Rattle.amqp_channel.specs.PartsView.{parts_there};
-ghost use Rattle.amqp_core.specs.AskNoting.{item_asked};
-ghost use Rattle.amqp_core.specs.AskView.{lent_view};
-ghost use Rattle.amqp_core.specs.Feeding.{IsMessage};
-ghost use Rattle.amqp_core.specs.NoteView.{item_there, item_view};
+ghost use Rattle.amqp_core.specs.Traced.AskNoting.{item_asked};
+ghost use Rattle.amqp_core.specs.Asks.View.{lent_view};
+ghost use Rattle.amqp_core.specs.End.Feeding.{IsMessage};
+ghost use Rattle.amqp_core.specs.Traced.Notes.{item_there, item_view};
 
 use crate::asks::LentAsk;
 use crate::faults::OutOfMemory;
@@ -61,8 +61,8 @@ impl Item {
             }
             LentAsk::Flow(_, active) => Ok(Some(Item::Flow(active))),
             LentAsk::Open
-            | LentAsk::CloseChannel(_, _, _)
-            | LentAsk::Close(_, _)
+            | LentAsk::CloseChannel(_, _, _, _)
+            | LentAsk::Close(_, _, _)
             | LentAsk::Blocked(_)
             | LentAsk::Unblocked => Ok(None),
         }

@@ -1,46 +1,36 @@
 //! An end of a connection that is kept with its history.
-ghost use Rattle.std.specs.Prelude.{◌≡◌, ◌≢◌, ◌+◌, ◌<◌, ◌≤◌, ℕ, List, [], true, false, ◌++◌, length, map, take as first, vec_len, vec_capacity, Err, IfOk, IfErr, OnOk, OnErr, MatchOption, None, Some};
+ghost use Rattle.std.specs.Prelude.{◌≡◌, ◌+◌, ◌<◌, ◌≤◌, true, false, ◌++◌, length, map, vec_len, vec_capacity, Err, IfOk, MatchOption, None, Some};
 ghost use Rattle.std.specs.Option.{option_copied};
 ghost use Rattle.amqp_model.specs.Output.ArrangementRules.{FollowsRules};
+ghost use Rattle.amqp_model.specs.End.Amounts.{GathersOctets, KeepsOctets};
 ghost use Rattle.amqp_model.specs.End.Answers.{channel_state, gathered, reply_due};
 ghost use Rattle.amqp_method.specs.HeaderView.{properties_view};
 ghost use Rattle.amqp_method.specs.Kinds.{has_content};
-ghost use Rattle.amqp_method.specs.Messages.{letter_with};
 ghost use Rattle.amqp_method.specs.MethodView.{method_view};
-ghost use Rattle.amqp_model.specs.End.Asks as asks;
-ghost use Rattle.amqp_model.specs.End.Asks.{frames_asked};
-ghost use Rattle.amqp_model.specs.Stream.Endpoint.{after_feed, after_wrote, new_endpoint};
+ghost use Rattle.amqp_model.specs.Stream.Endpoint.{new_endpoint};
 ghost use Rattle.amqp_model.specs.End.Bounds.{OthersAreFree};
 ghost use Rattle.amqp_model.specs.End.Controls.{Admit, AnswerStart, Beat, Refuse};
 ghost use Rattle.amqp_model.specs.End.EndVerdict.{takes_octets};
-ghost use Rattle.amqp_model.specs.End.Fitting.{ConfigWrites};
 ghost use Rattle.amqp_model.specs.End.Heard.{nothing_heard};
 ghost use Rattle.amqp_model.specs.History.Histories.{History};
 ghost use Rattle.amqp_model.specs.History.Negotiation.{frame_limit};
-ghost use Rattle.amqp_model.specs.End.LawfulHistories.{then_put};
 ghost use Rattle.amqp_model.specs.Output.Outputs.{output_octets, waiting_on};
 ghost use Rattle.amqp_channel.specs.EventView.{agreed_there};
-ghost use Rattle.amqp_channel.specs.Messages.{message_of};
 ghost use Rattle.amqp_channel.specs.Roles.{role_of};
 ghost use Rattle.amqp_channel.specs.StateView.{state_view};
-ghost use Rattle.amqp_core.specs.Answering.{ran_out};
-ghost use Rattle.amqp_core.specs.AskView.{ask_view, lent_view};
-ghost use Rattle.amqp_core.specs.Asked.{number_taken};
-ghost use Rattle.amqp_core.specs.Asking.{AcceptsAsk, RefusesAsk};
-ghost use Rattle.amqp_core.specs.Blamed.{blame_view};
-ghost use Rattle.amqp_core.specs.Bounded.{IsBounded};
-ghost use Rattle.amqp_core.specs.ControlView.{control_view};
-ghost use Rattle.amqp_core.specs.Counted.{heartbeat_in};
-ghost use Rattle.amqp_core.specs.EndView as ends;
-ghost use Rattle.amqp_core.specs.Feeding.{seen, IsFed};
-ghost use Rattle.amqp_core.specs.Hearing.{Hears};
-ghost use Rattle.amqp_core.specs.EndHeard.{IsLastHeard};
-ghost use Rattle.amqp_core.specs.HeardView.{cause_there, kept_of_kind, method_there};
-ghost use Rattle.amqp_core.specs.LedgerView.{HasRoom};
-ghost use Rattle.amqp_core.specs.NoteView.{note_view, telling_view};
-ghost use Rattle.amqp_core.specs.Stages.{phase_name};
-ghost use Rattle.amqp_core.specs.TracedFields.{kept_of};
-ghost use Rattle.amqp_core.specs.Tracing.{IsTraceOf, FedGrows, SameLists, TraceGoesOn};
+ghost use Rattle.amqp_core.specs.Asks.View.{ask_view, lent_view};
+ghost use Rattle.amqp_core.specs.Asks.Asked.{content_asked};
+ghost use Rattle.amqp_core.specs.Faults.Blamed.{blame_view};
+ghost use Rattle.amqp_core.specs.End.Bounded.{IsBounded};
+ghost use Rattle.amqp_core.specs.Asks.ControlView.{control_view};
+ghost use Rattle.amqp_core.specs.End.Counted.{heartbeat_in};
+ghost use Rattle.amqp_core.specs.End.View as ends;
+ghost use Rattle.amqp_core.specs.Heard.OfEnd.{IsLastHeard};
+ghost use Rattle.amqp_core.specs.Heard.View.{cause_there, kept_of_kind, method_there};
+ghost use Rattle.amqp_core.specs.Traced.Notes.{note_view, telling_view};
+ghost use Rattle.amqp_core.specs.Connection.Stages.{phase_name};
+ghost use Rattle.amqp_core.specs.Traced.Fields.{kept_of};
+ghost use Rattle.amqp_core.specs.Traced.Tracing.{IsTraceOf};
 
 use crate::asks::{Ask, LentAsk};
 use crate::blame::Blame;
@@ -58,7 +48,9 @@ use crate::tellings::Telling;
 use crate::tracing::{make_room, put, put_control, room_for_ask, take};
 use amqp_channel::{Agreed, ChannelState};
 use amqp_method::{Kind, Method, Properties};
-use amqp_model::{answers, arrangement, controls, fitting, octets, one_end, replies, traces};
+use amqp_model::{
+    answers, arrangement, controls, fitting, heard, octets, one_end, replies, traces,
+};
 use amqp_value::ShortStr;
 
 /// An end of a connection, kept with its history: a note of each frame that it put and took, the items that it told and said,
@@ -71,8 +63,10 @@ pub struct Traced<R: Role> {
     end: End<R>,
     ledger: Ledger,
     ghost plays: { role_of ledger.side ≡ ends.role_played end },
-    ghost room: { vec_len ledger.written + length (output_octets (ends.endpoint_of end).output) ≤ vec_capacity ledger.written },
-    pub ghost traces: { ∥ ((history : History) × IsTraceOf (ends.role_played end) (ends.config_at end) (kept_of end ledger) history) ∥₁ },
+    ghost room: { vec_len ledger.written + length (output_octets (ends.endpoint_of end).output)
+        ≤ vec_capacity ledger.written },
+    pub ghost traces: { ∥ ((history : History) × IsTraceOf (ends.role_played end) (ends.config_at end)
+        (kept_of end ledger) history) ∥₁ },
 }
 
 /// How many octets a piece lets the output grow by, at most: two frames of 4096.
@@ -85,22 +79,16 @@ const MOST_CONTROLLED: usize = 4096;
 const MOST_NOTED: usize = 3;
 
 impl<R: Role> Traced<R> {
-    ghost use Rattle.amqp_core.specs.FeedFaults.{FeedFaults};
-    ghost use Rattle.amqp_core.specs.TracedAsks.{Asked};
-    ghost use Rattle.amqp_core.specs.TracedControls.{ControlledTrace};
-    ghost use Rattle.amqp_core.specs.TracedQueries.{AgreedOfHistory, DueOfHistory, GatheredOfHistory, HeartbeatOfHistory, OutputOfHistory, PendingOfHistory, PhaseOfHistory, StateOfHistory, VerdictsOfHistory};
-    ghost use Rattle.amqp_core.specs.TracedView.{config_at, heard_in, role_played, settings_at, traced_of};
+    ghost use Rattle.amqp_core.specs.Traced.Asks.{Asked, AnswersNumber};
+    ghost use Rattle.amqp_core.specs.Traced.Calls.{BeginsTrace, FeedsTrace, WritesTrace};
+    ghost use Rattle.amqp_core.specs.Traced.Controls.{ControlledTrace};
+    ghost use Rattle.amqp_core.specs.Traced.Queries.{AgreedOfHistory, DueOfHistory, GatheredOfHistory, HeartbeatOfHistory, OutputOfHistory, PendingOfHistory, PhaseOfHistory, StateOfHistory};
+    ghost use Rattle.amqp_core.specs.Traced.View.{config_at, heard_in, role_played, settings_at, traced_of};
 
     /// An end with its history, as it begins.
     pub fn new(end: End<R>) -> Result<Traced<R>, OutOfMemory>
         requires { ends.endpoint_of end ≡ new_endpoint (ends.role_played end) }
-        ensures endpoint { IfOk result (λ traced. (traced_of traced).endpoint ≡ ends.endpoint_of end) }
-        ensures trace { IfOk result (λ traced. IsTraceOf (role_played traced) (config_at traced) (traced_of traced) []) }
-        ensures fed { IfOk result (λ traced. (traced_of traced).fed ≡ []) }
-        ensures written { IfOk result (λ traced. (traced_of traced).written ≡ []) }
-        ensures writes { IfOk result (λ traced. ∥ ConfigWrites (config_at traced) ∥₁) }
-        ensures settings { IfOk result (λ traced. settings_at traced ≡ ends.settings_at end) }
-        ensures heard { IfOk result (λ traced. heard_in traced ≡ ends.heard_in end) }
+        ensures { IfOk result (λ traced. BeginsTrace end traced) }
     {
         octets::octets_follow();
         let mut ledger = Ledger::new(end.allocator(), end.side());
@@ -112,25 +100,11 @@ impl<R: Role> Traced<R> {
 
     /// Takes octets as [`End::feed`] does. Out of memory, the end has failed, and what is kept of its history is as it was.
     pub fn feed(&mut self, piece: &[u8]) -> Result<Taken, CoreFault>
-        ensures fed { IsFed (seen result) (traced_of self.old).endpoint (after_feed (role_played self.old) (config_at self.old) (traced_of self.old).endpoint piece.now) (traced_of self.new).endpoint }
-        ensures within { IfOk result (λ taken. taken.octets ≤ length piece.now) }
-        ensures progress { IfOk result (λ taken. piece.now ≢ [] → 0 < taken.octets) }
-        ensures octets { FedGrows (ran_out result) piece.now (after_feed (role_played self.old) (config_at self.old) (traced_of self.old).endpoint piece.now) (traced_of self.old) (traced_of self.new) }
-        ensures history { (history : History) → IsTraceOf (role_played self.old) (config_at self.old) (traced_of self.old) history
-            → ∥ TraceGoesOn (role_played self.old) (config_at self.old) (ran_out result) (traced_of self.old).endpoint piece.now (after_feed (role_played self.old) (config_at self.old) (traced_of self.old).endpoint piece.now) history (traced_of self.new) ∥₁ }
-        // A closed or failed end says so, and takes no memory.
-        ensures memory { ran_out result ≡ true → takes_octets (traced_of self.old).endpoint.end.phase ≡ true }
-        // After a fault the end has failed. One that is closed, or had failed before, takes nothing and stays as it is.
-        ensures faults { FeedFaults result (traced_of self.old).endpoint (traced_of self.new).endpoint }
-        // What the end does with a frame is what its history gives.
-        ensures verdicts { VerdictsOfHistory self.old }
-        ensures settings { settings_at self.new ≡ settings_at self.old }
-        ensures heard { Hears (role_played self.old) (config_at self.old) result (traced_of self.old).endpoint piece.now
-            (after_feed (role_played self.old) (config_at self.old) (traced_of self.old).endpoint piece.now)
-            (heard_in self.old) (heard_in self.new) }
+        ensures { FeedsTrace self.old piece.now result self.new }
     {
         octets::cut_changes_nothing();
         one_end::record_reads();
+        heard::heard_is_kept();
         one_end::failed_follows();
         traces::memory_runs_out();
         if let Some(fault) = self.end.over() {
@@ -154,16 +128,8 @@ impl<R: Role> Traced<R> {
 
     /// Does what an application asks, as [`End::ask`] does. Out of memory, nothing has changed.
     pub fn ask(&mut self, ask: &Ask) -> Result<Option<u16>, AskFault>
-        ensures accepted { OnOk result (AcceptsAsk (role_played self.old) (config_at self.old) (ask_view ask.now) (traced_of self.old).endpoint (traced_of self.new).endpoint) }
-        ensures refused { IfErr result (λ fault. RefusesAsk (role_played self.old) (ask_view ask.now) fault (traced_of self.old).endpoint (traced_of self.new).endpoint) }
-        ensures number { IfOk result (λ number. number ≡ number_taken (traced_of self.old).endpoint.end (ask_view ask.now)) }
-        ensures history { OnOk result ((history : History) → IsTraceOf (role_played self.old) (config_at self.old) (traced_of self.old) history
-            → ∥ IsTraceOf (role_played self.old) (config_at self.old) (traced_of self.new) (then_put (frames_asked (traced_of self.old).endpoint.end (ask_view ask.now)) history) ∥₁) }
-        ensures same { OnErr result (SameLists (traced_of self.old) (traced_of self.new)) }
-        ensures fed { (traced_of self.new).fed ≡ (traced_of self.old).fed }
-        ensures written { (traced_of self.new).written ≡ (traced_of self.old).written }
-        ensures settings { settings_at self.new ≡ settings_at self.old }
-        ensures heard { heard_in self.new ≡ heard_in self.old }
+        ensures asked { Asked self.old (ask_view ask.now) result self.new }
+        ensures number { AnswersNumber self.old (ask_view ask.now) result }
     {
         self.ask_lent(ask.lent())
     }
@@ -176,8 +142,11 @@ impl<R: Role> Traced<R> {
         properties: &Properties,
         body: &[u8],
     ) -> Result<(), AskFault>
-        ensures asked { has_content (method_view method.now).kind ≡ true → Asked self.old (asks.Send channel (message_of (letter_with (method_view method.now) (properties_view properties.now) body.now))) result self.new }
-        ensures alone { has_content (method_view method.now).kind ≡ false → (result ≡ Err AskFault.NotSendable) × (self.new ≡ self.old) }
+        ensures asked { has_content (method_view method.now).kind ≡ true
+            → Asked self.old (content_asked channel (method_view method.now) (properties_view properties.now)
+            body.now) result self.new }
+        ensures alone { has_content (method_view method.now).kind ≡ false → (result ≡ Err AskFault.NotSendable)
+            × (self.new ≡ self.old) }
     {
         if !method.has_content() {
             return Err(AskFault::NotSendable);
@@ -189,16 +158,8 @@ impl<R: Role> Traced<R> {
 
     /// Does what an ask that is lent says.
     fn ask_lent(&mut self, ask: LentAsk<'_>) -> Result<Option<u16>, AskFault>
-        ensures accepted { OnOk result (AcceptsAsk (role_played self.old) (config_at self.old) (lent_view ask.entry) (traced_of self.old).endpoint (traced_of self.new).endpoint) }
-        ensures refused { IfErr result (λ fault. RefusesAsk (role_played self.old) (lent_view ask.entry) fault (traced_of self.old).endpoint (traced_of self.new).endpoint) }
-        ensures number { IfOk result (λ number. number ≡ number_taken (traced_of self.old).endpoint.end (lent_view ask.entry)) }
-        ensures history { OnOk result ((history : History) → IsTraceOf (role_played self.old) (config_at self.old) (traced_of self.old) history
-            → ∥ IsTraceOf (role_played self.old) (config_at self.old) (traced_of self.new) (then_put (frames_asked (traced_of self.old).endpoint.end (lent_view ask.entry)) history) ∥₁) }
-        ensures same { OnErr result (SameLists (traced_of self.old) (traced_of self.new)) }
-        ensures fed { (traced_of self.new).fed ≡ (traced_of self.old).fed }
-        ensures written { (traced_of self.new).written ≡ (traced_of self.old).written }
-        ensures settings { settings_at self.new ≡ settings_at self.old }
-        ensures heard { heard_in self.new ≡ heard_in self.old }
+        ensures asked { Asked self.old (lent_view ask.entry) result self.new }
+        ensures number { AnswersNumber self.old (lent_view ask.entry) result }
     {
         let place = self.end.allow(ask)?;
         let Ok(item) = room_for_ask(&self.end, &mut self.ledger, ask, place) else {
@@ -256,7 +217,8 @@ impl<R: Role> Traced<R> {
     pub fn output(&self) -> &[u8]
         ensures octets { result.now ≡ output_octets (traced_of self.now).endpoint.output }
         // The frames that are not begun stand in it by the rules.
-        ensures rules { FollowsRules (traced_of self.now).endpoint.output.last (traced_of self.now).endpoint.output.row }
+        ensures rules { FollowsRules (traced_of self.now).endpoint.output.last
+            (traced_of self.now).endpoint.output.row }
         // With what was written, those of each channel are in the order put.
         ensures order { OutputOfHistory self.now }
     {
@@ -280,12 +242,7 @@ impl<R: Role> Traced<R> {
     /// So many octets of the output were sent.
     pub fn wrote(&mut self, octets: usize)
         requires { octets ≤ length (output_octets (traced_of self.old).endpoint.output) }
-        ensures endpoint { (traced_of self.new).endpoint ≡ after_wrote octets (traced_of self.old).endpoint }
-        ensures written { (traced_of self.new).written ≡ (traced_of self.old).written ++ first octets (output_octets (traced_of self.old).endpoint.output) }
-        ensures fed { (traced_of self.new).fed ≡ (traced_of self.old).fed }
-        ensures history { (history : History) → IsTraceOf (role_played self.old) (config_at self.old) (traced_of self.old) history → IsTraceOf (role_played self.new) (config_at self.new) (traced_of self.new) history }
-        ensures settings { settings_at self.new ≡ settings_at self.old }
-        ensures heard { heard_in self.new ≡ heard_in self.old }
+        ensures { WritesTrace self.old octets self.new }
     {
         octets::octets_follow();
         traces::memory_runs_out();
@@ -395,6 +352,20 @@ impl<R: Role> Traced<R> {
         self.end.gathered(channel)
     }
 
+    /// How many octets the end keeps for its peer, as [`End::kept`] counts them.
+    pub fn kept(&self) -> usize
+        ensures { KeepsOctets (traced_of self.now).endpoint result }
+    {
+        self.end.kept()
+    }
+
+    /// How many octets are kept of bodies on all channels, as [`End::gathered_in_all`] counts them.
+    pub fn gathered_in_all(&self) -> usize
+        ensures { GathersOctets (traced_of self.now).endpoint.end result }
+    {
+        self.end.gathered_in_all()
+    }
+
     /// The request that is to be answered next on a channel.
     pub fn reply_due(&self, channel: u16) -> Option<Kind>
         ensures request { result ≡ reply_due (traced_of self.now).endpoint.end channel }
@@ -446,7 +417,8 @@ impl<R: Role> Traced<R> {
 
     /// All octets that the end has put: those that were sent, and then the output.
     pub fn put(&self) -> Result<Vec<u8>, OutOfMemory>
-        ensures { IfOk result (λ put. put.items ≡ (traced_of self.now).written ++ output_octets (traced_of self.now).endpoint.output) }
+        ensures { IfOk result (λ put. put.items ≡ (traced_of self.now).written
+            ++ output_octets (traced_of self.now).endpoint.output) }
     {
         let mut put = Vec::from_slice(self.end.allocator(), &self.ledger.written)?;
         put.extend_from_slice(self.end.output())?;

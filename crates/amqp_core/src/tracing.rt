@@ -1,6 +1,6 @@
 //! What an end does, and what is kept of it beside the end: both, or, out of memory, neither.
 ghost use Rattle.std.specs.Prelude.{◌≡◌, ◌≢◌, ◌+◌, ◌*◌, ◌<◌, ◌≤◌, ℕ, true, false, [], length, vec_len, vec_capacity, IsOk, IfOk, IfErr, OnOk, OnErr};
-ghost use Rattle.amqp_model.specs.End.Asks.{frames_asked, refusal};
+ghost use Rattle.amqp_model.specs.End.Asks.{frames_asked};
 ghost use Rattle.amqp_model.specs.Stream.Endpoint.{after_feed};
 ghost use Rattle.amqp_model.specs.End.EndVerdict.{takes_octets};
 ghost use Rattle.amqp_model.specs.History.Histories.{History};
@@ -9,22 +9,22 @@ ghost use Rattle.amqp_model.specs.Output.Outputs.{output_octets};
 ghost use Rattle.amqp_model.specs.Stream.Traces.{item_in_event};
 ghost use Rattle.amqp_channel.specs.PartsView.{parts_there};
 ghost use Rattle.amqp_channel.specs.Roles.{role_of};
-ghost use Rattle.amqp_core.specs.Answering.{ran_out};
-ghost use Rattle.amqp_core.specs.AskNoting.{GrowsByFrames, IsChannelOf, IsSizeOf, count_asked, item_asked};
-ghost use Rattle.amqp_core.specs.AskView.{lent_view};
-ghost use Rattle.amqp_core.specs.Asked.{number_taken};
-ghost use Rattle.amqp_core.specs.ControlView.{control_view};
-ghost use Rattle.amqp_core.specs.Controlled.{frames_by};
-ghost use Rattle.amqp_core.specs.Controlling.{AcceptsControl, RefusesControl, verdict_at};
-ghost use Rattle.amqp_core.specs.Asking.{AcceptsAsk, RefusesAsk};
-ghost use Rattle.amqp_core.specs.EndView.{config_at, endpoint_of, heard_in, role_played, settings_at};
-ghost use Rattle.amqp_core.specs.Growth.{GrowsLittle};
-ghost use Rattle.amqp_core.specs.Feeding.{event_in, seen, taken_with, IsFed, IsMessage};
-ghost use Rattle.amqp_core.specs.Hearing.{Hears};
-ghost use Rattle.amqp_core.specs.LedgerView.{HasRoom};
-ghost use Rattle.amqp_core.specs.NoteView.{item_there};
-ghost use Rattle.amqp_core.specs.TracedFields.{kept_of};
-ghost use Rattle.amqp_core.specs.Tracing.{FedGrows, IsTraceOf, SameLists, TraceGoesOn};
+ghost use Rattle.amqp_core.specs.Faults.Answering.{ran_out};
+ghost use Rattle.amqp_core.specs.Traced.AskNoting.{GrowsByFrames, IsChannelOf, IsSizeOf, count_asked, item_asked};
+ghost use Rattle.amqp_core.specs.Asks.View.{lent_view};
+ghost use Rattle.amqp_core.specs.Asks.Asked.{number_taken};
+ghost use Rattle.amqp_core.specs.Asks.ControlView.{control_view};
+ghost use Rattle.amqp_core.specs.Asks.Controlled.{frames_by};
+ghost use Rattle.amqp_core.specs.Asks.Controlling.{AcceptsControl, RefusesControl, verdict_at};
+ghost use Rattle.amqp_core.specs.Asks.Asking.{AcceptsAsk, RefusesAsk};
+ghost use Rattle.amqp_core.specs.End.View.{config_at, endpoint_of, heard_in, role_played, settings_at};
+ghost use Rattle.amqp_core.specs.End.Growth.{GrowsLittle};
+ghost use Rattle.amqp_core.specs.End.Feeding.{event_in, seen, taken_with, IsFed, IsMessage};
+ghost use Rattle.amqp_core.specs.Heard.Hearing.{Hears};
+ghost use Rattle.amqp_core.specs.Traced.LedgerView.{HasRoom};
+ghost use Rattle.amqp_core.specs.Traced.Notes.{item_there};
+ghost use Rattle.amqp_core.specs.Traced.Fields.{kept_of};
+ghost use Rattle.amqp_core.specs.Traced.Tracing.{FedGrows, IsTraceOf, SameLists, TraceGoesOn};
 ghost use Rattle.amqp_model.specs.History.Negotiation as negotiation;
 
 use crate::account::Account;
@@ -49,7 +49,8 @@ pub(crate) fn make_room<R: Role>(
     grows: usize,
 ) -> Result<(), OutOfMemory>
     ensures room { OnOk result (HasRoom ledger.new frames fed) }
-    ensures written { OnOk result (vec_len ledger.new.written + (length (output_octets (endpoint_of end.now).output) + grows) ≤ vec_capacity ledger.new.written) }
+    ensures written { OnOk result (vec_len ledger.new.written + (length (output_octets (endpoint_of end.now).output)
+        + grows) ≤ vec_capacity ledger.new.written) }
     ensures kept { vec_len ledger.new.written ≡ vec_len ledger.old.written }
     ensures capacity { vec_capacity ledger.old.written ≤ vec_capacity ledger.new.written }
     ensures same { SameLists (kept_of end.now ledger.old) (kept_of end.now ledger.new) }
@@ -96,10 +97,15 @@ pub(crate) fn take<R: Role>(
     requires room { HasRoom ledger.old 3 (length piece.now) }
     requires takes { takes_octets (endpoint_of end.old).end.phase ≡ true }
     requires plays { role_of ledger.old.side ≡ role_played end.old }
-    ensures fed { IsFed (seen result) (endpoint_of end.old) (after_feed (role_played end.old) (config_at end.old) (endpoint_of end.old) piece.now) (endpoint_of end.new) }
-    ensures octets { FedGrows (ran_out result) piece.now (after_feed (role_played end.old) (config_at end.old) (endpoint_of end.old) piece.now) (kept_of end.old ledger.old) (kept_of end.new ledger.new) }
-    ensures history { (history : History) → IsTraceOf (role_played end.old) (config_at end.old) (kept_of end.old ledger.old) history
-        → ∥ TraceGoesOn (role_played end.old) (config_at end.old) (ran_out result) (endpoint_of end.old) piece.now (after_feed (role_played end.old) (config_at end.old) (endpoint_of end.old) piece.now) history (kept_of end.new ledger.new) ∥₁ }
+    ensures fed { IsFed (seen result) (endpoint_of end.old) (after_feed (role_played end.old) (config_at end.old)
+        (endpoint_of end.old) piece.now) (endpoint_of end.new) }
+    ensures octets { FedGrows (ran_out result) piece.now (after_feed (role_played end.old) (config_at end.old)
+        (endpoint_of end.old) piece.now) (kept_of end.old ledger.old) (kept_of end.new ledger.new) }
+    ensures history { (history : History) → IsTraceOf (role_played end.old) (config_at end.old)
+        (kept_of end.old ledger.old) history
+        → ∥ TraceGoesOn (role_played end.old) (config_at end.old) (ran_out result) (endpoint_of end.old) piece.now
+        (after_feed (role_played end.old) (config_at end.old) (endpoint_of end.old) piece.now) history
+        (kept_of end.new ledger.new) ∥₁ }
     ensures within { IfOk result (λ taken. taken.octets ≤ length piece.now) }
     ensures progress { IfOk result (λ taken. piece.now ≢ [] → 0 < taken.octets) }
     ensures grows { GrowsLittle (endpoint_of end.old).output (endpoint_of end.new).output }
@@ -144,7 +150,8 @@ pub(crate) fn room_for_ask<R: Role>(
     requires { 8 < place.frame_max }
     ensures item { IfOk result (λ item. item_there item ≡ item_asked (lent_view ask.entry)) }
     ensures room { OnOk result (HasRoom ledger.new (count_asked place.frame_max (lent_view ask.entry)) 0) }
-    ensures written { OnOk result (vec_len ledger.new.written + (length (output_octets (endpoint_of end.now).output) + count_asked place.frame_max (lent_view ask.entry) * place.frame_max) ≤ vec_capacity ledger.new.written) }
+    ensures written { OnOk result (vec_len ledger.new.written + (length (output_octets (endpoint_of end.now).output)
+        + count_asked place.frame_max (lent_view ask.entry) * place.frame_max) ≤ vec_capacity ledger.new.written) }
     ensures kept { vec_len ledger.new.written ≡ vec_len ledger.old.written }
     ensures capacity { vec_capacity ledger.old.written ≤ vec_capacity ledger.new.written }
     ensures same { SameLists (kept_of end.now ledger.old) (kept_of end.now ledger.new) }
@@ -179,13 +186,18 @@ pub(crate) fn put<R: Role>(
     requires size { IsSizeOf (endpoint_of end.old).end.agreed place.frame_max }
     requires least { negotiation.FRAME_MIN ≤ place.frame_max }
     requires plays { role_of ledger.old.side ≡ role_played end.old }
-    ensures accepted { OnOk result (AcceptsAsk (role_played end.old) (config_at end.old) (lent_view ask.entry) (endpoint_of end.old) (endpoint_of end.new)) }
-    ensures refused { IfErr result (λ fault. RefusesAsk (role_played end.old) (lent_view ask.entry) fault (endpoint_of end.old) (endpoint_of end.new)) }
+    ensures accepted { OnOk result (AcceptsAsk (role_played end.old) (config_at end.old) (lent_view ask.entry)
+        (endpoint_of end.old) (endpoint_of end.new)) }
+    ensures refused { IfErr result (λ fault. RefusesAsk (role_played end.old) (lent_view ask.entry) fault
+        (endpoint_of end.old) (endpoint_of end.new)) }
     ensures number { IfOk result (λ number. number ≡ number_taken (endpoint_of end.old).end (lent_view ask.entry)) }
-    ensures history { OnOk result ((history : History) → IsTraceOf (role_played end.old) (config_at end.old) (kept_of end.old ledger.old) history
-        → ∥ IsTraceOf (role_played end.old) (config_at end.old) (kept_of end.new ledger.new) (then_put (frames_asked (endpoint_of end.old).end (lent_view ask.entry)) history) ∥₁) }
+    ensures history { OnOk result ((history : History) → IsTraceOf (role_played end.old) (config_at end.old)
+        (kept_of end.old ledger.old) history
+        → ∥ IsTraceOf (role_played end.old) (config_at end.old) (kept_of end.new ledger.new)
+        (then_put (frames_asked (endpoint_of end.old).end (lent_view ask.entry)) history) ∥₁) }
     ensures same { OnErr result (SameLists (kept_of end.old ledger.old) (kept_of end.new ledger.new)) }
-    ensures grows { OnOk result (GrowsByFrames (count_asked place.frame_max (lent_view ask.entry)) place.frame_max (endpoint_of end.old).output (endpoint_of end.new).output) }
+    ensures grows { OnOk result (GrowsByFrames (count_asked place.frame_max (lent_view ask.entry)) place.frame_max
+        (endpoint_of end.old).output (endpoint_of end.new).output) }
     ensures fed { ledger.new.fed ≡ ledger.old.fed }
     ensures written { ledger.new.written ≡ ledger.old.written }
     ensures settings { settings_at end.new ≡ settings_at end.old }
@@ -217,13 +229,18 @@ pub(crate) fn put_control<R: Role>(
     control: LentControl<'_>,
 ) -> Result<(), AskFault>
     requires room { HasRoom ledger.old 1 0 }
-    ensures accepted { OnOk result (AcceptsControl (role_played end.old) (config_at end.old) (control_view control.entry) (endpoint_of end.old) (endpoint_of end.new)) }
-    ensures refused { IfErr result (λ fault. RefusesControl (role_played end.old) (config_at end.old) (control_view control.entry) fault (endpoint_of end.old) (endpoint_of end.new)) }
-    ensures history { OnOk result ((history : History) → IsTraceOf (role_played end.old) (config_at end.old) (kept_of end.old ledger.old) history
+    ensures accepted { OnOk result (AcceptsControl (role_played end.old) (config_at end.old)
+        (control_view control.entry) (endpoint_of end.old) (endpoint_of end.new)) }
+    ensures refused { IfErr result (λ fault. RefusesControl (role_played end.old) (config_at end.old)
+        (control_view control.entry) fault (endpoint_of end.old) (endpoint_of end.new)) }
+    ensures history { OnOk result ((history : History) → IsTraceOf (role_played end.old) (config_at end.old)
+        (kept_of end.old ledger.old) history
         → ∥ IsTraceOf (role_played end.old) (config_at end.old) (kept_of end.new ledger.new)
-        (then_put (frames_by (verdict_at (role_played end.old) (config_at end.old) (control_view control.entry) (endpoint_of end.old))) history) ∥₁) }
+        (then_put (frames_by (verdict_at (role_played end.old) (config_at end.old) (control_view control.entry)
+        (endpoint_of end.old))) history) ∥₁) }
     ensures same { OnErr result (SameLists (kept_of end.old ledger.old) (kept_of end.new ledger.new)) }
-    ensures grows { OnOk result (GrowsByFrames 1 negotiation.FRAME_MIN (endpoint_of end.old).output (endpoint_of end.new).output) }
+    ensures grows { OnOk result (GrowsByFrames 1 negotiation.FRAME_MIN (endpoint_of end.old).output
+        (endpoint_of end.new).output) }
     ensures fed { ledger.new.fed ≡ ledger.old.fed }
     ensures written { ledger.new.written ≡ ledger.old.written }
     ensures settings { settings_at end.new ≡ settings_at end.old }

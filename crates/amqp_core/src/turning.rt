@@ -3,9 +3,9 @@ ghost use Rattle.std.specs.Prelude.{◌≡◌, true, false, ℕ, List, IfOk, IfE
 ghost use Rattle.amqp_model.specs.History.Histories.{History};
 ghost use Rattle.amqp_model.specs.Laws.OctetLaws.{EndpointStandsFor};
 ghost use Rattle.amqp_model.specs.Laws.StreamingLaws.{StreamStandsFor};
-ghost use Rattle.amqp_core.specs.EndView as ends;
-ghost use Rattle.amqp_core.specs.StreamView as streams;
-ghost use Rattle.amqp_core.specs.Turning.{TurnsBack, TurnsLending};
+ghost use Rattle.amqp_core.specs.End.View as ends;
+ghost use Rattle.amqp_core.specs.Stream.View as streams;
+ghost use Rattle.amqp_core.specs.Stream.Turning.{TurnsBack, TurnsLending};
 
 use crate::end::End;
 use crate::endpoint::Endpoint;
@@ -15,8 +15,8 @@ use crate::stream::StreamEnd;
 impl Endpoint {
     ghost use Rattle.std.specs.Prelude.{cond};
     ghost use Rattle.amqp_channel.specs.ChannelsView.{NoneUnderWay};
-    ghost use Rattle.amqp_core.specs.Blamed.{tally_view};
-    ghost use Rattle.amqp_core.specs.EndpointView.{endpoint_view, IsSound};
+    ghost use Rattle.amqp_core.specs.Faults.Blamed.{tally_view};
+    ghost use Rattle.amqp_core.specs.End.EndpointView.{endpoint_view, IsSound};
 
     /// From here on the end lends what it takes.
     fn lend(&mut self)

@@ -5,7 +5,7 @@ ghost use Rattle.amqp_model.specs.Stream.Endpoint.{Found};
 use crate::faults::CoreFault;
 use crate::owed::Owed;
 use crate::stage::Stage;
-use amqp_channel::{Agreed, CloseCode, Verdict as ChannelVerdict};
+use amqp_channel::{Agreed, CloseCode};
 
 /// Why an end can't go on with what it took.
 #[derive(Clone, Copy)]
@@ -38,11 +38,9 @@ pub(crate) enum Notice {
     Unblocked,
 }
 
-/// What the rules say of a frame.
+/// What the rules say of a frame that is the connection's. Of one that is its channel's, the channel's rules say it.
 #[derive(Clone, Copy)]
 pub(crate) enum Verdict {
-    /// It is its channel's: what the channel's rules say.
-    OnChannel(ChannelVerdict),
     /// The end goes on: what is told, where the connection stands then, and what the end owes.
     Proceeds {
         notice: Notice,
@@ -53,9 +51,9 @@ pub(crate) enum Verdict {
 }
 
 impl Fault {
-    ghost use Rattle.amqp_core.specs.Answering.{Reports, is_out_of_memory};
-    ghost use Rattle.amqp_core.specs.Blamed.{code_of, code_told};
-    ghost use Rattle.amqp_core.specs.ConnectionView.{fault_of};
+    ghost use Rattle.amqp_core.specs.Faults.Answering.{Reports, is_out_of_memory};
+    ghost use Rattle.amqp_core.specs.Faults.Blamed.{code_of, code_told};
+    ghost use Rattle.amqp_core.specs.Connection.View.{fault_of};
 
     /// The fault, as the application sees it.
     pub(crate) fn reported(self) -> CoreFault

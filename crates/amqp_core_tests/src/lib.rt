@@ -12,6 +12,8 @@ mod blames;
 #[cfg(test)]
 mod came;
 #[cfg(test)]
+mod causes;
+#[cfg(test)]
 mod closes;
 #[cfg(test)]
 mod configurations;
@@ -21,6 +23,8 @@ mod decisions;
 mod fairness;
 #[cfg(test)]
 mod frames;
+#[cfg(test)]
+mod handing;
 #[cfg(test)]
 mod handshake;
 #[cfg(test)]

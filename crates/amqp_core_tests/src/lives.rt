@@ -3,7 +3,7 @@ use crate::pairs::{DEFAULT, ONE_CHANNEL, SMALL_BODIES};
 use crate::scripts::{run, run_all};
 use std::test::Fail;
 
-static SCRIPTS: [&str; 4] = [
+static SCRIPTS: [&str; 5] = [
     // The server closes channel 1, and the client opens it again.
     "a number is opened again
      both open 0
@@ -56,9 +56,28 @@ static SCRIPTS: [&str; 4] = [
      client carries 1027
      server pending -> 1007
      server gathered 1 -> 0
+     server kept -> 1021
      client shows ce
      client carries all
-     server pending -> 0",
+     server pending -> 0
+     server kept -> 0",
+    // The header has 14 octets, besides those of its frame. It is kept until its content is whole, or its channel closed.
+    "what is kept goes with its channel
+     both open 2
+     server takes basic.publish/1 header-of-3/1 body-of-2/1 -> events 0
+     server kept -> 16
+     server takes basic.publish/2 02 0002 0000000e 003c 0000 0000000000000005 0000 ce -> events 0
+     server kept -> 30
+     server takes 03 0002 00000002 'hi ce -> events 0
+     server gathered all -> 4
+     server kept -> 32
+     client asks close-channel 1 -> put
+     client carries all
+     server gathered all -> 2
+     server kept -> 16
+     server asks close-channel 2 -> put
+     server gathered all -> 0
+     server kept -> 0",
 ];
 
 /// Both ends close the only channel at once.

@@ -23,7 +23,8 @@
 //!     END channel NUMBER -> STATE
 //!     END due NUMBER -> METHOD            the request that is to be answered next on a channel, or none
 //!     END pending -> COUNT                so many octets were taken of a frame that isn't whole
-//!     END gathered NUMBER -> COUNT        so many octets are kept of the body that comes on a channel
+//!     END gathered NUMBER -> COUNT        so many octets are kept of the body that comes on a channel, or, for `all`, on all
+//!     END kept -> COUNT                   so many octets are kept of contents and of a frame that isn't whole
 //!     END took -> COUNT                   so many frames were taken
 //!     END wrote -> COUNT                  so many octets of the output were written
 //!     END waits NUMBER -> COUNT           so many octets wait on a channel, or, for `all`, on all of them
@@ -90,6 +91,7 @@ enum Verb {
     Due,
     Pending,
     Gathered,
+    Kept,
     Took,
     Wrote,
     Waits,
@@ -98,7 +100,7 @@ enum Verb {
     ClosedFor,
 }
 
-static VERBS: [(&str, Verb); 24] = [
+static VERBS: [(&str, Verb); 25] = [
     ("asks", Verb::Asks),
     ("beats", Verb::Beats),
     ("admits", Verb::Admits),
@@ -117,6 +119,7 @@ static VERBS: [(&str, Verb); 24] = [
     ("due", Verb::Due),
     ("pending", Verb::Pending),
     ("gathered", Verb::Gathered),
+    ("kept", Verb::Kept),
     ("took", Verb::Took),
     ("wrote", Verb::Wrote),
     ("waits", Verb::Waits),
@@ -150,6 +153,13 @@ fn waits<R: Role>(end: &End<R>, words: &[&str]) -> Result<usize, Trouble> {
     Ok(end.waiting(number(words, 0)?))
 }
 
+fn gathered<R: Role>(end: &End<R>, words: &[&str]) -> Result<usize, Trouble> {
+    if word(words, 0)? == "all" {
+        return Ok(end.gathered_in_all());
+    }
+    Ok(end.gathered(number(words, 0)?))
+}
+
 /// What is seen of an end. The words after the verb are its numbers.
 fn seen<R: Role>(end: &End<R>, verb: Verb, words: &[&str]) -> Result<Came, Trouble> {
     match verb {
@@ -159,7 +169,8 @@ fn seen<R: Role>(end: &End<R>, verb: Verb, words: &[&str]) -> Result<Came, Troub
         Verb::Channel => Ok(Came::State(end.channel_state(number(words, 0)?))),
         Verb::Due => Ok(Came::Due(end.reply_due(number(words, 0)?))),
         Verb::Pending => Ok(Came::Count(end.pending())),
-        Verb::Gathered => Ok(Came::Count(end.gathered(number(words, 0)?))),
+        Verb::Gathered => Ok(Came::Count(gathered(end, words)?)),
+        Verb::Kept => Ok(Came::Count(end.kept())),
         Verb::Took => Ok(Came::Number(end.frames_taken())),
         Verb::Wrote => Ok(Came::Number(end.octets_written())),
         Verb::Waits => Ok(Came::Count(waits(end, words)?)),

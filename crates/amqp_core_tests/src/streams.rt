@@ -257,8 +257,13 @@ fn tell_all<R: Role>(
 
 /// A server that lends, with channel 1 open.
 fn open_server(alloc: Global) -> Result<StreamEnd<Server>, Fail> {
+    server_after(alloc, "both open 1")
+}
+
+/// A server that lends after a script.
+fn server_after(alloc: Global, script: &str) -> Result<StreamEnd<Server>, Fail> {
     let mut pair = Pair::new(alloc, DEFAULT)?;
-    let followed = pair.follow(alloc, AT_ONCE, "the way to a state", "both open 1");
+    let followed = pair.follow(alloc, AT_ONCE, "the way to a state", script);
     let Pair { client, server } = pair;
     drop(client);
     let server = server.into_stream();
@@ -448,4 +453,54 @@ fn an_end_turns_back_between_contents(rt: HostRuntime) -> Result<(), Fail> {
         return Ok(());
     }
     Err(Fail::new(format!(in alloc; "came {turned:?}, not {TURNED:?}")?))
+}
+
+/// The header of a content has 14 octets, and two of its body have come.
+static GATHERED: &str = "both open 1
+     server takes basic.publish/1 header-of-3/1 body-of-2/1 -> events 0
+     server kept -> 16";
+
+/// How many octets a server keeps that turned within a content, before the content's last part and after it, and with
+/// the first part of the next content.
+#[derive(Clone, Copy, PartialEq, Eq, Debug)]
+struct KeptOctets {
+    turned: usize,
+    ended: usize,
+    lent: usize,
+}
+
+const KEPT: KeptOctets = KeptOctets {
+    turned: 16,
+    ended: 0,
+    lent: 0,
+};
+
+fn kept_by(
+    alloc: Global,
+    server: &mut StreamEnd<Server>,
+    lines: &mut String,
+) -> Result<KeptOctets, Fail> {
+    let turned = server.kept();
+    tell_words(alloc, server, &ENDS, lines)?;
+    let ended = server.kept();
+    tell_words(alloc, server, &BEGINS, lines)?;
+    Ok(KeptOctets {
+        turned,
+        ended,
+        lent: server.kept(),
+    })
+}
+
+/// What was gathered of a content before its end turned is kept up to its next frame, and nothing of a content that is
+/// lent.
+#[test]
+fn what_was_gathered_goes_with_its_next_frame(rt: HostRuntime) -> Result<(), Fail> {
+    let alloc = rt.alloc();
+    let mut server = server_after(alloc, GATHERED)?;
+    let mut lines = String::new(alloc);
+    let kept = kept_by(alloc, &mut server, &mut lines)?;
+    if kept == KEPT {
+        return Ok(());
+    }
+    Err(Fail::new(format!(in alloc; "kept {kept:?}, not {KEPT:?}")?))
 }

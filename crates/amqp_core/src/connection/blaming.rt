@@ -3,8 +3,8 @@ ghost use Rattle.std.specs.Prelude.{◌≡◌, Some, None};
 ghost use Rattle.amqp_channel.specs.Closes.{code_view};
 ghost use Rattle.amqp_frame.specs.Frame.{lent};
 ghost use Rattle.amqp_model.specs.End.Closes as closes;
-ghost use Rattle.amqp_core.specs.Blamed.{blame_view, blames_frame, code_of, frame_blamed, method_named, rule_code, tally_view};
-ghost use Rattle.amqp_core.specs.ConnectionView.{fault_of};
+ghost use Rattle.amqp_core.specs.Faults.Blamed.{blame_view, blames_frame, code_of, frame_blamed, method_named, rule_code, tally_view};
+ghost use Rattle.amqp_core.specs.Connection.View.{fault_of};
 
 use crate::blame::{Blame, Rule};
 use crate::connection::Connection;
@@ -214,7 +214,8 @@ impl Connection {
     /// The end has found fault with the frame that was taken last.
     #[inline(never)]
     pub(crate) fn blame_frame(&self, fault: Fault, frame: FrameRef<'_>, tally: &mut Tally)
-        ensures { tally_view tally.new ≡ blames_frame (Some (code_of (fault_of fault))) (lent frame.entry) (tally_view tally.old) }
+        ensures { tally_view tally.new ≡ blames_frame (Some (code_of (fault_of fault))) (lent frame.entry)
+            (tally_view tally.old) }
     {
         let length = frame.payload.len() as u64 + OVERHEAD as u64;
         let octet = tally.octets.saturating_sub(length);

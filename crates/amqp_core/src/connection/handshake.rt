@@ -7,8 +7,8 @@ ghost use Rattle.amqp_method.specs.MethodRefView.{lent_call};
 ghost use Rattle.amqp_model.specs.Wire.Methods.{number_at};
 ghost use Rattle.amqp_model.specs.History.Negotiation.{smaller as smaller_limit};
 ghost use Rattle.amqp_channel.specs.Roles.{role_of};
-ghost use Rattle.amqp_core.specs.Handshakes.{answered_in, awaits_at, within, SaysHeartbeat};
-ghost use Rattle.amqp_core.specs.Stages.{phase_at};
+ghost use Rattle.amqp_core.specs.Connection.Handshakes.{answered_in, awaits_at, within, SaysHeartbeat};
+ghost use Rattle.amqp_core.specs.Connection.Stages.{phase_at};
 
 use crate::settings::{FRAME_MIN, Settings};
 use crate::stage::Stage;

@@ -3,27 +3,30 @@
 ghost use Rattle.std.specs.Prelude.{◌≡◌, true, false, ℕ, [], map, Option, IfOk, IsOk, OnErr, OnOk};
 ghost use Rattle.amqp_channel.specs.ChannelsView.{channels_view};
 ghost use Rattle.amqp_channel.specs.ReadingView.{reading_view};
-ghost use Rattle.amqp_model.specs.End.Channels.{Channel, End};
+ghost use Rattle.amqp_model.specs.End.Channels.{Channel, End, Running};
 ghost use Rattle.amqp_model.specs.End.EndVerdict.{takes_frames};
 ghost use Rattle.amqp_model.specs.End.Events as events;
 ghost use Rattle.amqp_model.specs.Lent.Alike.{lent as lent_of, maybe_telling, AlikeEnds};
 ghost use Rattle.amqp_model.specs.Wire.Contents as contents;
 ghost use Rattle.amqp_model.specs.Wire.Readings as readings;
-ghost use Rattle.amqp_core.specs.Answering.{answer_with, is_out_of_memory, ran_out, stopped, AnswersFrame, Reports};
-ghost use Rattle.amqp_core.specs.Blamed.{blames_frame, code_by, code_found, tally_view};
-ghost use Rattle.amqp_core.specs.Dropping.{IsDropped, DropsReading};
-ghost use Rattle.amqp_core.specs.EventRefView.{report_lent};
-ghost use Rattle.amqp_core.specs.HeardView.{goes_by, heard_view, said_after, said_by};
-ghost use Rattle.amqp_core.specs.Lending.{AlikeLeft};
-ghost use Rattle.amqp_core.specs.Outcomes.{SameEnd, owed_by};
+ghost use Rattle.amqp_core.specs.Faults.Answering.{answer_with, is_out_of_memory, ran_out, stopped, AnswersFrame, Reports};
+ghost use Rattle.amqp_core.specs.Faults.Blamed.{blames_frame, code_by, code_found, tally_view};
+ghost use Rattle.amqp_core.specs.Connection.Dropping.{IsDropped, DropsReading};
+ghost use Rattle.amqp_core.specs.Stream.EventRefView.{report_lent};
+ghost use Rattle.amqp_core.specs.Heard.View.{goes_by, heard_view, said_after, said_by};
+ghost use Rattle.amqp_core.specs.Stream.Lending.{AlikeLeft};
+ghost use Rattle.amqp_core.specs.Connection.Outcomes.{SameEnd, owed_by};
 ghost use Rattle.amqp_model.specs.Stream.Endpoint.{Found, fault_told, owed_at_fault};
-ghost use Rattle.amqp_core.specs.Settings.{role_for};
-ghost use Rattle.amqp_core.specs.Stages.{leaves, phase_at};
-ghost use Rattle.amqp_core.specs.VerdictView.{event_by, fault_by, outcome_with, verdict_here, verdict_view, FitsVerdict, IsLight};
+ghost use Rattle.amqp_core.specs.Connection.Rulings.{OnChannel, OnConnection};
+ghost use Rattle.amqp_core.specs.Config.Settings.{role_for};
+ghost use Rattle.amqp_core.specs.Connection.Stages.{leaves, phase_at};
+ghost use Rattle.amqp_core.specs.Connection.Verdicts.{event_by, fault_by, outcome_with, verdict_here, verdict_view, FitsVerdict, IsLight};
 ghost use Rattle.amqp_core.specs.declared.settings.Settings.{Settings};
 
 use crate::account::Account;
 use crate::connection::Connection;
+use crate::connection::hear::keep_cause;
+use crate::connection::receive::{fault_on, owed_on};
 use crate::connection::reply::put_owed;
 use crate::faults::{CoreFault, OutOfMemory};
 use crate::heard::Heard;
@@ -34,31 +37,53 @@ use amqp_channel::{Reading, Told, Verdict as ChannelVerdict};
 use amqp_frame::{FrameFaultKind, FrameRef};
 use amqp_outbox::Outbox;
 
+/// What is told of a frame of a channel, or the fault that is found with it.
+#[tactic(auto, using(crate::proofs::LendLemmas::told_lends))]
+fn report_on(verdict: ChannelVerdict) -> Result<Report, CoreFault>
+    ensures says { (settings : Settings) (number : ℕ) (reading : readings.Reading) (whole : Option contents.Content)
+        → AnswersFrame
+        (answer_with result (event_by number (verdict_view settings number reading whole (OnChannel verdict))))
+        (outcome_with (event_by number (verdict_view settings number reading whole (OnChannel verdict)))
+        (fault_by (verdict_view settings number reading whole (OnChannel verdict)))) }
+    ensures told { IfOk result
+        (λ report. (settings : Settings) (end : End) (number : ℕ) (reading : readings.Reading)
+        → FitsVerdict end number reading (OnChannel verdict) → report_lent number reading report
+        ≡ lent_of number reading (maybe_telling (event_by number
+        (verdict_here settings end number reading (OnChannel verdict))))) }
+    ensures memory { ran_out result ≡ false }
+    ensures light { (channel : Channel) → IsLight channel (OnChannel verdict) → IsOk result }
+    ensures code { (settings : Settings) (number : ℕ) (reading : readings.Reading) (whole : Option contents.Content)
+        → code_found result ≡ code_by (fault_by (verdict_view settings number reading whole (OnChannel verdict))) }
+    ensures goes { goes_by (OnChannel verdict) ≡ true → IsOk result }
+{
+    match verdict {
+        ChannelVerdict::Proceeds(told, _) => Ok(Report::OnChannel(told)),
+        ChannelVerdict::RefusesContent => Ok(Report::OnChannel(Told::Discarded)),
+        ChannelVerdict::Faults(code) => Err(CoreFault::Peer(code)),
+    }
+}
+
 impl Verdict {
-    /// What is told of the frame, or the fault that is found with it.
-    #[tactic(auto, using(crate::proofs::LendLemmas::told_lends, crate::proofs::LendLemmas::notice_lends))]
+    /// What is told of a frame of the connection, or the fault that is found with it.
+    #[tactic(auto, using(crate::proofs::LendLemmas::notice_lends))]
     fn report(self) -> Result<Report, CoreFault>
         ensures says { (settings : Settings) (number : ℕ) (reading : readings.Reading) (whole : Option contents.Content)
-            → AnswersFrame (answer_with result (event_by number (verdict_view settings number reading whole self)))
-            (outcome_with (event_by number (verdict_view settings number reading whole self))
-            (fault_by (verdict_view settings number reading whole self))) }
+            → AnswersFrame
+            (answer_with result (event_by number (verdict_view settings number reading whole (OnConnection self))))
+            (outcome_with (event_by number (verdict_view settings number reading whole (OnConnection self)))
+            (fault_by (verdict_view settings number reading whole (OnConnection self)))) }
         ensures told { IfOk result
             (λ report. (settings : Settings) (end : End) (number : ℕ) (reading : readings.Reading)
-            → FitsVerdict end number reading self → report_lent number reading report
+            → FitsVerdict end number reading (OnConnection self) → report_lent number reading report
             ≡ lent_of number reading (maybe_telling (event_by number
-            (verdict_here settings end number reading self)))) }
+            (verdict_here settings end number reading (OnConnection self))))) }
         ensures memory { ran_out result ≡ false }
-        ensures light { (channel : Channel) → IsLight channel self → IsOk result }
+        ensures light { (channel : Channel) → IsLight channel (OnConnection self) → IsOk result }
         ensures code { (settings : Settings) (number : ℕ) (reading : readings.Reading) (whole : Option contents.Content)
-            → code_found result ≡ code_by (fault_by (verdict_view settings number reading whole self)) }
-        ensures goes { goes_by self ≡ true → IsOk result }
+            → code_found result ≡ code_by (fault_by (verdict_view settings number reading whole (OnConnection self))) }
+        ensures goes { goes_by (OnConnection self) ≡ true → IsOk result }
     {
         match self {
-            Verdict::OnChannel(ChannelVerdict::Proceeds(told, _)) => Ok(Report::OnChannel(told)),
-            Verdict::OnChannel(ChannelVerdict::RefusesContent) => {
-                Ok(Report::OnChannel(Told::Discarded))
-            }
-            Verdict::OnChannel(ChannelVerdict::Faults(code)) => Err(CoreFault::Peer(code)),
             Verdict::Proceeds { notice, .. } => Ok(Report::OfConnection(notice)),
             Verdict::Faults(fault) => Err(fault.reported()),
         }
@@ -68,7 +93,7 @@ impl Verdict {
 impl Connection {
     ghost use Rattle.std.specs.Prelude.{cond};
     ghost use Rattle.amqp_channel.specs.ChannelsView.{NoneUnderWay};
-    ghost use Rattle.amqp_core.specs.ConnectionView.{connection_end};
+    ghost use Rattle.amqp_core.specs.Connection.View.{connection_end};
     ghost use Rattle.amqp_frame.specs.Frame.{lent};
     ghost use Rattle.amqp_model.specs.End.Closes.{frame_of};
     ghost use Rattle.amqp_model.specs.End.EndVerdict.{end_puts, end_verdict, facts_at};
@@ -78,10 +103,10 @@ impl Connection {
     ghost use Rattle.amqp_model.specs.Stream.Endpoint.{outcome_of};
     ghost use Rattle.amqp_model.specs.Wire.Readings.{reading as says};
     ghost use Rattle.amqp_outbox.specs.OutboxView.{only};
-    ghost use Rattle.amqp_core.specs.Answering.{PutsAs};
-    ghost use Rattle.amqp_core.specs.Lending.{EndsAlike};
-    ghost use Rattle.amqp_core.specs.Settings.{config_view};
-    ghost use Rattle.amqp_core.specs.VerdictView.{end_left};
+    ghost use Rattle.amqp_core.specs.Faults.Answering.{PutsAs};
+    ghost use Rattle.amqp_core.specs.Stream.Lending.{EndsAlike};
+    ghost use Rattle.amqp_core.specs.Config.Settings.{config_view};
+    ghost use Rattle.amqp_core.specs.Connection.Verdicts.{end_left};
 
     /// From here on the end lends what it takes.
     pub(crate) fn lend(&mut self)
@@ -106,41 +131,66 @@ impl Connection {
         true
     }
 
-    /// Leaves the end as a frame with this verdict does. Out of memory, nothing that was agreed is lost.
+    /// Leaves the channel as a frame with this verdict does.
     #[tactic(auto, using(crate::proofs::StreamLemmas::end_itself))]
-    fn apply_lent(
+    fn apply_on_lent(
         &mut self,
         number: u16,
         reading: Reading<'_>,
-        verdict: Verdict,
+        verdict: ChannelVerdict,
     ) -> Result<(), OutOfMemory>
         requires lends { self.old.settings.lends ≡ true }
-        requires fits { FitsVerdict (connection_end self.old) number (reading_view reading) verdict }
+        requires fits { FitsVerdict (connection_end self.old) number (reading_view reading) (OnChannel verdict) }
         ensures left { OnOk result (AlikeEnds
-            (end_left (role_for self.old.settings) number (reading_view reading.entry) verdict
+            (end_left (role_for self.old.settings) number (reading_view reading.entry) (OnChannel verdict)
             (connection_end self.old))
             (connection_end self.new)) }
         ensures settings { self.new.settings ≡ self.old.settings }
-        ensures err { OnErr result (self.new.stage ≡ self.old.stage) }
-        ensures light { IsLight (channels_view self.old.channels number) verdict → IsOk result }
+        ensures stage { self.new.stage ≡ self.old.stage }
+        ensures light { IsLight (channels_view self.old.channels number) (OnChannel verdict) → IsOk result }
     {
-        match verdict {
-            Verdict::OnChannel(said) => {
-                let side = self.settings.hello.side();
-                self.channels
-                    .apply_lent(self.alloc, side, number, reading, said)?;
-                Ok(())
-            }
-            Verdict::Proceeds { stage, .. } => {
-                self.stage = stage;
-                Ok(())
-            }
-            Verdict::Faults(_) => Ok(()),
-        }
+        let side = self.settings.hello.side();
+        self.channels
+            .apply_lent(self.alloc, side, number, reading, verdict)?;
+        Ok(())
     }
 
-    /// Does what the rules say of a frame: the end is left as it leaves it, what is owed is put, and what may be asked
-    /// for later is kept. Out of memory, nothing is put.
+    /// Does what the rules say of a frame of a channel: the channel is left as it leaves it, what is owed is put, and
+    /// what may be asked for later is kept. Out of memory, nothing is put.
+    fn carry_out_on_lent(
+        &mut self,
+        outbox: &mut Outbox,
+        number: u16,
+        reading: Reading<'_>,
+        verdict: ChannelVerdict,
+        heard: &mut Heard,
+    ) -> Result<(), OutOfMemory>
+        requires lends { self.old.settings.lends ≡ true }
+        requires fits { FitsVerdict (connection_end self.old) number (reading_view reading) (OnChannel verdict) }
+        requires staged { outbox.old.staged ≡ [] }
+        ensures left { OnOk result (AlikeEnds
+            (end_left (role_for self.old.settings) number (reading_view reading.entry) (OnChannel verdict)
+            (connection_end self.old))
+            (connection_end self.new)) }
+        ensures put { OnOk result (outbox.new
+            ≡ only (after_puts (map frame_of (owed_by false number
+            (verdict_here self.old.settings (connection_end self.old) number (reading_view reading.entry)
+            (OnChannel verdict))))
+            outbox.old.output)) }
+        ensures kept { OnErr result (outbox.new ≡ only outbox.old.output) }
+        ensures heard { OnOk result (heard_view heard.new
+            ≡ said_by Running number (reading_view reading.entry) (OnChannel verdict) (heard_view heard.old)) }
+        ensures light { IsLight (channels_view self.old.channels number) (OnChannel verdict) → IsOk result }
+        ensures stage { self.new.stage ≡ self.old.stage }
+        ensures settings { self.new.settings ≡ self.old.settings }
+    {
+        keep_cause(reading, verdict, heard);
+        self.apply_on_lent(number, reading, verdict)?;
+        let owed = owed_on(verdict, number);
+        put_owed(self.alloc, &self.settings, owed, outbox)
+    }
+
+    /// Does what the rules say of a frame of the connection. Out of memory, nothing is put.
     fn carry_out_lent(
         &mut self,
         outbox: &mut Outbox,
@@ -149,28 +199,27 @@ impl Connection {
         verdict: Verdict,
         heard: &mut Heard,
     ) -> Result<(), OutOfMemory>
-        requires lends { self.old.settings.lends ≡ true }
-        requires fits { FitsVerdict (connection_end self.old) number (reading_view reading) verdict }
+        requires fits { FitsVerdict (connection_end self.old) number (reading_view reading) (OnConnection verdict) }
         requires staged { outbox.old.staged ≡ [] }
-        ensures left { OnOk result (AlikeEnds
-            (end_left (role_for self.old.settings) number (reading_view reading.entry) verdict
-            (connection_end self.old))
-            (connection_end self.new)) }
+        ensures left { OnOk result (connection_end self.new ≡ end_left (role_for self.old.settings) number
+            (reading_view reading.entry) (OnConnection verdict) (connection_end self.old)) }
         ensures put { OnOk result (outbox.new
             ≡ only (after_puts (map frame_of (owed_by (leaves (phase_at self.old.stage)) number
-            (verdict_here self.old.settings (connection_end self.old) number (reading_view reading.entry) verdict)))
+            (verdict_here self.old.settings (connection_end self.old) number (reading_view reading.entry)
+            (OnConnection verdict))))
             outbox.old.output)) }
         ensures kept { OnErr result (outbox.new ≡ only outbox.old.output) }
-        ensures heard { OnOk result (heard_view heard.new
-            ≡ said_by (phase_at self.old.stage) number (reading_view reading.entry) verdict (heard_view heard.old)) }
+        ensures heard { OnOk result (heard_view heard.new ≡ said_by (phase_at self.old.stage) number
+            (reading_view reading.entry) (OnConnection verdict) (heard_view heard.old)) }
         ensures light { DropsReading (phase_at self.old.stage) (channels_view self.old.channels number) number
-            (reading_view reading.entry) → IsLight (channels_view self.old.channels number) verdict → IsOk result }
+            (reading_view reading.entry)
+            → IsLight (channels_view self.old.channels number) (OnConnection verdict) → IsOk result }
         ensures settings { self.new.settings ≡ self.old.settings }
     {
         let closing = self.stage.is_closing();
         self.keep_said(number, reading, verdict, heard)?;
-        self.apply_lent(number, reading, verdict)?;
-        let owed = verdict.owed(closing, number);
+        self.apply_own(verdict);
+        let owed = verdict.owed(closing);
         put_owed(self.alloc, &self.settings, owed, outbox)
     }
 
@@ -186,6 +235,59 @@ impl Connection {
     ) -> Result<Report, CoreFault>
         requires lends { self.old.settings.lends ≡ true }
         requires taking { takes_frames (phase_at self.old.stage) ≡ true }
+        requires staged { outbox.old.staged ≡ [] }
+        requires says { reading_view reading ≡ says (lent frame) }
+        ensures said { AnswersFrame
+            (answer_with result (event_of_frame (config_view self.old.settings)
+            (connection_end self.old) (lent frame.entry)))
+            (outcome_of (facts_at (config_view self.old.settings) (connection_end self.old) (lent frame.entry).channel)
+            (end_verdict (config_view self.old.settings) (connection_end self.old) (lent frame.entry))) }
+        ensures told { IfOk result (λ report. report_lent (lent frame.entry).channel (says (lent frame.entry)) report
+            ≡ lent_of (lent frame.entry).channel (says (lent frame.entry))
+            (maybe_telling (event_of_frame (config_view self.old.settings)
+            (connection_end self.old) (lent frame.entry)))) }
+        ensures end { EndsAlike result (connection_end self.old)
+            (end_after_taken (role_for self.old.settings) (config_view self.old.settings) (connection_end self.old)
+            (says (lent frame.entry)) (lent frame.entry)) (connection_end self.new) }
+        ensures output { PutsAs result outbox.old.output
+            (after_puts (end_puts (config_view self.old.settings) (connection_end self.old) (lent frame.entry))
+            outbox.old.output)
+            outbox.new }
+        // A frame that is dropped takes no memory.
+        ensures alone { IsDropped (phase_at self.old.stage) (channels_view self.old.channels (lent frame.entry).channel)
+            (lent frame.entry).channel (lent frame.entry).kind (lent frame.entry).payload → IsOk result }
+        ensures heard { ran_out result ≡ false → heard_view heard.new ≡ said_after (config_view self.old.settings)
+            (connection_end self.old) (lent frame.entry) (heard_view heard.old) }
+        ensures at_fault { ran_out result ≡ false → OnErr result (heard_view heard.new ≡ heard_view heard.old) }
+        ensures settings { self.new.settings ≡ self.old.settings }
+        ensures tally { tally_view tally.new
+            ≡ blames_frame (code_found result) (lent frame.entry) (tally_view tally.old) }
+    {
+        let Some(agreed) = self.agreed_on(frame.channel) else {
+            return self.receive_own_lent(outbox, frame, reading, tally, heard);
+        };
+        let verdict = self.judge_on(agreed, frame.channel, reading);
+        let Ok(()) = self.carry_out_on_lent(outbox, frame.channel, reading, verdict, heard) else {
+            self.fail_at(self.stage);
+            return Err(CoreFault::OutOfMemory);
+        };
+        let fault = fault_on(verdict);
+        self.fail_by(fault, frame, tally);
+        report_on(verdict)
+    }
+
+    /// The same with a frame of the connection. It stands apart, since few frames are.
+    #[inline(never)]
+    fn receive_own_lent(
+        &mut self,
+        outbox: &mut Outbox,
+        frame: FrameRef<'_>,
+        reading: Reading<'_>,
+        tally: &mut Tally,
+        heard: &mut Heard,
+    ) -> Result<Report, CoreFault>
+        requires taking { takes_frames (phase_at self.old.stage) ≡ true }
+        requires zero { phase_at self.old.stage ≡ Running → (lent frame).channel ≡ 0 }
         requires staged { outbox.old.staged ≡ [] }
         requires says { reading_view reading ≡ says (lent frame) }
         ensures said { AnswersFrame

@@ -3,12 +3,13 @@
 //! An end that has put connection.close drops all but the other end's close and close-ok. A heartbeat is empty and
 //! stands on channel 0. A method has to be one that there is. Until the handshake is over nothing but its next method
 //! is taken. What is left is for the channel, or for the connection.
-ghost use Rattle.std.specs.Prelude.{◌≡◌, true, false, ℕ, [], map, Some, None, Option, IfOk, IsOk, OnErr, OnOk};
+ghost use Rattle.std.specs.Prelude.{◌≡◌, ◌<◌, true, false, ℕ, [], map, Some, None, Option, IfOk, IfSome, IsOk, OnErr, OnOk};
 ghost use Rattle.amqp_method.specs.MethodRefView.{lent_call};
 ghost use Rattle.amqp_model.specs.End.Asks.{is_free};
 ghost use Rattle.amqp_model.specs.End.Channels.{Channel, Free};
 ghost use Rattle.amqp_model.specs.Wire.Contents as contents;
 ghost use Rattle.amqp_model.specs.End.EndVerdict.{takes_frames};
+ghost use Rattle.amqp_model.specs.Wire.Notes.{Role};
 ghost use Rattle.amqp_model.specs.Wire.Readings as readings;
 ghost use Rattle.amqp_channel.specs.ChannelsView.{channels_view};
 ghost use Rattle.amqp_model.specs.Wire.Readings.{Beat, Calls};
@@ -18,16 +19,17 @@ ghost use Rattle.amqp_channel.specs.ReadingView.{reading_view};
 ghost use Rattle.amqp_channel.specs.VerdictView.{verdict_view as channel_verdict, Drops};
 ghost use Rattle.amqp_channel.specs.declared.channels.Channels.{Channels};
 ghost use Rattle.amqp_model.specs.End.Events as events;
-ghost use Rattle.amqp_core.specs.Answering.{answer_with, ran_out, AnswersFrame};
-ghost use Rattle.amqp_core.specs.Blamed.{code_by, code_found};
-ghost use Rattle.amqp_core.specs.Dropping.{DropsReading, IsDropped};
-ghost use Rattle.amqp_core.specs.Handshakes.{answered_in, awaits_at, is_in_handshake};
-ghost use Rattle.amqp_core.specs.HeardView.{goes_by, heard_view, said_after, said_by};
-ghost use Rattle.amqp_core.specs.Settings.{role_for, side_in};
-ghost use Rattle.amqp_core.specs.Stages.{leaves, phase_at};
-ghost use Rattle.amqp_core.specs.Outcomes.{owed_by};
-ghost use Rattle.amqp_core.specs.OwedView.{owed_view, IsNothing};
-ghost use Rattle.amqp_core.specs.VerdictView.{end_at, event_by, fault_by, fault_there, noticed, outcome_with, verdict_view, FitsEventOf, FitsNotice, FrameRules, IsLight, IsLightNotice};
+ghost use Rattle.amqp_core.specs.Faults.Answering.{answer_with, ran_out, AnswersFrame};
+ghost use Rattle.amqp_core.specs.Faults.Blamed.{code_by, code_found};
+ghost use Rattle.amqp_core.specs.Connection.Dropping.{DropsReading, IsDropped};
+ghost use Rattle.amqp_core.specs.Connection.Handshakes.{answered_in, awaits_at, is_in_handshake};
+ghost use Rattle.amqp_core.specs.Heard.View.{goes_by, heard_view, said_after, said_by};
+ghost use Rattle.amqp_core.specs.Connection.Rulings.{OnChannel, OnConnection};
+ghost use Rattle.amqp_core.specs.Config.Settings.{role_for, side_in};
+ghost use Rattle.amqp_core.specs.Connection.Stages.{leaves, phase_at};
+ghost use Rattle.amqp_core.specs.Connection.Outcomes.{owed_by};
+ghost use Rattle.amqp_core.specs.Connection.Owed.{owed_view, IsNothing};
+ghost use Rattle.amqp_core.specs.Connection.Verdicts.{end_at, event_by, fault_by, fault_there, noticed, outcome_with, verdict_view, FitsEventOf, FitsNotice, FrameRules, IsLight, IsLightNotice};
 ghost use Rattle.amqp_core.specs.declared.settings.Settings.{Settings};
 
 use crate::account::Account;
@@ -35,6 +37,7 @@ use crate::connection::Connection;
 use crate::connection::handshake::{
     heartbeat_in, is_too_small, is_within, smaller, smaller_heartbeat,
 };
+use crate::connection::hear::keep_cause;
 use crate::connection::reply::{owed_at, put_owed};
 use crate::faults::{CoreFault, OutOfMemory};
 use crate::heard::Heard;
@@ -77,7 +80,8 @@ fn closes_with(code: CloseCode) -> Verdict
 #[tactic(auto, using(crate::proofs::VerdictLemmas::leaving_rules))]
 fn judge_leaving_call(agreed: Option<Agreed>, method: MethodRef<'_>) -> Verdict
     ensures { (settings : Settings) (channels : Channels)
-        → FrameRules settings (end_at (Stage.Closing agreed) channels) 0 (Calls (lent_call method.entry)) result }
+        → FrameRules settings (end_at (Stage.Closing agreed) channels) 0 (Calls (lent_call method.entry))
+        (OnConnection result) }
 {
     let kind = method.kind();
     if same(kind, Kind::ConnectionClose) {
@@ -102,9 +106,11 @@ fn judge_leaving_call(agreed: Option<Agreed>, method: MethodRef<'_>) -> Verdict
 #[tactic(auto, using(crate::proofs::VerdictLemmas::dropping_rules))]
 fn judge_leaving(agreed: Option<Agreed>, number: u16, reading: Reading<'_>) -> Verdict
     ensures rules { (settings : Settings) (channels : Channels)
-        → FrameRules settings (end_at (Stage.Closing agreed) channels) number (reading_view reading.entry) result }
+        → FrameRules settings (end_at (Stage.Closing agreed) channels) number (reading_view reading.entry)
+        (OnConnection result) }
     ensures light { (channel : Channel)
-        → DropsReading (phase_at (Stage.Closing agreed)) channel number (reading_view reading.entry) → IsLight channel result }
+        → DropsReading (phase_at (Stage.Closing agreed)) channel number (reading_view reading.entry)
+        → IsLight channel (OnConnection result) }
 {
     if number != 0 {
         return drops(Stage::Closing(agreed));
@@ -127,7 +133,7 @@ fn judge_close(stage: Stage, method: MethodRef<'_>) -> Verdict
     requires going { takes_frames (phase_at stage) ≡ true }
     requires close { (lent_call method).kind ≡ Kind.ConnectionClose }
     ensures { (settings : Settings) (channels : Channels)
-        → FrameRules settings (end_at stage channels) 0 (Calls (lent_call method.entry)) result }
+        → FrameRules settings (end_at stage channels) 0 (Calls (lent_call method.entry)) (OnConnection result) }
 {
     Verdict::Proceeds {
         notice: Notice::ClosedByPeer,
@@ -142,7 +148,8 @@ fn judge_start(settings: &Settings, method: MethodRef<'_>) -> Verdict
     requires side { side_in settings.now.hello ≡ Side.Client }
     requires kind { (lent_call method).kind ≡ Kind.ConnectionStart }
     ensures { (channels : Channels)
-        → FrameRules settings.now (end_at Stage.AwaitsStart channels) 0 (Calls (lent_call method.entry)) result }
+        → FrameRules settings.now (end_at Stage.AwaitsStart channels) 0 (Calls (lent_call method.entry))
+        (OnConnection result) }
 {
     if settings.gated {
         return Verdict::Proceeds {
@@ -164,7 +171,8 @@ fn judge_start_ok(settings: &Settings, method: MethodRef<'_>) -> Verdict
     requires side { side_in settings.now.hello ≡ Side.Server }
     requires kind { (lent_call method).kind ≡ Kind.ConnectionStartOk }
     ensures { (channels : Channels)
-        → FrameRules settings.now (end_at Stage.AwaitsStartOk channels) 0 (Calls (lent_call method.entry)) result }
+        → FrameRules settings.now (end_at Stage.AwaitsStartOk channels) 0 (Calls (lent_call method.entry))
+        (OnConnection result) }
 {
     if settings.gated {
         return Verdict::Proceeds {
@@ -186,7 +194,8 @@ fn judge_tune(settings: &Settings, method: MethodRef<'_>) -> Verdict
     requires side { side_in settings.now.hello ≡ Side.Client }
     requires kind { (lent_call method).kind ≡ Kind.ConnectionTune }
     ensures { (channels : Channels)
-        → FrameRules settings.now (end_at Stage.AwaitsTune channels) 0 (Calls (lent_call method.entry)) result }
+        → FrameRules settings.now (end_at Stage.AwaitsTune channels) 0 (Calls (lent_call method.entry))
+        (OnConnection result) }
 {
     let channels = lent_number_at(0, method);
     let frame = lent_number_at(1, method);
@@ -211,7 +220,8 @@ fn judge_tune_ok(settings: &Settings, method: MethodRef<'_>) -> Verdict
     requires side { side_in settings.now.hello ≡ Side.Server }
     requires kind { (lent_call method).kind ≡ Kind.ConnectionTuneOk }
     ensures { (channels : Channels)
-        → FrameRules settings.now (end_at Stage.AwaitsTuneOk channels) 0 (Calls (lent_call method.entry)) result }
+        → FrameRules settings.now (end_at Stage.AwaitsTuneOk channels) 0 (Calls (lent_call method.entry))
+        (OnConnection result) }
 {
     let channels = lent_number_at(0, method);
     let frame = lent_number_at(1, method);
@@ -235,7 +245,8 @@ fn judge_open(settings: &Settings, agreed: Agreed, method: MethodRef<'_>) -> Ver
     requires side { side_in settings.now.hello ≡ Side.Server }
     requires kind { (lent_call method).kind ≡ Kind.ConnectionOpen }
     ensures { (channels : Channels)
-        → FrameRules settings.now (end_at (Stage.AwaitsOpen agreed) channels) 0 (Calls (lent_call method.entry)) result }
+        → FrameRules settings.now (end_at (Stage.AwaitsOpen agreed) channels) 0 (Calls (lent_call method.entry))
+        (OnConnection result) }
 {
     if settings.gated {
         return Verdict::Proceeds {
@@ -257,7 +268,8 @@ fn judge_open_ok(settings: &Settings, agreed: Agreed, method: MethodRef<'_>) -> 
     requires side { side_in settings.now.hello ≡ Side.Client }
     requires kind { (lent_call method).kind ≡ Kind.ConnectionOpenOk }
     ensures { (channels : Channels)
-        → FrameRules settings.now (end_at (Stage.AwaitsOpenOk agreed) channels) 0 (Calls (lent_call method.entry)) result }
+        → FrameRules settings.now (end_at (Stage.AwaitsOpenOk agreed) channels) 0 (Calls (lent_call method.entry))
+        (OnConnection result) }
 {
     Verdict::Proceeds {
         notice: Notice::Negotiated(agreed),
@@ -272,7 +284,7 @@ fn judge_awaited(settings: &Settings, stage: Stage, method: MethodRef<'_>) -> Ve
     requires awaited { awaits_at stage (lent_call method).kind ≡ true }
     requires answered { answered_in (role_for settings.now) (phase_at stage) ≡ true }
     ensures { (channels : Channels)
-        → FrameRules settings.now (end_at stage channels) 0 (Calls (lent_call method.entry)) result }
+        → FrameRules settings.now (end_at stage channels) 0 (Calls (lent_call method.entry)) (OnConnection result) }
 {
     match stage {
         Stage::AwaitsStart => judge_start(settings, method),
@@ -298,7 +310,7 @@ fn judge_step(settings: &Settings, stage: Stage, method: MethodRef<'_>) -> Verdi
     requires handshake { is_in_handshake (phase_at stage) ≡ true }
     requires going { takes_frames (phase_at stage) ≡ true }
     ensures { (channels : Channels)
-        → FrameRules settings.now (end_at stage channels) 0 (Calls (lent_call method.entry)) result }
+        → FrameRules settings.now (end_at stage channels) 0 (Calls (lent_call method.entry)) (OnConnection result) }
 {
     let kind = method.kind();
     if same(kind, Kind::ConnectionClose) {
@@ -323,8 +335,9 @@ fn judge_beat(stage: Stage, number: u16, empty: bool) -> Verdict
     requires stays { leaves (phase_at stage) ≡ false }
     requires going { takes_frames (phase_at stage) ≡ true }
     ensures rules { (settings : Settings) (channels : Channels)
-        → FrameRules settings (end_at stage channels) number (Beat empty) result }
-    ensures light { (channel : Channel) → DropsReading (phase_at stage) channel number (Beat empty) → IsLight channel result }
+        → FrameRules settings (end_at stage channels) number (Beat empty) (OnConnection result) }
+    ensures light { (channel : Channel) → DropsReading (phase_at stage) channel number (Beat empty)
+        → IsLight channel (OnConnection result) }
 {
     if number == 0 && empty {
         return Verdict::Proceeds {
@@ -343,9 +356,10 @@ fn judge_handshake(settings: &Settings, stage: Stage, number: u16, reading: Read
     requires handshake { is_in_handshake (phase_at stage) ≡ true }
     requires going { takes_frames (phase_at stage) ≡ true }
     ensures rules { (channels : Channels) → is_free (channels_view channels number) ≡ true
-        → FrameRules settings.now (end_at stage channels) number (reading_view reading.entry) result }
+        → FrameRules settings.now (end_at stage channels) number (reading_view reading.entry) (OnConnection result) }
     ensures light { (channel : Channel) → is_free channel ≡ true
-        → DropsReading (phase_at stage) channel number (reading_view reading.entry) → IsLight channel result }
+        → DropsReading (phase_at stage) channel number (reading_view reading.entry)
+        → IsLight channel (OnConnection result) }
 {
     match reading {
         Reading::Method(method) => {
@@ -368,7 +382,8 @@ fn judge_handshake(settings: &Settings, stage: Stage, number: u16, reading: Read
 #[tactic(auto, using(crate::proofs::KindLemmas::same_is))]
 fn judge_connection(settings: &Settings, agreed: Agreed, method: MethodRef<'_>) -> Verdict
     ensures { (channels : Channels)
-        → FrameRules settings.now (end_at (Stage.Running agreed) channels) 0 (Calls (lent_call method.entry)) result }
+        → FrameRules settings.now (end_at (Stage.Running agreed) channels) 0 (Calls (lent_call method.entry))
+        (OnConnection result) }
 {
     let stage = Stage::Running(agreed);
     let kind = method.kind();
@@ -404,8 +419,10 @@ fn judge_connection(settings: &Settings, agreed: Agreed, method: MethodRef<'_>) 
 #[tactic(auto, using(crate::proofs::VerdictLemmas::zero_rules))]
 fn judge_zero(settings: &Settings, agreed: Agreed, reading: Reading<'_>) -> Verdict
     ensures rules { (channels : Channels)
-        → FrameRules settings.now (end_at (Stage.Running agreed) channels) 0 (reading_view reading.entry) result }
-    ensures light { DropsReading (phase_at (Stage.Running agreed)) Free 0 (reading_view reading.entry) → IsLight Free result }
+        → FrameRules settings.now (end_at (Stage.Running agreed) channels) 0 (reading_view reading.entry)
+        (OnConnection result) }
+    ensures light { DropsReading (phase_at (Stage.Running agreed)) Free 0 (reading_view reading.entry)
+        → IsLight Free (OnConnection result) }
 {
     match reading {
         Reading::Method(method) => judge_connection(settings, agreed, method),
@@ -418,29 +435,43 @@ fn judge_zero(settings: &Settings, agreed: Agreed, reading: Reading<'_>) -> Verd
     }
 }
 
-/// What an end owes by a channel's verdict.
-fn owed_of(verdict: ChannelVerdict, closing: bool, number: u16) -> Owed
+/// What an end owes by a channel's verdict, on a connection that is Running.
+pub(crate) fn owed_on(verdict: ChannelVerdict, number: u16) -> Owed
     ensures owed { (settings : Settings) (reading : readings.Reading) (whole : Option contents.Content)
-        → owed_view settings result ≡ owed_by closing number (channel_verdict number reading whole verdict) }
+        → owed_view settings result ≡ owed_by false number (channel_verdict number reading whole verdict) }
     ensures light { Drops verdict → IsNothing result }
 {
     match verdict {
         ChannelVerdict::Proceeds(_, None) => Owed::Nothing,
         ChannelVerdict::Proceeds(_, Some(reply)) => Owed::OnChannel(number, reply),
         ChannelVerdict::RefusesContent => Owed::ChannelClose(number, CloseCode::ContentTooLarge),
-        ChannelVerdict::Faults(code) => owed_at(closing, Fault::Peer(code)),
+        ChannelVerdict::Faults(code) => owed_at(false, Fault::Peer(code)),
+    }
+}
+
+/// The fault that an end finds by a channel's verdict, if it finds one.
+pub(crate) fn fault_on(verdict: ChannelVerdict) -> Option<Fault>
+    ensures fault { (settings : Settings) (number : ℕ) (reading : readings.Reading) (whole : Option contents.Content)
+        → fault_there result ≡ fault_by (verdict_view settings number reading whole (OnChannel verdict)) }
+    ensures light { (channel : Channel) → IsLight channel (OnChannel verdict) → result ≡ None }
+    ensures goes { goes_by (OnChannel verdict) ≡ true → result ≡ None }
+{
+    match verdict {
+        ChannelVerdict::Proceeds(_, _) => None,
+        ChannelVerdict::RefusesContent => None,
+        ChannelVerdict::Faults(code) => Some(Fault::Peer(code)),
     }
 }
 
 impl Verdict {
     /// What the end owes, which is leaving the connection or is not.
-    pub(crate) fn owed(self, closing: bool, number: u16) -> Owed
-        ensures owed { (settings : Settings) (reading : readings.Reading) (whole : Option contents.Content)
-            → owed_view settings result ≡ owed_by closing number (verdict_view settings number reading whole self) }
-        ensures light { (channel : Channel) → IsLight channel self → IsNothing result }
+    pub(crate) fn owed(self, closing: bool) -> Owed
+        ensures owed { (settings : Settings) (number : ℕ) (reading : readings.Reading) (whole : Option contents.Content)
+            → owed_view settings result
+            ≡ owed_by closing number (verdict_view settings number reading whole (OnConnection self)) }
+        ensures light { (channel : Channel) → IsLight channel (OnConnection self) → IsNothing result }
     {
         match self {
-            Verdict::OnChannel(said) => owed_of(said, closing, number),
             Verdict::Proceeds { owed, .. } => owed,
             Verdict::Faults(fault) => owed_at(closing, fault),
         }
@@ -448,15 +479,13 @@ impl Verdict {
 
     /// The fault that the end finds, if it finds one.
     pub(crate) fn fault(self) -> Option<Fault>
-        ensures fault { (settings : Settings) (number : ℕ) (reading : readings.Reading) (whole : Option contents.Content)
-            → fault_there result ≡ fault_by (verdict_view settings number reading whole self) }
-        ensures light { (channel : Channel) → IsLight channel self → result ≡ None }
-        ensures goes { goes_by self ≡ true → result ≡ None }
+        ensures fault { (settings : Settings) (number : ℕ) (reading : readings.Reading)
+            (whole : Option contents.Content)
+            → fault_there result ≡ fault_by (verdict_view settings number reading whole (OnConnection self)) }
+        ensures light { (channel : Channel) → IsLight channel (OnConnection self) → result ≡ None }
+        ensures goes { goes_by (OnConnection self) ≡ true → result ≡ None }
     {
         match self {
-            Verdict::OnChannel(ChannelVerdict::Proceeds(_, _)) => None,
-            Verdict::OnChannel(ChannelVerdict::RefusesContent) => None,
-            Verdict::OnChannel(ChannelVerdict::Faults(code)) => Some(Fault::Peer(code)),
             Verdict::Proceeds { .. } => None,
             Verdict::Faults(fault) => Some(fault),
         }
@@ -504,29 +533,48 @@ fn tell_notice(
     Ok(())
 }
 
-/// What a frame with this verdict tells, where the caller has room for it. The frame makes this content whole, if any.
-fn tell_event(
+/// What a frame of a channel tells, where the caller has room for it. The frame makes this content whole, if any.
+fn tell_on(
+    alloc: Global,
+    number: u16,
+    reading: Reading<'_>,
+    verdict: ChannelVerdict,
+    content: Option<Box<Content>>,
+    place: &mut Option<EventParts>,
+) -> Result<(), OutOfMemory>
+    requires fits { FitsEventOf (reading_view reading) (OnChannel verdict) }
+    requires none { place.old ≡ None }
+    ensures event { OnOk result ((settings : Settings) → parts_there place.new ≡ event_by number
+        (verdict_view settings number (reading_view reading.entry) (content_there content) (OnChannel verdict))) }
+    ensures light { (channel : Channel) → IsLight channel (OnChannel verdict) → IsOk result }
+{
+    match verdict {
+        ChannelVerdict::Proceeds(told, _) => {
+            EventParts::tell(alloc, number, reading, told, content, place)?;
+        }
+        ChannelVerdict::RefusesContent => {
+            EventParts::Discarded(Aligned::new(number)).put_in(place);
+        }
+        ChannelVerdict::Faults(_) => {}
+    }
+    Ok(())
+}
+
+/// What a frame of the connection tells, where the caller has room for it.
+fn tell_of(
     alloc: Global,
     number: u16,
     reading: Reading<'_>,
     verdict: Verdict,
-    content: Option<Box<Content>>,
     place: &mut Option<EventParts>,
 ) -> Result<(), OutOfMemory>
-    requires fits { FitsEventOf (reading_view reading) verdict }
+    requires fits { FitsEventOf (reading_view reading) (OnConnection verdict) }
     requires none { place.old ≡ None }
-    ensures event { OnOk result ((settings : Settings) → parts_there place.new
-        ≡ event_by number (verdict_view settings number (reading_view reading.entry) (content_there content) verdict)) }
-    ensures light { (channel : Channel) → IsLight channel verdict → IsOk result }
+    ensures event { OnOk result ((settings : Settings) (whole : Option contents.Content) → parts_there place.new
+        ≡ event_by number (verdict_view settings number (reading_view reading.entry) whole (OnConnection verdict))) }
+    ensures light { (channel : Channel) → IsLight channel (OnConnection verdict) → IsOk result }
 {
     match verdict {
-        Verdict::OnChannel(ChannelVerdict::Proceeds(told, _)) => {
-            EventParts::tell(alloc, number, reading, told, content, place)?;
-        }
-        Verdict::OnChannel(ChannelVerdict::RefusesContent) => {
-            EventParts::Discarded(Aligned::new(number)).put_in(place);
-        }
-        Verdict::OnChannel(ChannelVerdict::Faults(_)) => {}
         Verdict::Proceeds { notice, .. } => tell_notice(alloc, number, reading, notice, place)?,
         Verdict::Faults(_) => {}
     }
@@ -548,83 +596,70 @@ fn report(fault: Option<Fault>) -> Result<(), CoreFault>
 }
 
 impl Connection {
-    ghost use Rattle.amqp_core.specs.ConnectionView.{connection_end};
+    ghost use Rattle.amqp_core.specs.Connection.View.{connection_end};
     ghost use Rattle.amqp_frame.specs.Frame.{lent};
+    ghost use Rattle.amqp_model.specs.End.Channels.{Running};
     ghost use Rattle.amqp_model.specs.End.Closes.{frame_of};
     ghost use Rattle.amqp_model.specs.End.EndVerdict.{end_puts, end_verdict, facts_at};
     ghost use Rattle.amqp_model.specs.Stream.Endpoint.{outcome_of};
     ghost use Rattle.amqp_model.specs.End.FrameVerdict.{methods_put};
     ghost use Rattle.amqp_model.specs.Stream.Traces.{IsTaken, noted};
-    ghost use Rattle.amqp_core.specs.AccountView.{note_there};
-    ghost use Rattle.amqp_core.specs.Feeding.{IsMessage, SameButChannels};
+    ghost use Rattle.amqp_core.specs.Traced.AccountView.{note_there};
+    ghost use Rattle.amqp_core.specs.End.Feeding.{IsMessage, SameButChannels};
     ghost use Rattle.amqp_model.specs.End.Machine.{end_after_taken};
     ghost use Rattle.amqp_model.specs.Output.Outputs.{after_puts};
     ghost use Rattle.amqp_model.specs.Wire.Readings.{reading as says};
     ghost use Rattle.amqp_outbox.specs.OutboxView.{only};
-    ghost use Rattle.amqp_core.specs.Answering.{EndsAs, PutsAs};
-    ghost use Rattle.amqp_core.specs.Blamed.{blames_frame, tally_view};
-    ghost use Rattle.amqp_core.specs.Settings.{config_view};
-    ghost use Rattle.amqp_core.specs.VerdictView.{content_of, end_left, ended_if, verdict_here, FitsVerdict};
+    ghost use Rattle.amqp_core.specs.Faults.Answering.{EndsAs, PutsAs};
+    ghost use Rattle.amqp_core.specs.Faults.Blamed.{blames_frame, tally_view};
+    ghost use Rattle.amqp_core.specs.Config.Settings.{config_view};
+    ghost use Rattle.amqp_core.specs.Connection.Verdicts.{content_of, end_left, ended_if, verdict_here, FitsVerdict, StepsFrom};
 
-    /// Leaves the end as a frame with this verdict does. What is answered is the content that the frame makes whole.
-    /// Out of memory, nothing that was agreed is lost.
-    #[tactic(auto, using(crate::proofs::ReceiveLemmas::with_channel_is))]
-    fn apply(
-        &mut self,
-        number: u16,
-        reading: Reading<'_>,
-        verdict: Verdict,
-    ) -> Result<Option<Box<Content>>, OutOfMemory>
-        requires gathers { self.old.settings.lends ≡ false }
-        requires fits { FitsVerdict (connection_end self.old) number (reading_view reading) verdict }
-        ensures content { IfOk result (λ content. content_there content
-            ≡ content_of verdict (channels_view self.old.channels number) (reading_view reading.entry)) }
-        ensures left { OnOk result (connection_end self.new
-            ≡ end_left (role_for self.old.settings) number (reading_view reading.entry) verdict (connection_end self.old)) }
-        ensures settings { self.new.settings ≡ self.old.settings }
-        ensures err { OnErr result (self.new.stage ≡ self.old.stage) }
-        ensures light { IsLight (channels_view self.old.channels number) verdict → IsOk result }
-    {
-        match verdict {
-            Verdict::OnChannel(said) => {
-                let side = self.settings.hello.side();
-                Ok(
-                    self.channels
-                        .apply(self.alloc, side, number, reading, said)?,
-                )
-            }
-            Verdict::Proceeds { stage, .. } => {
-                self.stage = stage;
-                Ok(None)
-            }
-            Verdict::Faults(_) => Ok(None),
-        }
-    }
-
-    /// A frame on a connection that is Running.
-    #[tactic(auto, using(crate::proofs::VerdictLemmas::channel_rules))]
-    fn judge_running(&self, agreed: Agreed, number: u16, reading: Reading<'_>) -> Verdict
-        ensures rules { FrameRules self.now.settings (end_at (Stage.Running agreed) self.now.channels) number
-            (reading_view reading.entry) result }
-        ensures light { DropsReading (phase_at (Stage.Running agreed)) (channels_view self.now.channels number) number
-            (reading_view reading.entry) → IsLight (channels_view self.now.channels number) result }
+    /// What was agreed, where a frame with this number is its channel's: with a number above 0, on a connection that
+    /// is Running. Otherwise the frame is the connection's.
+    #[inline(always)]
+    pub(crate) fn agreed_on(&self, number: u16) -> Option<Agreed>
+        ensures above { IfSome result (λ agreed. 0 < number) }
+        ensures running { IfSome result (λ agreed. self.now.stage ≡ Stage.Running agreed) }
+        ensures none { result ≡ None → phase_at self.now.stage ≡ Running → number ≡ 0 }
     {
         if number == 0 {
-            return judge_zero(&self.settings, agreed, reading);
+            return None;
         }
-        let site = self.site(number, agreed.channel_max);
-        Verdict::OnChannel(self.channels.judge(site, reading))
+        self.stage.running()
     }
 
-    /// What the rules say of a frame.
+    /// What the rules say of a frame of a channel.
+    #[inline(always)]
+    #[tactic(auto, using(crate::proofs::VerdictLemmas::channel_rules))]
+    pub(crate) fn judge_on(
+        &self,
+        agreed: Agreed,
+        number: u16,
+        reading: Reading<'_>,
+    ) -> ChannelVerdict
+        requires above { 0 < number }
+        requires running { self.now.stage ≡ Stage.Running agreed }
+        ensures rules { FrameRules self.now.settings (connection_end self.now) number (reading_view reading.entry)
+            (OnChannel result) }
+        ensures light { DropsReading (phase_at self.now.stage) (channels_view self.now.channels number) number
+            (reading_view reading.entry) → IsLight (channels_view self.now.channels number) (OnChannel result) }
+    {
+        self.channels
+            .judge(self.site(number, agreed.channel_max), reading)
+    }
+
+    /// What the rules say of a frame of the connection.
     pub(crate) fn judge(&self, number: u16, reading: Reading<'_>) -> Verdict
         requires taking { takes_frames (phase_at self.now.stage) ≡ true }
-        ensures rules { FrameRules self.now.settings (connection_end self.now) number (reading_view reading.entry) result }
+        requires zero { phase_at self.now.stage ≡ Running → number ≡ 0 }
+        ensures rules { FrameRules self.now.settings (connection_end self.now) number (reading_view reading.entry)
+            (OnConnection result) }
         ensures light { DropsReading (phase_at self.now.stage) (channels_view self.now.channels number) number
-            (reading_view reading.entry) → IsLight (channels_view self.now.channels number) result }
+            (reading_view reading.entry) → IsLight (channels_view self.now.channels number) (OnConnection result) }
     {
         match self.stage {
-            Stage::Running(agreed) => self.judge_running(agreed, number, reading),
+            Stage::Running(agreed) => judge_zero(&self.settings, agreed, reading),
             Stage::Closing(agreed) => judge_leaving(agreed, number, reading),
             Stage::AwaitsStart
             | Stage::HoldsStart
@@ -646,8 +681,96 @@ impl Connection {
         }
     }
 
-    /// Does what the rules say of a frame: the end is left as it leaves it, its event is told, what is owed is put, and
-    /// what may be asked for later is kept. Out of memory, nothing is put.
+    /// Leaves the connection as a frame of its own with this verdict does.
+    pub(crate) fn apply_own(&mut self, verdict: Verdict)
+        requires { StepsFrom (connection_end self.old) verdict }
+        ensures left { (role : Role) (number : ℕ) (reading : readings.Reading) → connection_end self.new
+            ≡ end_left role number reading (OnConnection verdict) (connection_end self.old) }
+        ensures settings { self.new.settings ≡ self.old.settings }
+    {
+        match verdict {
+            Verdict::Proceeds { stage, .. } => self.stage = stage,
+            Verdict::Faults(_) => {}
+        }
+    }
+
+    /// Leaves the channel as a frame with this verdict does. What is answered is the content that the frame makes
+    /// whole.
+    #[tactic(auto, using(crate::proofs::ReceiveLemmas::with_channel_is))]
+    fn apply_on(
+        &mut self,
+        number: u16,
+        reading: Reading<'_>,
+        verdict: ChannelVerdict,
+    ) -> Result<Option<Box<Content>>, OutOfMemory>
+        requires gathers { self.old.settings.lends ≡ false }
+        requires fits { FitsVerdict (connection_end self.old) number (reading_view reading) (OnChannel verdict) }
+        ensures content { IfOk result (λ content. content_there content
+            ≡ content_of (OnChannel verdict) (channels_view self.old.channels number) (reading_view reading.entry)) }
+        ensures left { OnOk result (connection_end self.new ≡ end_left (role_for self.old.settings) number
+            (reading_view reading.entry) (OnChannel verdict) (connection_end self.old)) }
+        ensures settings { self.new.settings ≡ self.old.settings }
+        ensures stage { self.new.stage ≡ self.old.stage }
+        ensures light { IsLight (channels_view self.old.channels number) (OnChannel verdict) → IsOk result }
+    {
+        let side = self.settings.hello.side();
+        Ok(
+            self.channels
+                .apply(self.alloc, side, number, reading, verdict)?,
+        )
+    }
+
+    /// Does what the rules say of a frame of a channel: the channel is left as it leaves it, its event is told, what is
+    /// owed is put, and what may be asked for later is kept. Out of memory, nothing is put.
+    fn carry_out_on(
+        &mut self,
+        outbox: &mut Outbox,
+        number: u16,
+        reading: Reading<'_>,
+        verdict: ChannelVerdict,
+        account: &mut Account,
+        heard: &mut Heard,
+    ) -> Result<(), OutOfMemory>
+        requires gathers { self.old.settings.lends ≡ false }
+        requires fits { FitsVerdict (connection_end self.old) number (reading_view reading) (OnChannel verdict) }
+        requires staged { outbox.old.staged ≡ [] }
+        requires none { account.old.parts ≡ None }
+        ensures event { OnOk result (parts_there account.new.parts ≡ event_by number (verdict_here self.old.settings
+            (connection_end self.old) number (reading_view reading.entry) (OnChannel verdict))) }
+        ensures left { OnOk result (connection_end self.new ≡ end_left (role_for self.old.settings) number
+            (reading_view reading.entry) (OnChannel verdict) (connection_end self.old)) }
+        ensures put { OnOk result (outbox.new ≡ only (after_puts (map frame_of (owed_by false number
+            (verdict_here self.old.settings (connection_end self.old) number (reading_view reading.entry)
+            (OnChannel verdict)))) outbox.old.output)) }
+        ensures kept { OnErr result (outbox.new ≡ only outbox.old.output) }
+        ensures owed { OnOk result (owed_view self.old.settings account.new.owed ≡ owed_by false number
+            (verdict_here self.old.settings (connection_end self.old) number (reading_view reading.entry)
+            (OnChannel verdict))) }
+        ensures octets { account.new.octets ≡ account.old.octets }
+        ensures took { account.new.took ≡ account.old.took }
+        ensures heard { OnOk result (heard_view heard.new
+            ≡ said_by Running number (reading_view reading.entry) (OnChannel verdict) (heard_view heard.old)) }
+        ensures light { IsLight (channels_view self.old.channels number) (OnChannel verdict) → IsOk result }
+        ensures stage { self.new.stage ≡ self.old.stage }
+        ensures settings { self.new.settings ≡ self.old.settings }
+    {
+        keep_cause(reading, verdict, heard);
+        let content = self.apply_on(number, reading, verdict)?;
+        tell_on(
+            self.alloc,
+            number,
+            reading,
+            verdict,
+            content,
+            &mut account.parts,
+        )?;
+        let owed = owed_on(verdict, number);
+        put_owed(self.alloc, &self.settings, owed, outbox)?;
+        account.owed = owed;
+        Ok(())
+    }
+
+    /// Does what the rules say of a frame of the connection. Out of memory, nothing is put.
     fn carry_out(
         &mut self,
         outbox: &mut Outbox,
@@ -657,39 +780,34 @@ impl Connection {
         account: &mut Account,
         heard: &mut Heard,
     ) -> Result<(), OutOfMemory>
-        requires gathers { self.old.settings.lends ≡ false }
-        requires fits { FitsVerdict (connection_end self.old) number (reading_view reading) verdict }
+        requires fits { FitsVerdict (connection_end self.old) number (reading_view reading) (OnConnection verdict) }
         requires staged { outbox.old.staged ≡ [] }
         requires none { account.old.parts ≡ None }
-        ensures event { OnOk result (parts_there account.new.parts
-            ≡ event_by number (verdict_here self.old.settings (connection_end self.old) number (reading_view reading.entry) verdict)) }
-        ensures left { OnOk result (connection_end self.new
-            ≡ end_left (role_for self.old.settings) number (reading_view reading.entry) verdict (connection_end self.old)) }
-        ensures put { OnOk result (outbox.new ≡ only (after_puts (map frame_of (owed_by (leaves (phase_at self.old.stage)) number
-            (verdict_here self.old.settings (connection_end self.old) number (reading_view reading.entry) verdict))) outbox.old.output)) }
+        ensures event { OnOk result (parts_there account.new.parts ≡ event_by number (verdict_here self.old.settings
+            (connection_end self.old) number (reading_view reading.entry) (OnConnection verdict))) }
+        ensures left { OnOk result (connection_end self.new ≡ end_left (role_for self.old.settings) number
+            (reading_view reading.entry) (OnConnection verdict) (connection_end self.old)) }
+        ensures put { OnOk result (outbox.new ≡ only (after_puts (map frame_of (owed_by
+            (leaves (phase_at self.old.stage)) number (verdict_here self.old.settings (connection_end self.old) number
+            (reading_view reading.entry) (OnConnection verdict)))) outbox.old.output)) }
         ensures kept { OnErr result (outbox.new ≡ only outbox.old.output) }
-        ensures owed { OnOk result (owed_view self.old.settings account.new.owed ≡ owed_by (leaves (phase_at self.old.stage)) number
-            (verdict_here self.old.settings (connection_end self.old) number (reading_view reading.entry) verdict)) }
+        ensures owed { OnOk result (owed_view self.old.settings account.new.owed ≡ owed_by
+            (leaves (phase_at self.old.stage)) number (verdict_here self.old.settings (connection_end self.old) number
+            (reading_view reading.entry) (OnConnection verdict))) }
         ensures octets { account.new.octets ≡ account.old.octets }
         ensures took { account.new.took ≡ account.old.took }
-        ensures heard { OnOk result (heard_view heard.new
-            ≡ said_by (phase_at self.old.stage) number (reading_view reading.entry) verdict (heard_view heard.old)) }
+        ensures heard { OnOk result (heard_view heard.new ≡ said_by (phase_at self.old.stage) number
+            (reading_view reading.entry) (OnConnection verdict) (heard_view heard.old)) }
         ensures light { DropsReading (phase_at self.old.stage) (channels_view self.old.channels number) number
-            (reading_view reading.entry) → IsLight (channels_view self.old.channels number) verdict → IsOk result }
+            (reading_view reading.entry)
+            → IsLight (channels_view self.old.channels number) (OnConnection verdict) → IsOk result }
         ensures settings { self.new.settings ≡ self.old.settings }
     {
         let closing = self.stage.is_closing();
         self.keep_said(number, reading, verdict, heard)?;
-        let content = self.apply(number, reading, verdict)?;
-        tell_event(
-            self.alloc,
-            number,
-            reading,
-            verdict,
-            content,
-            &mut account.parts,
-        )?;
-        let owed = verdict.owed(closing, number);
+        self.apply_own(verdict);
+        tell_of(self.alloc, number, reading, verdict, &mut account.parts)?;
+        let owed = verdict.owed(closing);
         put_owed(self.alloc, &self.settings, owed, outbox)?;
         account.owed = owed;
         Ok(())
@@ -716,8 +834,69 @@ impl Connection {
             (end_after_taken (role_for self.old.settings) (config_view self.old.settings) (connection_end self.old)
             (says (lent frame.entry)) (lent frame.entry)) (connection_end self.new) }
         ensures output { PutsAs result outbox.old.output
-            (after_puts (end_puts (config_view self.old.settings) (connection_end self.old) (lent frame.entry)) outbox.old.output)
-            outbox.new }
+            (after_puts (end_puts (config_view self.old.settings) (connection_end self.old) (lent frame.entry))
+            outbox.old.output) outbox.new }
+        // A frame that is dropped takes no memory.
+        ensures alone { IsDropped (phase_at self.old.stage) (channels_view self.old.channels (lent frame.entry).channel)
+            (lent frame.entry).channel (lent frame.entry).kind (lent frame.entry).payload → IsOk result }
+        // A message that is told is not answered, and leaves all but its channel as it was.
+        ensures message { OnOk result (IsMessage (parts_there account.new.parts) → SameButChannels
+            (record { end = connection_end self.old; unfinished = []; output = outbox.old.output })
+            (record { end = connection_end self.new; unfinished = []; output = outbox.new.output })) }
+        ensures octets { account.new.octets ≡ account.old.octets }
+        ensures took { note_there account.new.took ≡ Some (noted IsTaken (lent frame.entry)) }
+        ensures owed { ran_out result ≡ false → owed_view self.old.settings account.new.owed ≡ methods_put
+            (facts_at (config_view self.old.settings) (connection_end self.old) (lent frame.entry).channel)
+            (end_verdict (config_view self.old.settings) (connection_end self.old) (lent frame.entry)) }
+        ensures heard { ran_out result ≡ false → heard_view heard.new ≡ said_after (config_view self.old.settings)
+            (connection_end self.old) (lent frame.entry) (heard_view heard.old) }
+        ensures at_fault { ran_out result ≡ false → OnErr result (heard_view heard.new ≡ heard_view heard.old) }
+        ensures settings { self.new.settings ≡ self.old.settings }
+        ensures tally { tally_view tally.new
+            ≡ blames_frame (code_found result) (lent frame.entry) (tally_view tally.old) }
+    {
+        let reading = Reading::of(frame);
+        account.took = Some(Note::taken(frame.channel, reading));
+        let Some(agreed) = self.agreed_on(frame.channel) else {
+            return self.receive_own(outbox, frame, reading, account, tally, heard);
+        };
+        let verdict = self.judge_on(agreed, frame.channel, reading);
+        let Ok(()) = self.carry_out_on(outbox, frame.channel, reading, verdict, account, heard)
+        else {
+            self.fail_at(self.stage);
+            return Err(CoreFault::OutOfMemory);
+        };
+        let fault = fault_on(verdict);
+        self.fail_by(fault, frame, tally);
+        report(fault)
+    }
+
+    /// The same with a frame of the connection that says this. It stands apart, since few frames are.
+    #[inline(never)]
+    fn receive_own(
+        &mut self,
+        outbox: &mut Outbox,
+        frame: FrameRef<'_>,
+        reading: Reading<'_>,
+        account: &mut Account,
+        tally: &mut Tally,
+        heard: &mut Heard,
+    ) -> Result<(), CoreFault>
+        requires taking { takes_frames (phase_at self.old.stage) ≡ true }
+        requires zero { phase_at self.old.stage ≡ Running → (lent frame).channel ≡ 0 }
+        requires staged { outbox.old.staged ≡ [] }
+        requires none { account.old.parts ≡ None }
+        requires took { note_there account.old.took ≡ Some (noted IsTaken (lent frame)) }
+        requires says { reading_view reading ≡ says (lent frame) }
+        ensures said { AnswersFrame (answer_with result (parts_there account.new.parts)) (outcome_of
+            (facts_at (config_view self.old.settings) (connection_end self.old) (lent frame.entry).channel)
+            (end_verdict (config_view self.old.settings) (connection_end self.old) (lent frame.entry))) }
+        ensures end { EndsAs result (connection_end self.old)
+            (end_after_taken (role_for self.old.settings) (config_view self.old.settings) (connection_end self.old)
+            (says (lent frame.entry)) (lent frame.entry)) (connection_end self.new) }
+        ensures output { PutsAs result outbox.old.output
+            (after_puts (end_puts (config_view self.old.settings) (connection_end self.old) (lent frame.entry))
+            outbox.old.output) outbox.new }
         // A frame that is dropped takes no memory.
         ensures alone { IsDropped (phase_at self.old.stage) (channels_view self.old.channels (lent frame.entry).channel)
             (lent frame.entry).channel (lent frame.entry).kind (lent frame.entry).payload → IsOk result }
@@ -738,9 +917,7 @@ impl Connection {
             ≡ blames_frame (code_found result) (lent frame.entry) (tally_view tally.old) }
     {
         let before = self.stage;
-        let reading = Reading::of(frame);
         let verdict = self.judge(frame.channel, reading);
-        account.took = Some(Note::taken(frame.channel, reading));
         let Ok(()) = self.carry_out(outbox, frame.channel, reading, verdict, account, heard) else {
             self.fail_at(before);
             return Err(CoreFault::OutOfMemory);

@@ -6,12 +6,12 @@ ghost use Rattle.amqp_model.specs.Stream.Endpoint.{Found, fault_told, owed_at_fa
 ghost use Rattle.amqp_model.specs.End.Machine.{as_failed};
 ghost use Rattle.amqp_model.specs.Output.Outputs.{after_puts};
 ghost use Rattle.amqp_outbox.specs.OutboxView.{only};
-ghost use Rattle.amqp_core.specs.Answering.{Reports, is_out_of_memory, stopped};
-ghost use Rattle.amqp_core.specs.ConnectionView.{connection_end, fault_of};
-ghost use Rattle.amqp_core.specs.Outcomes.{SameEnd, owed_for};
-ghost use Rattle.amqp_core.specs.OwedView.{owed_view, IsNothing};
-ghost use Rattle.amqp_core.specs.Settings.{config_view, role_for};
-ghost use Rattle.amqp_core.specs.Stages.{agreed_at};
+ghost use Rattle.amqp_core.specs.Faults.Answering.{Reports, is_out_of_memory, stopped};
+ghost use Rattle.amqp_core.specs.Connection.View.{connection_end, fault_of};
+ghost use Rattle.amqp_core.specs.Connection.Outcomes.{SameEnd, owed_for};
+ghost use Rattle.amqp_core.specs.Connection.Owed.{owed_view, IsNothing};
+ghost use Rattle.amqp_core.specs.Config.Settings.{config_view, role_for};
+ghost use Rattle.amqp_core.specs.Connection.Stages.{agreed_at};
 ghost use Rattle.amqp_core.specs.declared.settings.Settings.{Settings};
 
 use crate::account::Account;
@@ -53,7 +53,8 @@ fn put_all(
     outbox: &mut Outbox,
 ) -> Result<(), OutOfMemory>
     requires { outbox.old.staged ≡ [] }
-    ensures ok { OnOk result (outbox.new ≡ only (after_puts (map frame_of (owed_view settings.now owed)) outbox.old.output)) }
+    ensures ok { OnOk result (outbox.new ≡ only (after_puts (map frame_of (owed_view settings.now owed))
+        outbox.old.output)) }
     ensures err { OnErr result (outbox.new ≡ only outbox.old.output) }
 {
     let Ok(()) = owed.stage(alloc, settings, outbox) else {
@@ -72,7 +73,8 @@ pub(crate) fn put_owed(
     outbox: &mut Outbox,
 ) -> Result<(), OutOfMemory>
     requires { outbox.old.staged ≡ [] }
-    ensures ok { OnOk result (outbox.new ≡ only (after_puts (map frame_of (owed_view settings.now owed)) outbox.old.output)) }
+    ensures ok { OnOk result (outbox.new ≡ only (after_puts (map frame_of (owed_view settings.now owed))
+        outbox.old.output)) }
     ensures err { OnErr result (outbox.new ≡ only outbox.old.output) }
     ensures nothing { IsNothing owed → IsOk result }
 {
@@ -85,7 +87,8 @@ pub(crate) fn put_owed(
 impl Connection {
     /// Out of memory: the end fails, and knows no more of what was agreed than at an earlier stage.
     pub(crate) fn fail_at(&mut self, before: Stage)
-        ensures end { (end : End) → end.agreed ≡ agreed_at before → end.channels 0 ≡ Free → SameEnd (as_failed end) (connection_end self.new) }
+        ensures end { (end : End) → end.agreed ≡ agreed_at before → end.channels 0 ≡ Free
+            → SameEnd (as_failed end) (connection_end self.new) }
         ensures settings { self.new.settings ≡ self.old.settings }
     {
         self.stage = Stage::Failed(before.agreed());
@@ -102,11 +105,16 @@ impl Connection {
         requires { outbox.old.staged ≡ [] }
         ensures octets { account.new.octets ≡ account.old.octets }
         ensures took { account.new.took ≡ account.old.took }
-        ensures owed { is_out_of_memory result ≡ false → owed_view self.old.settings account.new.owed ≡ owed_at_fault (config_view self.old.settings) (connection_end self.old) kind }
+        ensures owed { is_out_of_memory result ≡ false → owed_view self.old.settings account.new.owed
+            ≡ owed_at_fault (config_view self.old.settings) (connection_end self.old) kind }
         ensures said { Reports result (Found (fault_told kind)) }
         ensures memory { kind ≡ FrameFaultKind.OutOfMemory → is_out_of_memory result ≡ true }
-        ensures end { SameEnd (cond (is_out_of_memory result) (as_failed (connection_end self.old)) (stopped (role_for self.old.settings) (config_view self.old.settings) (connection_end self.old) kind)) (connection_end self.new) }
-        ensures output { outbox.new ≡ only (cond (is_out_of_memory result) outbox.old.output (after_puts (map frame_of (owed_at_fault (config_view self.old.settings) (connection_end self.old) kind)) outbox.old.output)) }
+        ensures end { SameEnd (cond (is_out_of_memory result) (as_failed (connection_end self.old))
+            (stopped (role_for self.old.settings) (config_view self.old.settings) (connection_end self.old) kind))
+            (connection_end self.new) }
+        ensures output { outbox.new ≡ only (cond (is_out_of_memory result) outbox.old.output
+            (after_puts (map frame_of (owed_at_fault (config_view self.old.settings) (connection_end self.old) kind))
+            outbox.old.output)) }
         ensures settings { self.new.settings ≡ self.old.settings }
     {
         let before = self.stage;

@@ -1,7 +1,7 @@
 use Rattle.std.proofs.Common.{◌≡◌, false, ap, sym, ◌∙◌}
-use Rattle.amqp_core.specs.LentLetter.{lent_letter}
+use Rattle.amqp_core.specs.Asks.LentLetter.{lent_letter}
 use Rattle.amqp_model.specs.Wire.Methods.{plain_method}
-use Rattle.amqp_core.specs.Refusals.{passes}
+use Rattle.amqp_core.specs.Asks.Refusals.{passes}
 use Rattle.amqp_core.proofs.RefusalLemmas.{too_large_by}
 use Rattle.amqp_core.proofs.refusing.is_too_large.Goals as goal
 

@@ -1,7 +1,7 @@
 use Rattle.std.proofs.Common.{[], ◌∷◌, length, ap, ◌∙◌}
 use Rattle.std.proofs.lemmas.Result.{on_ok_weaker}
 use Rattle.amqp_method.specs.HeaderView.{properties_view}
-use Rattle.amqp_core.specs.LentLetter.{lent_letter}
+use Rattle.amqp_core.specs.Asks.LentLetter.{lent_letter}
 use Rattle.amqp_method.specs.Properties.{header}
 use Rattle.amqp_outbox.specs.OutboxFrames.{header_frame}
 use Rattle.amqp_outbox.specs.OutboxView.{with_staged}

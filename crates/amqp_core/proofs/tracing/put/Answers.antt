@@ -3,10 +3,10 @@ use Rattle.std.proofs.Common.{false, map, refl}
 use Rattle.std.proofs.Math.Logic.{∥∥₁_map}
 use Rattle.amqp_model.specs.End.Asks.{frames_asked}
 use Rattle.amqp_channel.specs.Roles.{role_of}
-use Rattle.amqp_core.specs.AskView.{lent_view}
-use Rattle.amqp_core.specs.EndView.{config_at, endpoint_of, role_played}
-use Rattle.amqp_core.specs.TracedFields.{kept_of}
-use Rattle.amqp_core.specs.NoteView.{item_there, telling_view}
+use Rattle.amqp_core.specs.Asks.View.{lent_view}
+use Rattle.amqp_core.specs.End.View.{config_at, endpoint_of, role_played}
+use Rattle.amqp_core.specs.Traced.Fields.{kept_of}
+use Rattle.amqp_core.specs.Traced.Notes.{item_there, telling_view}
 use Rattle.amqp_core.proofs.AskTrace.{accepted-grows, ask-kept, traced-asked}
 use Rattle.amqp_core.proofs.AnswerLemmas.{in_ok}
 use Rattle.amqp_core.proofs.tracing.put.Goals as goal

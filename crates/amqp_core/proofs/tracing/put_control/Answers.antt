@@ -1,9 +1,9 @@
 -- The lists go on with the frame that is put.
 use Rattle.std.proofs.Common.{map}
-use Rattle.amqp_core.specs.ControlView.{control_view}
-use Rattle.amqp_core.specs.EndView.{config_at, endpoint_of, role_played}
-use Rattle.amqp_core.specs.NoteView.{telling_view}
-use Rattle.amqp_core.specs.TracedFields.{kept_of}
+use Rattle.amqp_core.specs.Asks.ControlView.{control_view}
+use Rattle.amqp_core.specs.End.View.{config_at, endpoint_of, role_played}
+use Rattle.amqp_core.specs.Traced.Notes.{telling_view}
+use Rattle.amqp_core.specs.Traced.Fields.{kept_of}
 use Rattle.amqp_core.proofs.AnswerLemmas.{in_ok}
 use Rattle.amqp_core.proofs.ControlTrace.{controlled-grows, traced-controlled}
 use Rattle.amqp_core.proofs.tracing.put_control.Goals as goal

@@ -8,16 +8,16 @@ use Rattle.amqp_model.specs.History.Histories.{entries_on}
 use Rattle.amqp_model.specs.Output.Outputs.{Output}
 use Rattle.amqp_channel.specs.PartsView.{parts_there}
 use Rattle.amqp_channel.specs.Roles.{role_of}
-use Rattle.amqp_core.specs.EndView.{config_at, endpoint_of, role_played, settings_at}
-use Rattle.amqp_core.specs.TracedFields.{kept_of}
-use Rattle.amqp_core.specs.Answering.{ran_out}
-use Rattle.amqp_core.specs.Feeding.{IsFed, Seen, seen}
-use Rattle.amqp_core.specs.Growth.{GrowsLittle}
-use Rattle.amqp_core.specs.OwedView.{owed_view}
-use Rattle.amqp_core.specs.Tracing.{FedGrows, TraceGoesOn}
+use Rattle.amqp_core.specs.End.View.{config_at, endpoint_of, role_played, settings_at}
+use Rattle.amqp_core.specs.Traced.Fields.{kept_of}
+use Rattle.amqp_core.specs.Faults.Answering.{ran_out}
+use Rattle.amqp_core.specs.End.Feeding.{IsFed, Seen, seen}
+use Rattle.amqp_core.specs.End.Growth.{GrowsLittle}
+use Rattle.amqp_core.specs.Connection.Owed.{owed_view}
+use Rattle.amqp_core.specs.Traced.Tracing.{FedGrows, TraceGoesOn}
 use Rattle.amqp_core.specs.declared.faults.CoreFault.{CoreFault}
-use Rattle.amqp_core.specs.AccountView.{note_there, IsAccount}
-use Rattle.amqp_core.specs.NoteView.{item_there}
+use Rattle.amqp_core.specs.Traced.AccountView.{note_there, IsAccount}
+use Rattle.amqp_core.specs.Traced.Notes.{item_there}
 use Rattle.amqp_core.proofs.FeedFaultLemmas.{count_seen, ran_seen}
 use Rattle.amqp_core.proofs.FeedLemmas.{of_ok, ran_with}
 use Rattle.amqp_core.proofs.HeardLemmas.{taken_heard}

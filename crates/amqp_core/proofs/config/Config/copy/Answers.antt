@@ -1,4 +1,4 @@
-use Rattle.amqp_core.specs.Configs.{settings_of}
+use Rattle.amqp_core.specs.Config.Configs.{settings_of}
 use Rattle.amqp_core.proofs.SettingsLemmas.{set_up_alike}
 use Rattle.amqp_core.proofs.config.Config.copy.Goals as goal
 

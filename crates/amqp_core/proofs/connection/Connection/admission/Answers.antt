@@ -1,10 +1,10 @@
 use Rattle.std.proofs.Common.{rules, ◌≡◌, false, sym, ap, ◌∙◌}
 use Rattle.std.proofs.lemmas.Bool.{false≢true}
 use Rattle.std.proofs.lemmas.Result.{err_from_is_err_and}
-use Rattle.amqp_core.specs.Decisions.{holds_client}
-use Rattle.amqp_core.specs.Faults.{refusal_view}
-use Rattle.amqp_core.specs.Settings.{config_view, role_for}
-use Rattle.amqp_core.specs.Stages.{phase_at}
+use Rattle.amqp_core.specs.Connection.Decisions.{holds_client}
+use Rattle.amqp_core.specs.Faults.Numbers.{refusal_view}
+use Rattle.amqp_core.specs.Config.Settings.{config_view, role_for}
+use Rattle.amqp_core.specs.Connection.Stages.{phase_at}
 use Rattle.amqp_core.proofs.DecisionLemmas.{admits_login, admits_open, none_admitted, refused_by, served, some_admitted}
 use Rattle.amqp_core.proofs.connection.Connection.admission.Goals as goal
 

@@ -1,7 +1,7 @@
 use Rattle.std.proofs.Common.{ap, ◌∙◌}
 use Rattle.std.proofs.lemmas.Result.{err_from_is_err_and}
-use Rattle.amqp_core.specs.Faults.{refusal_view}
-use Rattle.amqp_core.specs.Stages.{phase_at}
+use Rattle.amqp_core.specs.Faults.Numbers.{refusal_view}
+use Rattle.amqp_core.specs.Connection.Stages.{phase_at}
 use Rattle.amqp_core.proofs.DecisionLemmas.{beat_allowed, beats_none, refused_by}
 use Rattle.amqp_core.proofs.connection.Connection.allow_control.Goals as goal
 

@@ -1,6 +1,6 @@
 use Rattle.std.proofs.lemmas.Result.{err_from_is_err_and}
 use Rattle.amqp_model.specs.End.Asks as asks
-use Rattle.amqp_core.specs.Settings.{role_for}
+use Rattle.amqp_core.specs.Config.Settings.{role_for}
 use Rattle.amqp_core.proofs.connection.Connection.allow_open.Goals as goal
 
 pub returns-in_err-agreed-clause-refused : goal.returns-in_err-agreed-clause-refused

@@ -1,6 +1,6 @@
 use Rattle.std.proofs.Common.{◌≡◌, ℕ, ap, sym, ◌∙◌}
 use Rattle.std.proofs.lemmas.Result.{err_from_is_err_and}
-use Rattle.amqp_core.specs.LentLetter.{lent_letter}
+use Rattle.amqp_core.specs.Asks.LentLetter.{lent_letter}
 use Rattle.amqp_model.specs.End.Asks as asks
 use Rattle.amqp_model.specs.End.Asks.{refusal}
 use Rattle.amqp_model.specs.End.Channels.{Life}
@@ -14,10 +14,10 @@ use Rattle.amqp_channel.specs.Messages.{message_of}
 use Rattle.amqp_channel.specs.Roles.{role_of}
 use Rattle.amqp_channel.specs.declared.events.Agreed.{Agreed}
 use Rattle.amqp_channel.specs.declared.side.Side.{Side}
-use Rattle.amqp_core.specs.ConnectionView.{connection_end}
-use Rattle.amqp_core.specs.Refusals.{IsOpenIn, refusal_in}
-use Rattle.amqp_core.specs.Settings.{role_for, side_in}
-use Rattle.amqp_core.specs.Stages.{agreed_at}
+use Rattle.amqp_core.specs.Connection.View.{connection_end}
+use Rattle.amqp_core.specs.Asks.Refusals.{IsOpenIn, refusal_in}
+use Rattle.amqp_core.specs.Config.Settings.{role_for, side_in}
+use Rattle.amqp_core.specs.Connection.Stages.{agreed_at}
 use Rattle.amqp_core.specs.declared.connection.Connection.{Connection}
 use Rattle.amqp_core.specs.declared.stage.Stage.TheVariants as stages
 use Rattle.amqp_core.proofs.RefusalLemmas.{message_refusal, sent_is_other, sent_has_room}

@@ -1,8 +1,8 @@
 use Rattle.std.proofs.Common.{rules, ◌≡◌, false}
 use Rattle.std.proofs.lemmas.Result.{err_from_is_err_and}
-use Rattle.amqp_core.specs.Decisions.{holds_start}
-use Rattle.amqp_core.specs.Settings.{config_view, role_for}
-use Rattle.amqp_core.specs.Stages.{phase_at}
+use Rattle.amqp_core.specs.Connection.Decisions.{holds_start}
+use Rattle.amqp_core.specs.Config.Settings.{config_view, role_for}
+use Rattle.amqp_core.specs.Connection.Stages.{phase_at}
 use Rattle.amqp_core.proofs.DecisionLemmas.{answers_none, refused_by}
 use Rattle.amqp_core.proofs.connection.Connection.answer.Goals as goal
 

@@ -1,9 +1,9 @@
 use Rattle.std.proofs.Common.{ap, ◌∙◌}
 use Rattle.std.proofs.lemmas.Result.{err_from_is_err_and}
 use Rattle.amqp_model.specs.End.Controls as controls
-use Rattle.amqp_core.specs.ConnectionView.{connection_end}
-use Rattle.amqp_core.specs.Faults.{refusal_view}
-use Rattle.amqp_core.specs.Stages.{phase_at}
+use Rattle.amqp_core.specs.Connection.View.{connection_end}
+use Rattle.amqp_core.specs.Faults.Numbers.{refusal_view}
+use Rattle.amqp_core.specs.Connection.Stages.{phase_at}
 use Rattle.amqp_core.proofs.AskLemmas.{all_are_put}
 use Rattle.amqp_core.proofs.DecisionLemmas.{beat_lost, beat_put, beats_none, refused_by, refused_control}
 use Rattle.amqp_core.proofs.connection.Connection.beat.Goals as goal

@@ -1,7 +1,37 @@
--- What is dropped takes no memory.
+-- What is owed and what is left is what the verdict says, and what is dropped takes no memory.
+use Rattle.std.proofs.Common.{◌≡◌, List, OnOk, map, ap, ◌∙◌, subst}
+use Rattle.amqp_model.specs.End.Closes.{Owed, frame_of}
+use Rattle.amqp_model.specs.Output.Outputs.{after_puts}
+use Rattle.amqp_outbox.specs.OutboxView.{only}
 use Rattle.amqp_channel.specs.ChannelsView.{channels_view}
-use Rattle.amqp_core.specs.Stages.{phase_at}
+use Rattle.amqp_channel.specs.ReadingView.{reading_view}
+use Rattle.amqp_channel.specs.VerdictView.{whole_now}
+use Rattle.amqp_core.specs.Connection.View.{connection_end}
+use Rattle.amqp_core.specs.Connection.Outcomes.{owed_by}
+use Rattle.amqp_core.specs.Connection.Owed.{owed_view}
+use Rattle.amqp_core.specs.Connection.Rulings.{OnConnection}
+use Rattle.amqp_core.specs.Config.Settings.{role_for}
+use Rattle.amqp_core.specs.Connection.Stages.{phase_at}
+use Rattle.amqp_core.specs.Connection.Verdicts.{verdict_here}
+use Rattle.amqp_core.proofs.ReceiveLemmas.{steps_from, where_ok}
 use Rattle.amqp_core.proofs.connection.Connection.carry_out_lent.Goals as goal
+
+pub apply_own-requires : goal.apply_own-requires
+apply_own-requires c = steps_from (connection_end c.args.self.now) c.args.number (reading_view c.args.reading) c.args.verdict c.requires.fits
+
+pub returns-clause-left : goal.returns-clause-left
+returns-clause-left c =
+    where_ok c.put_owed.result _ (c.apply_own.ensures.left (role_for c.args.self.now.settings) c.args.number (reading_view c.args.reading))
+
+pub returns-clause-put : goal.returns-clause-put
+returns-clause-put c =
+    let old = c.args.self.now in
+    let reading = reading_view c.args.reading in
+    subst (λ (o : List Owed). OnOk c.put_owed.result (c.put_owed.new.outbox ≡ only (after_puts (map frame_of o) c.args.outbox.now.output)))
+    (ap (λ s. owed_view s c.owed-owed.result) c.apply_own.ensures.settings
+    ∙ (c.owed-owed.ensures.owed old.settings c.args.number reading (whole_now (channels_view old.channels c.args.number) reading)
+    ∙ ap (λ b. owed_by b c.args.number (verdict_here old.settings (connection_end old) c.args.number reading (OnConnection c.args.verdict))) c.is_closing-closing.ensures))
+    c.put_owed.ensures.ok
 
 pub returns-clause-light : goal.returns-clause-light
 returns-clause-light c =

@@ -1,6 +1,6 @@
 use Rattle.std.proofs.lemmas.Result.{err_from_is_err_and, on_ok_weaker}
 use Rattle.amqp_model.specs.End.Controls as controls
-use Rattle.amqp_core.specs.ConnectionView.{connection_end}
+use Rattle.amqp_core.specs.Connection.View.{connection_end}
 use Rattle.amqp_core.proofs.DecisionLemmas.{if_err_weaker, refused_control}
 use Rattle.amqp_core.proofs.connection.Connection.control.Goals as goal
 

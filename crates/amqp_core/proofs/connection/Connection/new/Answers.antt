@@ -2,8 +2,8 @@ use Rattle.std.proofs.Common.{ap, ◌∙◌}
 use Rattle.amqp_model.specs.End.Machine.{new_end}
 use Rattle.amqp_channel.specs.ChannelsView.{channels_view}
 use Rattle.amqp_channel.specs.Roles.{role_of}
-use Rattle.amqp_core.specs.Settings.{role_for}
-use Rattle.amqp_core.specs.Stages.{phase_at, agreed_at}
+use Rattle.amqp_core.specs.Config.Settings.{role_for}
+use Rattle.amqp_core.specs.Connection.Stages.{phase_at, agreed_at}
 use Rattle.amqp_core.proofs.NewLemmas.{new_is}
 use Rattle.amqp_core.proofs.connection.Connection.new.Goals as goal
 

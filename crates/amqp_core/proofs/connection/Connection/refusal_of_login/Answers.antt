@@ -1,8 +1,8 @@
 use Rattle.std.proofs.Common.{ap, ◌∙◌}
 use Rattle.std.proofs.lemmas.Result.{err_from_is_err_and}
-use Rattle.amqp_core.specs.Faults.{refusal_view}
-use Rattle.amqp_core.specs.Settings.{role_for}
-use Rattle.amqp_core.specs.Stages.{phase_at}
+use Rattle.amqp_core.specs.Faults.Numbers.{refusal_view}
+use Rattle.amqp_core.specs.Config.Settings.{role_for}
+use Rattle.amqp_core.specs.Connection.Stages.{phase_at}
 use Rattle.amqp_core.proofs.DecisionLemmas.{none_refused, refusal_lost, refused_by, refuses_client, served}
 use Rattle.amqp_core.proofs.connection.Connection.refusal_of_login.Goals as goal
 

@@ -6,8 +6,8 @@ use Rattle.amqp_model.specs.Wire.Readings.{Calls, kind_of}
 use Rattle.amqp_channel.specs.ChannelsView.{channels_view}
 use Rattle.amqp_channel.specs.LifeView.{IsOther}
 use Rattle.amqp_channel.specs.Messages.{message_of}
-use Rattle.amqp_core.specs.ConnectionView.{connection_end}
-use Rattle.amqp_core.specs.LentLetter.{lent_letter}
+use Rattle.amqp_core.specs.Connection.View.{connection_end}
+use Rattle.amqp_core.specs.Asks.LentLetter.{lent_letter}
 use Rattle.amqp_core.proofs.AskLemmas.{all_are_put, dropped, message_put, message_made, refused_late}
 use Rattle.amqp_core.proofs.ConnectionLemmas.{none_changed}
 use Rattle.amqp_core.proofs.RefusalLemmas.{method_is}

@@ -3,10 +3,10 @@ use Rattle.std.proofs.Common.{refl, sym, subst, cond, Bool}
 use Rattle.amqp_model.specs.End.Channels.{End}
 use Rattle.amqp_model.specs.Stream.Endpoint.{owed_at_fault}
 use Rattle.amqp_model.specs.End.Machine.{as_failed, end_after_owed}
-use Rattle.amqp_core.specs.Answering.{stopped}
-use Rattle.amqp_core.specs.ConnectionView.{connection_end}
-use Rattle.amqp_core.specs.Outcomes.{SameEnd}
-use Rattle.amqp_core.specs.Settings.{config_view, role_for}
+use Rattle.amqp_core.specs.Faults.Answering.{stopped}
+use Rattle.amqp_core.specs.Connection.View.{connection_end}
+use Rattle.amqp_core.specs.Connection.Outcomes.{SameEnd}
+use Rattle.amqp_core.specs.Config.Settings.{config_view, role_for}
 use Rattle.amqp_core.proofs.StopLemmas.{stopped_agreed, stopped_channel}
 use Rattle.amqp_core.proofs.connection.Connection.stop.Goals as goal
 

@@ -2,7 +2,7 @@ use Rattle.std.proofs.Common.{rules, ◌≡◌, true, false}
 use Rattle.amqp_method.specs.MethodRefView.{lent_call}
 use Rattle.amqp_model.specs.Wire.Methods.{number_at}
 use Rattle.amqp_model.specs.History.Negotiation.{agreed_in}
-use Rattle.amqp_core.specs.Handshakes.{within}
+use Rattle.amqp_core.specs.Connection.Handshakes.{within}
 use Rattle.amqp_core.proofs.VerdictLemmas.{past_rules, within_rules}
 use Rattle.amqp_core.proofs.connection.receive.judge_tune_ok.Goals as goal
 

@@ -2,14 +2,14 @@
 use Rattle.std.proofs.Common.{◌≡◌, Bool, ap, sym, ◌∙◌, subst, arith}
 use Rattle.amqp_model.specs.Stream.Endpoint.{after_feed}
 use Rattle.amqp_channel.specs.PartsView.{parts_there}
-use Rattle.amqp_core.specs.AccountView.{taken_by}
-use Rattle.amqp_core.specs.Answering.{ran_out}
-use Rattle.amqp_core.specs.Following.{GoesOn}
+use Rattle.amqp_core.specs.Traced.AccountView.{taken_by}
+use Rattle.amqp_core.specs.Faults.Answering.{ran_out}
+use Rattle.amqp_core.specs.End.Following.{GoesOn}
 use Rattle.amqp_core.proofs.FeedLemmas.{ran_with}
-use Rattle.amqp_core.specs.EndView.{config_at, endpoint_of, role_played}
-use Rattle.amqp_core.specs.EndpointView.{endpoint_view}
+use Rattle.amqp_core.specs.End.View.{config_at, endpoint_of, role_played}
+use Rattle.amqp_core.specs.End.EndpointView.{endpoint_view}
 use Rattle.amqp_core.proofs.FollowLemmas.{piece_goes_on}
-use Rattle.amqp_core.specs.Settings.{role_for}
+use Rattle.amqp_core.specs.Config.Settings.{role_for}
 use Rattle.amqp_core.specs.declared.settings.Settings.{Settings}
 use Rattle.amqp_core.proofs.KeptLemmas.{kept_sound, sound_kept}
 use Rattle.amqp_core.proofs.end.End.advance.Goals as goal

@@ -1,7 +1,7 @@
 -- What holds of the ask that is lent holds of the ask.
 use Rattle.std.proofs.Common.{subst}
 use Rattle.amqp_model.specs.End.Asks.{Ask}
-use Rattle.amqp_core.specs.EndAsks.{Asked}
+use Rattle.amqp_core.specs.End.Asks.{Asked}
 use Rattle.amqp_core.proofs.end.End.ask.Goals as goal
 
 pub returns-clause-asked : goal.returns-clause-asked

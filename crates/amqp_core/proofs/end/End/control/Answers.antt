@@ -1,8 +1,8 @@
 -- What holds of the end holds of its endpoint.
 use Rattle.std.proofs.Common.{refl, ap, ◌∙◌}
-use Rattle.amqp_core.specs.Settings.{role_for}
+use Rattle.amqp_core.specs.Config.Settings.{role_for}
 use Rattle.amqp_core.specs.declared.settings.Settings.{Settings}
-use Rattle.amqp_core.specs.Blamed.{Tally}
+use Rattle.amqp_core.specs.Faults.Blamed.{Tally}
 use Rattle.amqp_core.proofs.KeptLemmas.{kept_sound, sound_kept}
 use Rattle.amqp_core.proofs.end.End.control.Goals as goal
 

@@ -3,11 +3,11 @@ use Rattle.std.proofs.Common.{◌≡◌, ◌≢◌, ◌<◌, ◌≤◌, Bool, []
 use Rattle.std.proofs.Math.Logic.{∥∥₁_map}
 use Rattle.amqp_model.specs.History.Histories.{entries_on}
 use Rattle.amqp_channel.specs.PartsView.{parts_there}
-use Rattle.amqp_core.specs.Answering.{ran_out}
-use Rattle.amqp_core.specs.EndView.{config_at, endpoint_of, heard_in, role_played}
-use Rattle.amqp_core.specs.Feeding.{IsFed, Seen, seen}
-use Rattle.amqp_core.specs.Feeds.{fed_to}
-use Rattle.amqp_core.specs.Following.{GoesOn}
+use Rattle.amqp_core.specs.Faults.Answering.{ran_out}
+use Rattle.amqp_core.specs.End.View.{config_at, endpoint_of, heard_in, role_played}
+use Rattle.amqp_core.specs.End.Feeding.{IsFed, Seen, seen}
+use Rattle.amqp_core.specs.End.Feeds.{fed_to}
+use Rattle.amqp_core.specs.End.Following.{GoesOn}
 use Rattle.amqp_core.specs.declared.faults.CoreFault.{CoreFault}
 use Rattle.amqp_core.proofs.BlameLemmas.{blames_as, code_taken}
 use Rattle.amqp_core.proofs.CounterLemmas.{frame_counted}

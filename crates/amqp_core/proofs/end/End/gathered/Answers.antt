@@ -1,7 +1,7 @@
 -- What is kept of a body is within its bound.
 use Rattle.std.proofs.Common.{◌≤◌, ℕ, false, suc, sym, subst}
 use Rattle.amqp_model.specs.History.Histories.{entries_on}
-use Rattle.amqp_core.specs.EndView.{config_at, endpoint_of, role_played}
+use Rattle.amqp_core.specs.End.View.{config_at, endpoint_of, role_played}
 use Rattle.amqp_core.proofs.BoundLemmas.{gathered_within}
 use Rattle.amqp_core.proofs.QueryLemmas.{gathered_is}
 use Rattle.amqp_core.proofs.end.End.gathered.Goals as goal

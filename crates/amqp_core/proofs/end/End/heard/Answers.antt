@@ -1,6 +1,6 @@
 -- What is kept of a kind is the last that was heard of it.
 use Rattle.std.proofs.Common.{◌∙◌}
-use Rattle.amqp_core.specs.EndView.{config_at, heard_in, role_played}
+use Rattle.amqp_core.specs.End.View.{config_at, heard_in, role_played}
 use Rattle.amqp_core.proofs.HearingLemmas.{kept_is_heard}
 use Rattle.amqp_core.proofs.end.End.heard.Goals as goal
 

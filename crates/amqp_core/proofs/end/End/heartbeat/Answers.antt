@@ -1,7 +1,7 @@
 -- The heartbeat that was agreed is the one that every history counts.
 use Rattle.std.proofs.Common.{false, refl, ap, ◌∙◌}
-use Rattle.amqp_core.specs.Counted.{heartbeat_in}
-use Rattle.amqp_core.specs.EndView.{config_at, endpoint_of, role_played}
+use Rattle.amqp_core.specs.End.Counted.{heartbeat_in}
+use Rattle.amqp_core.specs.End.View.{config_at, endpoint_of, role_played}
 use Rattle.amqp_core.proofs.QueryLemmas.{agreed_is}
 use Rattle.amqp_core.proofs.end.End.heartbeat.Goals as goal
 

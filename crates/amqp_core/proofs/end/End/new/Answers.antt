@@ -3,8 +3,8 @@ use Rattle.std.proofs.Common.{[], sym, ap, ◌∙◌, subst}
 use Rattle.std.proofs.Math.Logic.{∥∥₁_map}
 use Rattle.amqp_model.specs.Stream.Endpoint.{Endpoint, new_endpoint}
 use Rattle.amqp_model.specs.Laws.OctetLaws.{EndpointStandsFor}
-use Rattle.amqp_core.specs.EndpointView.{role_at}
-use Rattle.amqp_core.specs.Settings.{config_view, role_for}
+use Rattle.amqp_core.specs.End.EndpointView.{role_at}
+use Rattle.amqp_core.specs.Config.Settings.{config_view, role_for}
 use Rattle.amqp_core.specs.declared.settings.Settings.{Settings}
 use Rattle.amqp_core.proofs.KeptLemmas.{sound_kept}
 use Rattle.amqp_core.proofs.end.End.new.Goals as goal

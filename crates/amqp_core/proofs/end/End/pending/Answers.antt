@@ -1,5 +1,5 @@
 -- What holds of the end holds of its endpoint.
-use Rattle.amqp_core.specs.EndView.{config_at, endpoint_of, role_played}
+use Rattle.amqp_core.specs.End.View.{config_at, endpoint_of, role_played}
 use Rattle.amqp_core.proofs.KeptLemmas.{kept_sound}
 use Rattle.amqp_core.proofs.QueryLemmas.{pending_is}
 use Rattle.amqp_core.proofs.end.End.pending.Goals as goal

@@ -1,5 +1,5 @@
 -- The phase is the one that every history counts.
-use Rattle.amqp_core.specs.EndView.{config_at, endpoint_of, role_played}
+use Rattle.amqp_core.specs.End.View.{config_at, endpoint_of, role_played}
 use Rattle.amqp_core.proofs.QueryLemmas.{phase_is}
 use Rattle.std.proofs.Common.{false}
 use Rattle.amqp_core.proofs.end.End.phase.Goals as goal

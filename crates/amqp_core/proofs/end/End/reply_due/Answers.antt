@@ -2,7 +2,7 @@
 use Rattle.std.proofs.Common.{false}
 use Rattle.amqp_model.specs.History.Histories.{entries_on}
 use Rattle.std.proofs.Common.{suc}
-use Rattle.amqp_core.specs.EndView.{config_at, endpoint_of, role_played}
+use Rattle.amqp_core.specs.End.View.{config_at, endpoint_of, role_played}
 use Rattle.amqp_core.proofs.QueryLemmas.{due_is}
 use Rattle.amqp_core.proofs.end.End.reply_due.Goals as goal
 

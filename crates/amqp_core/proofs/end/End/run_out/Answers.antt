@@ -1,6 +1,6 @@
 -- What holds of the end holds of its endpoint.
 use Rattle.std.proofs.Common.{ap, ◌∙◌}
-use Rattle.amqp_core.specs.Settings.{role_for}
+use Rattle.amqp_core.specs.Config.Settings.{role_for}
 use Rattle.amqp_core.specs.declared.settings.Settings.{Settings}
 use Rattle.amqp_core.proofs.KeptLemmas.{kept_sound, sound_kept}
 use Rattle.amqp_core.proofs.end.End.run_out.Goals as goal

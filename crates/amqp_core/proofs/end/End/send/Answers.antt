@@ -2,12 +2,12 @@
 use Rattle.std.proofs.Common.{refl, ap, ◌∙◌, subst}
 use Rattle.amqp_model.specs.End.Asks.{Send}
 use Rattle.amqp_model.specs.End.Events.{Message}
-use Rattle.amqp_core.specs.Asking.{AcceptsAsk}
-use Rattle.amqp_core.specs.EndView.{config_at, endpoint_of, role_played}
-use Rattle.amqp_core.specs.EndpointView.{endpoint_view}
-use Rattle.amqp_core.specs.Settings.{role_for}
+use Rattle.amqp_core.specs.Asks.Asking.{AcceptsAsk}
+use Rattle.amqp_core.specs.End.View.{config_at, endpoint_of, role_played}
+use Rattle.amqp_core.specs.End.EndpointView.{endpoint_view}
+use Rattle.amqp_core.specs.Config.Settings.{role_for}
 use Rattle.amqp_core.specs.declared.settings.Settings.{Settings}
-use Rattle.amqp_core.specs.Blamed.{Tally}
+use Rattle.amqp_core.specs.Faults.Blamed.{Tally}
 use Rattle.amqp_core.proofs.KeptLemmas.{kept_sound, sound_kept}
 use Rattle.amqp_core.proofs.end.End.send.Goals as goal
 

@@ -3,9 +3,9 @@ use Rattle.std.proofs.Common.{◌≢◌, ◌≤◌, length, refl, sym, ap, ◌�
 use Rattle.std.proofs.lemmas.Bool.{false≢true, true≢false}
 use Rattle.amqp_model.specs.End.Channels.{Failed}
 use Rattle.amqp_model.specs.End.EndVerdict.{takes_octets}
-use Rattle.amqp_core.specs.ConnectionView.{connection_end}
-use Rattle.amqp_core.specs.EndpointView.{endpoint_view, role_at}
-use Rattle.amqp_core.specs.Settings.{config_view}
+use Rattle.amqp_core.specs.Connection.View.{connection_end}
+use Rattle.amqp_core.specs.End.EndpointView.{endpoint_view, role_at}
+use Rattle.amqp_core.specs.Config.Settings.{config_view}
 use Rattle.amqp_core.proofs.HeardLemmas.{fault_heard, opening_heard}
 use Rattle.amqp_core.proofs.BlameLemmas.{blames_nothing}
 use Rattle.amqp_core.proofs.StreamLemmas.{closed_lent, failed_lent, lent_some, lent_within, step_count, step_some}

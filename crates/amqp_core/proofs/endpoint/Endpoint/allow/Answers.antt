@@ -1,8 +1,8 @@
 -- The frame size was agreed within the limits.
 use Rattle.std.proofs.Common.{false}
-use Rattle.amqp_core.specs.AskView.{lent_view}
-use Rattle.amqp_core.specs.ConnectionView.{connection_end}
-use Rattle.amqp_core.specs.EndpointView.{endpoint_view, role_at}
+use Rattle.amqp_core.specs.Asks.View.{lent_view}
+use Rattle.amqp_core.specs.Connection.View.{connection_end}
+use Rattle.amqp_core.specs.End.EndpointView.{endpoint_view, role_at}
 use Rattle.amqp_core.proofs.AskedLemmas.{refused_at_once}
 use Rattle.amqp_core.proofs.endpoint.Endpoint.allow.Goals as goal
 

@@ -1,8 +1,8 @@
 use Rattle.std.proofs.Common.{false}
-use Rattle.amqp_core.specs.ConnectionView.{connection_end}
-use Rattle.amqp_core.specs.ControlView.{control_view}
-use Rattle.amqp_core.specs.EndpointView.{endpoint_view, role_at}
-use Rattle.amqp_core.specs.Settings.{config_view}
+use Rattle.amqp_core.specs.Connection.View.{connection_end}
+use Rattle.amqp_core.specs.Asks.ControlView.{control_view}
+use Rattle.amqp_core.specs.End.EndpointView.{endpoint_view, role_at}
+use Rattle.amqp_core.specs.Config.Settings.{config_view}
 use Rattle.amqp_core.proofs.ControlLemmas.{refused_at_once}
 use Rattle.amqp_core.proofs.endpoint.Endpoint.allow_control.Goals as goal
 

@@ -1,9 +1,9 @@
 -- What is asked of the connection is asked of the end.
 use Rattle.std.proofs.Common.{false, refl}
-use Rattle.amqp_core.specs.AskView.{lent_view}
-use Rattle.amqp_core.specs.ConnectionView.{connection_end}
-use Rattle.amqp_core.specs.EndpointView.{endpoint_view, role_at}
-use Rattle.amqp_core.specs.Settings.{config_view}
+use Rattle.amqp_core.specs.Asks.View.{lent_view}
+use Rattle.amqp_core.specs.Connection.View.{connection_end}
+use Rattle.amqp_core.specs.End.EndpointView.{endpoint_view, role_at}
+use Rattle.amqp_core.specs.Config.Settings.{config_view}
 use Rattle.amqp_model.specs.End.Asks.{frames_asked}
 use Rattle.amqp_core.proofs.AskedLemmas.{accepts, accepted_sound, refuses, refused_sound}
 use Rattle.amqp_core.proofs.endpoint.Endpoint.ask.Goals as goal

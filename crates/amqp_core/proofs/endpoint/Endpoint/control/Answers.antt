@@ -1,10 +1,10 @@
 -- What is decided at the connection is decided at the end.
 use Rattle.std.proofs.Common.{false, refl}
-use Rattle.amqp_core.specs.ConnectionView.{connection_end}
-use Rattle.amqp_core.specs.ControlView.{control_view}
-use Rattle.amqp_core.specs.Controlled.{frames_by, verdict_for}
-use Rattle.amqp_core.specs.EndpointView.{endpoint_view, role_at}
-use Rattle.amqp_core.specs.Settings.{config_view}
+use Rattle.amqp_core.specs.Connection.View.{connection_end}
+use Rattle.amqp_core.specs.Asks.ControlView.{control_view}
+use Rattle.amqp_core.specs.Asks.Controlled.{frames_by, verdict_for}
+use Rattle.amqp_core.specs.End.EndpointView.{endpoint_view, role_at}
+use Rattle.amqp_core.specs.Config.Settings.{config_view}
 use Rattle.amqp_core.proofs.ControlLemmas.{accepts, accepted_sound, refuses, refused_sound}
 use Rattle.amqp_core.proofs.endpoint.Endpoint.control.Goals as goal
 

@@ -4,10 +4,10 @@ use Rattle.std.proofs.lemmas.Bool.{false≢true, true≢false}
 use Rattle.amqp_model.specs.End.Channels.{Failed}
 use Rattle.amqp_model.specs.End.EndVerdict.{takes_octets}
 use Rattle.amqp_model.specs.Stream.Endpoint.{after_feed}
-use Rattle.amqp_core.specs.AccountView.{taken_by}
-use Rattle.amqp_core.specs.ConnectionView.{connection_end}
-use Rattle.amqp_core.specs.EndpointView.{endpoint_view, role_at}
-use Rattle.amqp_core.specs.Settings.{config_view}
+use Rattle.amqp_core.specs.Traced.AccountView.{taken_by}
+use Rattle.amqp_core.specs.Connection.View.{connection_end}
+use Rattle.amqp_core.specs.End.EndpointView.{endpoint_view, role_at}
+use Rattle.amqp_core.specs.Config.Settings.{config_view}
 use Rattle.amqp_core.proofs.BlameLemmas.{blames_nothing}
 use Rattle.amqp_core.proofs.HeardLemmas.{fault_heard, opening_heard}
 use Rattle.amqp_core.proofs.DropLemmas.{takes_some}

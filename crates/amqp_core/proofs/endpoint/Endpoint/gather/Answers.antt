@@ -1,6 +1,6 @@
 -- What it keeps stays.
 use Rattle.std.proofs.Common.{refl}
-use Rattle.amqp_core.specs.EndpointView.{unfinished_of}
+use Rattle.amqp_core.specs.End.EndpointView.{unfinished_of}
 use Rattle.amqp_core.proofs.TurningLemmas.{turned_by}
 use Rattle.amqp_core.proofs.endpoint.Endpoint.gather.Goals as goal
 

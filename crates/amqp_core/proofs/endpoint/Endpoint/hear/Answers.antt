@@ -7,11 +7,11 @@ use Rattle.amqp_outbox.specs.OutboxView.{Outgoing}
 use Rattle.amqp_channel.specs.ChannelsView.{channels_view}
 use Rattle.amqp_channel.specs.PartsView.{parts_there}
 use Rattle.amqp_channel.specs.declared.parts.EventParts.{EventParts}
-use Rattle.amqp_core.specs.Blamed.{Tally, counted, octets_blamed}
-use Rattle.amqp_core.specs.ConnectionView.{connection_end}
-use Rattle.amqp_core.specs.EndpointView.{endpoint_view, role_at}
-use Rattle.amqp_core.specs.Feeding.{IsMessage}
-use Rattle.amqp_core.specs.Settings.{config_view}
+use Rattle.amqp_core.specs.Faults.Blamed.{Tally, counted, octets_blamed}
+use Rattle.amqp_core.specs.Connection.View.{connection_end}
+use Rattle.amqp_core.specs.End.EndpointView.{endpoint_view, role_at}
+use Rattle.amqp_core.specs.End.Feeding.{IsMessage}
+use Rattle.amqp_core.specs.Config.Settings.{config_view}
 use Rattle.amqp_core.specs.declared.owed.Owed.TheVariants as owed
 use Rattle.amqp_core.proofs.AccountLemmas.{account_of_other, account_of_part, account_of_whole, came_fresh, came_owed}
 use Rattle.amqp_core.proofs.GrowthLemmas.{greeting_grows}

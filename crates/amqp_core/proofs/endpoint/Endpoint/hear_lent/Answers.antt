@@ -2,9 +2,9 @@
 use Rattle.std.proofs.Common.{Result, sym, subst}
 use Rattle.amqp_model.specs.Stream.Endpoint.{after_feed}
 use Rattle.amqp_channel.specs.PartsView.{parts_there}
-use Rattle.amqp_core.specs.EndpointView.{endpoint_view, role_at}
-use Rattle.amqp_core.specs.Lending.{IsLent, LentSeen}
-use Rattle.amqp_core.specs.Settings.{config_view}
+use Rattle.amqp_core.specs.End.EndpointView.{endpoint_view, role_at}
+use Rattle.amqp_core.specs.Stream.Lending.{IsLent, LentSeen}
+use Rattle.amqp_core.specs.Config.Settings.{config_view}
 use Rattle.amqp_core.specs.declared.faults.CoreFault.{CoreFault}
 use Rattle.amqp_core.proofs.BlameLemmas.{blames_as}
 use Rattle.amqp_core.proofs.StreamLemmas.{heard_lent}

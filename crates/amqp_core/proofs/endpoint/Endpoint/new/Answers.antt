@@ -8,8 +8,8 @@ use Rattle.amqp_model.specs.Stream.Octets.{opening_written}
 use Rattle.amqp_model.specs.Stream.Pieces.{HoldsUnfinished}
 use Rattle.amqp_outbox.specs.OutboxView.{Outgoing}
 use Rattle.amqp_channel.specs.Roles.{role_of}
-use Rattle.amqp_core.specs.ConnectionView.{connection_end}
-use Rattle.amqp_core.specs.Settings.{config_view, role_for}
+use Rattle.amqp_core.specs.Connection.View.{connection_end}
+use Rattle.amqp_core.specs.Config.Settings.{config_view, role_for}
 use Rattle.amqp_core.proofs.EndpointNew.{new_is, fields_begin}
 use Rattle.amqp_core.proofs.FeedLemmas.{sound_with}
 use Rattle.amqp_core.proofs.endpoint.Endpoint.new.Goals as goal

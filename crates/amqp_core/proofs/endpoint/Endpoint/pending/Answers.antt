@@ -1,6 +1,6 @@
 -- Fewer octets are pending than a frame may have, and none where the end takes none.
-use Rattle.amqp_core.specs.ConnectionView.{connection_end}
-use Rattle.amqp_core.specs.EndpointView.{role_at}
+use Rattle.amqp_core.specs.Connection.View.{connection_end}
+use Rattle.amqp_core.specs.End.EndpointView.{role_at}
 use Rattle.amqp_core.proofs.KeptLemmas.{pending_over, pending_within}
 use Rattle.amqp_core.proofs.endpoint.Endpoint.pending.Goals as goal
 

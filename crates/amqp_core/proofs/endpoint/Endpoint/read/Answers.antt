@@ -11,13 +11,13 @@ use Rattle.amqp_model.specs.Wire.Readings.{reading}
 use Rattle.amqp_outbox.specs.OutboxView.{Outgoing}
 use Rattle.amqp_channel.specs.PartsView.{parts_there}
 use Rattle.amqp_channel.specs.declared.parts.EventParts.{EventParts}
-use Rattle.amqp_core.specs.AccountView.{note_there}
-use Rattle.amqp_core.specs.Answering.{is_out_of_memory, ran_out}
-use Rattle.amqp_core.specs.Blamed.{blames_octets, code_told, tally_view}
-use Rattle.amqp_core.specs.ConnectionView.{connection_end}
-use Rattle.amqp_core.specs.EndpointView.{endpoint_view, role_at, unfinished_of}
-use Rattle.amqp_core.specs.Feeding.{IsMessage}
-use Rattle.amqp_core.specs.Settings.{config_view}
+use Rattle.amqp_core.specs.Traced.AccountView.{note_there}
+use Rattle.amqp_core.specs.Faults.Answering.{is_out_of_memory, ran_out}
+use Rattle.amqp_core.specs.Faults.Blamed.{blames_octets, code_told, tally_view}
+use Rattle.amqp_core.specs.Connection.View.{connection_end}
+use Rattle.amqp_core.specs.End.EndpointView.{endpoint_view, role_at, unfinished_of}
+use Rattle.amqp_core.specs.End.Feeding.{IsMessage}
+use Rattle.amqp_core.specs.Config.Settings.{config_view}
 use Rattle.amqp_core.proofs.AccountLemmas.{account_of_frame, account_of_rest, account_of_stop, came_fresh, item_is, rest_of, whole_of}
 use Rattle.amqp_core.proofs.GrowthLemmas.{frame_grows, stop_grows}
 use Rattle.amqp_core.proofs.BlameLemmas.{blames_of_fault, blames_of_frame, blames_of_rest, framing_broken}

@@ -9,13 +9,13 @@ use Rattle.amqp_model.specs.Stream.Endpoint.{Endpoint, after_feed, owed_at_fault
 use Rattle.amqp_model.specs.Wire.Readings.{reading}
 use Rattle.amqp_channel.specs.ReadingView.{reading_view}
 use Rattle.amqp_outbox.specs.OutboxView.{Outgoing}
-use Rattle.amqp_core.specs.AccountView.{puts_alone}
-use Rattle.amqp_core.specs.Answering.{is_out_of_memory, ran_out}
-use Rattle.amqp_core.specs.ConnectionView.{connection_end}
-use Rattle.amqp_core.specs.EndpointView.{endpoint_view, role_at, unfinished_of}
-use Rattle.amqp_core.specs.Lending.{IsLent, LendsOf, LentSeen}
-use Rattle.amqp_core.specs.Settings.{config_view}
-use Rattle.amqp_core.specs.StepView.{told_of, read_in}
+use Rattle.amqp_core.specs.Traced.AccountView.{puts_alone}
+use Rattle.amqp_core.specs.Faults.Answering.{is_out_of_memory, ran_out}
+use Rattle.amqp_core.specs.Connection.View.{connection_end}
+use Rattle.amqp_core.specs.End.EndpointView.{endpoint_view, role_at, unfinished_of}
+use Rattle.amqp_core.specs.Stream.Lending.{IsLent, LendsOf, LentSeen}
+use Rattle.amqp_core.specs.Config.Settings.{config_view}
+use Rattle.amqp_core.specs.Stream.StepView.{told_of, read_in}
 use Rattle.amqp_core.specs.declared.faults.CoreFault.{CoreFault}
 use Rattle.amqp_core.specs.declared.step.Report.{Report}
 use Rattle.amqp_core.proofs.AccountLemmas.{account_of_stop, rest_of, whole_of}

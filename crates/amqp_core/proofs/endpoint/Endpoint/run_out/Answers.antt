@@ -2,10 +2,10 @@
 use Rattle.std.proofs.Common.{refl, sym, ap, subst}
 use Rattle.amqp_model.specs.End.Channels.{End}
 use Rattle.amqp_model.specs.End.Fitting.{IfAgreedFits}
-use Rattle.amqp_core.specs.ConnectionView.{connection_end}
-use Rattle.amqp_core.specs.EndpointView.{endpoint_view, role_at}
+use Rattle.amqp_core.specs.Connection.View.{connection_end}
+use Rattle.amqp_core.specs.End.EndpointView.{endpoint_view, role_at}
 use Rattle.amqp_core.proofs.BoundLemmas.{bounded_failed}
-use Rattle.amqp_core.specs.Settings.{config_view}
+use Rattle.amqp_core.specs.Config.Settings.{config_view}
 use Rattle.amqp_core.proofs.FeedLemmas.{fields_failed, holds_failed, none_unfinished, sound_with}
 use Rattle.amqp_core.proofs.HearLemmas.{same_end}
 use Rattle.amqp_core.proofs.endpoint.Endpoint.run_out.Goals as goal

@@ -2,7 +2,7 @@
 use Rattle.std.proofs.Common.{map, arith}
 use Rattle.std.proofs.lemmas.List.{length-map}
 use Rattle.amqp_channel.specs.Roles.{role_of}
-use Rattle.amqp_core.specs.NoteView.{note_view}
+use Rattle.amqp_core.specs.Traced.Notes.{note_view}
 use Rattle.amqp_core.proofs.LedgerLemmas.{counts-note}
 use Rattle.amqp_core.proofs.LifeCountLemmas.{lives-most}
 use Rattle.amqp_core.proofs.ledger.Ledger.note.Goals as goal

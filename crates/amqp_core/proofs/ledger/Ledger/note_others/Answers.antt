@@ -1,8 +1,8 @@
 -- One more frame is noted, and one less is left.
 use Rattle.std.proofs.Common.{◌≡◌, ◌-◌, ℕ, suc, ◌++◌, replicate, refl, ap, ◌∙◌, arith}
 use Rattle.amqp_model.specs.Stream.Traces.{IsPut, Other}
-use Rattle.amqp_core.specs.LedgerView.{notes_in}
-use Rattle.amqp_core.specs.NoteView.{noted_as}
+use Rattle.amqp_core.specs.Traced.LedgerView.{notes_in}
+use Rattle.amqp_core.specs.Traced.Notes.{noted_as}
 use Rattle.amqp_core.proofs.LedgerLemmas.{one-more}
 use Rattle.amqp_core.proofs.ledger.Ledger.note_others.Goals as goal
 

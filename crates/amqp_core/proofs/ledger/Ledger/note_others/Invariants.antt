@@ -1,7 +1,7 @@
 use Rattle.std.proofs.Common.{◌≡◌, ◌+◌, ◌≤◌, ◌++◌, replicate, vec_len, vec_capacity}
 use Rattle.amqp_model.specs.Stream.Traces.{IsPut, Other}
-use Rattle.amqp_core.specs.LedgerView.{notes_in}
-use Rattle.amqp_core.specs.NoteView.{noted_as}
+use Rattle.amqp_core.specs.Traced.LedgerView.{notes_in}
+use Rattle.amqp_core.specs.Traced.Notes.{noted_as}
 use Rattle.amqp_core.proofs.ledger.Ledger.note_others.Given as goal
 
 abbrev pub invariant-loop-left : goal.invariant-loop-left

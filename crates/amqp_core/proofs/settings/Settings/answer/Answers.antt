@@ -2,8 +2,8 @@ use Rattle.std.proofs.Common.{IfErr, ◌≡◌, sym, subst}
 use Rattle.amqp_method.specs.MethodView.{method_view}
 use Rattle.amqp_model.specs.End.Asks.{AskVerdict}
 use Rattle.amqp_model.specs.End.Channels.{Handshake, HoldsStart}
-use Rattle.amqp_core.specs.Controlled.{refusal_by}
-use Rattle.amqp_core.specs.Faults.{refusal_view}
+use Rattle.amqp_core.specs.Asks.Controlled.{refusal_by}
+use Rattle.amqp_core.specs.Faults.Numbers.{refusal_view}
 use Rattle.amqp_core.proofs.DecisionLemmas.{answers_in_by, answers_start, both_ok, refused_by, server_answers_none}
 use Rattle.amqp_core.proofs.settings.Settings.answer.Goals as goal
 

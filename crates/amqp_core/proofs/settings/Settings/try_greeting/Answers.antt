@@ -1,4 +1,4 @@
-use Rattle.amqp_core.specs.Settings.{role_for, config_view}
+use Rattle.amqp_core.specs.Config.Settings.{role_for, config_view}
 use Rattle.amqp_core.proofs.SettingsWrite.{writes}
 use Rattle.amqp_core.proofs.settings.Settings.try_greeting.Goals as goal
 

@@ -4,13 +4,13 @@ use Rattle.std.proofs.Math.Logic.{∥∥₁_map}
 use Rattle.amqp_model.specs.History.Histories.{History}
 use Rattle.amqp_model.specs.Laws.StreamingLaws.{StreamStandsFor}
 use Rattle.amqp_model.specs.Stream.Endpoint.{after_feed}
-use Rattle.amqp_core.specs.Answering.{ran_out}
-use Rattle.amqp_core.specs.EndpointView.{endpoint_view}
-use Rattle.amqp_core.specs.Settings.{role_for}
-use Rattle.amqp_core.specs.StepView.{step_seen}
-use Rattle.amqp_core.specs.StreamHistory.{StreamGoesOn}
-use Rattle.amqp_core.specs.HeardView.{heard_view}
-use Rattle.amqp_core.specs.StreamView.{config_at, endpoint_of, heard_in, role_played}
+use Rattle.amqp_core.specs.Faults.Answering.{ran_out}
+use Rattle.amqp_core.specs.End.EndpointView.{endpoint_view}
+use Rattle.amqp_core.specs.Config.Settings.{role_for}
+use Rattle.amqp_core.specs.Stream.StepView.{step_seen}
+use Rattle.amqp_core.specs.Stream.History.{StreamGoesOn}
+use Rattle.amqp_core.specs.Heard.View.{heard_view}
+use Rattle.amqp_core.specs.Stream.View.{config_at, endpoint_of, heard_in, role_played}
 use Rattle.amqp_core.specs.declared.settings.Settings.{Settings}
 use Rattle.amqp_core.proofs.BlameLemmas.{blames_as, code_step}
 use Rattle.amqp_core.proofs.FeedFaultLemmas.{lent_faults}

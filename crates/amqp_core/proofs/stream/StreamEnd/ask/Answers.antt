@@ -1,7 +1,7 @@
 -- What is asked is what is lent.
 use Rattle.std.proofs.Common.{subst}
 use Rattle.amqp_model.specs.End.Asks.{Ask}
-use Rattle.amqp_core.specs.StreamAsks.{StreamAnswersNumber, StreamAsked}
+use Rattle.amqp_core.specs.Stream.Asks.{StreamAnswersNumber, StreamAsked}
 use Rattle.amqp_core.proofs.stream.StreamEnd.ask.Goals as goal
 
 pub returns-clause-asked : goal.returns-clause-asked

@@ -1,7 +1,7 @@
 -- As many octets have come as an end has gathered to which this one is alike.
 use Rattle.std.proofs.Common.{◌≤◌, ℕ, false, suc, sym, subst, ◌∙◌}
 use Rattle.amqp_model.specs.History.Histories.{entries_on}
-use Rattle.amqp_core.specs.StreamView.{config_at, endpoint_of, role_played}
+use Rattle.amqp_core.specs.Stream.View.{config_at, endpoint_of, role_played}
 use Rattle.amqp_core.proofs.BoundLemmas.{gathered_within}
 use Rattle.amqp_core.proofs.QueryLemmas.{gathered_is}
 use Rattle.amqp_core.proofs.StreamHistoryLemmas.{gathered_alike}

@@ -1,14 +1,14 @@
 -- What holds of the end holds of its endpoint, and the histories go on by the end that gathers.
 use Rattle.std.proofs.Common.{refl, ap, ◌∙◌, false}
-use Rattle.amqp_core.specs.ControlView.{control_view}
-use Rattle.amqp_core.specs.Controlled.{frames_by}
-use Rattle.amqp_core.specs.Controlling.{AcceptsControl, verdict_at}
-use Rattle.amqp_core.specs.EndpointView.{endpoint_view}
-use Rattle.amqp_core.specs.Settings.{role_for}
-use Rattle.amqp_core.specs.StreamHistory.{StreamControlGoesOn}
-use Rattle.amqp_core.specs.StreamView.{config_at, endpoint_of, role_played}
+use Rattle.amqp_core.specs.Asks.ControlView.{control_view}
+use Rattle.amqp_core.specs.Asks.Controlled.{frames_by}
+use Rattle.amqp_core.specs.Asks.Controlling.{AcceptsControl, verdict_at}
+use Rattle.amqp_core.specs.End.EndpointView.{endpoint_view}
+use Rattle.amqp_core.specs.Config.Settings.{role_for}
+use Rattle.amqp_core.specs.Stream.History.{StreamControlGoesOn}
+use Rattle.amqp_core.specs.Stream.View.{config_at, endpoint_of, role_played}
 use Rattle.amqp_core.specs.declared.settings.Settings.{Settings}
-use Rattle.amqp_core.specs.Blamed.{Tally}
+use Rattle.amqp_core.specs.Faults.Blamed.{Tally}
 use Rattle.amqp_core.proofs.KeptLemmas.{kept_sound, sound_kept}
 use Rattle.amqp_core.proofs.StreamHistoryLemmas.{ok_map, stream_control_goes_on, stream_control_is_of_history}
 use Rattle.amqp_core.proofs.stream.StreamEnd.control.Goals as goal

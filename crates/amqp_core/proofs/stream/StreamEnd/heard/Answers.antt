@@ -1,6 +1,6 @@
 -- What is kept of a kind is the last that was heard of it.
 use Rattle.std.proofs.Common.{◌∙◌}
-use Rattle.amqp_core.specs.StreamView.{config_at, heard_in, role_played}
+use Rattle.amqp_core.specs.Stream.View.{config_at, heard_in, role_played}
 use Rattle.amqp_core.proofs.HearingLemmas.{kept_is_heard}
 use Rattle.amqp_core.proofs.stream.StreamEnd.heard.Goals as goal
 

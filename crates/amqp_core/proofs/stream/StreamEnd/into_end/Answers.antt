@@ -1,10 +1,10 @@
 -- No content is under way, so it stands for the same histories.
 use Rattle.std.proofs.Common.{ap, ◌∙◌, refl}
-use Rattle.amqp_core.specs.EndpointView.{endpoint_view}
-use Rattle.amqp_core.specs.Settings.{role_for}
-use Rattle.amqp_core.specs.StreamView.{config_at, endpoint_of, role_played}
+use Rattle.amqp_core.specs.End.EndpointView.{endpoint_view}
+use Rattle.amqp_core.specs.Config.Settings.{role_for}
+use Rattle.amqp_core.specs.Stream.View.{config_at, endpoint_of, role_played}
 use Rattle.amqp_core.specs.declared.settings.Settings.{Settings}
-use Rattle.amqp_core.specs.Blamed.{Tally}
+use Rattle.amqp_core.specs.Faults.Blamed.{Tally}
 use Rattle.amqp_core.proofs.KeptLemmas.{kept_sound, sound_kept}
 use Rattle.amqp_core.proofs.TurningLemmas.{turns_back}
 use Rattle.amqp_core.proofs.stream.StreamEnd.into_end.Goals as goal

@@ -1,5 +1,5 @@
 -- The order is that of every history whose output it is.
-use Rattle.amqp_core.specs.StreamView.{config_at, endpoint_of, role_played}
+use Rattle.amqp_core.specs.Stream.View.{config_at, endpoint_of, role_played}
 use Rattle.amqp_core.proofs.OutputLemmas.{output_in_order}
 use Rattle.amqp_core.proofs.stream.StreamEnd.output.Goals as goal
 

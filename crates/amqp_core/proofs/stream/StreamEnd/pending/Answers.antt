@@ -1,6 +1,6 @@
 -- What holds of the end holds of its endpoint.
 use Rattle.std.proofs.Common.{List, ℕ, length, sym, ap, ◌∙◌}
-use Rattle.amqp_core.specs.StreamView.{config_at, role_played}
+use Rattle.amqp_core.specs.Stream.View.{config_at, role_played}
 use Rattle.amqp_core.proofs.KeptLemmas.{kept_sound}
 use Rattle.amqp_core.proofs.QueryLemmas.{pending_is}
 use Rattle.amqp_core.proofs.stream.StreamEnd.pending.Goals as goal

@@ -1,7 +1,7 @@
 -- The phase is the one that every history counts.
 use Rattle.std.proofs.Common.{false, sym, ap, ◌∙◌}
-use Rattle.amqp_core.specs.Stages.{phase_name}
-use Rattle.amqp_core.specs.StreamView.{config_at, role_played}
+use Rattle.amqp_core.specs.Connection.Stages.{phase_name}
+use Rattle.amqp_core.specs.Stream.View.{config_at, role_played}
 use Rattle.amqp_core.proofs.QueryLemmas.{phase_is}
 use Rattle.amqp_core.proofs.stream.StreamEnd.phase.Goals as goal
 

@@ -1,14 +1,14 @@
 -- What holds of the end holds of its endpoint, and the histories go on by the end that gathers.
 use Rattle.std.proofs.Common.{ap, ◌∙◌, false, refl}
 use Rattle.amqp_model.specs.End.Asks.{frames_asked}
-use Rattle.amqp_core.specs.AskView.{lent_view}
-use Rattle.amqp_core.specs.Asking.{AcceptsAsk}
-use Rattle.amqp_core.specs.EndpointView.{endpoint_view}
-use Rattle.amqp_core.specs.Settings.{role_for}
-use Rattle.amqp_core.specs.StreamHistory.{StreamAskGoesOn}
-use Rattle.amqp_core.specs.StreamView.{config_at, endpoint_of, role_played}
+use Rattle.amqp_core.specs.Asks.View.{lent_view}
+use Rattle.amqp_core.specs.Asks.Asking.{AcceptsAsk}
+use Rattle.amqp_core.specs.End.EndpointView.{endpoint_view}
+use Rattle.amqp_core.specs.Config.Settings.{role_for}
+use Rattle.amqp_core.specs.Stream.History.{StreamAskGoesOn}
+use Rattle.amqp_core.specs.Stream.View.{config_at, endpoint_of, role_played}
 use Rattle.amqp_core.specs.declared.settings.Settings.{Settings}
-use Rattle.amqp_core.specs.Blamed.{Tally}
+use Rattle.amqp_core.specs.Faults.Blamed.{Tally}
 use Rattle.amqp_core.proofs.KeptLemmas.{kept_sound, sound_kept}
 use Rattle.amqp_core.proofs.StreamHistoryLemmas.{ok_map, stream_ask_goes_on, stream_ask_is_of_history}
 use Rattle.amqp_core.proofs.stream.StreamEnd.put_ask.Goals as goal

@@ -1,7 +1,7 @@
 -- The request that is due is the one that every history counts.
 use Rattle.std.proofs.Common.{false, suc, sym, ◌∙◌}
 use Rattle.amqp_model.specs.History.Histories.{entries_on}
-use Rattle.amqp_core.specs.StreamView.{config_at, endpoint_of, role_played}
+use Rattle.amqp_core.specs.Stream.View.{config_at, endpoint_of, role_played}
 use Rattle.amqp_core.proofs.QueryLemmas.{due_is}
 use Rattle.amqp_core.proofs.stream.StreamEnd.reply_due.Goals as goal
 

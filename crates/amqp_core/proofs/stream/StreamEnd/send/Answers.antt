@@ -2,7 +2,7 @@
 use Rattle.std.proofs.Common.{subst}
 use Rattle.amqp_model.specs.End.Events.{Message}
 use Rattle.amqp_model.specs.End.Asks.{Send}
-use Rattle.amqp_core.specs.StreamAsks.{StreamAsked}
+use Rattle.amqp_core.specs.Stream.Asks.{StreamAsked}
 use Rattle.amqp_core.proofs.stream.StreamEnd.send.Goals as goal
 
 pub returns : goal.returns

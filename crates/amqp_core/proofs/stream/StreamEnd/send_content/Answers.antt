@@ -3,7 +3,7 @@ use Rattle.std.proofs.Common.{subst}
 use Rattle.amqp_method.specs.Messages.{Letter}
 use Rattle.amqp_model.specs.End.Asks.{Send}
 use Rattle.amqp_channel.specs.Messages.{message_of}
-use Rattle.amqp_core.specs.StreamAsks.{StreamAsked}
+use Rattle.amqp_core.specs.Stream.Asks.{StreamAsked}
 use Rattle.amqp_core.proofs.stream.StreamEnd.send_content.Goals as goal
 
 pub returns-clause-asked : goal.returns-clause-asked

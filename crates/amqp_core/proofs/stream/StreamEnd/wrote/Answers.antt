@@ -1,6 +1,6 @@
 -- What holds of the end holds of its endpoint.
-use Rattle.amqp_core.specs.EndpointView.{endpoint_view}
-use Rattle.amqp_core.specs.StreamView.{config_at, endpoint_of, role_played}
+use Rattle.amqp_core.specs.End.EndpointView.{endpoint_view}
+use Rattle.amqp_core.specs.Stream.View.{config_at, endpoint_of, role_played}
 use Rattle.amqp_core.proofs.KeptLemmas.{kept_sound}
 use Rattle.amqp_core.proofs.StreamHistoryLemmas.{stream_wrote_goes_on}
 use Rattle.amqp_core.proofs.stream.StreamEnd.wrote.Goals as goal

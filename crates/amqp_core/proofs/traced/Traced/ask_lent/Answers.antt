@@ -1,28 +1,66 @@
 -- The lists go on with the frames that are put; a refused ask leaves them.
-use Rattle.std.proofs.Common.{◌+◌, ◌*◌, ◌≤◌, length, vec_len, vec_capacity, refl, ap, sym, ◌∙◌, subst, arith}
+use Rattle.std.proofs.Common.{◌+◌, ◌*◌, ◌≤◌, length, vec_len, vec_capacity, refl, ap, sym, ◌∙◌, subst, arith, rules}
+use Rattle.std.proofs.lemmas.Result.{err_from_is_err_and}
 use Rattle.amqp_model.specs.End.Asks.{frames_asked}
 use Rattle.amqp_model.specs.End.LawfulHistories.{then_put}
 use Rattle.amqp_model.specs.Output.Outputs.{output_octets}
 use Rattle.amqp_channel.specs.Roles.{role_of}
-use Rattle.amqp_core.specs.AskNoting.{count_asked}
-use Rattle.amqp_core.specs.AskView.{lent_view}
-use Rattle.amqp_core.specs.EndView.{config_at, endpoint_of, role_played, settings_at}
-use Rattle.amqp_core.specs.Settings.{role_for}
-use Rattle.amqp_core.specs.TracedFields.{kept_of}
+use Rattle.amqp_core.specs.Traced.AskNoting.{count_asked}
+use Rattle.amqp_core.specs.Asks.View.{lent_view}
+use Rattle.amqp_core.specs.End.View.{config_at, endpoint_of, role_played, settings_at}
+use Rattle.amqp_core.specs.Config.Settings.{role_for}
+use Rattle.amqp_core.specs.Traced.Fields.{kept_of}
 use Rattle.amqp_core.specs.declared.settings.Settings.{Settings}
+use Rattle.amqp_core.proofs.ControlTrace.{same_lists}
 use Rattle.amqp_core.proofs.TracedLemmas.{asked-after, put-room, put-traces, refused-after, traced-same, traces-kept, traces-same}
 use Rattle.amqp_core.proofs.traced.Traced.ask_lent.Goals as goal
 
-pub returns-clause-history : goal.returns-clause-history
-returns-clause-history g c =
-    let end = c.args.self.now.end in
-    asked-after c.put.result (role_played end) (config_at end) (kept_of end c.args.self.now.ledger) (kept_of end c.room_for_ask.new.ledger) (kept_of c.put.new.end c.put.new.ledger)
-    (λ history. then_put (frames_asked (endpoint_of end).end (lent_view c.args.ask)) history) refl c.room_for_ask.ensures.same c.put.ensures.history
+-- it is refused
+pub returns-in_err-place-clause-asked : goal.returns-in_err-place-clause-asked
+returns-in_err-place-clause-asked g c =
+    let p = err_from_is_err_and c.from_residual.result c.from_residual.ensures.1 in
+    rw (p.1, p.2) (record {
+      accepted = tt;
+      refused = c.in_err-place.ensures.refused;
+      history = tt;
+      same = same_lists (kept_of c.args.self.now.end c.args.self.now.ledger);
+      fed = refl;
+      written = refl;
+      settings = refl;
+      heard = refl;
+    })
 
-pub returns-clause-same : goal.returns-clause-same
-returns-clause-same g c =
+pub returns-in_default-clause-asked : goal.returns-in_default-clause-asked
+returns-in_default-clause-asked g c = record {
+  accepted = tt;
+  refused = search rules;
+  history = tt;
+  same = c.room_for_ask.ensures.same;
+  fed = sym c.room_for_ask.ensures.same.fed;
+  written = sym c.room_for_ask.ensures.same.written;
+  settings = refl;
+  heard = refl;
+}
+
+pub returns-clause-asked : goal.returns-clause-asked
+returns-clause-asked g c =
     let end = c.args.self.now.end in
-    refused-after c.put.result (kept_of end c.args.self.now.ledger) (kept_of end c.room_for_ask.new.ledger) (kept_of c.put.new.end c.put.new.ledger) c.room_for_ask.ensures.same c.put.ensures.same
+    let old = kept_of end c.args.self.now.ledger in
+    let ready = kept_of end c.room_for_ask.new.ledger in
+    let new = kept_of c.put.new.end c.put.new.ledger in
+    let lists = c.room_for_ask.ensures.same in
+    record {
+      accepted = c.put.ensures.accepted;
+      refused = c.put.ensures.refused;
+      history =
+          asked-after c.put.result (role_played end) (config_at end) old ready new
+          (λ history. then_put (frames_asked (endpoint_of end).end (lent_view c.args.ask)) history) refl lists c.put.ensures.history;
+      same = refused-after c.put.result old ready new lists c.put.ensures.same;
+      fed = (λ i. (c.put.ensures.fed i).items) ∙ sym lists.fed;
+      written = (λ i. (c.put.ensures.written i).items) ∙ sym lists.written;
+      settings = c.put.ensures.settings;
+      heard = c.put.ensures.heard;
+    }
 
 -- there was no room
 pub invariant_of-self : goal.invariant_of-self

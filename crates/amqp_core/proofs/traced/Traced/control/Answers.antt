@@ -4,12 +4,12 @@ use Rattle.std.proofs.lemmas.Result.{err_from_is_err_and}
 use Rattle.amqp_model.specs.End.LawfulHistories.{then_put}
 use Rattle.amqp_model.specs.Output.Outputs.{output_octets}
 use Rattle.amqp_channel.specs.Roles.{role_of}
-use Rattle.amqp_core.specs.ControlView.{control_view}
-use Rattle.amqp_core.specs.Controlled.{frames_by}
-use Rattle.amqp_core.specs.Controlling.{verdict_at}
-use Rattle.amqp_core.specs.EndView.{config_at, endpoint_of, role_played, settings_at}
-use Rattle.amqp_core.specs.Settings.{role_for}
-use Rattle.amqp_core.specs.TracedFields.{kept_of}
+use Rattle.amqp_core.specs.Asks.ControlView.{control_view}
+use Rattle.amqp_core.specs.Asks.Controlled.{frames_by}
+use Rattle.amqp_core.specs.Asks.Controlling.{verdict_at}
+use Rattle.amqp_core.specs.End.View.{config_at, endpoint_of, role_played, settings_at}
+use Rattle.amqp_core.specs.Config.Settings.{role_for}
+use Rattle.amqp_core.specs.Traced.Fields.{kept_of}
 use Rattle.amqp_core.specs.declared.settings.Settings.{Settings}
 use Rattle.amqp_core.proofs.ControlTrace.{control-room, control-traces, same_lists}
 use Rattle.amqp_core.proofs.TracedLemmas.{asked-after, refused-after, traced-same, traces-kept, traces-same}

@@ -3,10 +3,10 @@ use Rattle.std.proofs.Common.{◌≡◌, ◌+◌, ◌≤◌, length, vec_len, ve
 use Rattle.amqp_model.specs.History.Histories.{History}
 use Rattle.amqp_model.specs.Output.Outputs.{output_octets}
 use Rattle.amqp_model.specs.Stream.Endpoint.{Endpoint}
-use Rattle.amqp_core.specs.EndView.{config_at, role_played, settings_at}
-use Rattle.amqp_core.specs.Settings.{role_for}
-use Rattle.amqp_core.specs.TracedFields.{kept_of}
-use Rattle.amqp_core.specs.Tracing.{IsTraceOf, Kept}
+use Rattle.amqp_core.specs.End.View.{config_at, role_played, settings_at}
+use Rattle.amqp_core.specs.Config.Settings.{role_for}
+use Rattle.amqp_core.specs.Traced.Fields.{kept_of}
+use Rattle.amqp_core.specs.Traced.Tracing.{IsTraceOf, Kept}
 use Rattle.amqp_core.specs.declared.settings.Settings.{Settings}
 use Rattle.amqp_core.proofs.TracedLemmas.{traces-kept}
 use Rattle.amqp_core.proofs.traced.Traced.forget_heard.Goals as goal

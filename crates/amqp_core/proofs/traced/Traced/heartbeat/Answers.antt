@@ -1,7 +1,7 @@
 -- The heartbeat that was agreed is the one that its history counts.
 use Rattle.std.proofs.Common.{refl, ap, ◌∙◌}
-use Rattle.amqp_core.specs.Counted.{heartbeat_in, is_failed}
-use Rattle.amqp_core.specs.TracedView.{config_at, role_played, traced_of}
+use Rattle.amqp_core.specs.End.Counted.{heartbeat_in, is_failed}
+use Rattle.amqp_core.specs.Traced.View.{config_at, role_played, traced_of}
 use Rattle.amqp_core.proofs.QueryLemmas.{agreed_is, standing}
 use Rattle.amqp_core.proofs.traced.Traced.heartbeat.Goals as goal
 

@@ -1,8 +1,8 @@
 -- A new end is the trace of nothing.
-use Rattle.std.proofs.Common.{[], length, ap, ◌∙◌, arith}
+use Rattle.std.proofs.Common.{[], length, refl, ap, ◌∙◌, arith}
 use Rattle.amqp_channel.specs.Roles.{role_of}
-use Rattle.amqp_core.specs.EndView.{config_at, role_played}
-use Rattle.amqp_core.specs.TracedFields.{kept_of}
+use Rattle.amqp_core.specs.End.View.{config_at, role_played}
+use Rattle.amqp_core.specs.Traced.Fields.{kept_of}
 use Rattle.amqp_core.proofs.TracedLemmas.{traced-new}
 use Rattle.amqp_core.proofs.traced.Traced.new.Goals as goal
 
@@ -24,11 +24,20 @@ invariant_of-result g c =
       ) ∣₁;
     }
 
-pub returns-clause-trace : goal.returns-clause-trace
-returns-clause-trace g c =
+pub returns : goal.returns
+returns g c =
     let end = c.args.end in
     let back = c.give_back.ensures in
-    traced-new (role_played end) (config_at end) (kept_of end c.give_back.new.self) (c.octets_follow.ensures.new (role_played end) (config_at end)) c.requires
-    (back.notes ∙ (c.reserve.ensures.notes_same ∙ c.new-ledger.ensures.notes)) (back.told ∙ (c.reserve.ensures.told_same ∙ c.new-ledger.ensures.told))
-    (back.said ∙ (c.reserve.ensures.said_same ∙ c.new-ledger.ensures.said)) (back.fed ∙ (c.reserve.ensures.fed_same ∙ c.new-ledger.ensures.fed))
-    (back.written ∙ (c.reserve.ensures.written_same ∙ c.new-ledger.ensures.written))
+    record {
+      endpoint = refl;
+      settings = refl;
+      heard = refl;
+      trace =
+          traced-new (role_played end) (config_at end) (kept_of end c.give_back.new.self) (c.octets_follow.ensures.new (role_played end) (config_at end)) c.requires
+          (back.notes ∙ (c.reserve.ensures.notes_same ∙ c.new-ledger.ensures.notes)) (back.told ∙ (c.reserve.ensures.told_same ∙ c.new-ledger.ensures.told))
+          (back.said ∙ (c.reserve.ensures.said_same ∙ c.new-ledger.ensures.said)) (back.fed ∙ (c.reserve.ensures.fed_same ∙ c.new-ledger.ensures.fed))
+          (back.written ∙ (c.reserve.ensures.written_same ∙ c.new-ledger.ensures.written));
+      fed = back.fed ∙ (c.reserve.ensures.fed_same ∙ c.new-ledger.ensures.fed);
+      written = back.written ∙ (c.reserve.ensures.written_same ∙ c.new-ledger.ensures.written);
+      writes = end.kept.writes;
+    }

@@ -1,5 +1,5 @@
 -- The order is that of its history.
-use Rattle.amqp_core.specs.TracedView.{config_at, role_played, traced_of}
+use Rattle.amqp_core.specs.Traced.View.{config_at, role_played, traced_of}
 use Rattle.amqp_core.proofs.OutputLemmas.{traced_in_order}
 use Rattle.amqp_core.proofs.traced.Traced.output.Goals as goal
 

@@ -1,5 +1,5 @@
 -- The octets that are pending are those after the last whole frame.
-use Rattle.amqp_core.specs.TracedView.{config_at, role_played, traced_of}
+use Rattle.amqp_core.specs.Traced.View.{config_at, role_played, traced_of}
 use Rattle.amqp_core.proofs.QueryLemmas.{traced_pending_is}
 use Rattle.amqp_core.proofs.traced.Traced.pending.Goals as goal
 

@@ -1,6 +1,6 @@
 -- The phase is the one that its history counts.
-use Rattle.amqp_core.specs.Counted.{is_failed}
-use Rattle.amqp_core.specs.TracedView.{config_at, role_played, traced_of}
+use Rattle.amqp_core.specs.End.Counted.{is_failed}
+use Rattle.amqp_core.specs.Traced.View.{config_at, role_played, traced_of}
 use Rattle.amqp_core.proofs.QueryLemmas.{phase_is, standing}
 use Rattle.amqp_core.proofs.traced.Traced.phase.Goals as goal
 

@@ -1,8 +1,8 @@
 -- The request that is due is the one that its history counts.
 use Rattle.std.proofs.Common.{suc}
 use Rattle.amqp_model.specs.History.Histories.{entries_on}
-use Rattle.amqp_core.specs.Counted.{is_failed}
-use Rattle.amqp_core.specs.TracedView.{config_at, role_played, traced_of}
+use Rattle.amqp_core.specs.End.Counted.{is_failed}
+use Rattle.amqp_core.specs.Traced.View.{config_at, role_played, traced_of}
 use Rattle.amqp_core.proofs.QueryLemmas.{due_is, standing}
 use Rattle.amqp_core.proofs.traced.Traced.reply_due.Goals as goal
 

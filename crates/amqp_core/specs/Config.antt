@@ -1,0 +1,3 @@
+-- What an end is set up with.
+pub mod Settings
+pub mod Configs

@@ -1,0 +1,34 @@
+-- What callers see of an end: an endpoint of the model, of a role and with a configuration.
+use Rattle.amqp_model.specs.Stream.Endpoint.{Endpoint}
+use Rattle.amqp_model.specs.History.Negotiation.{Config}
+use Rattle.amqp_model.specs.Wire.Notes.{Role}
+use Rattle.amqp_core.specs.Faults.Blamed.{tally_view}
+use Rattle.amqp_core.specs.End.Counters.{Counters}
+use Rattle.amqp_core.specs.End.EndpointView.{endpoint_view}
+use Rattle.amqp_core.specs.Heard.View.{Said, heard_view}
+use Rattle.amqp_core.specs.Config.Settings.{config_view, role_for}
+use Rattle.amqp_core.specs.declared.end.End.{End}
+use Rattle.amqp_core.specs.declared.roles.Role.{Ghosts}
+use Rattle.amqp_core.specs.declared.settings.Settings.{Settings}
+
+-- what it is set up with
+abbrev pub settings_at : {R H : Type 0} {G : Ghosts R H} → End R H G → Settings
+settings_at end = end.inner.connection.settings
+
+abbrev pub role_played : {R H : Type 0} {G : Ghosts R H} → End R H G → Role
+role_played end = role_for (settings_at end)
+
+abbrev pub config_at : {R H : Type 0} {G : Ghosts R H} → (end : End R H G) → Config (role_played end)
+config_at end = config_view (settings_at end)
+
+-- what it keeps, the octets that are no whole frame yet, and what it has to write
+abbrev pub endpoint_of : {R H : Type 0} {G : Ghosts R H} → End R H G → Endpoint
+endpoint_of end = endpoint_view end.inner
+
+-- what it counted since it began
+abbrev pub counters_of : {R H : Type 0} {G : Ghosts R H} → End R H G → Counters
+counters_of end = record { frames = end.frames_taken; octets = end.octets_written; tally = tally_view end.inner.tally }
+
+-- what it keeps of the other end's words
+abbrev pub heard_in : {R H : Type 0} {G : Ghosts R H} → End R H G → Said
+heard_in end = heard_view end.heard
