@@ -5,9 +5,9 @@ use Rattle.amqp_model.specs.History.Histories.{History}
 use Rattle.amqp_model.specs.History.Negotiation.{Config}
 use Rattle.amqp_model.specs.Wire.Notes.{Role}
 use Rattle.amqp_model.specs.Laws.OctetLaws.{EndpointStandsFor}
-use Rattle.amqp_core.specs.Answering.{ran_out}
-use Rattle.amqp_core.specs.Feeding.{IsFed, seen}
-use Rattle.amqp_core.specs.Following.{GoesOn}
+use Rattle.amqp_core.specs.Faults.Answering.{ran_out}
+use Rattle.amqp_core.specs.End.Feeding.{IsFed, seen}
+use Rattle.amqp_core.specs.End.Following.{GoesOn}
 use Rattle.amqp_core.specs.Events.{Event}
 use Rattle.amqp_core.specs.declared.taken.Taken.{Taken}
 use Rattle.amqp_core.specs.declared.faults.CoreFault.{CoreFault}

@@ -2,8 +2,8 @@
 use Rattle.std.specs.Prelude.{◌≡◌, Result}
 use Rattle.amqp_model.specs.End.Asks.{Ask}
 use Rattle.amqp_model.specs.End.Controls.{Control}
-use Rattle.amqp_core.specs.EndAsks as ends
-use Rattle.amqp_core.specs.EndControls as controls
+use Rattle.amqp_core.specs.End.Asks as ends
+use Rattle.amqp_core.specs.End.Controls as controls
 use Rattle.amqp_core.specs.declared.faults.AskFault.{AskFault}
 use Rattle.amqp_core.specs.declared.roles.Role.{Ghosts}
 use Rattle.amqp_io.specs.SessionView.{end_of, events_in, room_in, stream_of, unfed_in}

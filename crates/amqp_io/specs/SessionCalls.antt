@@ -1,7 +1,7 @@
 -- What each call of a session does that reads, writes or hands out an event: a record a call. Read before: what a pull, a
 -- push and a turn make of octets and events (`Sessions`), and when a stream's marks change (`Streams`).
 use Rattle.std.specs.Prelude.{◌≡◌, ◌⊎◌, ℕ, ◌++◌, [], option_to_list, Option, None, Result, Err}
-use Rattle.amqp_core.specs.EndView.{endpoint_of}
+use Rattle.amqp_core.specs.End.View.{endpoint_of}
 use Rattle.amqp_core.specs.Events.{Event}
 use Rattle.amqp_core.specs.declared.end.End.{End}
 use Rattle.amqp_core.specs.declared.roles.Role.{Ghosts}

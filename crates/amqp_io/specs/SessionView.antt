@@ -2,7 +2,7 @@
 use Rattle.std.specs.Prelude.{ℕ, List}
 use Rattle.amqp_model.specs.History.Negotiation.{Config}
 use Rattle.amqp_model.specs.Wire.Notes.{Role}
-use Rattle.amqp_core.specs.EndView.{config_at, endpoint_of, role_played, settings_at}
+use Rattle.amqp_core.specs.End.View.{config_at, endpoint_of, role_played, settings_at}
 use Rattle.amqp_core.specs.declared.end.End.{End}
 use Rattle.amqp_core.specs.Events.{Event}
 use Rattle.amqp_core.specs.declared.roles.Role.{Ghosts}

@@ -2,7 +2,7 @@
 -- the output (`Sessions`), and when a stream's marks change (`Streams`).
 use Rattle.std.specs.Prelude.{◌≡◌, ◌≤◌, ◌<◌, ℕ, List, length, Result, Ok, Err}
 use Rattle.std.specs.Borrow.{Bor}
-use Rattle.amqp_core.specs.StreamView.{endpoint_of, settings_at}
+use Rattle.amqp_core.specs.Stream.View.{endpoint_of, settings_at}
 use Rattle.amqp_core.specs.declared.roles.Role.{Ghosts}
 use Rattle.amqp_io.specs.Refilling.{AreRead}
 use Rattle.amqp_io.specs.Sessions.{due, Known, Pushes}

@@ -129,7 +129,8 @@ impl Stream for Script {
         ensures failure { Marks (IsErr result) self.old.failures self.new.failures }
         ensures end { Marks (MeetsEnd result buffer.new) self.old.ends self.new.ends }
         // And it follows the next answer.
-        ensures answer { result ≡ answer_of (moved self.old.answers (min (length buffer.old) (length self.old.to_give))) }
+        ensures answer { result ≡ answer_of
+            (moved self.old.answers (min (length buffer.old) (length self.old.to_give))) }
         ensures used { self.new.answers ≡ drop 1 self.old.answers }
     {
         let most = buffer.len().min(self.unread().len());

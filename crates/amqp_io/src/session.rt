@@ -7,10 +7,11 @@ ghost use Rattle.amqp_method.specs.Messages.{letter_with};
 ghost use Rattle.amqp_method.specs.MessageView.{message_view};
 ghost use Rattle.amqp_method.specs.MethodView.{method_view};
 ghost use Rattle.amqp_model.specs.End.Asks as asks;
+ghost use Rattle.amqp_model.specs.End.Closes.{cause_of, no_cause};
 ghost use Rattle.amqp_model.specs.End.Controls as controls;
 ghost use Rattle.amqp_channel.specs.Messages.{message_of};
-ghost use Rattle.amqp_core.specs.AskView.{ask_view};
-ghost use Rattle.amqp_core.specs.EndAsks.{AnswersLowest, AnswersNumber};
+ghost use Rattle.amqp_core.specs.Asks.View.{ask_view};
+ghost use Rattle.amqp_core.specs.End.Asks.{AnswersLowest, AnswersNumber};
 ghost use Rattle.amqp_io.specs.SessionAsks.{Asked, Controlled};
 ghost use Rattle.amqp_io.specs.SessionCalls.{Began, Handed, Pulled, Pushed, Turned};
 ghost use Rattle.amqp_io.specs.Sessions.{FeedsThose};
@@ -21,7 +22,7 @@ use crate::stream::Stream;
 use crate::unfed::Unfed;
 use crate::writing::write_prefix;
 use amqp_core::{Ask, AskFault, End, Event, Role, Taken};
-use amqp_method::{Message, Method, Properties};
+use amqp_method::{Kind, Message, Method, Properties};
 use amqp_value::ShortStr;
 use std::alloc::Global;
 use std::collections::VecDeque;
@@ -177,8 +178,12 @@ impl<R: Role, S: Stream> Session<R, S> {
         properties: &Properties,
         body: &[u8],
     ) -> Result<(), AskFault>
-        ensures asked { has_content (method_view method.now).kind ≡ true → Asked self.old (asks.Send channel (message_of (letter_with (method_view method.now) (properties_view properties.now) body.now))) result self.new }
-        ensures alone { has_content (method_view method.now).kind ≡ false → (result ≡ Err AskFault.NotSendable) × (self.new ≡ self.old) }
+        ensures asked { has_content (method_view method.now).kind ≡ true
+            → Asked self.old (asks.Send channel
+            (message_of (letter_with (method_view method.now) (properties_view properties.now) body.now))) result
+            self.new }
+        ensures alone { has_content (method_view method.now).kind ≡ false → (result ≡ Err AskFault.NotSendable)
+            × (self.new ≡ self.old) }
     {
         self.end.send_content(channel, method, properties, body)
     }
@@ -197,16 +202,36 @@ impl<R: Role, S: Stream> Session<R, S> {
         code: u16,
         text: &ShortStr,
     ) -> Result<(), AskFault>
-        ensures { Asked self.old (asks.CloseChannel channel code text.now) result self.new }
+        ensures { Asked self.old (asks.CloseChannel channel code text.now no_cause) result self.new }
     {
         self.end.close_channel(channel, code, text)
     }
 
+    /// Closes a channel for a method of this kind, as [`End::close_channel_for`].
+    pub fn close_channel_for(
+        &mut self,
+        channel: u16,
+        code: u16,
+        text: &ShortStr,
+        kind: Kind,
+    ) -> Result<(), AskFault>
+        ensures { Asked self.old (asks.CloseChannel channel code text.now (cause_of kind)) result self.new }
+    {
+        self.end.close_channel_for(channel, code, text, kind)
+    }
+
     /// Closes the connection, as [`End::close`].
     pub fn close(&mut self, code: u16, text: &ShortStr) -> Result<(), AskFault>
-        ensures { Asked self.old (asks.Close code text.now) result self.new }
+        ensures { Asked self.old (asks.Close code text.now no_cause) result self.new }
     {
         self.end.close(code, text)
+    }
+
+    /// Closes the connection for a method of this kind, as [`End::close_for`].
+    pub fn close_for(&mut self, code: u16, text: &ShortStr, kind: Kind) -> Result<(), AskFault>
+        ensures { Asked self.old (asks.Close code text.now (cause_of kind)) result self.new }
+    {
+        self.end.close_for(code, text, kind)
     }
 
     /// Says that the server takes no more contents, as [`End::blocked`].
@@ -280,7 +305,8 @@ impl<R: Role, S: Stream> Session<R, S> {
 
     /// Feeds the end all that is there to feed. Room for an event is made before each feed, so that no event is lost.
     fn feed_all(&mut self) -> Result<(), IoFault>
-        ensures fed { FeedsThose (role_in self.old) (config_in self.old) result (intake_of self.old) (intake_of self.new) }
+        ensures fed { FeedsThose (role_in self.old) (config_in self.old) result (intake_of self.old)
+            (intake_of self.new) }
         ensures settings { settings_in self.new ≡ settings_in self.old }
         ensures stream { stream_of self.new ≡ stream_of self.old }
         ensures room { room_in self.new ≡ room_in self.old }

@@ -4,7 +4,7 @@ use crate::scripts::script_of;
 use crate::turns::{assert_output, feed, qos};
 use amqp_core::{AskFault, Client};
 use amqp_io::{Script, Session};
-use amqp_method::{Properties, read_method};
+use amqp_method::{Kind, Properties, read_method};
 use amqp_value::ShortStr;
 use std::alloc::Global;
 use std::process::Abort;
@@ -68,4 +68,33 @@ fn asks_by_name(rt: HostRuntime) -> Result<(), Fail> {
     let asked = ask_all(&rt, alloc, &mut session, &text);
     drop(session);
     asked
+}
+
+/// channel.open, then channel.close with 404 for basic.publish, and connection.close with 503 for queue.declare: class
+/// and method stand at the end of each.
+const CLOSED: &str = "01 0001 00000005 0014000a 00 ce
+    01 0001 0000000b 00140028 0194 00 003c 0028 ce
+    01 0000 0000000b 000a0032 01f7 00 0032 000a ce";
+
+fn close_all(
+    rt: &impl Abort,
+    alloc: Global,
+    session: &mut Session<Client, Script>,
+    text: &ShortStr,
+) -> Result<(), Fail> {
+    assert!(rt; session.open_channel() == Ok(1));
+    session.pull()?;
+    session.close_channel_for(1, 404, text, Kind::BasicPublish)?;
+    session.close_for(503, text, Kind::QueueDeclare)?;
+    assert_output(rt, alloc, session.end(), CLOSED)
+}
+
+#[test]
+fn closes_for_a_method(rt: HostRuntime) -> Result<(), Fail> {
+    let alloc = rt.alloc();
+    let mut session = shaken(alloc)?;
+    let text = ShortStr::new(alloc, b"")?;
+    let closed = close_all(&rt, alloc, &mut session, &text);
+    drop(session);
+    closed
 }

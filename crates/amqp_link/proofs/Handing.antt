@@ -4,7 +4,7 @@ use Rattle.std.proofs.Math.Logic.{∥∥₁_elim, ∥∥₁_prop}
 use Rattle.std.proofs.lemmas.List.{length-take-le}
 use Rattle.amqp_model.specs.Wire.Notes.{Role}
 use Rattle.amqp_model.specs.Laws.OctetLaws.{IsOctet}
-use Rattle.amqp_core.specs.Answering.{is_out_of_memory}
+use Rattle.amqp_core.specs.Faults.Answering.{is_out_of_memory}
 use Rattle.amqp_core.specs.declared.taken.Taken.{Taken}
 use Rattle.amqp_core.specs.declared.faults.CoreFault.{CoreFault}
 use Rattle.amqp_core.specs.declared.faults.CoreFault.TheVariants as core

@@ -23,11 +23,11 @@ use Rattle.amqp_model.specs.Stream.Octets.{frames_put, opening_read, opening_wri
 use Rattle.amqp_model.specs.Pair.OctetsInFlight.{IsFedNext}
 use Rattle.amqp_model.specs.Output.Outputs.{output_octets}
 use Rattle.amqp_model.specs.Pair.Pairs.{NewEndsPair, config_of}
-use Rattle.amqp_core.specs.Answering.{Reports, is_out_of_memory}
-use Rattle.amqp_core.specs.Controlled.{frames_by, refusal_by}
-use Rattle.amqp_core.specs.Controlling.{verdict_at}
-use Rattle.amqp_core.specs.Feeding.{IsFed}
-use Rattle.amqp_core.specs.Tracing.{IsTraceOf, Kept, SameLists, TraceGrows}
+use Rattle.amqp_core.specs.Faults.Answering.{Reports, is_out_of_memory}
+use Rattle.amqp_core.specs.Asks.Controlled.{frames_by, refusal_by}
+use Rattle.amqp_core.specs.Asks.Controlling.{verdict_at}
+use Rattle.amqp_core.specs.End.Feeding.{IsFed}
+use Rattle.amqp_core.specs.Traced.Tracing.{IsTraceOf, Kept, SameLists, TraceGrows}
 use Rattle.amqp_core.specs.declared.taken.Taken.{Taken}
 use Rattle.amqp_core.specs.declared.faults.CoreFault.{CoreFault}
 use Rattle.amqp_core.specs.declared.faults.CoreFault.TheVariants as core

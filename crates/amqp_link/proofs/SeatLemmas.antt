@@ -5,8 +5,8 @@ use Rattle.amqp_model.specs.End.Asks.{Refusal}
 use Rattle.amqp_model.specs.Stream.Endpoint.{new_endpoint}
 use Rattle.amqp_model.specs.History.Negotiation.{Config}
 use Rattle.amqp_model.specs.Wire.Notes.{Role}
-use Rattle.amqp_core.specs.Faults.{refusal_view}
-use Rattle.amqp_core.specs.Tracing.{IsTraceOf, SameLists}
+use Rattle.amqp_core.specs.Faults.Numbers.{refusal_view}
+use Rattle.amqp_core.specs.Traced.Tracing.{IsTraceOf, SameLists}
 use Rattle.amqp_core.specs.declared.faults.AskFault.{AskFault}
 use Rattle.amqp_core.specs.declared.faults.AskFault.TheVariants as asking
 use Rattle.amqp_link.specs.Seats.{Seated}

@@ -8,7 +8,7 @@ use Rattle.std.proofs.lemmas.List.FromFn.{length-map-range_with_len, get_or-map-
 use Rattle.std.proofs.lemmas.List.Sums.{length-filter, count_by-le-length, sum_by_push}
 use Rattle.amqp_model.specs.Pair.Sent.{Telling}
 use Rattle.amqp_model.specs.Stream.Traces.{Noted}
-use Rattle.amqp_core.specs.NoteView.{note_view, telling_view}
+use Rattle.amqp_core.specs.Traced.Notes.{note_view, telling_view}
 use Rattle.amqp_core.specs.declared.notes.Note.{Note}
 use Rattle.amqp_core.specs.declared.tellings.Telling.{Telling as Said}
 use Rattle.amqp_link.specs.Tallies.{begins, begins_on, begun_on, last_begun, count_in, numbers_to, two_entries, tallies_in, tallies_on}

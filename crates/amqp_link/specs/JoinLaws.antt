@@ -14,7 +14,7 @@ use Rattle.amqp_model.specs.Laws.OctetLaws.{FeedTakesWithin, WroteFollows}
 use Rattle.amqp_model.specs.Pair.OctetsInFlight.{FeedStaysPair, FindsNoFaultWithOctets, GrownStaysPair}
 use Rattle.amqp_model.specs.Output.Outputs.{Output}
 use Rattle.amqp_model.specs.Pair.Pairs.{config_of}
-use Rattle.amqp_core.specs.Tracing.{Kept, StandsUnlessFailed}
+use Rattle.amqp_core.specs.Traced.Tracing.{Kept, StandsUnlessFailed}
 
 -- for the reader in this role
 pub record JoinLaws (role : Role) (client_config : Config Client) (server_config : Config Server) : Type 0 where

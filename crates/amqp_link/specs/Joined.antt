@@ -9,7 +9,7 @@ use Rattle.amqp_model.specs.Wire.Notes.{Role, Client, Server, other_end}
 use Rattle.amqp_model.specs.Laws.OctetLaws.{EndpointStandsFor}
 use Rattle.amqp_model.specs.Stream.Octets.{frames_put, opening_written}
 use Rattle.amqp_model.specs.Pair.Pairs.{config_of}
-use Rattle.amqp_core.specs.Tracing.{IsTraceOf}
+use Rattle.amqp_core.specs.Traced.Tracing.{IsTraceOf}
 use Rattle.amqp_link.specs.Seats.{Seated}
 
 -- One side with its history, in which there is no fault: it is the trace of it, what it wrote and has to write are the octets of

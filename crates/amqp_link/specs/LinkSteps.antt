@@ -5,8 +5,8 @@ use Rattle.amqp_model.specs.End.Fitting.{config_fault}
 use Rattle.amqp_model.specs.End.Fitting as model
 use Rattle.amqp_model.specs.History.Negotiation.{Config}
 use Rattle.amqp_model.specs.Wire.Notes.{Role}
-use Rattle.amqp_core.specs.AskView.{ask_view}
-use Rattle.amqp_core.specs.Faults.{config_fault_view}
+use Rattle.amqp_core.specs.Asks.View.{ask_view}
+use Rattle.amqp_core.specs.Faults.Numbers.{config_fault_view}
 use Rattle.amqp_core.specs.Roles.{role_of}
 use Rattle.amqp_core.specs.declared.faults.ConfigFault.{ConfigFault}
 use Rattle.amqp_link.specs.ConnectionSteps.{ConnectionAsked, ConnectionCarries, ConnectionControlled, ConnectionDrops, IsNewConnection}

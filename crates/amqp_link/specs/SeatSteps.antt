@@ -8,13 +8,13 @@ use Rattle.amqp_model.specs.End.LawfulHistories.{then_put}
 use Rattle.amqp_model.specs.History.Negotiation.{Config}
 use Rattle.amqp_model.specs.Wire.Notes.{Role}
 use Rattle.amqp_model.specs.Output.Outputs.{output_octets}
-use Rattle.amqp_core.specs.Answering.{ran_out}
-use Rattle.amqp_core.specs.Asking.{AcceptsAsk}
-use Rattle.amqp_core.specs.Controlled.{frames_by, refusal_by}
-use Rattle.amqp_core.specs.Controlling.{AcceptsControl, verdict_at}
-use Rattle.amqp_core.specs.Faults.{refusal_view}
-use Rattle.amqp_core.specs.Feeding.{IsFed, seen}
-use Rattle.amqp_core.specs.Tracing.{FedGrows, IsTraceOf, TraceGoesOn}
+use Rattle.amqp_core.specs.Faults.Answering.{ran_out}
+use Rattle.amqp_core.specs.Asks.Asking.{AcceptsAsk}
+use Rattle.amqp_core.specs.Asks.Controlled.{frames_by, refusal_by}
+use Rattle.amqp_core.specs.Asks.Controlling.{AcceptsControl, verdict_at}
+use Rattle.amqp_core.specs.Faults.Numbers.{refusal_view}
+use Rattle.amqp_core.specs.End.Feeding.{IsFed, seen}
+use Rattle.amqp_core.specs.Traced.Tracing.{FedGrows, IsTraceOf, TraceGoesOn}
 use Rattle.amqp_core.specs.declared.taken.Taken.{Taken}
 use Rattle.amqp_core.specs.declared.faults.CoreFault.{CoreFault}
 use Rattle.amqp_core.specs.declared.faults.CoreFault.TheVariants as core

@@ -1,6 +1,6 @@
 -- A side of the code, in these words.
-use Rattle.amqp_core.specs.Configs.{set_up_as}
-use Rattle.amqp_core.specs.TracedView.{settings_at, traced_of}
+use Rattle.amqp_core.specs.Config.Configs.{set_up_as}
+use Rattle.amqp_core.specs.Traced.View.{settings_at, traced_of}
 use Rattle.amqp_core.specs.declared.roles.Role.{Ghosts}
 use Rattle.amqp_link.specs.Seats.{Seated}
 use Rattle.amqp_link.specs.declared.seat.Seat.{Seat}

@@ -2,7 +2,7 @@
 use Rattle.std.specs.Prelude.{Bool}
 use Rattle.amqp_model.specs.History.Negotiation.{Config}
 use Rattle.amqp_model.specs.Wire.Notes.{Role}
-use Rattle.amqp_core.specs.Tracing.{Kept}
+use Rattle.amqp_core.specs.Traced.Tracing.{Kept}
 
 -- one side: what its end is set up with, the end with its history, and whether it was dropped
 pub record Seated : Type 0 where

@@ -1,7 +1,7 @@
 -- What the two ends of a connection are set up with.
 use Rattle.amqp_model.specs.History.Negotiation as model
 use Rattle.amqp_model.specs.Wire.Notes.{Role}
-use Rattle.amqp_core.specs.Configs.{set_up_as, settings_of}
+use Rattle.amqp_core.specs.Config.Configs.{set_up_as, settings_of}
 use Rattle.amqp_core.specs.declared.config.Config.{Config}
 use Rattle.amqp_core.specs.declared.settings.ClientHello.{ClientHello}
 use Rattle.amqp_core.specs.declared.settings.ServerHello.{ServerHello}

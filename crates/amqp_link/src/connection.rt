@@ -1,8 +1,8 @@
 //! A connection of a client and a server in memory. What the one has to write waits to be carried to the other.
 ghost use Rattle.std.specs.Prelude.{◌≡◌, length, map, IfOk};
 ghost use Rattle.amqp_model.specs.Wire.Notes.{Client as client_role};
-ghost use Rattle.amqp_core.specs.AskView.{ask_view};
-ghost use Rattle.amqp_core.specs.NoteView.{note_view, telling_view};
+ghost use Rattle.amqp_core.specs.Asks.View.{ask_view};
+ghost use Rattle.amqp_core.specs.Traced.Notes.{note_view, telling_view};
 ghost use Rattle.amqp_core.specs.Roles.{role_of};
 ghost use Rattle.amqp_link.specs.ConnectionSteps.{ConnectionAsked, ConnectionCarries, ConnectionControlled, ConnectionDrops, IsNewConnection, reader_in, writer_in};
 ghost use Rattle.amqp_link.specs.ControlView.{control_view};
@@ -38,7 +38,8 @@ impl Connection {
         client: &Config<Client>,
         server: &Config<Server>,
     ) -> Result<Connection, OutOfMemory>
-        ensures { IfOk result (λ connection. IsNewConnection (client_set_up client.now) (server_set_up server.now) (connection_view connection)) }
+        ensures { IfOk result (λ connection. IsNewConnection (client_set_up client.now) (server_set_up server.now)
+            (connection_view connection)) }
     {
         octets::octets_follow();
         two_ends::steps_stay_pairs();
@@ -53,7 +54,8 @@ impl Connection {
     }
 
     pub(crate) fn ask(&mut self, side: Side, ask: &Ask) -> Result<(), LinkFault>
-        ensures { ConnectionAsked (role_of side) (ask_view ask.now) (connection_view self.old) result (connection_view self.new) }
+        ensures { ConnectionAsked (role_of side) (ask_view ask.now) (connection_view self.old) result
+            (connection_view self.new) }
     {
         agreement::ends_stand_together();
         match side {

@@ -1,8 +1,8 @@
 //! Pairs of ends in memory, and what is done with them.
 ghost use Rattle.std.specs.Prelude.{◌≡◌, map, slice_get, All, IfErr, IfOk, OnOk};
-ghost use Rattle.amqp_core.specs.AskView.{ask_view};
-ghost use Rattle.amqp_core.specs.Configs.{set_up_as, settings_of};
-ghost use Rattle.amqp_core.specs.NoteView.{item_view, telling_view};
+ghost use Rattle.amqp_core.specs.Asks.View.{ask_view};
+ghost use Rattle.amqp_core.specs.Config.Configs.{set_up_as, settings_of};
+ghost use Rattle.amqp_core.specs.Traced.Notes.{item_view, telling_view};
 ghost use Rattle.amqp_core.specs.Roles.{role_of};
 ghost use Rattle.amqp_link.specs.ConnectionSteps.{ConnectionAsked, ConnectionCarries, ConnectionControlled, ConnectionDrops};
 ghost use Rattle.amqp_link.specs.ControlView.{control_view};
@@ -130,7 +130,8 @@ impl Link {
     }
 
     fn ask(&mut self, index: usize, side: Side, ask: &Ask) -> Result<(), LinkFault>
-        ensures { DoneAt (ConnectionAsked (role_of side) (ask_view ask.now)) index (link_view self.old) result (link_view self.new) }
+        ensures { DoneAt (ConnectionAsked (role_of side) (ask_view ask.now)) index (link_view self.old) result
+            (link_view self.new) }
     {
         if self.connections.len() <= index {
             return Err(LinkFault::NoSuchConnection);
@@ -222,7 +223,8 @@ impl Link {
 
     /// What the end that writes said, in all lives.
     fn said(&self, connection: usize, direction: Direction) -> &[Telling]
-        ensures { map telling_view result.now ≡ said_at direction (slice_get (link_view self.now).connections connection) }
+        ensures { map telling_view result.now ≡ said_at direction (slice_get (link_view self.now).connections
+            connection) }
     {
         match self.connections.get(connection) {
             Some(connection) => connection.said(direction),
@@ -232,7 +234,8 @@ impl Link {
 
     /// What the end that reads was told, in all lives.
     fn told(&self, connection: usize, direction: Direction) -> &[Telling]
-        ensures { map telling_view result.now ≡ told_at direction (slice_get (link_view self.now).connections connection) }
+        ensures { map telling_view result.now ≡ told_at direction (slice_get (link_view self.now).connections
+            connection) }
     {
         match self.connections.get(connection) {
             Some(connection) => connection.told(direction),
@@ -254,7 +257,8 @@ impl Link {
     /// The items that were acted on in a life in a direction, in order. There are none of a life that hasn't begun.
     #[tactic(auto, using(crate::proofs::Promising::headline))]
     pub fn acted(&self, life: Life, direction: Direction) -> Result<Vec<Item>, OutOfMemory>
-        ensures items { IfOk result (λ items. map item_view items.items ≡ acted_in (link_view self.now) life direction) }
+        ensures items { IfOk result (λ items. map item_view items.items ≡ acted_in (link_view self.now) life
+            direction) }
         ensures headline { Headline (link_view self.now) }
     {
         promises_are_kept();

@@ -1,6 +1,6 @@
 //! Lives of channels, and how much was sent and acted on in each.
 ghost use Rattle.std.specs.Prelude.{◌≡◌, ◌<◌, ◌+◌, ◌^◌, ◌==◌, ◌++◌, [], ◌∷◌, ℕ, cond, map, replicate, length, slice_index, IfOk, OnOk};
-ghost use Rattle.amqp_core.specs.NoteView.{item_view, note_view, telling_view};
+ghost use Rattle.amqp_core.specs.Traced.Notes.{item_view, note_view, telling_view};
 ghost use Rattle.amqp_model.specs.Pair.Sent as sent;
 ghost use Rattle.amqp_link.specs.Tallies as tallied;
 ghost use Rattle.amqp_link.specs.TallyView as view;
@@ -26,7 +26,8 @@ pub(crate) fn items_of(
     channel: u16,
     number: u64,
 ) -> Result<Vec<Item>, OutOfMemory>
-    ensures { IfOk result (λ items. map item_view items.items ≡ sent.items_of channel number (map telling_view tellings.now)) }
+    ensures { IfOk result (λ items. map item_view items.items ≡ sent.items_of channel number
+        (map telling_view tellings.now)) }
 {
     let mut items = Vec::new(alloc);
     for telling in tellings {
@@ -61,7 +62,8 @@ fn last_begun(notes: &[Note]) -> u16
 /// One more at a number, if its count is kept: that of number 1 stands first.
 fn count(counts: &mut [usize], number: u64)
     requires { (k : ℕ) → k < length counts.old → slice_index counts.old k + 1 < 2 ^ 64 }
-    ensures { (k : ℕ) → k < length counts.old → slice_index counts.new k ≡ slice_index counts.old k + cond (k + 1 == number) 1 0 }
+    ensures { (k : ℕ) → k < length counts.old → slice_index counts.new k ≡ slice_index counts.old k + cond
+        (k + 1 == number) 1 0 }
 {
     if number != 0 && number <= counts.len() as u64 {
         counts[(number - 1) as usize] += 1;
@@ -83,7 +85,8 @@ fn begun_to(alloc: Global, last: u16, notes: &[Note]) -> Result<Vec<usize>, OutO
 
 /// No items yet of so many lives of each channel.
 fn nothing_counted(alloc: Global, begun: &[usize]) -> Result<Vec<Vec<usize>>, OutOfMemory>
-    ensures { IfOk result (λ counts. map (λ lives. lives.items) counts.items ≡ map (λ lives. replicate lives 0) begun.now) }
+    ensures { IfOk result (λ counts. map (λ lives. lives.items) counts.items ≡ map (λ lives. replicate lives 0)
+        begun.now) }
 {
     let mut counts = Vec::new(alloc);
     for lives in begun {
@@ -99,7 +102,8 @@ fn counts_of(
     tellings: &[Telling],
     begun: &[usize],
 ) -> Result<Vec<Vec<usize>>, OutOfMemory>
-    ensures { IfOk result (λ counts. map (λ lives. lives.items) counts.items ≡ view.counts_of begun.now (map telling_view tellings.now)) }
+    ensures { IfOk result (λ counts. map (λ lives. lives.items) counts.items ≡ view.counts_of begun.now
+        (map telling_view tellings.now)) }
 {
     let mut counts = nothing_counted(alloc, begun)?;
     for telling in tellings {
@@ -128,7 +132,9 @@ fn add_life(
     to_server: (usize, usize),
     to_client: (usize, usize),
 ) -> Result<(), OutOfMemory>
-    ensures { OnOk result (tallies.new.items ≡ tallies.old.items ++ (life, Direction.ToServer, to_server.0, to_server.1) ∷ (life, Direction.ToClient, to_client.0, to_client.1) ∷ []) }
+    ensures { OnOk result (tallies.new.items ≡ tallies.old.items
+        ++ (life, Direction.ToServer, to_server.0, to_server.1) ∷ (life, Direction.ToClient, to_client.0, to_client.1)
+        ∷ []) }
 {
     tallies.push((life, Direction::ToServer, to_server.0, to_server.1))?;
     tallies.push((life, Direction::ToClient, to_client.0, to_client.1))?;
@@ -146,7 +152,9 @@ fn add_lives(
     requires acted_to_server { length to_server.1.now ≡ length to_server.0.now }
     requires sent_to_client { length to_client.0.now ≡ length to_server.0.now }
     requires acted_to_client { length to_client.1.now ≡ length to_server.0.now }
-    ensures { OnOk result (map tally_view tallies.new.items ≡ map tally_view tallies.old.items ++ view.tallies_by connection channel (length to_server.entry.0.now) to_server.entry.0.now to_server.entry.1.now to_client.entry.0.now to_client.entry.1.now) }
+    ensures { OnOk result (map tally_view tallies.new.items ≡ map tally_view tallies.old.items
+        ++ view.tallies_by connection channel (length to_server.entry.0.now) to_server.entry.0.now
+        to_server.entry.1.now to_client.entry.0.now to_client.entry.1.now) }
 {
     let lives = to_server.0.len();
     for before in 0..lives {
@@ -170,7 +178,10 @@ pub(crate) fn add_tallies(
     connection: usize,
     written: Written<'_>,
 ) -> Result<(), OutOfMemory>
-    ensures { OnOk result (map tally_view tallies.new.items ≡ map tally_view tallies.old.items ++ tallied.tallies_of connection (map note_view written.entry.notes.now) (map telling_view written.entry.client_said.now) (map telling_view written.entry.server_told.now) (map telling_view written.entry.server_said.now) (map telling_view written.entry.client_told.now)) }
+    ensures { OnOk result (map tally_view tallies.new.items ≡ map tally_view tallies.old.items
+        ++ tallied.tallies_of connection (map note_view written.entry.notes.now)
+        (map telling_view written.entry.client_said.now) (map telling_view written.entry.server_told.now)
+        (map telling_view written.entry.server_said.now) (map telling_view written.entry.client_told.now)) }
 {
     let last = last_begun(written.notes);
     let begun = begun_to(alloc, last, written.notes)?;

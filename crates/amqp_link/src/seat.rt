@@ -2,10 +2,10 @@
 ghost use Rattle.std.specs.Prelude.{◌≡◌, ◌<◌, ◌≤◌, ◌+◌, false, All, length, map, IfOk};
 ghost use Rattle.amqp_model.specs.End.Fitting.{ConfigWrites};
 ghost use Rattle.amqp_model.specs.Laws.OctetLaws.{IsOctet};
-ghost use Rattle.amqp_core.specs.AskView.{ask_view};
-ghost use Rattle.amqp_core.specs.Configs.{set_up_as, settings_of};
-ghost use Rattle.amqp_core.specs.NoteView.{note_view, telling_view};
-ghost use Rattle.amqp_core.specs.TracedControls.{ControlledTrace};
+ghost use Rattle.amqp_core.specs.Asks.View.{ask_view};
+ghost use Rattle.amqp_core.specs.Config.Configs.{set_up_as, settings_of};
+ghost use Rattle.amqp_core.specs.Traced.Notes.{note_view, telling_view};
+ghost use Rattle.amqp_core.specs.Traced.Controls.{ControlledTrace};
 ghost use Rattle.amqp_link.specs.ControlView.{control_view};
 ghost use Rattle.amqp_link.specs.JoinLaws.{Laws};
 ghost use Rattle.amqp_link.specs.Joined.{IsJoinedTo};
@@ -59,8 +59,10 @@ fn hand_over<W: Role, R: Role>(
     requires there { (seat_view reader.old).dropped ≡ false }
     requires some { 0 < octets }
     requires within { octets ≤ length (to_write (seat_view writer.old)) }
-    ensures hands { HandsOverOr octets result (seat_view writer.old) (seat_view reader.old) (seat_view writer.new) (seat_view reader.new) }
-    ensures left { IfOk result (λ count. length (to_write (seat_view writer.new)) + count ≡ length (to_write (seat_view writer.old))) }
+    ensures hands { HandsOverOr octets result (seat_view writer.old) (seat_view reader.old) (seat_view writer.new)
+        (seat_view reader.new) }
+    ensures left { IfOk result (λ count. length (to_write (seat_view writer.new)) + count
+        ≡ length (to_write (seat_view writer.old))) }
     ensures joined { ∥ IsJoinedTo R.role (seat_view reader.new) (seat_view writer.new) ∥₁ }
 {
     sides_stay_joined();
@@ -84,7 +86,8 @@ pub(crate) fn carry<W: Role, R: Role>(
     octets: usize,
 ) -> Result<(), LinkFault>
     requires joined { ∥ IsJoinedTo R.role (seat_view reader.old) (seat_view writer.old) ∥₁ }
-    ensures carries { SidesCarry octets (seat_view writer.old) (seat_view reader.old) result (seat_view writer.new) (seat_view reader.new) }
+    ensures carries { SidesCarry octets (seat_view writer.old) (seat_view reader.old) result (seat_view writer.new)
+        (seat_view reader.new) }
     ensures joined { ∥ IsJoinedTo R.role (seat_view reader.new) (seat_view writer.new) ∥₁ }
 {
     if reader.dropped {

@@ -3,9 +3,9 @@ use Rattle.std.proofs.Common.{◌≡◌, ◌⊎◌, ◌<◌, List, [], ◌∷◌
 use Rattle.amqp_model.specs.End.Asks.{Send, Paused, ReplyPending}
 use Rattle.amqp_model.specs.Stream.Endpoint.{Endpoint}
 use Rattle.amqp_model.specs.End.Events.{Message}
-use Rattle.amqp_core.specs.Asking.{RefusesAsk}
-use Rattle.amqp_core.specs.Faults.{refusal_view}
-use Rattle.amqp_core.specs.Settings.{role_for}
+use Rattle.amqp_core.specs.Asks.Asking.{RefusesAsk}
+use Rattle.amqp_core.specs.Faults.Numbers.{refusal_view}
+use Rattle.amqp_core.specs.Config.Settings.{role_for}
 use Rattle.amqp_core.specs.declared.faults.AskFault.{AskFault}
 use Rattle.amqp_core.specs.declared.settings.Settings.{Settings}
 use Rattle.amqp_turns.specs.Sends.{Standing, Accepts, Advances, none_sent, sends_next, HasToWait, IsReasonToWait, IsRefusedAmong, IsRefusedFirst, Rests, refused_first}

@@ -3,7 +3,7 @@ use Rattle.std.specs.Prelude.{List, map}
 use Rattle.amqp_method.specs.MessageView.{message_view}
 use Rattle.amqp_model.specs.End.Events.{Message}
 use Rattle.amqp_channel.specs.Messages.{message_of}
-use Rattle.amqp_core.specs.EndView.{endpoint_of, settings_at}
+use Rattle.amqp_core.specs.End.View.{endpoint_of, settings_at}
 use Rattle.amqp_core.specs.declared.end.End.{End}
 use Rattle.amqp_core.specs.declared.roles.Role.{Ghosts}
 use Rattle.amqp_turns.specs.Sends.{Standing}

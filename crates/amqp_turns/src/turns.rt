@@ -98,7 +98,8 @@ impl Turns {
     /// Sends the oldest message, if there is one and it may go now, and answers whether it did.
     fn send_next<R: Role>(&mut self, end: &mut End<R>) -> Result<bool, AskFault>
         ensures advances { Advances (standing self.old end.old) (standing self.new end.new) }
-        ensures one { IfOk result (λ sent. sent ≡ true → 1 + length (waiting_in self.new) ≡ length (waiting_in self.old)) }
+        ensures one { IfOk result (λ sent. sent ≡ true → 1 + length (waiting_in self.new)
+            ≡ length (waiting_in self.old)) }
         ensures none { IfOk result (λ sent. sent ≡ false → waiting_in self.new ≡ waiting_in self.old) }
         ensures rests { IfOk result (λ sent. sent ≡ false → Rests (standing self.new end.new)) }
         ensures refused { IfErr result (λ fault. IsRefusedFirst fault (standing self.new end.new)) }

@@ -1,6 +1,6 @@
 -- One more channel.
 use Rattle.std.proofs.Common.{◌+◌, ◌++◌, map, ap, ◌∙◌, arith}
-use Rattle.amqp_core.specs.NoteView.{note_view, telling_view}
+use Rattle.amqp_core.specs.Traced.Notes.{note_view, telling_view}
 use Rattle.amqp_link.specs.Tallies.{begun_on, tallies_on}
 use Rattle.amqp_link.specs.TallyView.{tally_view}
 use Rattle.amqp_link.proofs.TallyCounts.{vectors-long, channel-is, tallies-are, same-length, flat-more}

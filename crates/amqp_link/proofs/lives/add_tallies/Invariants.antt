@@ -1,6 +1,6 @@
 -- The channels so far.
 use Rattle.std.proofs.Common.{◌≡◌, ◌++◌, map}
-use Rattle.amqp_core.specs.NoteView.{note_view, telling_view}
+use Rattle.amqp_core.specs.Traced.Notes.{note_view, telling_view}
 use Rattle.amqp_link.specs.Tallies as tallied
 use Rattle.amqp_link.specs.TallyView.{tally_view}
 use Rattle.amqp_link.proofs.lives.add_tallies.Given as goal

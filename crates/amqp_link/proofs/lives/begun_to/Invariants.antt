@@ -1,6 +1,6 @@
 -- The lives of each channel so far.
 use Rattle.std.proofs.Common.{◌≡◌, map, take}
-use Rattle.amqp_core.specs.NoteView.{note_view}
+use Rattle.amqp_core.specs.Traced.Notes.{note_view}
 use Rattle.amqp_link.specs.TallyView as view
 use Rattle.amqp_link.proofs.lives.begun_to.Given as goal
 

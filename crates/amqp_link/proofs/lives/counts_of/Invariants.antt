@@ -1,6 +1,6 @@
 -- The items so far.
 use Rattle.std.proofs.Common.{◌≡◌, map, take}
-use Rattle.amqp_core.specs.NoteView.{telling_view}
+use Rattle.amqp_core.specs.Traced.Notes.{telling_view}
 use Rattle.amqp_link.specs.TallyView as view
 use Rattle.amqp_link.proofs.lives.counts_of.Given as goal
 

@@ -1,6 +1,6 @@
 -- The items of the life so far.
 use Rattle.std.proofs.Common.{◌≡◌, map, take}
-use Rattle.amqp_core.specs.NoteView.{item_view, telling_view}
+use Rattle.amqp_core.specs.Traced.Notes.{item_view, telling_view}
 use Rattle.amqp_model.specs.Pair.Sent as sent
 use Rattle.amqp_link.proofs.lives.items_of.Given as goal
 

@@ -1,6 +1,6 @@
 -- The greatest channel so far.
 use Rattle.std.proofs.Common.{◌≡◌, map, take}
-use Rattle.amqp_core.specs.NoteView.{note_view}
+use Rattle.amqp_core.specs.Traced.Notes.{note_view}
 use Rattle.amqp_link.specs.Tallies as tallied
 use Rattle.amqp_link.proofs.lives.last_begun.Given as goal
 

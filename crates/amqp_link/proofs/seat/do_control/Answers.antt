@@ -1,7 +1,7 @@
 -- What is done is what the control says.
 use Rattle.std.proofs.Common.{sym, subst}
 use Rattle.amqp_model.specs.End.Controls as model
-use Rattle.amqp_core.specs.TracedControls.{ControlledTrace}
+use Rattle.amqp_core.specs.Traced.Controls.{ControlledTrace}
 use Rattle.amqp_link.specs.ControlView.{control_view}
 use Rattle.amqp_link.specs.declared.controls.Control.{Control}
 use Rattle.amqp_link.proofs.seat.do_control.Goals as goal

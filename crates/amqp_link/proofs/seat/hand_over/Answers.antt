@@ -1,10 +1,10 @@
 -- What is handed over, and that the two sides stay joined.
 use Rattle.std.proofs.Common.{true, refl, ap, subst}
 use Rattle.std.proofs.Math.Logic.{∥∥₁_elim, ∥∥₁_prop}
-use Rattle.amqp_core.specs.Configs.{set_up_as}
-use Rattle.amqp_core.specs.Settings.{config_view, role_for}
-use Rattle.amqp_core.specs.TracedView.{traced_of}
-use Rattle.amqp_core.specs.Tracing.{IsTraceOf}
+use Rattle.amqp_core.specs.Config.Configs.{set_up_as}
+use Rattle.amqp_core.specs.Config.Settings.{config_view, role_for}
+use Rattle.amqp_core.specs.Traced.View.{traced_of}
+use Rattle.amqp_core.specs.Traced.Tracing.{IsTraceOf}
 use Rattle.amqp_core.specs.declared.settings.Settings.{Settings}
 use Rattle.amqp_link.specs.SeatView.{seat_view}
 use Rattle.amqp_link.proofs.Handing.{all-octets, hands, out-joined, runs-out}

@@ -2,8 +2,8 @@
 use Rattle.std.proofs.Common.{◌≡◌, ◌<◌, length, ◌++◌, option_to_list, Ok, Err, ◌∙◌, ap, refl, subst, arith}
 use Rattle.std.proofs.lemmas.List.{length-drop}
 use Rattle.std.proofs.lemmas.Bool.Decides.{nat_tests}
-use Rattle.amqp_core.specs.EndView.{endpoint_of, settings_at}
-use Rattle.amqp_core.specs.Feeds.{Feeds}
+use Rattle.amqp_core.specs.End.View.{endpoint_of, settings_at}
+use Rattle.amqp_core.specs.End.Feeds.{Feeds}
 use Rattle.amqp_io.specs.Intakes.{not_yet}
 use Rattle.amqp_io.specs.SessionView.{intake_of, settings_in}
 use Rattle.amqp_io.proofs.FeedingLemmas.{feeds_as, fed_further}

@@ -1,6 +1,6 @@
 -- The side that is asked stays joined to the other.
 use Rattle.amqp_model.specs.Wire.Notes.{Client, Server}
-use Rattle.amqp_core.specs.AskView.{ask_view}
+use Rattle.amqp_core.specs.Asks.View.{ask_view}
 use Rattle.amqp_link.specs.SeatView.{seat_view}
 use Rattle.amqp_link.proofs.Joining.{asked, turned-there}
 use Rattle.amqp_link.proofs.connection.Connection.ask.Goals as goal

@@ -1,7 +1,7 @@
 -- It is done with the connection of this number.
 use Rattle.std.proofs.Common.{◌∙◌}
 use Rattle.std.proofs.lemmas.Option.{slice_get_read}
-use Rattle.amqp_core.specs.AskView.{ask_view}
+use Rattle.amqp_core.specs.Asks.View.{ask_view}
 use Rattle.amqp_core.specs.Roles.{role_of}
 use Rattle.amqp_link.specs.ConnectionSteps.{ConnectionAsked}
 use Rattle.amqp_link.specs.SetUps.{client_set_up, server_set_up}

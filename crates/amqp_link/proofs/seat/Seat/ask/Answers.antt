@@ -1,7 +1,7 @@
 -- A refused ask changes nothing.
 use Rattle.std.proofs.Common.{Err, refl, ap, subst, sym}
-use Rattle.amqp_core.specs.AskView.{ask_view}
-use Rattle.amqp_core.specs.Configs.{set_up_as}
+use Rattle.amqp_core.specs.Asks.View.{ask_view}
+use Rattle.amqp_core.specs.Config.Configs.{set_up_as}
 use Rattle.amqp_link.specs.SeatSteps.{SideAccepts, SideAsked, refusal_at}
 use Rattle.amqp_link.specs.SeatView.{seat_view}
 use Rattle.amqp_link.proofs.SeatLemmas.{refused-side}
@@ -9,7 +9,7 @@ use Rattle.amqp_link.proofs.seat.Seat.ask.Goals as goal
 
 pub returns-in-Err : goal.returns-in-Err
 returns-in-Err g c =
-    let e = c.in-Err.ensures in
+    let e = c.in-Err.ensures.asked in
     let ask = ask_view c.args.ask.now in
     let old = seat_view c.args.self.now in
     let new = seat_view record { end = c.ask.new.self; dropped = c.args.self.now.dropped } in

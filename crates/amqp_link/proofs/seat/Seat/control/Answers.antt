@@ -1,7 +1,7 @@
 -- A refused control changes nothing.
 use Rattle.std.proofs.Common.{Err, refl, ap, subst, sym}
-use Rattle.amqp_core.specs.Configs.{set_up_as}
-use Rattle.amqp_core.specs.Controlled.{refusal_by}
+use Rattle.amqp_core.specs.Config.Configs.{set_up_as}
+use Rattle.amqp_core.specs.Asks.Controlled.{refusal_by}
 use Rattle.amqp_link.specs.ControlView.{control_view}
 use Rattle.amqp_link.specs.SeatSteps.{SideAcceptsControl, SideControlled, verdict_by}
 use Rattle.amqp_link.specs.SeatView.{seat_view}

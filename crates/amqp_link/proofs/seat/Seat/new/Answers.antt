@@ -1,8 +1,8 @@
 -- A new side is set up with an equal configuration.
 use Rattle.std.proofs.Common.{refl, ap, ◌∙◌, sym}
 use Rattle.amqp_model.specs.Stream.Endpoint.{new_endpoint}
-use Rattle.amqp_core.specs.Configs.{set_up_as}
-use Rattle.amqp_core.specs.Settings.{role_for}
+use Rattle.amqp_core.specs.Config.Configs.{set_up_as}
+use Rattle.amqp_core.specs.Config.Settings.{role_for}
 use Rattle.amqp_core.specs.declared.settings.Settings.{Settings}
 use Rattle.amqp_link.specs.SeatView.{seat_view}
 use Rattle.amqp_link.proofs.SeatLemmas.{new-side}

@@ -2,7 +2,7 @@
 use Rattle.std.proofs.Common.{drop, map, sym, ap, subst, refl, arith}
 use Rattle.amqp_method.specs.MessageView.{message_view}
 use Rattle.amqp_channel.specs.Messages.{message_of}
-use Rattle.amqp_core.specs.EndView.{endpoint_of, settings_at}
+use Rattle.amqp_core.specs.End.View.{endpoint_of, settings_at}
 use Rattle.amqp_turns.specs.Sends.{none_sent, Advances, IsRefusedFirst, Rests}
 use Rattle.amqp_turns.specs.TurnsView.{standing}
 use Rattle.amqp_turns.proofs.SendLemmas.{first_is, same_standing, sent_err, sent_ok, rests_first, waits_for, refused_among, sends_one}
