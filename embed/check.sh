@@ -73,6 +73,11 @@ if have valgrind; then
 else
 	say "left out valgrind: it isn't there"
 fi
+for source in "$c"/examples/*.c; do
+	"$cc" -std=c11 -D_POSIX_C_SOURCE=200112L $strict -O2 -I"$c" -o "$work/example" "$source" \
+		"$made/libmeadowtray.a"
+done
+say "C examples: built"
 if have "$cxx"; then
 	for source in "$c"/tests/*.cpp; do
 		"$cxx" -std=c++17 $strict -I"$c" -o "$work/cpp" "$source" "$made/libmeadowtray.a"

@@ -1,11 +1,13 @@
-/* AMQP 0-9-1 on the wire: frames split from a stream, and the methods, content headers and tables that they carry.
+/* AMQP 0-9-1 on the wire: both ends of a connection, frames split from a stream, and the methods, content headers and
+ * tables that they carry.
  *
  * What this library does is proved; what a proof can't make a C program do stands here, and is the caller's part:
  *
  *   - A pointer is null, or points to what its type says, and a length says how many octets there are.
  *   - A structure that a call writes overlaps nothing else that the call is given.
- *   - One call at a time for a handle. Different handles may be used by different threads at once, and a handle may
- *     go from one thread to another, in the order that a lock or the start of a thread gives.
+ *   - One call at a time for a handle. Different handles may be used by different threads at once. A splitter may go
+ *     from one thread to another, in the order that a lock or the start of a thread gives. An end stays in the thread
+ *     that opened it: that it may go to another isn't proved.
  *   - A handle isn't copied: of two copies one is closed, and the other points to memory that was freed.
  *   - A handle's octets are 0 before it is opened (MT_SPLITTER_INIT and its like), and only this library writes them.
  *
@@ -43,6 +45,7 @@ enum {
 	MT_NO_ROOM = 7,   /* there is less room than what is to be put into it */
 	MT_NOT_THERE = 8, /* a table has no pair with the name that is asked for */
 	MT_MISFIT = 9,    /* a value isn't one for its place, or there is one too few or too many */
+	MT_PAST_OUTPUT = 10, /* more octets than the output has */
 
 	/* a stream that isn't one of frames; each later feed answers MT_FRAME_FAILED */
 	MT_FRAME_UNKNOWN_TYPE = 101,
@@ -62,7 +65,34 @@ enum {
 	MT_VALUE_UNKNOWN_TAG = 302,    /* a tag octet is none of the nineteen */
 	MT_VALUE_PASSES_ITS_END = 303, /* what is inside a table or an array passes its end */
 	MT_VALUE_TOO_DEEP = 304,       /* tables and arrays nest deeper than 32 */
-	MT_VALUE_TOO_LONG = 306        /* what a count counts is too long to be written */
+	MT_VALUE_TOO_LONG = 306,       /* what a count counts is too long to be written */
+
+	/* why an end takes no more octets; after each but the last it has failed */
+	MT_END_PEER = 401,  /* the other end broke the protocol, and was told so by a close */
+	MT_END_FATAL = 402, /* there is no answer to what came, as another protocol header */
+	MT_END_OUT_OF_MEMORY = 403,
+	MT_END_FAILED = 404, /* it had failed before */
+	MT_END_CLOSED = 405, /* the connection was closed before */
+
+	/* why an end can't be set up so */
+	MT_SETTINGS_FRAME_MAX = 501,      /* the greatest frame is below 4096 octets or above 1048576 */
+	MT_SETTINGS_CHANNEL_MAX = 502,    /* there is no channel */
+	MT_SETTINGS_HELLO_TOO_LONG = 503, /* what it says of itself is longer than a frame of 4096 octets */
+	MT_SETTINGS_OUT_OF_MEMORY = 504,
+
+	/* why what was asked is refused, in the order in which the reasons are looked at, memory last */
+	MT_ASK_NOT_RUNNING = 601, /* the handshake isn't over, or the connection is closing, closed or failed */
+	MT_ASK_BAD_CHANNEL = 602, /* the channel is 0 or above the agreed maximum */
+	MT_ASK_NOT_OPEN = 603,
+	MT_ASK_PAUSED = 604,          /* the other end asked for no more contents */
+	MT_ASK_NOT_SENDABLE = 605,    /* this side doesn't send the method, or not as a message */
+	MT_ASK_TOO_LARGE = 606,       /* the method or the header is too long for a frame of the agreed size */
+	MT_ASK_FLOW_PENDING = 607,    /* a flow of this end is unanswered */
+	MT_ASK_NO_FREE_CHANNEL = 608, /* no channel number up to the agreed maximum is free */
+	MT_ASK_OUT_OF_MEMORY = 609,
+	MT_ASK_REPLY_PENDING = 610,  /* a client's request waits for its reply */
+	MT_ASK_NO_SUCH_REQUEST = 611, /* a server's reply doesn't answer the oldest request, or there is none */
+	MT_ASK_NOT_AWAITED = 612 /* what is decided is not awaited: no event asked for it */
 };
 
 /* The text of a status, for a log. It is never null, and stays for ever. */
@@ -410,6 +440,224 @@ uint32_t mt_table_write(const mt_pair *pairs, size_t count, uint8_t *room, size_
 /* Reads the array whose octets these are, all of them: those of a value with the kind MT_TAG_ARRAY. The first of its
  * values are put into `values`, and MT_NO_ROOM says that there are more than `capacity`. */
 uint32_t mt_array_read(const uint8_t *octets, size_t length, mt_value *values, size_t capacity, mt_table *array);
+
+/* ---- ends of a connection -------------------------------------------------------------------------------------- */
+
+/* One end of a connection, a client or a server. It touches no socket: octets that came are fed, and octets that are
+ * to be sent are lent, until mt_end_wrote says that they were sent. What a program does with each read of a socket:
+ *
+ *     while (length > 0) {
+ *             if ((status = mt_end_feed(&end, piece, length, &event)) != MT_OK)
+ *                     break;
+ *             if (event.kind != MT_EVENT_NONE)
+ *                     handle(&event);
+ *             piece += event.taken;
+ *             length -= event.taken;
+ *     }
+ *     if (mt_end_output(&end, &output) == MT_OK && output.length > 0)
+ *             mt_end_wrote(&end, send_some(output.at, output.length));
+ *
+ * After a fault, and after a close, what was put before can still be sent. */
+typedef struct mt_end {
+	void *at;
+	bool open;
+} mt_end;
+
+#define MT_END_INIT                                                                                                  \
+	{                                                                                                            \
+		NULL, false                                                                                          \
+	}
+
+/* What a client is set up with. The octets are read while it is opened, and no longer. */
+typedef struct mt_client_settings {
+	mt_octets user;         /* of these two a response for the mechanism PLAIN is made, where none is given */
+	mt_octets password;     /* in `response` */
+	mt_octets virtual_host; /* at most 255 octets, as the mechanism and the locale */
+	mt_octets mechanism;
+	mt_octets response;
+	mt_octets locale;
+	mt_octets properties; /* the octets of a table, as mt_table_write makes them; of none, an empty one */
+	uint64_t max_body;    /* the greatest body that is taken, in octets */
+	uint32_t frame_max;   /* the greatest frame, all its octets counted: from 4096 to 1048576 */
+	uint16_t channel_max; /* the greatest channel number, from 1 */
+	uint16_t heartbeat;   /* the heartbeat that is wanted, in seconds; 0 is none */
+	bool gated;           /* whether the program answers the server's start itself: MT_EVENT_ANSWER_ASKED */
+} mt_client_settings;
+
+/* What a server is set up with. */
+typedef struct mt_server_settings {
+	mt_octets mechanisms; /* their names, parted by spaces */
+	mt_octets locales;    /* likewise */
+	mt_octets properties;
+	uint64_t max_body;
+	uint32_t frame_max;
+	uint16_t channel_max;
+	uint16_t heartbeat;
+	bool gated; /* whether the program admits logins itself: MT_EVENT_LOGIN_ASKED, MT_EVENT_OPEN_ASKED */
+} mt_server_settings;
+
+/* The defaults: frames of 131072 octets, 2047 channels, bodies of 16777216 octets, no heartbeat, not gated; a client is guest with the
+ * password guest, by PLAIN, in en_US, and opens the virtual host "/"; a server offers PLAIN and en_US. */
+void mt_client_defaults(mt_client_settings *settings);
+void mt_server_defaults(mt_server_settings *settings);
+
+/* Opens an end. A client has the protocol header to send, a server nothing. MT_ALREADY_OPEN where it is open;
+ * MT_MISFIT where a text is longer than 255 octets, or octets stand after the table of the properties; the fault of
+ * that table; MT_SETTINGS_FRAME_MAX and its like where an end can't be set up so. It stays closed then. */
+uint32_t mt_end_open_client(mt_end *end, const mt_client_settings *settings);
+uint32_t mt_end_open_server(mt_end *end, const mt_server_settings *settings);
+
+/* Frees what the end has. MT_NOT_OPEN where it isn't open, as on a second close; it can be opened again. */
+uint32_t mt_end_close(mt_end *end);
+
+/* The kind of an event. */
+enum {
+	MT_EVENT_NONE = 0,
+	MT_EVENT_NEGOTIATED = 1,     /* the handshake is over: `channel_max`, `frame_max`, `heartbeat` */
+	MT_EVENT_OPENED = 2,         /* a channel's life begins */
+	MT_EVENT_TOLD = 3,           /* a method without content, or a content that is whole now */
+	MT_EVENT_FLOW = 4,           /* the other end asks that contents be sent (`holds`), or no more of them */
+	MT_EVENT_FLOW_OK = 5,        /* the other end answers a flow */
+	MT_EVENT_CHANNEL_CLOSED = 6, /* a channel's life ended: by the other end (`holds`, `code`, `text`), or by close-ok */
+	MT_EVENT_CONNECTION_CLOSED = 7, /* the connection ended, likewise */
+	MT_EVENT_DISCARDED = 8,  /* a frame was dropped after this end's close, or a content refused at its header */
+	MT_EVENT_BLOCKED = 9,    /* the server takes no more contents, for the reason in `text` */
+	MT_EVENT_UNBLOCKED = 10, /* the server takes contents again */
+	MT_EVENT_QUIET = 11,     /* a step of the handshake, a heartbeat, or a close that crosses this end's own */
+	MT_EVENT_ANSWER_ASKED = 12, /* a gated client took start: mt_end_answer_start */
+	MT_EVENT_LOGIN_ASKED = 13,  /* a gated server took start-ok: mt_end_admit or mt_end_refuse */
+	MT_EVENT_OPEN_ASKED = 14    /* a gated server took open: likewise */
+};
+
+/* What a piece gave. With MT_OK, `taken` octets of it were taken, and `kind` says what came of them. Of a message that
+ * was told, `method` and `header` are payloads, as mt_method_read and mt_header_read take them, and `body` is its body;
+ * `holds` says whether it has a content. `channel` is that of each event that concerns one.
+ *
+ * After MT_END_PEER `code` is that of the close which was put. All octets are lent by the end, until the next call
+ * with it. */
+typedef struct mt_event {
+	mt_octets method;
+	mt_octets header;
+	mt_octets body;
+	mt_octets text;
+	uint32_t frame_max;
+	uint16_t channel;
+	uint16_t channel_max;
+	uint16_t heartbeat;
+	uint16_t code;
+	uint8_t kind;
+	bool holds;
+	size_t taken;
+} mt_event;
+
+/* Takes octets up to the end of the next frame, or of the protocol header at a server that awaits it. Where the piece
+ * ends before that, all of it is taken. Call it again with the rest of the piece until none is left. Replies wait in
+ * the output, which has no limit: don't feed while it is longer than a bound of your own.
+ *
+ * MT_END_PEER and the statuses beside it are the end's own faults; nothing is taken then. With MT_OUT_OF_MEMORY, where
+ * `kind` isn't MT_EVENT_NONE, `taken` octets were taken, and the event is there: mt_end_event shows it. `piece` may be
+ * null where `length` is 0. */
+uint32_t mt_end_feed(mt_end *end, const uint8_t *piece, size_t length, mt_event *event);
+
+/* Shows the event of the last mt_end_feed once more. */
+uint32_t mt_end_event(mt_end *end, mt_event *event);
+
+/* Feeds as mt_end_feed does, again and again, and puts the events into events[0] and so on: `count` says how many,
+ * and `taken` how many octets were taken. It stops where `capacity` events are there, where the piece ends, and at a
+ * fault; pieces of which no event comes take no place. All that the events lend is read until the next call.
+ *
+ * At a fault the status is the fault's, and the events before it are there all the same; `code`, which may be null, is
+ * that of the close. The end keeps room for as many events as the greatest `capacity` that it was given. */
+uint32_t mt_end_feed_batch(mt_end *end, const uint8_t *piece, size_t length, mt_event *events, size_t capacity,
+			   size_t *count, size_t *taken, uint16_t *code);
+
+/* The octets to send next, lent until the next call with the end. They stay until mt_end_wrote says that they were
+ * sent. */
+uint32_t mt_end_output(mt_end *end, mt_octets *output);
+
+/* So many octets of the output were sent. MT_PAST_OUTPUT where it has fewer. */
+uint32_t mt_end_wrote(mt_end *end, size_t length);
+
+/* Asks. Each is refused with the first status from MT_ASK_NOT_RUNNING on that applies, which changes nothing, or its
+ * frames are put into the output at once. */
+
+/* Opens the lowest channel that is free. Only a client opens channels. */
+uint32_t mt_end_open_channel(mt_end *end, uint16_t *channel);
+
+/* A message: the payloads of its method and of its content header, and its body. Where no content follows the method,
+ * header and body are empty. */
+typedef struct mt_message {
+	mt_octets method;
+	mt_octets header;
+	mt_octets body;
+} mt_message;
+
+/* Sends a message on a channel; a content is cut to the agreed frame size. MT_MISFIT where there is a content and none
+ * follows the method, or where the header says another size than the body's. */
+uint32_t mt_end_send(mt_end *end, uint16_t channel, const mt_message *message);
+
+/* Asks the other end to send contents on a channel, or no more of them. */
+uint32_t mt_end_flow(mt_end *end, uint16_t channel, bool active);
+
+/* Closes a channel, or the connection, with a code and a text of at most 255 octets (MT_MISFIT). */
+uint32_t mt_end_close_channel(mt_end *end, uint16_t channel, uint16_t code, mt_octets text);
+uint32_t mt_end_close_connection(mt_end *end, uint16_t code, mt_octets text);
+
+/* Says that the server takes no more contents, and why, or that it takes them again. Only a server says so. */
+uint32_t mt_end_blocked(mt_end *end, mt_octets reason);
+uint32_t mt_end_unblocked(mt_end *end);
+
+/* Puts a heartbeat. When to beat is the program's: an end knows no clock. It owes one each `heartbeat` seconds of what was
+ * agreed in which it writes nothing else, and where that is 0 none. */
+uint32_t mt_end_beat(mt_end *end);
+
+/* What a gated end decides; MT_ASK_NOT_AWAITED where no event asked for it. A server admits a login or an open, or refuses
+ * it and closes the connection, with a code, as 403 or 530, and a text. A client answers start with what it chose. */
+uint32_t mt_end_admit(mt_end *end);
+uint32_t mt_end_refuse(mt_end *end, uint16_t code, mt_octets text);
+uint32_t mt_end_answer_start(mt_end *end, mt_octets mechanism, mt_octets response, mt_octets locale);
+
+/* How far a connection is. */
+enum { MT_PHASE_HANDSHAKE = 1, MT_PHASE_RUNNING = 2, MT_PHASE_CLOSING = 3, MT_PHASE_CLOSED = 4, MT_PHASE_FAILED = 5 };
+
+uint32_t mt_end_phase(mt_end *end, uint8_t *phase);
+
+/* What tune-ok settled, all 0 before. */
+typedef struct mt_agreed {
+	uint32_t frame_max;
+	uint16_t channel_max;
+	uint16_t heartbeat; /* in seconds; 0 is none */
+} mt_agreed;
+
+uint32_t mt_end_agreed(mt_end *end, mt_agreed *agreed);
+
+/* The state of a channel. */
+enum { MT_STATE_FREE = 1, MT_STATE_OPENING = 2, MT_STATE_OPEN = 3, MT_STATE_CLOSING = 4 };
+
+/* What an end answers of a channel: its state; how many octets are kept of the body of a content that isn't whole yet;
+ * and the kind of the request that is to be answered next, at a client the one that waits for its reply, at a server
+ * the oldest that it took, or 0. */
+typedef struct mt_channel {
+	size_t gathered;
+	uint32_t reply_due;
+	uint8_t state;
+} mt_channel;
+
+uint32_t mt_end_channel(mt_end *end, uint16_t channel, mt_channel *told);
+
+/* The lowest channel that is free, which an mt_end_open_channel would take; MT_ASK_NO_FREE_CHANNEL where none is. It
+ * asks one channel after the other. */
+uint32_t mt_end_lowest_free(mt_end *end, uint16_t *channel);
+
+/* How many octets wait of a channel, put and not sent. All frames that wait are looked at. */
+uint32_t mt_end_waiting(mt_end *end, uint16_t channel, size_t *octets);
+
+/* How many frames the end took, heartbeats too, and how many octets of its output were sent: where these are the same at
+ * two looks, nothing came or went between them. They stay at the greatest number of 64 bits. */
+uint32_t mt_end_counters(mt_end *end, uint64_t *frames_taken, uint64_t *octets_written);
+
+/* How many octets were taken of a frame that isn't whole yet, or of the protocol header. */
+uint32_t mt_end_pending(mt_end *end, size_t *pending);
 
 #ifdef __cplusplus
 }

@@ -24,6 +24,8 @@ const char *mt_status_text(uint32_t status)
 		return "no pair with this name";
 	case MT_MISFIT:
 		return "a value that doesn't fit its place";
+	case MT_PAST_OUTPUT:
+		return "more octets than the output has";
 	case MT_FRAME_UNKNOWN_TYPE:
 		return "unknown frame type";
 	case MT_FRAME_TOO_LARGE:
@@ -52,6 +54,48 @@ const char *mt_status_text(uint32_t status)
 		return "tables and arrays nest too deep";
 	case MT_VALUE_TOO_LONG:
 		return "too long to be written";
+	case MT_END_PEER:
+		return "the other end broke the protocol";
+	case MT_END_FATAL:
+		return "the other end can't be answered";
+	case MT_END_OUT_OF_MEMORY:
+		return "out of memory";
+	case MT_END_FAILED:
+		return "fed after a fault";
+	case MT_END_CLOSED:
+		return "fed after the connection was closed";
+	case MT_SETTINGS_FRAME_MAX:
+		return "frame size outside 4096 to 1048576";
+	case MT_SETTINGS_CHANNEL_MAX:
+		return "no channel";
+	case MT_SETTINGS_HELLO_TOO_LONG:
+		return "hello longer than a frame of 4096 octets";
+	case MT_SETTINGS_OUT_OF_MEMORY:
+		return "out of memory";
+	case MT_ASK_NOT_RUNNING:
+		return "the connection isn't running";
+	case MT_ASK_BAD_CHANNEL:
+		return "no such channel";
+	case MT_ASK_NOT_OPEN:
+		return "the channel isn't open";
+	case MT_ASK_PAUSED:
+		return "the other end takes no contents now";
+	case MT_ASK_NOT_SENDABLE:
+		return "not sent by this side, or not as a message";
+	case MT_ASK_TOO_LARGE:
+		return "longer than a frame";
+	case MT_ASK_FLOW_PENDING:
+		return "a flow is unanswered";
+	case MT_ASK_NO_FREE_CHANNEL:
+		return "no free channel";
+	case MT_ASK_OUT_OF_MEMORY:
+		return "out of memory";
+	case MT_ASK_REPLY_PENDING:
+		return "a request waits for its reply";
+	case MT_ASK_NO_SUCH_REQUEST:
+		return "no request for this reply";
+	case MT_ASK_NOT_AWAITED:
+		return "no decision is awaited";
 	default:
 		return "unknown status";
 	}

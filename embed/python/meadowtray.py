@@ -1,5 +1,5 @@
-"""AMQP 0-9-1 on the wire, over the C library: frames split from a stream, and the methods, content headers and tables
-that they carry.
+"""AMQP 0-9-1 on the wire, over the C library: both ends of a connection, frames split from a stream, and the methods,
+content headers and tables that they carry.
 
 It is for tests and tools. What a call lends is copied at once, so a frame may be kept as long as one likes. The
 library is looked for in the environment's MEADOWTRAY_LIB, a folder, and else beside this folder.
@@ -76,6 +76,59 @@ class _Written(ctypes.Structure):
     _fields_ = [(name, ctypes.c_size_t) for name in ("length", "value", "at")]
 
 
+class _Octets(ctypes.Structure):
+    _fields_ = [("at", ctypes.c_void_p), ("length", ctypes.c_size_t)]
+
+
+_LIMITS = [
+    ("max_body", ctypes.c_uint64),
+    ("frame_max", ctypes.c_uint32),
+    ("channel_max", ctypes.c_uint16),
+    ("heartbeat", ctypes.c_uint16),
+    ("gated", ctypes.c_bool),
+]
+
+
+class _ClientSettings(ctypes.Structure):
+    _fields_ = [
+        (name, _Octets)
+        for name in ("user", "password", "virtual_host", "mechanism", "response", "locale", "properties")
+    ] + _LIMITS
+
+
+class _ServerSettings(ctypes.Structure):
+    _fields_ = [(name, _Octets) for name in ("mechanisms", "locales", "properties")] + _LIMITS
+
+
+class _Event(ctypes.Structure):
+    _fields_ = [
+        ("method", _Octets),
+        ("header", _Octets),
+        ("body", _Octets),
+        ("text", _Octets),
+        ("frame_max", ctypes.c_uint32),
+        ("channel", ctypes.c_uint16),
+        ("channel_max", ctypes.c_uint16),
+        ("heartbeat", ctypes.c_uint16),
+        ("code", ctypes.c_uint16),
+        ("kind", ctypes.c_uint8),
+        ("holds", ctypes.c_bool),
+        ("taken", ctypes.c_size_t),
+    ]
+
+
+class _Message(ctypes.Structure):
+    _fields_ = [(name, _Octets) for name in ("method", "header", "body")]
+
+
+class _Agreed(ctypes.Structure):
+    _fields_ = [("frame_max", ctypes.c_uint32), ("channel_max", ctypes.c_uint16), ("heartbeat", ctypes.c_uint16)]
+
+
+class _Channel(ctypes.Structure):
+    _fields_ = [("gathered", ctypes.c_size_t), ("reply_due", ctypes.c_uint32), ("state", ctypes.c_uint8)]
+
+
 def _declare(name, *arguments, result=ctypes.c_uint32):
     function = getattr(_LIBRARY, name)
     function.argtypes = arguments
@@ -105,6 +158,35 @@ _method_write = _declare("mt_method_write", ctypes.c_uint32, ctypes.POINTER(_Val
 _header_write = _declare("mt_header_write", ctypes.c_uint64, ctypes.POINTER(_Value), *_ROOM)
 _table_write = _declare("mt_table_write", ctypes.POINTER(_Pair), ctypes.c_size_t, *_ROOM)
 _array_read = _declare("mt_array_read", *_OCTETS_AT, ctypes.POINTER(_Value), ctypes.c_size_t, ctypes.POINTER(_Table))
+
+
+_NUMBER = ctypes.c_uint16
+_client_defaults = _declare("mt_client_defaults", ctypes.POINTER(_ClientSettings), result=None)
+_server_defaults = _declare("mt_server_defaults", ctypes.POINTER(_ServerSettings), result=None)
+_open_client = _declare("mt_end_open_client", _HANDLE, ctypes.POINTER(_ClientSettings))
+_open_server = _declare("mt_end_open_server", _HANDLE, ctypes.POINTER(_ServerSettings))
+_end_close = _declare("mt_end_close", _HANDLE)
+_end_feed = _declare("mt_end_feed", _HANDLE, *_OCTETS_AT, ctypes.POINTER(_Event))
+_end_output = _declare("mt_end_output", _HANDLE, ctypes.POINTER(_Octets))
+_end_wrote = _declare("mt_end_wrote", _HANDLE, ctypes.c_size_t)
+_end_open_channel = _declare("mt_end_open_channel", _HANDLE, ctypes.POINTER(_NUMBER))
+_end_send = _declare("mt_end_send", _HANDLE, _NUMBER, ctypes.POINTER(_Message))
+_end_flow = _declare("mt_end_flow", _HANDLE, _NUMBER, ctypes.c_bool)
+_end_close_channel = _declare("mt_end_close_channel", _HANDLE, _NUMBER, _NUMBER, _Octets)
+_end_close_connection = _declare("mt_end_close_connection", _HANDLE, _NUMBER, _Octets)
+_end_blocked = _declare("mt_end_blocked", _HANDLE, _Octets)
+_end_unblocked = _declare("mt_end_unblocked", _HANDLE)
+_end_phase = _declare("mt_end_phase", _HANDLE, ctypes.POINTER(ctypes.c_uint8))
+_end_agreed = _declare("mt_end_agreed", _HANDLE, ctypes.POINTER(_Agreed))
+_end_channel = _declare("mt_end_channel", _HANDLE, _NUMBER, ctypes.POINTER(_Channel))
+_end_lowest_free = _declare("mt_end_lowest_free", _HANDLE, ctypes.POINTER(_NUMBER))
+_end_pending = _declare("mt_end_pending", _HANDLE, _SIZE)
+_end_beat = _declare("mt_end_beat", _HANDLE)
+_end_admit = _declare("mt_end_admit", _HANDLE)
+_end_refuse = _declare("mt_end_refuse", _HANDLE, _NUMBER, _Octets)
+_end_answer_start = _declare("mt_end_answer_start", _HANDLE, _Octets, _Octets, _Octets)
+_end_waiting = _declare("mt_end_waiting", _HANDLE, _NUMBER, _SIZE)
+_end_counters = _declare("mt_end_counters", _HANDLE, *[ctypes.POINTER(ctypes.c_uint64)] * 2)
 
 
 class Fault(Exception):
@@ -395,3 +477,256 @@ def write_table(pairs):
         pair.name, pair.name_length = lent.octets(name)
         pair.value = lent.value(value)
     return _written(_table_write, made, len(pairs))
+
+
+class EventKind(enum.IntEnum):
+    NEGOTIATED = 1
+    OPENED = 2
+    TOLD = 3
+    FLOW = 4
+    FLOW_OK = 5
+    CHANNEL_CLOSED = 6
+    CONNECTION_CLOSED = 7
+    DISCARDED = 8
+    BLOCKED = 9
+    UNBLOCKED = 10
+    QUIET = 11
+    ANSWER_ASKED = 12
+    LOGIN_ASKED = 13
+    OPEN_ASKED = 14
+
+
+@dataclass(frozen=True)
+class Event:
+    """What an end tells: its kind, the channel that it concerns, and what an event of its kind has beside that.
+
+    A message has a method, and a header and a body where there is a content. The other end's close has a code and a
+    text, and blocked a text. A flow has whether contents may be sent. A handshake that is over has
+    both limits and the heartbeat.
+    """
+
+    kind: EventKind
+    channel: int = 0
+    method: Method = None
+    header: Header = None
+    body: bytes = None
+    code: int = None
+    text: bytes = None
+    active: bool = None
+    channel_max: int = None
+    frame_max: int = None
+    heartbeat: int = None
+
+
+class Phase(enum.IntEnum):
+    HANDSHAKE = 1
+    RUNNING = 2
+    CLOSING = 3
+    CLOSED = 4
+    FAILED = 5
+
+
+class ChannelState(enum.IntEnum):
+    FREE = 1
+    OPENING = 2
+    OPEN = 3
+    CLOSING = 4
+
+
+def _taken(octets):
+    return _copy(octets.at, octets.length)
+
+
+def _told(event):
+    kind = EventKind(event.kind)
+    fields = {}
+    if kind in (EventKind.OPENED, EventKind.TOLD, EventKind.FLOW, EventKind.FLOW_OK, EventKind.DISCARDED):
+        fields["channel"] = event.channel
+    if kind == EventKind.TOLD:
+        fields["method"] = read_method(_taken(event.method))
+        if event.holds:
+            fields.update(header=read_header(_taken(event.header)), body=_taken(event.body))
+    if kind in (EventKind.FLOW, EventKind.FLOW_OK):
+        fields["active"] = event.holds
+    if kind == EventKind.CHANNEL_CLOSED:
+        fields["channel"] = event.channel
+    if kind in (EventKind.CHANNEL_CLOSED, EventKind.CONNECTION_CLOSED) and event.holds:
+        fields.update(code=event.code, text=_taken(event.text))
+    if kind == EventKind.BLOCKED:
+        fields["text"] = _taken(event.text)
+    if kind == EventKind.NEGOTIATED:
+        fields.update(channel_max=event.channel_max, frame_max=event.frame_max, heartbeat=event.heartbeat)
+    return Event(kind, **fields)
+
+
+class _End(_Open):
+    """What a client and a server have in common. Neither touches a socket: octets that came are fed, and `output` are
+    those that are to be sent."""
+
+    _close = _end_close
+
+    def _set_up(self, settings, defaults, open_end, given):
+        """Opens the end with these settings: octets, or the limits."""
+        defaults(settings)
+        lent = _Lent()
+        for name, value in given.items():
+            octets = isinstance(value, (bytes, bytearray))
+            setattr(settings, name, _Octets(*lent.octets(value)) if octets else value)
+        _check(open_end(self._handle, settings))
+
+    def feed(self, piece):
+        """The events of this piece. An EndFault is raised once the events before it were given."""
+        buffer, start, length = _lasting(piece)
+        event = _Event()
+        taken = 0
+        while taken < length:
+            status = _end_feed(self._handle, start + taken, length - taken, event)
+            if status != 0:
+                raise EndFault(status, event.code)
+            taken += event.taken
+            if event.kind != 0:
+                yield _told(event)
+
+    @property
+    def output(self):
+        """The octets to send next, which stay until `wrote`."""
+        output = _Octets()
+        _check(_end_output(self._handle, output))
+        return _taken(output)
+
+    def wrote(self, count):
+        """So many octets of the output were sent."""
+        _check(_end_wrote(self._handle, count))
+
+    def send(self, channel, method, header=b"", body=b""):
+        """Sends a message: the payloads of its method and of its content header, and its body."""
+        lent = _Lent()
+        message = _Message(*(_Octets(*lent.octets(part)) for part in (method, header, body)))
+        _check(_end_send(self._handle, channel, message))
+
+    def flow(self, channel, active):
+        """Asks the other end to send contents on a channel, or no more of them."""
+        _check(_end_flow(self._handle, channel, active))
+
+    def close_channel(self, channel, code, text):
+        lent = _Lent()
+        _check(_end_close_channel(self._handle, channel, code, _Octets(*lent.octets(text))))
+
+    def close_connection(self, code, text):
+        lent = _Lent()
+        _check(_end_close_connection(self._handle, code, _Octets(*lent.octets(text))))
+
+    def beat(self):
+        """Puts a heartbeat. When to beat is the program's."""
+        _check(_end_beat(self._handle))
+
+    def waiting(self, channel):
+        """How many octets wait of a channel, put and not sent."""
+        octets = ctypes.c_size_t()
+        _check(_end_waiting(self._handle, channel, octets))
+        return octets.value
+
+    @property
+    def counters(self):
+        """How many frames were taken, and how many octets were sent."""
+        frames, octets = ctypes.c_uint64(), ctypes.c_uint64()
+        _check(_end_counters(self._handle, frames, octets))
+        return frames.value, octets.value
+
+    @property
+    def phase(self):
+        phase = ctypes.c_uint8()
+        _check(_end_phase(self._handle, phase))
+        return Phase(phase.value)
+
+    @property
+    def agreed(self):
+        """The greatest channel number and the greatest frame that were agreed, or None before."""
+        agreed = _Agreed()
+        _check(_end_agreed(self._handle, agreed))
+        return (agreed.channel_max, agreed.frame_max) if agreed.frame_max else None
+
+    def _channel(self, channel):
+        told = _Channel()
+        _check(_end_channel(self._handle, channel, told))
+        return told
+
+    def channel_state(self, channel):
+        return ChannelState(self._channel(channel).state)
+
+    def gathered(self, channel):
+        """How many octets are kept of the body of a content that isn't whole yet."""
+        return self._channel(channel).gathered
+
+    def reply_due(self, channel):
+        """The name of the request that is to be answered next, or None."""
+        kind = self._channel(channel).reply_due
+        return _method_name(kind).decode() if kind else None
+
+    @property
+    def pending(self):
+        """How many octets were taken of a frame that isn't whole yet, or of the protocol header."""
+        pending = ctypes.c_size_t()
+        _check(_end_pending(self._handle, pending))
+        return pending.value
+
+
+class EndFault(Fault):
+    """Why an end takes no more octets. Where the other end broke the protocol, `code` is that of the close."""
+
+    def __init__(self, status, code):
+        super().__init__(status)
+        self.code = code or None
+
+
+class Client(_End):
+    """The side that opens the connection and its channels. Settings by name: user, password, virtual_host, mechanism,
+    response, locale and properties, each as bytes; max_body, frame_max, channel_max, heartbeat and
+    gated."""
+
+    def __init__(self, **settings):
+        super().__init__()
+        self._set_up(_ClientSettings(), _client_defaults, _open_client, settings)
+
+    def open_channel(self):
+        """Opens the lowest channel that is free."""
+        channel = _NUMBER()
+        _check(_end_open_channel(self._handle, channel))
+        return channel.value
+
+    def answer_start(self, mechanism, response, locale):
+        """Answers the start that a gated client holds, with what its program chose."""
+        lent = _Lent()
+        _check(_end_answer_start(self._handle, *(_Octets(*lent.octets(part)) for part in (mechanism, response, locale))))
+
+    def lowest_free(self):
+        channel = _NUMBER()
+        _check(_end_lowest_free(self._handle, channel))
+        return channel.value
+
+
+class Server(_End):
+    """The side that is connected to. Settings by name: mechanisms, locales and properties, each as bytes; max_body,
+    frame_max, channel_max, heartbeat and gated."""
+
+    def __init__(self, **settings):
+        super().__init__()
+        self._set_up(_ServerSettings(), _server_defaults, _open_server, settings)
+
+    def admit(self):
+        """Admits a login or an open that a gated server holds."""
+        _check(_end_admit(self._handle))
+
+    def refuse(self, code, text):
+        """Refuses it, and closes the connection."""
+        lent = _Lent()
+        _check(_end_refuse(self._handle, code, _Octets(*lent.octets(text))))
+
+    def blocked(self, reason):
+        """Says that the server takes no more contents, and why."""
+        lent = _Lent()
+        _check(_end_blocked(self._handle, _Octets(*lent.octets(reason))))
+
+    def unblocked(self):
+        """Says that the server takes contents again."""
+        _check(_end_unblocked(self._handle))

@@ -1,2 +1,4 @@
-mod Opened
-mod Rooms
+pub mod EndOpened
+pub mod EndRooms
+pub mod Opened
+pub mod Rooms

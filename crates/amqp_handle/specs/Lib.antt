@@ -1,3 +1,5 @@
+pub mod EndLending
+pub mod EndSlots
 pub mod Lending
 pub mod Opening
 pub mod Slots

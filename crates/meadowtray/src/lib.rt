@@ -1,10 +1,11 @@
 //! The library as C programs call it.
 //!
-//! The functions for a handle take its slot, numbers and octets; those for octets alone, the codec, take no handle, and keep
-//! nothing. Each answers a status: 0, or the number of a fault. The functions that C programs see stand in `embed/c`; they
-//! refuse null pointers and call these.
+//! The functions for a handle take its slot, numbers and octets; those for octets alone, the codec, take no handle,
+//! and keep nothing. Each answers a status: 0, or the number of a fault. The functions that C programs see stand in
+//! `embed/c`; they refuse null pointers and call these.
 #![tactic(auto)]
 
 mod codec;
+mod ends;
 mod handles;
 mod splitting;

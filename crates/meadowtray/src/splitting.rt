@@ -18,8 +18,8 @@ const LEAST_LIMIT: u32 = 8;
 
 /// What a piece gave, as it crosses to C.
 ///
-/// With status 0, `taken` says how many octets were taken, and `kind` is the frame's type octet, or 0 where no frame was
-/// finished; the channel and the payload are the frame's. After a fault, `at` is its place in the stream.
+/// With status 0, `taken` says how many octets were taken, and `kind` is the frame's type octet, or 0 where no frame
+/// was finished; the channel and the payload are the frame's. After a fault, `at` is its place in the stream.
 #[repr(C)]
 pub struct FedFrame<'a> {
     pub taken: usize,
@@ -53,7 +53,8 @@ fn told<'a>(answer: Result<FedRef<'a>, FrameFault>, out: &mut FedFrame<'a>) -> u
     }
 }
 
-/// Opens a handle with a splitter at the beginning of a stream. The limit counts all octets of a frame, and is 8 at least.
+/// Opens a handle with a splitter at the beginning of a stream. The limit counts all octets of a frame, and is 8 at
+/// least.
 #[unsafe(no_mangle)]
 pub extern "C" fn proved_splitter_open(slot: &mut Slot, alloc: Global, limit: u32) -> u32
     ensures { OpensSplitter slot.old.value limit result slot.new.value }

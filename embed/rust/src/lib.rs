@@ -1,9 +1,11 @@
-//! AMQP 0-9-1 on the wire: frames split from a stream, and the methods, content headers and tables that they carry.
+//! AMQP 0-9-1 on the wire: both ends of a connection, frames split from a stream, and the methods, content headers and
+//! tables that they carry.
 //!
 //! What stands behind these types is a library that is proved; this crate calls it through C. It touches no socket:
 //! octets are handed in as they came, and what they hold is lent.
 #![warn(missing_debug_implementations)]
 
+mod end;
 mod fault;
 mod header;
 mod method;
@@ -12,6 +14,10 @@ mod status;
 pub mod sys;
 mod table;
 
+pub use end::{
+    Agreed, ChannelState, Client, ClientSettings, End, EndFault, Event, Limits, Message, Phase, Reason, Server,
+    ServerSettings, Taken,
+};
 pub use fault::{Fault, Unwritten};
 pub use header::{write_header, Header};
 pub use method::{write_method, Field, Kind, Method};

@@ -19,6 +19,11 @@ impl Kind {
         (kind != 0).then_some(Kind(kind))
     }
 
+    /// The kind with this number, unless it is 0, which stands for none.
+    pub(crate) fn numbered(number: u32) -> Option<Kind> {
+        (number != 0).then_some(Kind(number))
+    }
+
     pub fn class_id(self) -> u16 {
         (self.0 >> 16) as u16
     }

@@ -29,6 +29,29 @@ impl Status {
     pub const VALUE_TOO_DEEP: Status = Status(304);
     pub const VALUE_TOO_LONG: Status = Status(306);
 
+    /// More octets than the output has.
+    pub const PAST_OUTPUT: Status = Status(10);
+    pub const END_PEER: Status = Status(401);
+    pub const END_FATAL: Status = Status(402);
+    pub const END_OUT_OF_MEMORY: Status = Status(403);
+    pub const END_FAILED: Status = Status(404);
+    pub const END_CLOSED: Status = Status(405);
+    pub const SETTINGS_FRAME_MAX: Status = Status(501);
+    pub const SETTINGS_CHANNEL_MAX: Status = Status(502);
+    pub const SETTINGS_HELLO_TOO_LONG: Status = Status(503);
+    pub const ASK_NOT_RUNNING: Status = Status(601);
+    pub const ASK_BAD_CHANNEL: Status = Status(602);
+    pub const ASK_NOT_OPEN: Status = Status(603);
+    pub const ASK_PAUSED: Status = Status(604);
+    pub const ASK_NOT_SENDABLE: Status = Status(605);
+    pub const ASK_TOO_LARGE: Status = Status(606);
+    pub const ASK_FLOW_PENDING: Status = Status(607);
+    pub const ASK_NO_FREE_CHANNEL: Status = Status(608);
+    pub const ASK_OUT_OF_MEMORY: Status = Status(609);
+    pub const ASK_REPLY_PENDING: Status = Status(610);
+    pub const ASK_NO_SUCH_REQUEST: Status = Status(611);
+    pub const ASK_NOT_AWAITED: Status = Status(612);
+
     /// Nothing is wrong, or this is.
     pub(crate) fn check(status: u32) -> Result<(), Status> {
         match status {

@@ -119,6 +119,121 @@ pub struct Written {
     pub at: usize,
 }
 
+/// `mt_octets`.
+#[repr(C)]
+#[derive(Clone, Copy, Debug)]
+pub struct Octets {
+    pub at: *const u8,
+    pub length: usize,
+}
+
+impl Octets {
+    pub const NONE: Octets = Octets {
+        at: core::ptr::null(),
+        length: 0,
+    };
+}
+
+impl Default for Octets {
+    fn default() -> Octets {
+        Octets::NONE
+    }
+}
+
+/// `mt_client_settings`.
+#[repr(C)]
+#[derive(Clone, Copy, Default, Debug)]
+pub struct ClientSettings {
+    pub user: Octets,
+    pub password: Octets,
+    pub virtual_host: Octets,
+    pub mechanism: Octets,
+    pub response: Octets,
+    pub locale: Octets,
+    pub properties: Octets,
+    pub max_body: u64,
+    pub frame_max: u32,
+    pub channel_max: u16,
+    pub heartbeat: u16,
+    pub gated: bool,
+}
+
+/// `mt_server_settings`.
+#[repr(C)]
+#[derive(Clone, Copy, Default, Debug)]
+pub struct ServerSettings {
+    pub mechanisms: Octets,
+    pub locales: Octets,
+    pub properties: Octets,
+    pub max_body: u64,
+    pub frame_max: u32,
+    pub channel_max: u16,
+    pub heartbeat: u16,
+    pub gated: bool,
+}
+
+/// `mt_event`.
+#[repr(C)]
+#[derive(Clone, Copy, Debug)]
+pub struct Event {
+    pub method: Octets,
+    pub header: Octets,
+    pub body: Octets,
+    pub text: Octets,
+    pub frame_max: u32,
+    pub channel: u16,
+    pub channel_max: u16,
+    pub heartbeat: u16,
+    pub code: u16,
+    pub kind: u8,
+    pub holds: bool,
+    pub taken: usize,
+}
+
+impl Event {
+    pub const NONE: Event = Event {
+        method: Octets::NONE,
+        header: Octets::NONE,
+        body: Octets::NONE,
+        text: Octets::NONE,
+        frame_max: 0,
+        channel: 0,
+        channel_max: 0,
+        heartbeat: 0,
+        code: 0,
+        kind: 0,
+        holds: false,
+        taken: 0,
+    };
+}
+
+/// `mt_message`.
+#[repr(C)]
+#[derive(Clone, Copy, Default, Debug)]
+pub struct Message {
+    pub method: Octets,
+    pub header: Octets,
+    pub body: Octets,
+}
+
+/// `mt_agreed`.
+#[repr(C)]
+#[derive(Clone, Copy, Default, Debug)]
+pub struct Agreed {
+    pub frame_max: u32,
+    pub channel_max: u16,
+    pub heartbeat: u16,
+}
+
+/// `mt_channel`.
+#[repr(C)]
+#[derive(Clone, Copy, Default, Debug)]
+pub struct Channel {
+    pub gathered: usize,
+    pub reply_due: u32,
+    pub state: u8,
+}
+
 extern "C" {
     pub fn mt_status_text(status: u32) -> *const core::ffi::c_char;
     pub fn mt_splitter_open(splitter: *mut Handle, limit: u32) -> u32;
@@ -186,4 +301,41 @@ extern "C" {
         capacity: usize,
         written: *mut Written,
     ) -> u32;
+    pub fn mt_client_defaults(settings: *mut ClientSettings);
+    pub fn mt_server_defaults(settings: *mut ServerSettings);
+    pub fn mt_end_open_client(end: *mut Handle, settings: *const ClientSettings) -> u32;
+    pub fn mt_end_open_server(end: *mut Handle, settings: *const ServerSettings) -> u32;
+    pub fn mt_end_close(end: *mut Handle) -> u32;
+    pub fn mt_end_feed(end: *mut Handle, piece: *const u8, length: usize, event: *mut Event) -> u32;
+    pub fn mt_end_event(end: *mut Handle, event: *mut Event) -> u32;
+    pub fn mt_end_feed_batch(
+        end: *mut Handle,
+        piece: *const u8,
+        length: usize,
+        events: *mut Event,
+        capacity: usize,
+        count: *mut usize,
+        taken: *mut usize,
+        code: *mut u16,
+    ) -> u32;
+    pub fn mt_end_output(end: *mut Handle, output: *mut Octets) -> u32;
+    pub fn mt_end_wrote(end: *mut Handle, length: usize) -> u32;
+    pub fn mt_end_open_channel(end: *mut Handle, channel: *mut u16) -> u32;
+    pub fn mt_end_send(end: *mut Handle, channel: u16, message: *const Message) -> u32;
+    pub fn mt_end_flow(end: *mut Handle, channel: u16, active: bool) -> u32;
+    pub fn mt_end_close_channel(end: *mut Handle, channel: u16, code: u16, text: Octets) -> u32;
+    pub fn mt_end_close_connection(end: *mut Handle, code: u16, text: Octets) -> u32;
+    pub fn mt_end_blocked(end: *mut Handle, reason: Octets) -> u32;
+    pub fn mt_end_unblocked(end: *mut Handle) -> u32;
+    pub fn mt_end_beat(end: *mut Handle) -> u32;
+    pub fn mt_end_admit(end: *mut Handle) -> u32;
+    pub fn mt_end_refuse(end: *mut Handle, code: u16, text: Octets) -> u32;
+    pub fn mt_end_answer_start(end: *mut Handle, mechanism: Octets, response: Octets, locale: Octets) -> u32;
+    pub fn mt_end_waiting(end: *mut Handle, channel: u16, octets: *mut usize) -> u32;
+    pub fn mt_end_counters(end: *mut Handle, frames_taken: *mut u64, octets_written: *mut u64) -> u32;
+    pub fn mt_end_phase(end: *mut Handle, phase: *mut u8) -> u32;
+    pub fn mt_end_agreed(end: *mut Handle, agreed: *mut Agreed) -> u32;
+    pub fn mt_end_channel(end: *mut Handle, channel: u16, told: *mut Channel) -> u32;
+    pub fn mt_end_lowest_free(end: *mut Handle, channel: *mut u16) -> u32;
+    pub fn mt_end_pending(end: *mut Handle, pending: *mut usize) -> u32;
 }

@@ -13,7 +13,8 @@ use amqp_value::TableRef;
 /// How many properties a content has.
 const PROPERTIES: usize = 14;
 
-/// What is told of a content header beside its properties: the size of the body and the flags; after a fault, the place.
+/// What is told of a content header beside its properties: the size of the body and the flags; after a fault, the
+/// place.
 #[repr(C)]
 pub struct HeaderRead {
     pub body_size: u64,
@@ -91,8 +92,8 @@ fn tell_properties<'a>(header: HeaderRef<'a>, values: &mut [Value<'a>])
     values[..PROPERTIES].copy_from_slice(&told);
 }
 
-/// Reads the content header that a payload encodes, as `HeaderRef::new` does, and puts its properties into the first fourteen
-/// of `values`.
+/// Reads the content header that a payload encodes, as `HeaderRef::new` does, and puts its properties into the first
+/// fourteen of `values`.
 #[unsafe(no_mangle)]
 pub extern "C" fn proved_header_read<'a>(
     payload: &'a [u8],

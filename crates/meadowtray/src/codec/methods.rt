@@ -9,7 +9,8 @@ use crate::codec::statuses::{NO_ROOM, method_fault};
 use crate::codec::values::Value;
 use amqp_method::{ArgsRef, Kind, MethodFaultKind, MethodRef, peek_kind};
 
-/// What is told of a method beside its fields: with status 0 its kind and how many fields it has, after a fault the place.
+/// What is told of a method beside its fields: with status 0 its kind and how many fields it has, after a fault the
+/// place.
 #[repr(C)]
 pub struct MethodRead {
     pub at: usize,
@@ -18,7 +19,7 @@ pub struct MethodRead {
 }
 
 /// The number of a kind: the class id in the upper 16 bits, the method id in the lower ones.
-fn number_of(kind: Kind) -> u32
+pub(crate) fn number_of(kind: Kind) -> u32
     ensures { result ≡ kind_number kind }
 {
     u32::from(kind.class_id()) * 65536 + u32::from(kind.method_id())
@@ -59,7 +60,8 @@ fn fill<'a>(args: ArgsRef<'a>, fields: &mut [Value<'a>]) -> Option<usize>
     Some(count)
 }
 
-/// Reads the method that a payload encodes, as `MethodRef::new` does, and puts its arguments into the first of `fields`.
+/// Reads the method that a payload encodes, as `MethodRef::new` does, and puts its arguments into the first of
+/// `fields`.
 #[unsafe(no_mangle)]
 pub extern "C" fn proved_method_read<'a>(
     payload: &'a [u8],

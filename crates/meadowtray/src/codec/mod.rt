@@ -2,9 +2,9 @@
 
 mod headers;
 mod lent;
-mod methods;
-mod owned;
-mod statuses;
+pub(crate) mod methods;
+pub(crate) mod owned;
+pub(crate) mod statuses;
 mod tables;
 mod values;
 mod writing;

@@ -17,8 +17,8 @@ pub struct Pair<'a> {
     pub value: Value<'a>,
 }
 
-/// What is told of a table or an array beside what stands in it: how many octets it has, how many pairs or values, and how many
-/// of those were put into their places; after a fault, the place.
+/// What is told of a table or an array beside what stands in it: how many octets it has, how many pairs or values,
+/// and how many of those were put into their places; after a fault, the place.
 #[repr(C)]
 pub struct TableRead {
     pub at: usize,
@@ -76,7 +76,8 @@ fn tell_pairs<'a>(table: TableRef<'a>, pairs: &mut [Pair<'a>], out: &mut TableRe
     if others > 0 { NO_ROOM } else { 0 }
 }
 
-/// Reads the table that a prefix of the octets encodes, as `TableRef::new` does, and puts its pairs into the first of `pairs`.
+/// Reads the table that a prefix of the octets encodes, as `TableRef::new` does, and puts its pairs into the first of
+/// `pairs`.
 #[unsafe(no_mangle)]
 pub extern "C" fn proved_table_read<'a>(
     octets: &'a [u8],
@@ -165,8 +166,8 @@ fn tell_items<'a>(array: ArrayRef<'a>, values: &mut [Value<'a>], out: &mut Table
     if others > 0 { NO_ROOM } else { 0 }
 }
 
-/// Reads the array whose octets these are, without a count before them, as `ArrayRef::new` does, and puts its values into the
-/// first of `values`.
+/// Reads the array whose octets these are, without a count before them, as `ArrayRef::new` does, and puts its values
+/// into the first of `values`.
 #[unsafe(no_mangle)]
 pub extern "C" fn proved_array_read<'a>(
     octets: &'a [u8],

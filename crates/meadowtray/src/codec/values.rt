@@ -26,9 +26,10 @@ pub(crate) const TABLE: u8 = 8;
 
 /// A value as it crosses to C: its kind, a number, and octets that are lent.
 ///
-/// The kind of a method's argument or of a property is one of those above, the kind of a value in a table its tag octet. A
-/// number, or a truth value as 0 or 1, stands in `number`, a signed one in two's complement, a float by its bits; a decimal's
-/// scale in `scale`. A string's octets stand in `octets`, as do a table's with its count, and an array's without.
+/// The kind of a method's argument or of a property is one of those above, the kind of a value in a table its tag
+/// octet. A number, or a truth value as 0 or 1, stands in `number`, a signed one in two's complement, a float by its
+/// bits; a decimal's scale in `scale`. A string's octets stand in `octets`, as do a table's with its count, and an
+/// array's without.
 #[repr(C)]
 #[derive(Clone, Copy)]
 pub struct Value<'a> {

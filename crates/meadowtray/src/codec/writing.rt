@@ -25,8 +25,8 @@ pub(crate) enum WriteFault {
     OutOfMemory,
 }
 
-/// What is told of a write: with status 0 how many octets stand in the room now. Otherwise `value` is the place of the value that
-/// can't be written, and `at` the place in its octets if it is a table or an array.
+/// What is told of a write: with status 0 how many octets stand in the room now. Otherwise `value` is the place of
+/// the value that can't be written, and `at` the place in its octets if it is a table or an array.
 #[repr(C)]
 pub struct Written {
     pub length: usize,

@@ -59,7 +59,8 @@ fn append_text(octets: &[u8], out: &mut Vec<u8>) -> Result<(), ArgFault>
     Ok(())
 }
 
-/// Appends a table. A count that is too long to be written is told as memory that is refused: no octets that are read have one.
+/// Appends a table. A count that is too long to be written is told as memory that is refused: no octets that are read
+/// have one.
 fn append_table(alloc: Global, octets: &[u8], out: &mut Vec<u8>) -> Result<(), ArgFault>
     ensures ok { OnOk result (out.new.items ≡ out.old.items ++ plain_table (table_encoded octets.now)) }
     ensures err { IfErr result (λ e. NotTable octets.now e) }
@@ -234,8 +235,8 @@ fn write_into(
     }
 }
 
-/// Writes the payload of a content header into the room. The values are its fourteen properties in the order of their flags; one
-/// that isn't there has no kind.
+/// Writes the payload of a content header into the room. The values are its fourteen properties in the order of their
+/// flags; one that isn't there has no kind.
 #[unsafe(no_mangle)]
 pub extern "C" fn proved_header_write(
     alloc: Global,

@@ -126,8 +126,8 @@ fn write_into(
     }
 }
 
-/// Writes the payload of a method into the room, as `write_method` does: `kind` is its number, and the values are its fields
-/// without those that are reserved.
+/// Writes the payload of a method into the room, as `write_method` does: `kind` is its number, and the values are its
+/// fields without those that are reserved.
 #[unsafe(no_mangle)]
 pub extern "C" fn proved_method_write(
     alloc: Global,

@@ -1,0 +1,13 @@
+use Rattle.std.proofs.Common.{refl, subst}
+use Rattle.amqp_core.specs.End.Controls.{Controlled}
+use Rattle.meadowtray.specs.Decisions.{decision_view}
+use Rattle.meadowtray.proofs.ends.controlling.decide.Goals as goal
+
+pub returns : goal.returns
+returns g c =
+    record {
+      answer = c.control.result;
+      controlled = subst (λ end. Controlled end (decision_view c.args.decision.now) c.control.result c.control.new.end) c.deref_mut.ensures.value c.control.ensures;
+      told = c.asked.ensures;
+      places = refl;
+    }

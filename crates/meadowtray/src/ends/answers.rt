@@ -1,0 +1,154 @@
+//! What an end answers of itself.
+ghost use Rattle.std.specs.Prelude.{◌≡◌};
+ghost use Rattle.amqp_channel.specs.EventView.{agreed_there};
+ghost use Rattle.amqp_model.specs.Output.Outputs.{waiting_on};
+ghost use Rattle.amqp_core.specs.End.View.{counters_of, endpoint_of};
+ghost use Rattle.meadowtray.specs.EndAnswers.{LooksAt, OfEnd, ToldAgreed, ToldChannel};
+
+use crate::codec::methods::number_of;
+use crate::ends::numbers::{phase_of, state_of};
+use amqp_core::{Agreed, Role};
+use amqp_handle::{EndSlot, HandleFault, HeldEnd, Kept};
+
+/// What tune-ok settled, as it crosses to C: all 0 before that.
+#[repr(C)]
+#[derive(Clone, Copy)]
+pub struct AgreedLimits {
+    pub frame_max: u32,
+    pub channel_max: u16,
+    pub heartbeat: u16,
+}
+
+/// What an end answers of itself, as it crosses to C.
+///
+/// How many frames it took, how many octets of its output were written, how many octets it took of a frame that isn't
+/// whole yet, what was agreed, and the number of its phase.
+#[repr(C)]
+#[derive(Clone, Copy)]
+pub struct EndLook {
+    pub frames_taken: u64,
+    pub octets_written: u64,
+    pub pending: usize,
+    pub agreed: AgreedLimits,
+    pub phase: u8,
+}
+
+/// What an end answers of a channel, as it crosses to C.
+///
+/// How many octets are kept of the body of a content that isn't whole yet, the number of the method that is to be
+/// answered next, or 0, and the number of its state.
+#[repr(C)]
+#[derive(Clone, Copy)]
+pub struct ChannelTold {
+    pub gathered: usize,
+    pub reply_due: u32,
+    pub state: u8,
+}
+
+fn limits(agreed: Option<Agreed>) -> AgreedLimits
+    ensures { ToldAgreed (agreed_there agreed) result }
+{
+    match agreed {
+        Some(agreed) => AgreedLimits {
+            frame_max: agreed.frame_max,
+            channel_max: agreed.channel_max,
+            heartbeat: agreed.heartbeat,
+        },
+        None => AgreedLimits {
+            frame_max: 0,
+            channel_max: 0,
+            heartbeat: 0,
+        },
+    }
+}
+
+fn look<R: Role>(kept: &Kept<R>) -> EndLook
+    ensures { LooksAt (endpoint_of kept.now.end.value) (counters_of kept.now.end.value) result }
+{
+    let end = &*kept.end;
+    EndLook {
+        frames_taken: end.frames_taken(),
+        octets_written: end.octets_written(),
+        pending: end.pending(),
+        agreed: limits(end.agreed()),
+        phase: phase_of(end.phase()),
+    }
+}
+
+fn tell_channel<R: Role>(kept: &Kept<R>, channel: u16) -> ChannelTold
+    ensures { ToldChannel (endpoint_of kept.now.end.value).end channel result }
+{
+    let end = &*kept.end;
+    let reply_due = match end.reply_due(channel) {
+        Some(kind) => number_of(kind),
+        None => 0,
+    };
+    ChannelTold {
+        gathered: end.gathered(channel),
+        reply_due,
+        state: state_of(end.channel_state(channel)),
+    }
+}
+
+/// What an end answers of itself.
+#[unsafe(no_mangle)]
+pub extern "C" fn proved_end_look(slot: &mut EndSlot, out: &mut EndLook) -> u32
+    ensures look { OfEnd slot.old.value (λ e counters. (result ≡ 0) × LooksAt e counters out.new) result }
+    ensures same { slot.new.value ≡ slot.old.value }
+{
+    if !slot.is_open() {
+        return HandleFault::NotOpen.number();
+    }
+    match slot.held() {
+        HeldEnd::Client(kept) => {
+            *out = look(kept);
+            0
+        }
+        HeldEnd::Server(kept) => {
+            *out = look(kept);
+            0
+        }
+    }
+}
+
+/// A channel's state, the octets gathered there, and the request that is due.
+#[unsafe(no_mangle)]
+pub extern "C" fn proved_end_channel(slot: &mut EndSlot, channel: u16, out: &mut ChannelTold) -> u32
+    ensures channel { OfEnd slot.old.value (λ e _. (result ≡ 0) × ToldChannel e.end channel out.new) result }
+    ensures same { slot.new.value ≡ slot.old.value }
+{
+    if !slot.is_open() {
+        return HandleFault::NotOpen.number();
+    }
+    match slot.held() {
+        HeldEnd::Client(kept) => {
+            *out = tell_channel(kept, channel);
+            0
+        }
+        HeldEnd::Server(kept) => {
+            *out = tell_channel(kept, channel);
+            0
+        }
+    }
+}
+
+/// How many octets wait of a channel, put and not sent.
+#[unsafe(no_mangle)]
+pub extern "C" fn proved_end_waiting(slot: &mut EndSlot, channel: u16, out: &mut usize) -> u32
+    ensures waiting { OfEnd slot.old.value (λ e _. (result ≡ 0) × (out.new ≡ waiting_on channel e.output)) result }
+    ensures same { slot.new.value ≡ slot.old.value }
+{
+    if !slot.is_open() {
+        return HandleFault::NotOpen.number();
+    }
+    match slot.held() {
+        HeldEnd::Client(kept) => {
+            *out = kept.end.waiting(channel);
+            0
+        }
+        HeldEnd::Server(kept) => {
+            *out = kept.end.waiting(channel);
+            0
+        }
+    }
+}

@@ -1,0 +1,85 @@
+//! The numbers of what ends answer.
+ghost use Rattle.std.specs.Prelude.{◌≡◌};
+ghost use Rattle.amqp_channel.specs.StateView.{state_view};
+ghost use Rattle.meadowtray.specs.EndAnswers.{state_told};
+ghost use Rattle.meadowtray.specs.EndNumbers.{ask_status, asked_status, config_status, event_number, phase_number};
+
+use amqp_core::{AskFault, ChannelState, ConfigFault, Event, Phase};
+
+/// The status of what is wrong with settings is this and its number.
+const CONFIG_FAULTS: u32 = 500;
+
+/// The status of a refusal is this and its number.
+const ASK_FAULTS: u32 = 600;
+
+/// The status of what is wrong with settings.
+pub(crate) fn config_fault(fault: ConfigFault) -> u32
+    ensures { result ≡ config_status fault }
+{
+    CONFIG_FAULTS + u32::from(fault.number())
+}
+
+/// The status of a refusal.
+pub(crate) fn ask_fault(fault: AskFault) -> u32
+    ensures { result ≡ ask_status fault }
+{
+    ASK_FAULTS + u32::from(fault.number())
+}
+
+/// The status of an answer: 0 where what was asked is accepted.
+pub(crate) fn asked(answer: Result<(), AskFault>) -> u32
+    ensures { result ≡ asked_status answer }
+{
+    match answer {
+        Ok(()) => 0,
+        Err(fault) => ask_fault(fault),
+    }
+}
+
+/// The number of a phase.
+pub(crate) fn phase_of(phase: Phase) -> u8
+    ensures { result ≡ phase_number phase }
+{
+    match phase {
+        Phase::Handshake => 1,
+        Phase::Running => 2,
+        Phase::Closing => 3,
+        Phase::Closed => 4,
+        Phase::Failed => 5,
+    }
+}
+
+/// The number of a channel's state.
+pub(crate) fn state_of(state: ChannelState) -> u8
+    ensures { result ≡ state_told (state_view state) }
+{
+    match state {
+        ChannelState::Free => 1,
+        ChannelState::Opening => 2,
+        ChannelState::Open => 3,
+        ChannelState::Closing => 4,
+    }
+}
+
+/// The number of an event's kind, 0 for none.
+pub(crate) fn event_of(event: &Option<Event>) -> u8
+    ensures { result ≡ event_number event.now }
+{
+    match event {
+        None => 0,
+        Some(Event::Negotiated(_)) => 1,
+        Some(Event::Opened(_)) => 2,
+        Some(Event::Told(_, _)) => 3,
+        Some(Event::Flow(_, _)) => 4,
+        Some(Event::FlowOk(_, _)) => 5,
+        Some(Event::ChannelClosed(_, _)) => 6,
+        Some(Event::ConnectionClosed(_)) => 7,
+        Some(Event::Discarded(_)) => 8,
+        Some(Event::Blocked(_)) => 9,
+        Some(Event::Unblocked) => 10,
+        Some(Event::Quiet) => 11,
+        Some(Event::AnswerAsked) => 12,
+        Some(Event::LoginAsked) => 13,
+        Some(Event::OpenAsked) => 14,
+    }
+}

@@ -1,0 +1,268 @@
+//! Handles opened with ends.
+ghost use Rattle.std.specs.Prelude.{◌≡◌, ◌≤◌, length, IfOk, IfErr};
+ghost use Rattle.amqp_core.specs.Config.Configs.{set_up_as, settings_of};
+ghost use Rattle.amqp_core.specs.Faults.Numbers.{config_fault_view};
+ghost use Rattle.amqp_core.specs.Config.Settings.{client_hello_view, config_view, role_for, server_hello_view};
+ghost use Rattle.amqp_model.specs.End.Fitting.{config_fault};
+ghost use Rattle.meadowtray.specs.declared.codec.owned.ArgFault.TheVariants as arg;
+ghost use Rattle.meadowtray.specs.EndOpening.{client_said, client_set_up, open_status, server_said, server_set_up, BeginsAs, BeginsKept, IsFaultOf, NotClient, NotClientHello, NotServer, NotServerHello, OpensClient, OpensServer, MakesPlace, MakesPlaceAt};
+ghost use Rattle.meadowtray.specs.Handles.{Closes};
+ghost use Rattle.meadowtray.specs.Writing.{NotCounted};
+
+use crate::codec::owned::{ArgFault, own_table};
+use crate::codec::statuses::{MISFIT, NO_ROOM, value_fault};
+use crate::ends::numbers::config_fault;
+use crate::handles::status;
+use amqp_core::{Client, ClientHello, Config, ConfigFault, End, Role, Server, ServerHello};
+use amqp_handle::{EndSlot, HandleFault, HeldEnd, Kept, Place};
+use amqp_value::ShortStr;
+use std::alloc::Global;
+
+/// What a client is set up with, as C says it: the fields of a `Config` and of a `ClientHello`. The properties are
+/// the octets of a table.
+#[repr(C)]
+pub struct ClientSettings<'a> {
+    pub properties: &'a [u8],
+    pub mechanism: &'a [u8],
+    pub response: &'a [u8],
+    pub locale: &'a [u8],
+    pub virtual_host: &'a [u8],
+    pub max_body: u64,
+    pub frame_max: u32,
+    pub channel_max: u16,
+    pub heartbeat: u16,
+    pub gated: bool,
+}
+
+/// What a server is set up with, likewise.
+#[repr(C)]
+pub struct ServerSettings<'a> {
+    pub properties: &'a [u8],
+    pub mechanisms: &'a [u8],
+    pub locales: &'a [u8],
+    pub max_body: u64,
+    pub frame_max: u32,
+    pub channel_max: u16,
+    pub heartbeat: u16,
+    pub gated: bool,
+}
+
+/// Why an end isn't made.
+#[derive(Clone, Copy)]
+pub(crate) enum OpenFault {
+    /// What was given isn't what a hello is made of.
+    Given(ArgFault),
+    /// An end can't be set up so.
+    Config(ConfigFault),
+}
+
+impl OpenFault {
+    /// The status of it.
+    fn number(self) -> u32
+        ensures { result ≡ open_status self }
+    {
+        match self {
+            OpenFault::Given(ArgFault::Misfit) => MISFIT,
+            OpenFault::Given(ArgFault::Inside(fault)) => value_fault(fault.kind),
+            OpenFault::Given(ArgFault::OutOfMemory) => HandleFault::OutOfMemory.number(),
+            OpenFault::Config(fault) => config_fault(fault),
+        }
+    }
+}
+
+/// The short string of these octets.
+pub(crate) fn own_text(alloc: Global, octets: &[u8]) -> Result<ShortStr, ArgFault>
+    ensures ok { IfOk result (λ text. text ≡ octets.now) }
+    ensures err { IfErr result (λ e. NotCounted 256 octets.now e) }
+{
+    if octets.len() > 255 {
+        return Err(ArgFault::Misfit);
+    }
+    let Ok(text) = ShortStr::new(alloc, octets) else {
+        return Err(ArgFault::OutOfMemory);
+    };
+    Ok(text)
+}
+
+/// These octets, with memory of their own.
+pub(crate) fn own_octets(alloc: Global, octets: &[u8]) -> Result<Vec<u8>, ArgFault>
+    ensures ok { IfOk result (λ owned. owned.items ≡ octets.now) }
+    ensures err { IfErr result (λ e. e ≡ arg.OutOfMemory) }
+{
+    let Ok(owned) = Vec::from_slice(alloc, octets) else {
+        return Err(ArgFault::OutOfMemory);
+    };
+    Ok(owned)
+}
+
+/// What a client says of itself.
+fn client_hello(alloc: Global, given: &ClientSettings<'_>) -> Result<ClientHello, ArgFault>
+    ensures ok { IfOk result (λ hello. client_hello_view hello ≡ client_said given.now) }
+    ensures err { IfErr result (λ e. NotClientHello given.now e) }
+{
+    let properties = own_table(alloc, given.properties)?;
+    let mechanism = own_text(alloc, given.mechanism)?;
+    let response = own_octets(alloc, given.response)?;
+    let locale = own_text(alloc, given.locale)?;
+    let virtual_host = own_text(alloc, given.virtual_host)?;
+    Ok(ClientHello {
+        properties,
+        mechanism,
+        response,
+        locale,
+        virtual_host,
+    })
+}
+
+/// What a server says of itself.
+fn server_hello(alloc: Global, given: &ServerSettings<'_>) -> Result<ServerHello, ArgFault>
+    ensures ok { IfOk result (λ hello. server_hello_view hello ≡ server_said given.now) }
+    ensures err { IfErr result (λ e. NotServerHello given.now e) }
+{
+    let properties = own_table(alloc, given.properties)?;
+    let mechanisms = own_octets(alloc, given.mechanisms)?;
+    let locales = own_octets(alloc, given.locales)?;
+    Ok(ServerHello {
+        properties,
+        mechanisms,
+        locales,
+    })
+}
+
+/// An end as it begins, without a place for an event.
+fn keep<R: Role>(alloc: Global, config: Config<R>) -> Result<Kept<R>, ConfigFault>
+    ensures ok { IfOk result (λ kept. BeginsKept (settings_of R.hello_of config) kept) }
+    ensures err { IfErr result (λ fault. IsFaultOf (settings_of R.hello_of config) fault) }
+{
+    let end = End::new(alloc, config)?;
+    let places = Vec::new(alloc);
+    let Ok(end) = Box::new(alloc, end) else {
+        return Err(ConfigFault::OutOfMemory);
+    };
+    Ok(Kept { end, places })
+}
+
+#[tactic(auto, using(crate::proofs::Begun::client_fault))]
+fn make_client(alloc: Global, given: &ClientSettings<'_>) -> Result<Kept<Client>, OpenFault>
+    ensures ok { IfOk result (λ kept. BeginsAs (client_set_up given.now) kept) }
+    ensures err { IfErr result (λ fault. NotClient given.now fault) }
+{
+    let hello = match client_hello(alloc, given) {
+        Ok(hello) => hello,
+        Err(fault) => return Err(OpenFault::Given(fault)),
+    };
+    let config: Config<Client> = Config {
+        frame_max: given.frame_max,
+        channel_max: given.channel_max,
+        max_body: given.max_body,
+        heartbeat: given.heartbeat,
+        gated: given.gated,
+        hello,
+    };
+    match keep(alloc, config) {
+        Ok(kept) => Ok(kept),
+        Err(fault) => Err(OpenFault::Config(fault)),
+    }
+}
+
+#[tactic(auto, using(crate::proofs::Begun::server_fault))]
+fn make_server(alloc: Global, given: &ServerSettings<'_>) -> Result<Kept<Server>, OpenFault>
+    ensures ok { IfOk result (λ kept. BeginsAs (server_set_up given.now) kept) }
+    ensures err { IfErr result (λ fault. NotServer given.now fault) }
+{
+    let hello = match server_hello(alloc, given) {
+        Ok(hello) => hello,
+        Err(fault) => return Err(OpenFault::Given(fault)),
+    };
+    let config: Config<Server> = Config {
+        frame_max: given.frame_max,
+        channel_max: given.channel_max,
+        max_body: given.max_body,
+        heartbeat: given.heartbeat,
+        gated: given.gated,
+        hello,
+    };
+    match keep(alloc, config) {
+        Ok(kept) => Ok(kept),
+        Err(fault) => Err(OpenFault::Config(fault)),
+    }
+}
+
+/// Opens a handle with a client that is set up so, as `End::new` makes it.
+#[unsafe(no_mangle)]
+pub extern "C" fn proved_client_open(
+    slot: &mut EndSlot,
+    alloc: Global,
+    given: &ClientSettings<'_>,
+) -> u32
+    ensures { OpensClient slot.old.value given.now result slot.new.value }
+{
+    if slot.is_open() {
+        return HandleFault::AlreadyOpen.number();
+    }
+    match make_client(alloc, given) {
+        Ok(kept) => status(slot.open(alloc, HeldEnd::Client(kept))),
+        Err(fault) => fault.number(),
+    }
+}
+
+/// Opens a handle with a server that is set up so.
+#[unsafe(no_mangle)]
+pub extern "C" fn proved_server_open(
+    slot: &mut EndSlot,
+    alloc: Global,
+    given: &ServerSettings<'_>,
+) -> u32
+    ensures { OpensServer slot.old.value given.now result slot.new.value }
+{
+    if slot.is_open() {
+        return HandleFault::AlreadyOpen.number();
+    }
+    match make_server(alloc, given) {
+        Ok(kept) => status(slot.open(alloc, HeldEnd::Server(kept))),
+        Err(fault) => fault.number(),
+    }
+}
+
+/// Closes the handle of an end, and frees what it held.
+#[unsafe(no_mangle)]
+pub extern "C" fn proved_end_close(slot: &mut EndSlot, alloc: Global) -> u32
+    ensures { Closes slot.old.value result slot.new.value }
+{
+    status(slot.close(alloc))
+}
+
+/// Makes the next place, if it is this one. Those that are there stay as they are.
+fn make_place(alloc: Global, places: &mut Vec<Place>, place: usize) -> u32
+    ensures { MakesPlace places.old.items place result places.new.items }
+{
+    if place < places.len() {
+        return 0;
+    }
+    if places.len() < place {
+        return NO_ROOM;
+    }
+    let made = Place {
+        event: None,
+        method: Vec::new(alloc),
+        header: Vec::new(alloc),
+    };
+    let Ok(()) = places.push(made) else {
+        return HandleFault::OutOfMemory.number();
+    };
+    0
+}
+
+/// Gives the end of a handle a place for an event, the next after those that it has, or one that it has.
+#[unsafe(no_mangle)]
+pub extern "C" fn proved_end_make_place(slot: &mut EndSlot, alloc: Global, place: usize) -> u32
+    ensures { MakesPlaceAt slot.old.value place result slot.new.value }
+{
+    if !slot.is_open() {
+        return HandleFault::NotOpen.number();
+    }
+    match slot.held() {
+        HeldEnd::Client(kept) => make_place(alloc, &mut kept.places, place),
+        HeldEnd::Server(kept) => make_place(alloc, &mut kept.places, place),
+    }
+}
