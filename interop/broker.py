@@ -461,8 +461,8 @@ def with_py_amqp():
             other.queue_declare("b.nowhere", passive=True)
             found = None
         except amqp.NotFound as error:
-            found = error.code
-        says("py-amqp: passive declare of no such queue", 404, found)
+            found = error.code, error.method_sig
+        says("py-amqp: passive declare of no such queue, and the close says for which method", (404, (50, 10)), found)
 
 
 def error_of(action):

@@ -2,12 +2,13 @@
 use crate::broker::Broker;
 use crate::queues::Place;
 use crate::refusal::{Done, Fault, Refusal};
-use amqp_method::{Message, Method, OutOfMemory, reply};
+use amqp_method::{Kind, Message, Method, OutOfMemory, reply};
 use amqp_typed::{AnyMethod, basic};
 
 impl Broker {
     /// Handles a message. One that is refused closes its channel, or the connection where the error is a hard one.
     pub fn tell(&mut self, at: Place, message: Message) -> Done {
+        let kind = message.method().kind();
         let done = match message.into_parts() {
             (method, None) => self.handle_method(at, method),
             // a client sends contents after basic.publish alone
@@ -17,22 +18,25 @@ impl Broker {
             },
         };
         match done {
-            Err(Fault::Refused(refusal)) => self.refuse(at, &refusal),
+            Err(Fault::Refused(refusal)) => self.refuse(at, kind, &refusal),
             done => done,
         }
     }
 
-    fn refuse(&mut self, at: Place, refusal: &Refusal) -> Done {
+    /// Closes the channel, or the connection, for a method of this kind.
+    fn refuse(&mut self, at: Place, kind: Kind, refusal: &Refusal) -> Done {
         let (code, text) = (refusal.code(), refusal.text(self.alloc)?);
         if reply::is_hard(code) {
             self.close_channels(at.connection)?;
-            self.connection(at.connection)?.end.close(code, &text)?;
+            self.connection(at.connection)?
+                .end
+                .close_for(code, &text, kind)?;
             return Ok(());
         }
         self.close_channel(at)?;
         self.connection(at.connection)?
             .end
-            .close_channel(at.channel, code, &text)?;
+            .close_channel_for(at.channel, code, &text, kind)?;
         Ok(())
     }
 

@@ -2,8 +2,8 @@
 use Rattle.std.proofs.Common.{◌≡◌, ◌≢◌, ◌<◌, List, [], ◌∷◌, length, drop, slice_index_or, Option, None, Result, Ok, Err, OnOk, IfErr, sym, ◌∙◌, ap, subst, arith}
 use Rattle.amqp_model.specs.End.Asks.{Ask, Refusal, refusal}
 use Rattle.amqp_model.specs.Stream.Endpoint.{Endpoint}
-use Rattle.amqp_core.specs.Faults.{refusal_view}
-use Rattle.amqp_core.specs.Settings.{role_for}
+use Rattle.amqp_core.specs.Faults.Numbers.{refusal_view}
+use Rattle.amqp_core.specs.Config.Settings.{role_for}
 use Rattle.amqp_core.specs.declared.faults.AskFault.{AskFault}
 use Rattle.amqp_core.specs.declared.settings.Settings.{Settings}
 use Rattle.example_proxy.specs.Advancing.{Standing, Accepts, Advances, none_sent, sends_next, HasToWait, Rests}

@@ -2,8 +2,8 @@
 use Rattle.std.specs.Prelude.{◌≡◌, ◌≢◌, ℕ, List, [], ◌∷◌, Option, None}
 use Rattle.amqp_model.specs.End.Asks.{Ask, CloseChannel, Close, refusal}
 use Rattle.amqp_model.specs.Stream.Endpoint.{Endpoint}
-use Rattle.amqp_core.specs.Asking.{AcceptsAsk}
-use Rattle.amqp_core.specs.Settings.{config_view, role_for}
+use Rattle.amqp_core.specs.Asks.Asking.{AcceptsAsk}
+use Rattle.amqp_core.specs.Config.Settings.{config_view, role_for}
 use Rattle.amqp_core.specs.declared.settings.Settings.{Settings}
 
 -- the asks that wait, the oldest first, and the end that is to take them
@@ -39,6 +39,6 @@ Rests standing = HasToWait standing standing.waiting
 
 -- With a close a channel loses its partner: what is said on it from then on is not passed on.
 abbrev pub partner_after : Ask → Option ℕ → Option ℕ
-partner_after (CloseChannel channel code text) partner = None
-partner_after (Close code text) partner = None
+partner_after (CloseChannel channel code text cause) partner = None
+partner_after (Close code text cause) partner = None
 partner_after ask partner = partner

@@ -1,8 +1,8 @@
 -- The asks that wait on a channel, and they beside the end that is to take them.
 use Rattle.std.specs.Prelude.{List, map}
 use Rattle.amqp_model.specs.End.Asks.{Ask}
-use Rattle.amqp_core.specs.AskView.{ask_view}
-use Rattle.amqp_core.specs.StreamView.{endpoint_of, settings_at}
+use Rattle.amqp_core.specs.Asks.View.{ask_view}
+use Rattle.amqp_core.specs.Stream.View.{endpoint_of, settings_at}
 use Rattle.amqp_core.specs.declared.roles.Role.{Ghosts}
 use Rattle.amqp_core.specs.declared.stream.StreamEnd.{StreamEnd}
 use Rattle.example_proxy.specs.Advancing.{Standing}

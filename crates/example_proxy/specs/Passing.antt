@@ -1,6 +1,7 @@
 -- What an event of one side asks of the other, where the event's channel has another number.
 use Rattle.std.specs.Prelude.{Bool, true, false, ℕ, List, [], ◌++◌, Option, Some, None, codes, replicate}
 use Rattle.amqp_model.specs.End.Asks.{Ask, Send, Flow, CloseChannel, Close, Blocked, Unblocked}
+use Rattle.amqp_model.specs.End.Closes.{no_cause}
 use Rattle.amqp_model.specs.End.Events as events
 use Rattle.amqp_model.specs.End.Events.{Plain, Whole}
 use Rattle.amqp_model.specs.Lent.Alike.{LentEvent, WithoutContent, Begins, Heads, Part, Other}
@@ -51,9 +52,9 @@ asked partner content (Heads number size properties whole) = sent partner whole 
 asked partner content (Part number octets whole) = sent partner whole (with_part octets content)
 asked partner content (Other (events.Flow number active)) = Some (Flow partner active)
 asked partner content (Other (events.ChannelClosed number (Some reason))) =
-    Some (CloseChannel partner reason.code reason.text)
-asked partner content (Other (events.Discarded number)) = Some (CloseChannel partner 311 (codes "CONTENT_TOO_LARGE"))
-asked partner content (Other (events.ConnectionClosed (Some reason))) = Some (Close reason.code reason.text)
+    Some (CloseChannel partner reason.code reason.text no_cause)
+asked partner content (Other (events.Discarded number)) = Some (CloseChannel partner 311 (codes "CONTENT_TOO_LARGE") no_cause)
+asked partner content (Other (events.ConnectionClosed (Some reason))) = Some (Close reason.code reason.text no_cause)
 asked partner content (Other (events.Blocked reason)) = Some (Blocked reason)
 asked partner content (Other events.Unblocked) = Some Unblocked
 asked partner content event = None

@@ -6,7 +6,7 @@ use Rattle.amqp_method.specs.HeaderView.{properties_view}
 use Rattle.amqp_method.specs.declared.contents.Content.{Content}
 use Rattle.amqp_model.specs.End.Asks as asks
 use Rattle.amqp_model.specs.Wire.Contents as contents
-use Rattle.amqp_core.specs.AskView.{ask_view}
+use Rattle.amqp_core.specs.Asks.View.{ask_view}
 use Rattle.amqp_core.specs.declared.asks.Ask.{Ask}
 
 abbrev content_view : Content → contents.Content

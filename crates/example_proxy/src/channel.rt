@@ -1,7 +1,7 @@
 //! A channel of one side, and what waits to be asked on it.
 ghost use Rattle.std.specs.Prelude.{◌≡◌, ◌≢◌, ◌+◌, ◌++◌, ◌∷◌, [], Some, None, drop, length, true, false, IfOk, OnOk};
-ghost use Rattle.amqp_core.specs.AskView.{ask_view};
-ghost use Rattle.amqp_core.specs.Faults.{refusal_view};
+ghost use Rattle.amqp_core.specs.Asks.View.{ask_view};
+ghost use Rattle.amqp_core.specs.Faults.Numbers.{refusal_view};
 ghost use Rattle.example_proxy.specs.Advancing.{Advances, Rests, partner_after};
 
 use crate::content::Coming;
@@ -75,7 +75,8 @@ impl Channel {
     /// Asks the oldest, if there is one and it may go now, and answers whether it did.
     fn ask_next<R: Role>(&mut self, end: &mut StreamEnd<R>) -> Result<bool, AskFault>
         ensures advances { Advances (standing self.old end.old) (standing self.new end.new) }
-        ensures one { IfOk result (λ went. went ≡ true → 1 + length (waiting_in self.new) ≡ length (waiting_in self.old)) }
+        ensures one { IfOk result (λ went. went ≡ true → 1 + length (waiting_in self.new)
+            ≡ length (waiting_in self.old)) }
         ensures rests { IfOk result (λ went. went ≡ false → Rests (standing self.new end.new)) }
     {
         let Some(next) = self.waiting.front() else {

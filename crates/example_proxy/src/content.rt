@@ -4,7 +4,7 @@
 ghost use Rattle.std.specs.Prelude.{◌≡◌, None, IfOk, OnOk};
 ghost use Rattle.amqp_method.specs.HeaderRefView.{lent_header};
 ghost use Rattle.amqp_method.specs.MethodRefView.{lent_call};
-ghost use Rattle.amqp_core.specs.EventRefView.{event_ref_view};
+ghost use Rattle.amqp_core.specs.Stream.EventRefView.{event_ref_view};
 ghost use Rattle.example_proxy.specs.Passing.{after, asked, begun, left, method_alone, sent, with_part, with_properties};
 ghost use Rattle.example_proxy.specs.PassingView.{ask_there, coming_view};
 
@@ -21,7 +21,8 @@ pub type Asked = anyhow::Result<Option<Ask>>;
 
 /// What an event asks of the other side, where its channel has this number there.
 pub fn asked_by(alloc: Global, coming: &mut Coming, partner: u16, event: EventRef<'_>) -> Asked
-    ensures asked { IfOk result (λ ask. ask_there ask ≡ asked partner (coming_view coming.old) (event_ref_view event.entry)) }
+    ensures asked { IfOk result (λ ask. ask_there ask ≡ asked partner (coming_view coming.old)
+        (event_ref_view event.entry)) }
     ensures after { OnOk result (coming_view coming.new ≡ after (coming_view coming.old) (event_ref_view event.entry)) }
 {
     match event {
@@ -80,7 +81,8 @@ fn begin(alloc: Global, coming: &mut Coming, method: MethodRef<'_>) -> Asked
 }
 
 fn head(alloc: Global, coming: &mut Coming, header: HeaderRef<'_>) -> anyhow::Result<()>
-    ensures { OnOk result (coming_view coming.new ≡ with_properties (lent_header header.entry).properties (coming_view coming.old)) }
+    ensures { OnOk result (coming_view coming.new ≡ with_properties (lent_header header.entry).properties
+        (coming_view coming.old)) }
 {
     if let Some(content) = coming {
         header.read_into(alloc, &mut content.header)?;

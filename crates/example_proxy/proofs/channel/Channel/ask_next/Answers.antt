@@ -1,7 +1,7 @@
 -- The oldest ask is accepted, has to wait, or is refused.
 use Rattle.std.proofs.Common.{drop, map, sym, ap, subst, refl, arith}
-use Rattle.amqp_core.specs.AskView.{ask_view}
-use Rattle.amqp_core.specs.StreamView.{endpoint_of, settings_at}
+use Rattle.amqp_core.specs.Asks.View.{ask_view}
+use Rattle.amqp_core.specs.Stream.View.{endpoint_of, settings_at}
 use Rattle.example_proxy.specs.Advancing.{none_sent, Advances, Rests}
 use Rattle.example_proxy.specs.ChannelView.{standing}
 use Rattle.example_proxy.proofs.AdvanceLemmas.{first_is, same_standing, asked_err, asked_ok, rests_first, refused_for, sends_one}
