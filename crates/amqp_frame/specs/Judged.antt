@@ -1,5 +1,5 @@
--- What octets are, as a function of them: a frame begun, a frame, or octets that show a fault. It looks at the type octet, the
--- payload's size and the end octet alone: AMQP 0-9-1 specification, section 4.2.3.
+-- What octets are, as a function of them: a frame begun, a frame, or octets that show a fault. It looks at the type
+-- octet, the payload's size and the end octet alone: AMQP 0-9-1 specification, section 4.2.3.
 use Rattle.std.specs.Prelude.{cond, ◌==◌, nat_lt, ℕ, ◌+◌, ◌*◌, List, [], ◌∷◌, length, take, drop, slice_index, Option, Some, None}
 use Rattle.amqp_frame.specs.Frame.{Frame, END}
 use Rattle.amqp_frame.specs.Splitting.{size_of}
@@ -28,7 +28,12 @@ channel_in octets = 256 * slice_index octets 1 + slice_index octets 2
 
 -- the frame of this kind that octets begin with
 abbrev pub frame_in : FrameKind → List ℕ → Frame
-frame_in kind octets = record { kind = kind; channel = channel_in octets; payload = take (size_of octets) (drop 7 octets) }
+frame_in kind octets = record {
+  kind = kind;
+  channel = channel_in octets;
+  payload = take (size_of octets)
+      (drop 7 octets);
+}
 
 -- the frame of a kind that a type octet may stand for
 abbrev pub frame_of_type : Option FrameKind → List ℕ → Option Frame
@@ -42,7 +47,8 @@ frame_read (type_octet ∷ later) = frame_of_type (kind_of_type type_octet) (typ
 
 -- the octet is there that is to end the frame
 abbrev pub judged_by_end : FrameKind → List ℕ → Judgement
-judged_by_end kind octets = cond (slice_index octets (size_of octets + 7) == END) (Whole (frame_in kind octets)) (Wrong BadEnd)
+judged_by_end kind octets = cond (slice_index octets (size_of octets + 7) == END) (Whole (frame_in kind octets))
+    (Wrong BadEnd)
 
 -- the payload's size is there
 abbrev pub judged_by_size : (limit : ℕ) → FrameKind → List ℕ → Judgement

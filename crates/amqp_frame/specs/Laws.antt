@@ -25,7 +25,8 @@ PrefixHasNoFault =
 -- octets that are judged wrong show that fault first in its place
 abbrev pub JudgedIsShown : Type 0
 JudgedIsShown =
-    (limit : ℕ) (xs : List ℕ) (kind : FrameFaultKind) → judged limit xs ≡ Wrong kind → TellsFirst limit xs kind (fault_place kind xs)
+    (limit : ℕ) (xs : List ℕ) (kind : FrameFaultKind) → judged limit xs ≡ Wrong kind
+    → TellsFirst limit xs kind (fault_place kind xs)
 
 -- octets that show a fault first are judged wrong so, and that octet stands in its place
 abbrev pub ShownIsJudged : Type 0

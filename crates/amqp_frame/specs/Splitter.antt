@@ -81,7 +81,8 @@ after_taking old piece taken None =
 after_taking old piece taken (Some f) =
     record old { pending = []; taken = place_after old.taken taken; given = given_after old.pending (take taken piece) }
 
--- how many octets of a piece are taken up to the octet that shows a fault, that octet included: none where memory was refused
+-- how many octets of a piece are taken up to the octet that shows a fault, that octet included: none where memory was
+-- refused
 abbrev pub taken_to : FrameFaultKind → Stream → (piece : List ℕ) → ℕ
 taken_to UnknownType old piece = fault_place UnknownType (old.pending ++ piece) + 1 - length old.pending
 taken_to TooLarge old piece = fault_place TooLarge (old.pending ++ piece) + 1 - length old.pending

@@ -1,4 +1,5 @@
--- What it is to split a stream of octets into frames: AMQP 0-9-1 specification, sections 2.3.4, "Delimiting Frames", and 4.2.3.
+-- What it is to split a stream of octets into frames: AMQP 0-9-1 specification, sections 2.3.4, "Delimiting Frames",
+-- and 4.2.3.
 use Rattle.std.specs.Prelude.{◌≡◌, ◌≢◌, ℕ, ◌+◌, ◌<◌, ◌≤◌, ◌⊎◌, List, [], ◌∷◌, ◌++◌, length, take, drop, slice_index}
 use Rattle.byteorder.specs.Endian.{big_number}
 use Rattle.amqp_frame.specs.Frame.{Frame, octets, Fits, END}

@@ -11,7 +11,8 @@ pub record Stream : Type 0 where
   pub taken : ℕ
   -- the place of the fault, once one was told
   pub fault : Option ℕ
-  -- how many octets of its piece were taken up to the octet that showed the fault, that octet included; 0 before any fault
+  -- how many octets of its piece were taken up to the octet that showed the fault, that octet included; 0 before any
+  -- fault
   pub taken_to_fault : ℕ
   -- the frame that the last call gave by way of the buffer, until the next call that is to take octets
   pub given : Option Frame

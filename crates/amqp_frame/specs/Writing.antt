@@ -7,7 +7,8 @@ pub record HasPayloadRoom (start : ℕ) (out : List ℕ) : Type 0 where
   pub header : start + 7 ≤ length out
   pub size : length out - (start + 7) < 2 ^ 32
 
--- where the output was other octets, the header of a frame with no size, and its payload, it is now those octets and that frame
+-- where the output was other octets, the header of a frame with no size, and its payload, it is now those octets and
+-- that frame
 abbrev pub FinishesFrame : (start : ℕ) → (old new : List ℕ) → Type 0
 FinishesFrame start old new =
     (before : List ℕ) (f : Frame)

@@ -22,7 +22,8 @@ pub const OVERHEAD: usize = 8;
 /// What a client writes before its first frame: `AMQP`, then 0, 0, 9, 1 (section 4.2.2, "Protocol Header").
 pub const PROTOCOL_HEADER: [u8; 8] = [0x41, 0x4d, 0x51, 0x50, 0, 0, 9, 1];
 
-/// A whole heartbeat: the type octet 8, the channel 0, no payload, and the end octet (section 4.2.7, "Heartbeat Frames").
+/// A whole heartbeat: the type octet 8, the channel 0, no payload, and the end octet (section 4.2.7, "Heartbeat
+/// Frames").
 pub const HEARTBEAT: [u8; OVERHEAD] = [8, 0, 0, 0, 0, 0, 0, END];
 
 /// The octet that ends each frame (section 4.2.3, "frame-end").

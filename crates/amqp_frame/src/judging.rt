@@ -108,7 +108,8 @@ pub(crate) fn fault_across(
     piece: &[u8],
     limit: u32,
 ) -> Option<(FrameFaultKind, usize)>
-    ensures { MatchOption result (ShowsNoFault limit (pending.now ++ piece.now)) (ShowsFault limit (pending.now ++ piece.now)) }
+    ensures { MatchOption result (ShowsNoFault limit (pending.now ++ piece.now))
+        (ShowsFault limit (pending.now ++ piece.now)) }
 {
     let count = pending.len() + piece.len();
     if count == 0 {

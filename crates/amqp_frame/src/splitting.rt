@@ -46,8 +46,8 @@ pub struct Advanced<'a> {
 
 /// Splits a stream into its frames, piece by piece.
 ///
-/// A frame that is cut is gathered in a buffer. A buffer of more than 16,384 octets is given back once sixteen frames in a row
-/// have lain whole in their pieces.
+/// A frame that is cut is gathered in a buffer. A buffer of more than 16,384 octets is given back once sixteen frames
+/// in a row have lain whole in their pieces.
 #[derive(Drop)]
 pub struct Splitter {
     alloc: Global,
@@ -119,8 +119,8 @@ impl Splitter {
         self.limit
     }
 
-    /// After a fault, how many octets of the piece that showed it were taken: those up to the octet that shows it, and that
-    /// one. 0 before any fault, and where memory was refused.
+    /// After a fault, how many octets of the piece that showed it were taken: those up to the octet that shows it, and
+    /// that one. 0 before any fault, and where memory was refused.
     pub fn taken_to_fault(&self) -> usize
         ensures { result ≡ self.now.taken_to_fault }
     {
@@ -141,7 +141,7 @@ impl Splitter {
     /// It lies in the piece where no octet of it was pending, and no memory is taken then. Otherwise it lies in the
     /// buffer: [`Splitter::buffered`] lends it, until the next call that is to take octets. An empty piece gives no
     /// frame. After a fault each call answers [`FrameFaultKind::Failed`].
-    #[inline]
+    #[inline(always)]
     pub fn advance<'a>(&mut self, piece: &'a [u8]) -> Result<Advanced<'a>, FrameFault>
         // With a frame, the octets pending and taken are that frame, no longer than the limit.
         ensures frame { IfOk result (λ advanced. IfSome advanced.place
@@ -263,13 +263,14 @@ impl Splitter {
 
     /// Takes octets as [`Splitter::advance`] does, and lends the frame.
     ///
-    /// The payload is a part of the piece where the frame lies whole in it, and of the splitter's buffer otherwise. Where
-    /// nothing is pending and a whole frame within the limit stands at the start, no memory is taken. An empty piece gives
-    /// no frame. After a fault each call answers [`FrameFaultKind::Failed`].
+    /// The payload is a part of the piece where the frame lies whole in it, and of the splitter's buffer otherwise.
+    /// Where nothing is pending and a whole frame within the limit stands at the start, no memory is taken. An empty
+    /// piece gives no frame. After a fault each call answers [`FrameFaultKind::Failed`].
     #[inline]
     pub fn feed_ref<'a>(&'a mut self, piece: &'a [u8]) -> Result<FedRef<'a>, FrameFault>
         // With a frame, the octets pending and taken are that frame, no longer than the limit.
-        ensures frame { IfOk result (λ fed. IfSome fed.frame (λ f. Completes self.old (take fed.taken piece.now) (lent f))) }
+        ensures frame { IfOk result (λ fed. IfSome fed.frame
+            (λ f. Completes self.old (take fed.taken piece.now) (lent f))) }
         // Without one, all was taken, and what is pending now is a rest that shows no fault.
         ensures rest { IfOk result (λ fed. IfNone fed.frame (Waits self.old piece.now fed.taken)) }
         // A fault is reported by the stream, at the first octet that shows it, or it is out of memory.
@@ -302,7 +303,8 @@ impl Splitter {
 
     /// Takes octets as [`Splitter::feed_ref`] does, and gives the frame with a payload of its own.
     pub fn feed(&mut self, piece: &[u8]) -> Result<Fed, FrameFault>
-        ensures frame { IfOk result (λ fed. IfSome fed.frame (λ f. Completes self.old (take fed.taken piece.now) (owned f))) }
+        ensures frame { IfOk result (λ fed. IfSome fed.frame
+            (λ f. Completes self.old (take fed.taken piece.now) (owned f))) }
         ensures rest { IfOk result (λ fed. IfNone fed.frame (Waits self.old piece.now fed.taken)) }
         ensures fault { IfErr result (λ fault. Faults self.old.fault self.old piece.now fault) }
         ensures memory { IfErr result (λ fault. LacksMemoryIfNeeded fault.kind self.old piece.now) }

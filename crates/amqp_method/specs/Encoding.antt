@@ -1,4 +1,5 @@
--- Which octets encode the arguments of a method, and which a method: AMQP 0-9-1 specification, 2.3.5.2, 4.2.4 and 4.2.5.
+-- Which octets encode the arguments of a method, and which a method: AMQP 0-9-1 specification, 2.3.5.2, 4.2.4 and
+-- 4.2.5.
 use Rattle.std.specs.Prelude.{◌≡◌, ◌≢◌, ◌==◌, ℕ, ◌/◌, ◌%◌, ◌<◌, List, [], ◌∷◌, ◌++◌, map, take, drop, Bool}
 use Rattle.amqp_value.specs.Fields.{EncodesNumber, EncodesShortString, EncodesLongString}
 use Rattle.amqp_value.specs.Encoding.{EncodesTable}

@@ -48,7 +48,10 @@ property_equiv = equivalence same_property property-is property-self
 
 pub call_equiv : IsEquivalence same_call
 call_equiv =
-    and_equiv (and_equiv (on_equiv (λ (c : Call). class_of c.kind) nat_eq_equiv) (on_equiv (λ (c : Call). id_of c.kind) nat_eq_equiv)) (on_equiv (λ (c : Call). c.args) (lists_equiv argument_equiv))
+    and_equiv (and_equiv (on_equiv (λ (c : Call). class_of c.kind) nat_eq_equiv)
+    (on_equiv (λ (c : Call). id_of c.kind) nat_eq_equiv))
+    (on_equiv (λ (c : Call). c.args) (lists_equiv argument_equiv))
 
 pub header_equiv : IsEquivalence same_header
-header_equiv = and_equiv (on_equiv (λ (h : ContentHeader). h.body_size) nat_eq_equiv) (on_equiv (λ (h : ContentHeader). h.properties) (lists_equiv property_equiv))
+header_equiv = and_equiv (on_equiv (λ (h : ContentHeader). h.body_size) nat_eq_equiv)
+    (on_equiv (λ (h : ContentHeader). h.properties) (lists_equiv property_equiv))

@@ -1,6 +1,6 @@
--- The first field of a method or a header that can't be read, and its place. Fields are read in order: the class id, the
--- method id and the arguments; the class id, the weight, the body's size, the flags and the properties whose flags are set.
--- All fields before the one at fault are whole. AMQP 0-9-1 specification, 2.3.5.2, 4.2.4, 4.2.5 and 4.2.6.1.
+-- The first field of a method or a header that can't be read, and its place. Fields are read in order: the class id,
+-- the method id and the arguments; the class id, the weight, the body's size, the flags and the properties whose flags
+-- are set. All fields before the one at fault are whole. AMQP 0-9-1 specification, 2.3.5.2, 4.2.4, 4.2.5 and 4.2.6.1.
 use Rattle.std.specs.Prelude.{◌≡◌, ◌≢◌, ℕ, zero, suc, ◌+◌, ◌%◌, ◌<◌, List, [], ◌∷◌, ◌++◌, length, map, drop, true, false, Option, Some, None}
 use Rattle.amqp_value.specs.Fields.{EncodesNumber}
 use Rattle.amqp_value.specs.FirstFault.{PassesCounted, FirstFault}
@@ -62,7 +62,8 @@ Passes Table left octets = ⊥
 pub data FaultInField (kind : FieldKind) (left at : ℕ) (octets : List ℕ) (fault : MethodFault) : Type 0 where
   passes : Passes kind left octets → fault ≡ fault_at at (Value Ends) → FaultInField kind left at octets fault
   inside :
-      (inner : ValueFault) → kind ≡ Table → FirstFault octets inner → fault ≡ in_table at inner → FaultInField kind left at octets fault
+      (inner : ValueFault) → kind ≡ Table → FirstFault octets inner → fault ≡ in_table at inner
+      → FaultInField kind left at octets fault
 
 -- ---- methods
 
@@ -91,25 +92,29 @@ pub data FirstFaultOfMethod (octets : List ℕ) (fault : MethodFault) : Type 0 w
       → EncodesNumber 2 id second
       → ((kind : Kind) → HasIds class id kind → ⊥) → fault ≡ fault_at 0 UnknownMethod → FirstFaultOfMethod octets fault
   in_argument : (kind : Kind) (first second rest : List ℕ)
-      → octets ≡ first ++ (second ++ rest) → EncodesNumber 2 (row kind).class first → EncodesNumber 2 (row kind).id second
+      → octets ≡ first ++ (second ++ rest) → EncodesNumber 2 (row kind).class first
+      → EncodesNumber 2 (row kind).id second
       → FaultInArgs (fields_of kind) 4 rest fault → FirstFaultOfMethod octets fault
   method_trailing : (call : Call) (prefix rest : List ℕ)
-      → octets ≡ prefix ++ rest → EncodesMethod call prefix → 0 < length rest → fault ≡ fault_at (length prefix) Trailing
+      → octets ≡ prefix ++ rest → EncodesMethod call prefix → 0 < length rest
+      → fault ≡ fault_at (length prefix) Trailing
       → FirstFaultOfMethod octets fault
 
 -- ---- headers
 
--- The properties are the first of these kinds, each there exactly when its flag is set. The last kind has bit 2, and each
--- other one the bit above the next one's.
+-- The properties are the first of these kinds, each there exactly when its flag is set. The last kind has bit 2, and
+-- each other one the bit above the next one's.
 abbrev pub BeginFlagged : List (Option Argument) → List FieldKind → ℕ → Type 0
 BeginFlagged [] kinds flags = Unit {0}
 BeginFlagged (p ∷ properties) [] flags = ⊥
-BeginFlagged (None ∷ properties) (kind ∷ kinds) flags = (has_flag (length kinds + 2) flags ≡ false) × BeginFlagged properties kinds flags
+BeginFlagged (None ∷ properties) (kind ∷ kinds) flags = (has_flag (length kinds + 2) flags ≡ false)
+    × BeginFlagged properties kinds flags
 BeginFlagged (Some value ∷ properties) (kind ∷ kinds) flags =
     (has_flag (length kinds + 2) flags ≡ true) × (kind_of value ≡ kind) × BeginFlagged properties kinds flags
 
 -- whole properties, and then one at fault whose flag is set
-pub record FaultInProperties (kinds : List FieldKind) (flags at : ℕ) (octets : List ℕ) (fault : MethodFault) : Type 0 where
+pub record FaultInProperties (kinds : List FieldKind) (flags at : ℕ) (octets : List ℕ)
+    (fault : MethodFault) : Type 0 where
   pub properties : List (Option Argument)
   pub here : FieldKind
   pub after : List FieldKind
@@ -135,8 +140,8 @@ pub record EncodesPrefix (flags : ℕ) (octets : List ℕ) : Type 0 where
   pub size_is : EncodesNumber 8 body_size size
   pub flags_are : EncodesNumber 2 flags word
 
--- The fault of octets that encode no header. The class id stands at 0, the weight at 2, the body's size at 4, the flags at
--- 12, the first property at 14. Bits 1 and 0 of the flags have to be clear.
+-- The fault of octets that encode no header. The class id stands at 0, the weight at 2, the body's size at 4, the flags
+-- at 12, the first property at 14. Bits 1 and 0 of the flags have to be clear.
 pub data FirstFaultOfHeader (octets : List ℕ) (fault : MethodFault) : Type 0 where
   header_class_ends : length octets < 2 → fault ≡ fault_at 0 (Value Ends) → FirstFaultOfHeader octets fault
   not_basic : (class : ℕ) (first rest : List ℕ)
@@ -152,14 +157,17 @@ pub data FirstFaultOfHeader (octets : List ℕ) (fault : MethodFault) : Type 0 w
       → octets ≡ first ++ (second ++ rest) → EncodesNumber 2 60 first → EncodesNumber 2 0 second → length rest < 8
       → fault ≡ fault_at 4 (Value Ends) → FirstFaultOfHeader octets fault
   flags_end : (size : ℕ) (first second third rest : List ℕ)
-      → octets ≡ first ++ (second ++ (third ++ rest)) → EncodesNumber 2 60 first → EncodesNumber 2 0 second → EncodesNumber 8 size third
+      → octets ≡ first ++ (second ++ (third ++ rest)) → EncodesNumber 2 60 first → EncodesNumber 2 0 second
+      → EncodesNumber 8 size third
       → length rest < 2 → fault ≡ fault_at 12 (Value Ends) → FirstFaultOfHeader octets fault
   bad_flags : (flags : ℕ) (prefix rest : List ℕ)
       → octets ≡ prefix ++ rest → EncodesPrefix flags prefix → flags % 4 ≢ 0 → fault ≡ fault_at 12 BadFlags
       → FirstFaultOfHeader octets fault
   in_property : (flags : ℕ) (prefix rest : List ℕ)
-      → octets ≡ prefix ++ rest → EncodesPrefix flags prefix → flags % 4 ≡ 0 → FaultInProperties property_kinds flags 14 rest fault
+      → octets ≡ prefix ++ rest → EncodesPrefix flags prefix → flags % 4 ≡ 0
+      → FaultInProperties property_kinds flags 14 rest fault
       → FirstFaultOfHeader octets fault
   header_trailing : (header : ContentHeader) (prefix rest : List ℕ)
-      → octets ≡ prefix ++ rest → EncodesHeader header prefix → 0 < length rest → fault ≡ fault_at (length prefix) Trailing
+      → octets ≡ prefix ++ rest → EncodesHeader header prefix → 0 < length rest
+      → fault ≡ fault_at (length prefix) Trailing
       → FirstFaultOfHeader octets fault

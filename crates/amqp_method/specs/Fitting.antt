@@ -1,5 +1,5 @@
--- What fits its field: numbers, strings, tables and the properties of a content header. `amqp0-9-1.xml`, domains, and the AMQP
--- 0-9-1 specification, section 4.2.5.
+-- What fits its field: numbers, strings, tables and the properties of a content header. `amqp0-9-1.xml`, domains, and
+-- the AMQP 0-9-1 specification, section 4.2.5.
 use Rattle.std.specs.Prelude.{◌≡◌, ◌<◌, ◌≤◌, ◌^◌, ℕ, List, length, Option, Some, None, FitsSigned}
 use Rattle.std.specs.Int.{w8, w16, w32, w64}
 use Rattle.std.specs.List.{AllByRecursion}

@@ -27,7 +27,8 @@ properties_at (kind ∷ kinds) flags end octets =
 
 -- a header of a body of a size, from its properties on
 abbrev pub with_properties_at : ℕ → ℕ → ℕ → List ℕ → Result ContentHeader MethodFault
-with_properties_at size flags end octets = properties_at property_kinds flags end octets >>= λ x. whole end (header size x.0) x.1
+with_properties_at size flags end octets = properties_at property_kinds flags end octets >>= λ x. whole end
+    (header size x.0) x.1
 
 -- a header after its class, and after its weight
 abbrev pub flagged_at : ℕ → ℕ → List ℕ → ℕ → Result ContentHeader MethodFault
@@ -39,12 +40,14 @@ flagged_at end size octets flags =
 abbrev pub weighed_at : ℕ → List ℕ → ℕ → Result ContentHeader MethodFault
 weighed_at end octets weight =
     if weight == 0
-    then (number_at 8 end octets >>= λ size. (number_at 2 end size.1 >>= λ flags. flagged_at end size.0 flags.1 flags.0))
+    then (number_at 8 end octets >>= λ size.
+    (number_at 2 end size.1 >>= λ flags. flagged_at end size.0 flags.1 flags.0))
     else Err (fault_at 2 BadWeight)
 
 abbrev pub classed_at : ℕ → List ℕ → ℕ → Result ContentHeader MethodFault
 classed_at end octets class =
-    if class == 60 then (number_at 2 end octets >>= λ weight. weighed_at end weight.1 weight.0) else Err (fault_at 0 UnknownMethod)
+    if class == 60 then (number_at 2 end octets >>= λ weight. weighed_at end weight.1 weight.0)
+    else Err (fault_at 0 UnknownMethod)
 
 -- a header
 unfoldable pub header_at : List ℕ → Result ContentHeader MethodFault

@@ -9,7 +9,8 @@ use Rattle.amqp_method.specs.Methods.{FieldRow, row}
 -- the kinds of each class
 abbrev pub connection_kinds : List Kind
 connection_kinds =
-    ConnectionStart ∷ ConnectionStartOk ∷ ConnectionSecure ∷ ConnectionSecureOk ∷ ConnectionTune ∷ ConnectionTuneOk ∷ ConnectionOpen
+    ConnectionStart ∷ ConnectionStartOk ∷ ConnectionSecure ∷ ConnectionSecureOk ∷ ConnectionTune ∷ ConnectionTuneOk
+    ∷ ConnectionOpen
     ∷ ConnectionOpenOk ∷ ConnectionClose ∷ ConnectionCloseOk ∷ ConnectionBlocked ∷ ConnectionUnblocked ∷ []
 
 abbrev pub channel_kinds : List Kind
@@ -17,18 +18,22 @@ channel_kinds = ChannelOpen ∷ ChannelOpenOk ∷ ChannelFlow ∷ ChannelFlowOk 
 
 abbrev pub exchange_kinds : List Kind
 exchange_kinds =
-    ExchangeDeclare ∷ ExchangeDeclareOk ∷ ExchangeDelete ∷ ExchangeDeleteOk ∷ ExchangeBind ∷ ExchangeBindOk ∷ ExchangeUnbind
+    ExchangeDeclare ∷ ExchangeDeclareOk ∷ ExchangeDelete ∷ ExchangeDeleteOk ∷ ExchangeBind ∷ ExchangeBindOk
+    ∷ ExchangeUnbind
     ∷ ExchangeUnbindOk ∷ []
 
 abbrev pub queue_kinds : List Kind
 queue_kinds =
-    QueueDeclare ∷ QueueDeclareOk ∷ QueueBind ∷ QueueBindOk ∷ QueueUnbind ∷ QueueUnbindOk ∷ QueuePurge ∷ QueuePurgeOk ∷ QueueDelete
+    QueueDeclare ∷ QueueDeclareOk ∷ QueueBind ∷ QueueBindOk ∷ QueueUnbind ∷ QueueUnbindOk ∷ QueuePurge ∷ QueuePurgeOk
+    ∷ QueueDelete
     ∷ QueueDeleteOk ∷ []
 
 abbrev pub basic_kinds : List Kind
 basic_kinds =
-    BasicQos ∷ BasicQosOk ∷ BasicConsume ∷ BasicConsumeOk ∷ BasicCancel ∷ BasicCancelOk ∷ BasicPublish ∷ BasicReturn ∷ BasicDeliver
-    ∷ BasicGet ∷ BasicGetOk ∷ BasicGetEmpty ∷ BasicAck ∷ BasicReject ∷ BasicRecoverAsync ∷ BasicRecover ∷ BasicRecoverOk ∷ BasicNack ∷ []
+    BasicQos ∷ BasicQosOk ∷ BasicConsume ∷ BasicConsumeOk ∷ BasicCancel ∷ BasicCancelOk ∷ BasicPublish ∷ BasicReturn
+    ∷ BasicDeliver
+    ∷ BasicGet ∷ BasicGetOk ∷ BasicGetEmpty ∷ BasicAck ∷ BasicReject ∷ BasicRecoverAsync ∷ BasicRecover
+    ∷ BasicRecoverOk ∷ BasicNack ∷ []
 
 abbrev pub tx_kinds : List Kind
 tx_kinds = TxSelect ∷ TxSelectOk ∷ TxCommit ∷ TxCommitOk ∷ TxRollback ∷ TxRollbackOk ∷ []

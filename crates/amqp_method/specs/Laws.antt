@@ -55,7 +55,8 @@ EachIsSent = (k : Kind) → (sends true k ≡ true) ⊎ (sends false k ≡ true)
 
 -- the kinds that a content follows
 abbrev pub ContentKinds : Type 0
-ContentKinds = (k : Kind) → has_content k ≡ true → (k ≡ BasicPublish) ⊎ (k ≡ BasicReturn) ⊎ (k ≡ BasicDeliver) ⊎ (k ≡ BasicGetOk)
+ContentKinds = (k : Kind) → has_content k ≡ true → (k ≡ BasicPublish) ⊎ (k ≡ BasicReturn) ⊎ (k ≡ BasicDeliver)
+    ⊎ (k ≡ BasicGetOk)
 
 -- what a kind asks for is what the table says
 abbrev pub WantsAsTable : Type 0

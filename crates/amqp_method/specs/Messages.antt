@@ -23,12 +23,14 @@ abbrev pub letter_with : Call → List (Option Argument) → List ℕ → Letter
 letter_with call properties body = record { call = call; properties = Some properties; body = body }
 
 abbrev pub content_letter : Content → Letter
-content_letter content = letter_with (carrier_view content.method) (properties_view content.header.properties) content.body.items
+content_letter content = letter_with (carrier_view content.method)
+    (properties_view content.header.properties) content.body.items
 
 -- of a content nothing but its method is there
 abbrev pub IsBlank : Content → Type 0
 IsBlank content =
-    (content.header.body_size ≡ 0) × (properties_view content.header.properties ≡ replicate 14 None) × (content.body.items ≡ [])
+    (content.header.body_size ≡ 0) × (properties_view content.header.properties ≡ replicate 14 None)
+    × (content.body.items ≡ [])
 
 abbrev pub letter : Form → Letter
 letter (form.Plain method) = letter_alone (method_view method)

@@ -1,7 +1,7 @@
--- The methods, one row each: `amqp0-9-1.xml`, in its order and its words. After those of the standard in each class stand the
--- methods that RabbitMQ added: connection.blocked and unblocked, exchange.bind and unbind, basic.nack and the class confirm.
--- The third and fourth bits of exchange.declare, which the standard reserves, bear the names that RabbitMQ gave them; and basic.ack,
--- basic.cancel and basic.cancel-ok are sent by both sides, as it has them.
+-- The methods, one row each: `amqp0-9-1.xml`, in its order and its words. After those of the standard in each class
+-- stand the methods that RabbitMQ added: connection.blocked and unblocked, exchange.bind and unbind, basic.nack and the
+-- class confirm. The third and fourth bits of exchange.declare, which the standard reserves, bear the names that
+-- RabbitMQ gave them; and basic.ack, basic.cancel and basic.cancel-ok are sent by both sides, as it has them.
 use Rattle.std.specs.Prelude.{ℕ, List, [], ◌∷◌, Bool, true, false, Option, Some, None, codes}
 use Rattle.amqp_method.specs.declared.fields.FieldKind.{FieldKind}
 use Rattle.amqp_method.specs.declared.fields.FieldKind.TheVariants.{Bit, Octet, Short, Long, LongLong, ShortStr, LongStr, Table}
@@ -42,7 +42,8 @@ pub record Row : Type 0 where
   pub wanted : Wanted
   pub fields : List FieldRow
 
--- by number, name, sender, whether content follows, the request that it answers, the reply that it asks for, and the fields
+-- by number, name, sender, whether content follows, the request that it answers, the reply that it asks for, and the
+-- fields
 abbrev pub method : ℕ → ℕ → List ℕ → Sender → Bool → Option Kind → Wanted → List FieldRow → Row
 method class id name sender content answers wanted fields =
     record { class = class; id = id; name = name; sender = sender; content = content; answers = answers; wanted = wanted; fields = fields }
@@ -102,7 +103,8 @@ row ChannelCloseOk =
 row ExchangeDeclare =
     method 40 10 (codes "exchange.declare") Client false None (UnlessNoWait 6)
     (reserved_field Short (codes "reserved-1") ∷ field ShortStr (codes "exchange") ∷ field ShortStr (codes "type")
-    ∷ field Bit (codes "passive") ∷ field Bit (codes "durable") ∷ field Bit (codes "auto-delete") ∷ field Bit (codes "internal")
+    ∷ field Bit (codes "passive") ∷ field Bit (codes "durable") ∷ field Bit (codes "auto-delete")
+    ∷ field Bit (codes "internal")
     ∷ field Bit (codes "no-wait") ∷ field Table (codes "arguments") ∷ [])
 row ExchangeDeclareOk =
     method 40 11 (codes "exchange.declare-ok") Server false (Some ExchangeDeclare) Never []
@@ -154,7 +156,8 @@ row QueueDelete =
     (reserved_field Short (codes "reserved-1") ∷ field ShortStr (codes "queue") ∷ field Bit (codes "if-unused")
     ∷ field Bit (codes "if-empty") ∷ field Bit (codes "no-wait") ∷ [])
 row QueueDeleteOk =
-    method 50 41 (codes "queue.delete-ok") Server false (Some QueueDelete) Never (field Long (codes "message-count") ∷ [])
+    method 50 41 (codes "queue.delete-ok") Server false (Some QueueDelete) Never
+    (field Long (codes "message-count") ∷ [])
 row BasicQos =
     method 60 10 (codes "basic.qos") Client false None Always
     (field Long (codes "prefetch-size") ∷ field Short (codes "prefetch-count") ∷ field Bit (codes "global") ∷ [])
@@ -163,18 +166,22 @@ row BasicQosOk =
 row BasicConsume =
     method 60 20 (codes "basic.consume") Client false None (UnlessNoWait 5)
     (reserved_field Short (codes "reserved-1") ∷ field ShortStr (codes "queue") ∷ field ShortStr (codes "consumer-tag")
-    ∷ field Bit (codes "no-local") ∷ field Bit (codes "no-ack") ∷ field Bit (codes "exclusive") ∷ field Bit (codes "no-wait")
+    ∷ field Bit (codes "no-local") ∷ field Bit (codes "no-ack") ∷ field Bit (codes "exclusive")
+    ∷ field Bit (codes "no-wait")
     ∷ field Table (codes "arguments") ∷ [])
 row BasicConsumeOk =
-    method 60 21 (codes "basic.consume-ok") Server false (Some BasicConsume) Never (field ShortStr (codes "consumer-tag") ∷ [])
+    method 60 21 (codes "basic.consume-ok") Server false (Some BasicConsume) Never
+    (field ShortStr (codes "consumer-tag") ∷ [])
 row BasicCancel =
     method 60 30 (codes "basic.cancel") Both false None (UnlessNoWait 1)
     (field ShortStr (codes "consumer-tag") ∷ field Bit (codes "no-wait") ∷ [])
 row BasicCancelOk =
-    method 60 31 (codes "basic.cancel-ok") Both false (Some BasicCancel) Never (field ShortStr (codes "consumer-tag") ∷ [])
+    method 60 31 (codes "basic.cancel-ok") Both false (Some BasicCancel) Never
+    (field ShortStr (codes "consumer-tag") ∷ [])
 row BasicPublish =
     method 60 40 (codes "basic.publish") Client true None Never
-    (reserved_field Short (codes "reserved-1") ∷ field ShortStr (codes "exchange") ∷ field ShortStr (codes "routing-key")
+    (reserved_field Short (codes "reserved-1") ∷ field ShortStr (codes "exchange")
+    ∷ field ShortStr (codes "routing-key")
     ∷ field Bit (codes "mandatory") ∷ field Bit (codes "immediate") ∷ [])
 row BasicReturn =
     method 60 50 (codes "basic.return") Server true None Never

@@ -1,5 +1,5 @@
--- The arguments of a method by their place, from 0, and by the name of their field in `amqp0-9-1.xml`. Reserved fields have
--- no argument and no place.
+-- The arguments of a method by their place, from 0, and by the name of their field in `amqp0-9-1.xml`. Reserved fields
+-- have no argument and no place.
 use Rattle.std.specs.Prelude.{ℕ, zero, suc, List, [], ◌∷◌, Bool, false, cond, Option, Some, None}
 use Rattle.std.specs.Str.{bytes_eq}
 use Rattle.amqp_value.specs.Values.{Pairs}
@@ -84,7 +84,8 @@ octets_at place call = octets_in (argument_at place call.args)
 abbrev pub place_named : (at : ℕ) → List FieldRow → (name : List ℕ) → Option ℕ
 place_named at [] name = None
 place_named at (f ∷ fields) name =
-    cond f.reserved (place_named at fields name) (cond (bytes_eq f.name name) (Some at) (place_named (suc at) fields name))
+    cond f.reserved (place_named at fields name) (cond (bytes_eq f.name name) (Some at)
+    (place_named (suc at) fields name))
 
 abbrev pub argument_in : Option ℕ → List Argument → Option Argument
 argument_in None args = None

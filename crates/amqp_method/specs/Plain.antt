@@ -1,4 +1,5 @@
--- The one encoding that is written: free bits are 0, a truth value that holds is 1, and reserved fields are zero or empty.
+-- The one encoding that is written: free bits are 0, a truth value that holds is 1, and reserved fields are zero or
+-- empty.
 use Rattle.std.specs.Prelude.{ℕ, zero, suc, ◌+◌, ◌*◌, ◌/◌, ◌^◌, ◌<◌, List, [], ◌∷◌, ◌++◌, length, take, drop, Bool, true, false, Option, Some, None}
 use Rattle.byteorder.specs.Endian.{big_bytes}
 use Rattle.amqp_value.specs.Fields.{plain_short_string, plain_long_string}
@@ -82,7 +83,8 @@ complete (f ∷ fields) args = value_for f.reserved f.kind args ∷ complete fie
 
 -- a method
 abbrev pub plain_method : Call → List ℕ
-plain_method c = big_bytes 2 (row c.kind).class ++ (big_bytes 2 (row c.kind).id ++ plain_values (complete (fields_of c.kind) c.args))
+plain_method c = big_bytes 2 (row c.kind).class ++ (big_bytes 2 (row c.kind).id
+    ++ plain_values (complete (fields_of c.kind) c.args))
 
 -- the properties that are there
 abbrev pub plain_property : Option Argument → List ℕ

@@ -1,5 +1,6 @@
--- The properties of a content, and which octets encode a content header: AMQP 0-9-1 specification, 4.2.6.1, and the fields of the class
--- basic in `amqp0-9-1.xml`. The last property, which the standard reserves, bears the name that RabbitMQ gave it.
+-- The properties of a content, and which octets encode a content header: AMQP 0-9-1 specification, 4.2.6.1, and the
+-- fields of the class basic in `amqp0-9-1.xml`. The last property, which the standard reserves, bears the name that
+-- RabbitMQ gave it.
 use Rattle.std.specs.Prelude.{◌≡◌, ℕ, ◌+◌, ◌^◌, List, [], ◌∷◌, ◌++◌, length, map, Option, Some, None, codes}
 use Rattle.amqp_value.specs.Fields.{EncodesNumber}
 use Rattle.amqp_method.specs.Arguments.{Argument, kind_of}
@@ -51,7 +52,8 @@ HaveKinds (p ∷ properties) [] = ⊥
 HaveKinds (None ∷ properties) (kind ∷ kinds) = HaveKinds properties kinds
 HaveKinds (Some value ∷ properties) (kind ∷ kinds) = (kind_of value ≡ kind) × HaveKinds properties kinds
 
--- The flags: a property that is there sets its bit. The last has bit 2, and each other one the bit above the next one's.
+-- The flags: a property that is there sets its bit. The last has bit 2, and each other one the bit above the next
+-- one's.
 abbrev pub flags_of : List (Option Argument) → ℕ
 flags_of [] = 0
 flags_of (None ∷ properties) = flags_of properties

@@ -1,5 +1,6 @@
--- Requests and replies: what a method of a client asks for, and what a method of a server answers. The classes connection
--- and channel, 10 and 20, have answers of their own: the opening, the closing and the flow of a channel are no requests.
+-- Requests and replies: what a method of a client asks for, and what a method of a server answers. The classes
+-- connection and channel, 10 and 20, have answers of their own: the opening, the closing and the flow of a channel are
+-- no requests.
 use Rattle.std.specs.Prelude.{Bool, true, false, not, cond, ◌&&◌, ◌||◌, ℕ, nat_lt, List, [], ◌∷◌, codes, Option, Some, None, is_some}
 use Rattle.amqp_method.specs.Arguments.{Call}
 use Rattle.amqp_method.specs.Kinds.{kinds, class_of, same_kind, fields_of}
@@ -16,8 +17,8 @@ is_wanted call Always = true
 is_wanted call Never = false
 is_wanted call (UnlessNoWait place) = not (bit_at place call)
 
--- a client's method to which the server replies. Of a kind that both ends send, as basic.cancel, it says so whoever sends
--- it: who asks looks at the direction.
+-- a client's method to which the server replies. Of a kind that both ends send, as basic.cancel, it says so whoever
+-- sends it: who asks looks at the direction.
 abbrev pub is_request : Call → Bool
 is_request call = is_wanted call (wants call.kind)
 
@@ -55,4 +56,5 @@ wanted_by None = Always
 -- a reply, where some method answers the kind, and where the argument no-wait is 0 if it has one
 abbrev pub wanted_in_table : Kind → Wanted
 wanted_in_table kind =
-    cond (above_channels kind && is_answered_by kind kinds) (wanted_by (place_named 0 (fields_of kind) (codes "no-wait"))) Never
+    cond (above_channels kind && is_answered_by kind kinds)
+    (wanted_by (place_named 0 (fields_of kind) (codes "no-wait"))) Never

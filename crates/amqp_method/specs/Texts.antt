@@ -85,7 +85,8 @@ body_text (x ∷ octets) = hexadecimal (x ∷ octets)
 abbrev pub content_text : Option (List (Option Argument)) → (body : List ℕ) → List ℕ
 content_text None body = []
 content_text (Some properties) body =
-    codes "\n  " ++ (text_of_header (record { body_size = length body; properties = properties }) ++ (codes "\n  body " ++ body_text body))
+    codes "\n  " ++ (text_of_header (record { body_size = length body; properties = properties })
+    ++ (codes "\n  body " ++ body_text body))
 
 -- the method, and below it the header and the body of a content
 abbrev pub text_of_message : Letter → List ℕ

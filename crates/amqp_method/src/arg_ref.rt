@@ -18,7 +18,8 @@ use crate::field_octets::{
 use crate::fields::FieldKind;
 use amqp_value::TableRef;
 
-/// An argument as it lies in a payload: numbers by value, strings and tables lent. Beside it stands [`Arg`](crate::Arg), which owns them.
+/// An argument as it lies in a payload: numbers by value, strings and tables lent. Beside it stands
+/// [`Arg`](crate::Arg), which owns them.
 #[derive(Clone, Copy)]
 pub enum ArgRef<'a> {
     Bit(bool),
@@ -42,8 +43,8 @@ fn read_table<'a>(octets: &'a [u8]) -> (TableRef<'a>, &'a [u8])
     (table, &octets[table.octets().len()..])
 }
 
-/// The value of a field of a kind, and the octets after it; of its own octet, the bits that are left are in `bits`. A table was checked
-/// before.
+/// The value of a field of a kind, and the octets after it; of its own octet, the bits that are left are in `bits`. A
+/// table was checked before.
 #[inline(always)]
 #[tactic(auto, unfolding(crate::specs::Reading::field_at))]
 pub(crate) fn read_arg<'a>(
@@ -54,7 +55,8 @@ pub(crate) fn read_arg<'a>(
 ) -> Result<(ArgRef<'a>, &'a [u8]), MethodFault>
     requires within { length octets.now ≤ end }
     requires checked { kind ≡ kinds.Table → BeginsTable octets.now }
-    ensures read { Equals (λ x. ((arg_ref_view x.0, bits_view bits.new), x.1.now)) result (field_at kind (bits_view bits.old) end octets.now) }
+    ensures read { Equals (λ x. ((arg_ref_view x.0, bits_view bits.new), x.1.now)) result
+        (field_at kind (bits_view bits.old) end octets.now) }
     ensures within { IfOk result (λ x. length x.1.now ≤ length octets.now) }
     ensures value { IfOk result (λ x. IsValueOf kind (arg_ref_view x.0)) }
 {
@@ -170,7 +172,8 @@ impl<'a> ArgRef<'a> {
 
     /// The octets of the short string, if it is one.
     pub fn as_short_str(self) -> Option<&'a [u8]>
-        ensures { MatchOption result (short_string_of (arg_ref_view self.entry) ≡ None) (λ text. short_string_of (arg_ref_view self.entry) ≡ Some text.now) }
+        ensures { MatchOption result (short_string_of (arg_ref_view self.entry) ≡ None)
+            (λ text. short_string_of (arg_ref_view self.entry) ≡ Some text.now) }
     {
         if let ArgRef::ShortStr(text) = self {
             return Some(text);
@@ -180,7 +183,8 @@ impl<'a> ArgRef<'a> {
 
     /// The octets of the long string, if it is one.
     pub fn as_long_str(self) -> Option<&'a [u8]>
-        ensures { MatchOption result (long_string_of (arg_ref_view self.entry) ≡ None) (λ text. long_string_of (arg_ref_view self.entry) ≡ Some text.now) }
+        ensures { MatchOption result (long_string_of (arg_ref_view self.entry) ≡ None)
+            (λ text. long_string_of (arg_ref_view self.entry) ≡ Some text.now) }
     {
         if let ArgRef::LongStr(text) = self {
             return Some(text);
@@ -190,7 +194,8 @@ impl<'a> ArgRef<'a> {
 
     /// The table, if it is one.
     pub fn as_table(self) -> Option<TableRef<'a>>
-        ensures { MatchOption result (table_of (arg_ref_view self.entry) ≡ None) (λ t. table_of (arg_ref_view self.entry) ≡ Some (table_ref_view t)) }
+        ensures { MatchOption result (table_of (arg_ref_view self.entry) ≡ None)
+            (λ t. table_of (arg_ref_view self.entry) ≡ Some (table_ref_view t)) }
     {
         if let ArgRef::Table(table) = self {
             return Some(table);

@@ -103,7 +103,8 @@ fn check_args(kind: Kind, octets: &[u8], end: usize) -> Result<(), MethodFault>
 
 /// Checks that a payload encodes a method, and of which kind.
 ///
-/// What [`read_method`](crate::read_method) reads is what passes, and the faults are the same; but nothing is kept, and no memory taken.
+/// What [`read_method`](crate::read_method) reads is what passes, and the faults are the same; but nothing is kept, and
+/// no memory taken.
 pub fn check_method(payload: &[u8]) -> Result<Kind, MethodFault>
     // What passes is encoded so.
     ensures found { IfOk result (λ kind. (args : List Argument) × EncodesMethod (call kind args) payload.now) }

@@ -22,7 +22,8 @@ pub struct Carrier {
 
 /// A content: the method that it follows, its header, and its body, or what was taken of it.
 ///
-/// It is large, so who gathers it from frames keeps it in a box. [`Message::gathered`] makes a message of it, and moves nothing.
+/// It is large, so who gathers it from frames keeps it in a box. [`Message::gathered`] makes a message of it, and moves
+/// nothing.
 #[derive(Debug, Drop, PartialEq, Eq)]
 pub struct Content {
     pub method: Carrier,
@@ -117,7 +118,8 @@ impl DropInBox for Content {
     }
 }
 
-/// The properties go first, each where it lies. None is left then, so the header, which is large, has nothing more to give back.
+/// The properties go first, each where it lies. None is left then, so the header, which is large, has nothing more to
+/// give back.
 #[inline(never)]
 fn drop_with_properties(mut content: Box<Content>) {
     content.header.properties.clear();

@@ -43,7 +43,8 @@ fn write_arg<W: fmt::Write>(f: &mut fmt::Formatter<W>, arg: &Arg) -> fmt::Result
 
 /// The first of the arguments with its field's name, unless the field is reserved.
 fn write_field<W: fmt::Write>(f: &mut fmt::Formatter<W>, field: &Field, args: &[Arg]) -> fmt::Result
-    ensures { WritesOnOk W.write_str_gives f.old result (field_text field.now.reserved field.now.name.now (args_view args.now)) f.new }
+    ensures { WritesOnOk W.write_str_gives f.old result
+        (field_text field.now.reserved field.now.name.now (args_view args.now)) f.new }
 {
     if field.reserved {
         return Ok(());
@@ -75,7 +76,8 @@ fn write_fields<W: fmt::Write>(
     fields: &[Field],
     args: &[Arg],
 ) -> fmt::Result
-    ensures { WritesOnOk W.write_str_gives f.old result (fields_text (map field_view fields.now) (args_view args.now)) f.new }
+    ensures { WritesOnOk W.write_str_gives f.old result
+        (fields_text (map field_view fields.now) (args_view args.now)) f.new }
 {
     let mut rest = args;
     for field in fields {
@@ -94,7 +96,8 @@ impl fmt::Display for Kind {
     }
 }
 
-/// Prints the argument as a method's text has it after its name: a bit as 0 or 1, a number in decimal, strings in quotes.
+/// Prints the argument as a method's text has it after its name: a bit as 0 or 1, a number in decimal, strings in
+/// quotes.
 impl fmt::Display for Arg {
     ghost output = { λ arg. Some (argument_text (arg_view arg)) };
 
@@ -140,7 +143,8 @@ fn write_property<W: fmt::Write>(
     name: &str,
     property: Option<Lent>,
 ) -> fmt::Result
-    ensures { WritesOnOk W.write_str_gives f.old result (parted is_first (property_text name.now (lent_view property.entry))) f.new }
+    ensures { WritesOnOk W.write_str_gives f.old result
+        (parted is_first (property_text name.now (lent_view property.entry))) f.new }
 {
     let Some(value) = property else {
         return Ok(());
@@ -167,7 +171,8 @@ fn write_properties<W: fmt::Write>(
     properties: &[Option<Lent>],
 ) -> fmt::Result
     requires { length properties.now ≤ 14 }
-    ensures { WritesOnOk W.write_str_gives f.old result (parted starts (properties_text property_names (lent_views properties.now))) f.new }
+    ensures { WritesOnOk W.write_str_gives f.old result
+        (parted starts (properties_text property_names (lent_views properties.now))) f.new }
 {
     let mut is_first = starts;
     for (index, property) in properties.iter().enumerate() {
@@ -183,7 +188,8 @@ fn write_header<W: fmt::Write>(
     body_size: u64,
     properties: &Properties,
 ) -> fmt::Result
-    ensures { WritesOnOk W.write_str_gives f.old result (text_of_header (record { body_size = body_size; properties = properties_view properties.now })) f.new }
+    ensures { WritesOnOk W.write_str_gives f.old result
+        (text_of_header (record { body_size = body_size; properties = properties_view properties.now })) f.new }
 {
     write!(f, "header size={body_size}")?;
     write_properties(f, false, &lent_properties(properties))
@@ -223,7 +229,8 @@ fn write_content<W: fmt::Write>(
     properties: &Properties,
     body: &[u8],
 ) -> fmt::Result
-    ensures { WritesOnOk W.write_str_gives f.old result (content_text (Some (properties_view properties.now)) body.now) f.new }
+    ensures { WritesOnOk W.write_str_gives f.old result
+        (content_text (Some (properties_view properties.now)) body.now) f.new }
 {
     f.write_str("\n  ")?;
     write_header(f, body.len() as u64, properties)?;
@@ -233,7 +240,8 @@ fn write_content<W: fmt::Write>(
 
 /// The content of a message, if it has one.
 fn write_parts<W: fmt::Write>(f: &mut fmt::Formatter<W>, message: &Message) -> fmt::Result
-    ensures { WritesOnOk W.write_str_gives f.old result (content_text (message_view message.now).properties (message_view message.now).body) f.new }
+    ensures { WritesOnOk W.write_str_gives f.old result
+        (content_text (message_view message.now).properties (message_view message.now).body) f.new }
 {
     let Some((properties, body)) = message.content_parts() else {
         return Ok(());
@@ -241,8 +249,8 @@ fn write_parts<W: fmt::Write>(f: &mut fmt::Formatter<W>, message: &Message) -> f
     write_content(f, properties, body)
 }
 
-/// Prints the method, and below it, where a content follows, a line with its header and one with its body in hexadecimal, each
-/// after two spaces. That takes no memory of its own.
+/// Prints the method, and below it, where a content follows, a line with its header and one with its body in
+/// hexadecimal, each after two spaces. That takes no memory of its own.
 impl fmt::Display for Message {
     ghost output = { λ m. Some (text_of_message (message_view m)) };
 

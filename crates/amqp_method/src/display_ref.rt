@@ -41,7 +41,8 @@ fn write_field_ref<W: fmt::Write>(
     field: &Field,
     args: ArgsRef<'_>,
 ) -> fmt::Result
-    ensures { WritesOnOk W.write_str_gives f.old result (field_text field.now.reserved field.now.name.now (args_left args.entry)) f.new }
+    ensures { WritesOnOk W.write_str_gives f.old result
+        (field_text field.now.reserved field.now.name.now (args_left args.entry)) f.new }
 {
     if field.reserved {
         return Ok(());
@@ -73,7 +74,8 @@ fn write_fields_ref<W: fmt::Write>(
     fields: &[Field],
     args: ArgsRef<'_>,
 ) -> fmt::Result
-    ensures { WritesOnOk W.write_str_gives f.old result (fields_text (map field_view fields.now) (args_left args.entry)) f.new }
+    ensures { WritesOnOk W.write_str_gives f.old result
+        (fields_text (map field_view fields.now) (args_left args.entry)) f.new }
 {
     let mut left = args;
     for field in fields {
@@ -89,7 +91,8 @@ fn write_property_ref<W: fmt::Write>(
     name: &str,
     property: Option<ArgRef<'_>>,
 ) -> fmt::Result
-    ensures { WritesOnOk W.write_str_gives f.old result (property_text name.now (property_ref_view property.entry)) f.new }
+    ensures { WritesOnOk W.write_str_gives f.old result
+        (property_text name.now (property_ref_view property.entry)) f.new }
 {
     let Some(value) = property else {
         return Ok(());
@@ -103,7 +106,8 @@ fn write_properties_ref<W: fmt::Write>(
     f: &mut fmt::Formatter<W>,
     header: HeaderRef<'_>,
 ) -> fmt::Result
-    ensures { WritesOnOk W.write_str_gives f.old result (properties_text property_names (lent_header header.entry).properties) f.new }
+    ensures { WritesOnOk W.write_str_gives f.old result
+        (properties_text property_names (lent_header header.entry).properties) f.new }
 {
     for place in 0..PROPERTIES {
         write_property_ref(f, property_name(place), header.at(place))?;

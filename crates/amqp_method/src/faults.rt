@@ -35,7 +35,8 @@ pub enum MethodFaultKind {
     /// 1: no method has this class id and this method id, or a header's class isn't 60. Reported at 0.
     #[error("unknown method")]
     UnknownMethod,
-    /// 2: a field doesn't fit, reported at its first octet, or a field table can't be read, reported at the octet that shows it.
+    /// 2: a field doesn't fit, reported at its first octet, or a field table can't be read, reported at the octet that
+    /// shows it.
     #[error("field value that can't be read or written: {0}")]
     Value(ValueFaultKind),
     /// 3: octets stand after the last field. Reported at the first of them.
@@ -70,7 +71,8 @@ impl MethodFaultKind {
 
 /// A fault, and its place: the offset in the payload.
 ///
-/// The kind comes first, so that where an answer is a method or a fault, it lies over the method's kind, and over no word of the arguments.
+/// The kind comes first, so that where an answer is a method or a fault, it lies over the method's kind, and over no
+/// word of the arguments.
 #[derive(Clone, Copy, PartialEq, Eq, Debug, Error)]
 #[error("{kind} at octet {at}")]
 pub struct MethodFault {

@@ -1,5 +1,5 @@
-//! The octets of one field, lent: each call answers what the field holds and the octets after it, and takes no memory. The faults of
-//! fields are found here alone.
+//! The octets of one field, lent: each call answers what the field holds and the octets after it, and takes no memory.
+//! The faults of fields are found here alone.
 ghost use Rattle.std.specs.Prelude.{◌≡◌, ◌+◌, ◌^◌, ◌≤◌, ◌<◌, length, drop, IfOk, IfErr};
 ghost use Rattle.byteorder.specs.Endian.{big_number};
 ghost use Rattle.amqp_method.specs.Arguments.{bit};
@@ -53,7 +53,8 @@ pub(crate) fn read_short(octets: &[u8], end: usize) -> Result<(u16, &[u8]), Meth
     requires { length octets.now ≤ end }
     ensures read { Equals (λ x. (x.0, x.1.now)) result (number_at 2 end octets.now) }
     ensures within { IfOk result (λ x. length x.1.now ≤ length octets.now) }
-    ensures number { IfOk result (λ x. (2 ≤ length octets.now) × (x.0 ≡ big_number 2 octets.now) × (x.1.now ≡ drop 2 octets.now)) }
+    ensures number { IfOk result (λ x. (2 ≤ length octets.now) × (x.0 ≡ big_number 2 octets.now)
+        × (x.1.now ≡ drop 2 octets.now)) }
     ensures ends { IfErr result (λ e. (length octets.now < 2) × (e ≡ ends_at end octets.now)) }
 {
     if octets.len() < 2 {
@@ -172,7 +173,8 @@ pub(crate) fn read_bit<'a>(
     end: usize,
 ) -> Result<(bool, &'a [u8]), MethodFault>
     requires { length octets.now ≤ end }
-    ensures read { Equals (λ x. ((bit x.0, bits_view bits.new), x.1.now)) result (bit_at bits.old.left bits.old.packed end octets.now) }
+    ensures read { Equals (λ x. ((bit x.0, bits_view bits.new), x.1.now)) result
+        (bit_at bits.old.left bits.old.packed end octets.now) }
     ensures within { IfOk result (λ x. length x.1.now ≤ length octets.now) }
 {
     if bits.left == 0 {

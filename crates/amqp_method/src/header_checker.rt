@@ -25,7 +25,8 @@ const EARLIER: usize = 5;
 #[tactic(auto, using(crate::proofs::HeaderLemmas::none_there, crate::proofs::HeaderLemmas::no_later), unfolding(crate::specs::HeaderReading::properties_at))]
 fn places_flagged(flags: u16) -> usize
     ensures within { result ≤ 14 }
-    ensures rest { (end : ℕ) (octets : List ℕ) → rest_of (properties_at (drop result property_kinds) flags end octets) ≡ Ok octets }
+    ensures rest { (end : ℕ) (octets : List ℕ) → rest_of (properties_at (drop result property_kinds) flags end octets)
+        ≡ Ok octets }
 {
     if flags == 0 {
         0
@@ -41,7 +42,8 @@ fn places_flagged(flags: u16) -> usize
 fn past_property(place: usize, flags: u16, octets: &[u8], end: usize) -> Result<&[u8], MethodFault>
     requires place { place < 14 }
     requires within { length octets.now ≤ end }
-    ensures read { Equals (λ after. after.now) result (rest_of (optional_at (has_flag (15 - place) flags) (kind_at place) end octets.now)) }
+    ensures read { Equals (λ after. after.now) result (rest_of
+        (optional_at (has_flag (15 - place) flags) (kind_at place) end octets.now)) }
     ensures within { IfOk result (λ after. length after.now ≤ length octets.now) }
 {
     let property = property_at(place);
@@ -68,10 +70,12 @@ fn past_properties(flags: u16, octets: &[u8], end: usize) -> Result<&[u8], Metho
 
 /// Checks that a payload encodes a content header, and answers the size of the body.
 ///
-/// What [`read_header`](crate::read_header) reads is what passes, and the faults are the same; but nothing is kept, and no memory taken.
+/// What [`read_header`](crate::read_header) reads is what passes, and the faults are the same; but nothing is kept, and
+/// no memory taken.
 pub fn check_header(payload: &[u8]) -> Result<u64, MethodFault>
     // What passes is encoded so.
-    ensures found { IfOk result (λ size. (properties : List (Option Argument)) × EncodesHeader (header size properties) payload.now) }
+    ensures found { IfOk result (λ size. (properties : List (Option Argument))
+        × EncodesHeader (header size properties) payload.now) }
 
     // What is encoded so passes.
     ensures only { (h : ContentHeader) → EncodesHeader h payload.now → result ≡ Ok h.body_size }

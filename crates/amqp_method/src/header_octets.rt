@@ -17,8 +17,8 @@ use crate::properties::{append_present, flags_word, lent_properties};
 use byteorder::{BigEndian, ByteOrder};
 use std::alloc::Global;
 
-/// The content header that a payload encodes: the class id 60 and the weight 0, 16 bits each, the size of the body in 64
-/// bits, the flags in 16, and the properties whose flags are set (AMQP 0-9-1 specification, section 4.2.6.1).
+/// The content header that a payload encodes: the class id 60 and the weight 0, 16 bits each, the size of the body in
+/// 64 bits, the flags in 16, and the properties whose flags are set (AMQP 0-9-1 specification, section 4.2.6.1).
 ///
 /// A fault tells the first field that can't be read, by its first octet; for a field table, the octet in it.
 ///
@@ -72,10 +72,11 @@ pub fn read_header_into(
     Ok(())
 }
 
-/// Appends the header's payload: the class id 60, the weight 0, the size of the body, the flags, and the properties that
-/// are there.
+/// Appends the header's payload: the class id 60, the weight 0, the size of the body, the flags, and the properties
+/// that are there.
 ///
-/// [`TooLong`](amqp_value::ValueFaultKind::TooLong) where a count passes 4294967295. After a fault the output is as it was.
+/// [`TooLong`](amqp_value::ValueFaultKind::TooLong) where a count passes 4294967295. After a fault the output is as it
+/// was.
 pub fn write_header(header: &Header, out: &mut Vec<u8>) -> Result<(), MethodFault>
     ensures ok { OnOk result (out.new.items ≡ out.old.items ++ plain_header (header_view header.now)) }
     // What is written is read again as this header.
@@ -93,9 +94,11 @@ pub fn write_header_parts(
     properties: &Properties,
     out: &mut Vec<u8>,
 ) -> Result<(), MethodFault>
-    ensures ok { OnOk result (out.new.items ≡ out.old.items ++ plain_header (header body_size (properties_view properties.now))) }
+    ensures ok { OnOk result (out.new.items ≡ out.old.items
+        ++ plain_header (header body_size (properties_view properties.now))) }
     // What is written is read again as this header.
-    ensures encoded { OnOk result (EncodesHeader (header body_size (properties_view properties.now)) (plain_header (header body_size (properties_view properties.now)))) }
+    ensures encoded { OnOk result (EncodesHeader (header body_size (properties_view properties.now))
+        (plain_header (header body_size (properties_view properties.now)))) }
     ensures too_long { result ≡ Err too_long → CountsPresentFit (properties_view properties.now) → ⊥ }
     ensures err { IfErr result (λ e. (e ≡ too_long) ⊎ (e ≡ out_of_memory)) }
     ensures same { OnErr result (out.new.items ≡ out.old.items) }
@@ -113,7 +116,8 @@ fn append_header(
     properties: &Properties,
     out: &mut Vec<u8>,
 ) -> Result<(), MethodFault>
-    ensures ok { OnOk result (out.new.items ≡ out.old.items ++ plain_header (header body_size (properties_view properties.now))) }
+    ensures ok { OnOk result (out.new.items ≡ out.old.items
+        ++ plain_header (header body_size (properties_view properties.now))) }
     ensures fits { OnOk result (PresentFitting (properties_view properties.now)) }
     ensures size { OnOk result (body_size < 2 ^ 64) }
     ensures too_long { result ≡ Err too_long → CountsPresentFit (properties_view properties.now) → ⊥ }

@@ -13,7 +13,8 @@ use crate::header_start::START_LENGTH;
 use crate::properties::property_at;
 use amqp_value::TableRef;
 
-/// A content header as it lies in its payload, which is known to encode it. Beside it stands [`Header`], which owns its properties.
+/// A content header as it lies in its payload, which is known to encode it. Beside it stands [`Header`], which owns its
+/// properties.
 #[derive(Clone, Copy)]
 pub struct HeaderRef<'a> {
     body_size: u64,
@@ -37,7 +38,8 @@ impl<'a> HeaderRef<'a> {
     ghost use Rattle.amqp_method.specs.Reading.{Equals};
     ghost use Rattle.amqp_value.specs.Lent.{table_ref_view};
 
-    /// The header that a payload encodes. The faults are those of [`read_header`](crate::read_header), and no memory is taken.
+    /// The header that a payload encodes. The faults are those of [`read_header`](crate::read_header), and no memory is
+    /// taken.
     pub fn new(payload: &'a [u8]) -> Result<HeaderRef<'a>, MethodFault>
         ensures exact { Equals lent_header result (header_at payload.now) }
         ensures payload { IfOk result (λ h. lent_header_payload h ≡ payload.now) }

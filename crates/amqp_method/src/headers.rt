@@ -66,8 +66,8 @@ pub(crate) fn clear_place<T: Drop>(place: &mut Option<T>)
 }
 
 impl Header {
-    /// How many octets [`write_header`](crate::write_header) writes of the header. `u64::MAX` stands for every number from
-    /// there on, which no header in memory reaches.
+    /// How many octets [`write_header`](crate::write_header) writes of the header. `u64::MAX` stands for every number
+    /// from there on, which no header in memory reaches.
     pub fn payload_length(&self) -> u64
         ensures { result ≡ capped (length (plain_header (header_view self.now))) }
     {
@@ -171,10 +171,11 @@ impl Properties {
         } = self;
     }
 
-    /// How many octets a header with these properties is written in: the same for every size of a body. `u64::MAX` stands
-    /// for every number from there on, which no properties in memory reach.
+    /// How many octets a header with these properties is written in: the same for every size of a body. `u64::MAX`
+    /// stands for every number from there on, which no properties in memory reach.
     pub fn header_length(&self) -> u64
-        ensures { (body_size : ℕ) → result ≡ capped (length (plain_header (header body_size (properties_view self.now)))) }
+        ensures { (body_size : ℕ) → result ≡ capped (length
+            (plain_header (header body_size (properties_view self.now)))) }
     {
         14_u64.saturating_add(properties_length(self))
     }

@@ -75,8 +75,8 @@ static KINDS: [Kind; 62] = [
 
 /// A kind of method, kept as its number: its place in the order of `amqp0-9-1.xml`, from 0.
 ///
-/// A method is moved word by word, and its kind alone is one octet, which a move reads with the seven beside it: it would wait for
-/// what was written in parts a moment before.
+/// A method is moved word by word, and its kind alone is one octet, which a move reads with the seven beside it: it
+/// would wait for what was written in parts a moment before.
 #[derive(Drop)]
 pub(crate) struct KindWord {
     number: u64,
@@ -97,7 +97,8 @@ impl Model for KindWord {
 impl PartialEq for KindWord {
     ghost eq = { same_kind };
 
-    ghost laws = { partial_equiv_from_equiv (and_equiv (on_equiv class_of nat_eq_equiv) (on_equiv id_of nat_eq_equiv)) };
+    ghost laws = { partial_equiv_from_equiv (and_equiv (on_equiv class_of nat_eq_equiv)
+        (on_equiv id_of nat_eq_equiv)) };
 
     fn eq(&self, other: &KindWord) -> bool {
         self.kind().is_same(other.kind())

@@ -17,8 +17,8 @@ pub fn encoded_is_read()
     ensures header { HeaderIsRead }
 {}
 
-/// The octets that are written of a method whose arguments are those of its kind and fit their fields encode it, and likewise
-/// those of a content header.
+/// The octets that are written of a method whose arguments are those of its kind and fit their fields encode it, and
+/// likewise those of a content header.
 pub fn plain_is_encoded()
     ensures method { MethodIsEncoded }
     ensures header { HeaderIsEncoded }

@@ -117,7 +117,8 @@ fn with_nothing(before: Counted, kind: FieldKind) -> Counted
 /// The value of a field, of the arguments that are left, and those after it.
 fn with_field<'a>(before: Counted, field: &Field, args: &'a [Arg]) -> (Counted, &'a [Arg])
     ensures octets { result.0.octets
-        ≡ capped (before.octets + octets_of (value_for field.now.reserved field.now.kind (args_view args.now)) before.left) }
+        ≡ capped (before.octets + octets_of (value_for field.now.reserved field.now.kind
+        (args_view args.now)) before.left) }
     ensures left { result.0.left
         ≡ bits_left_by (kind_of (value_for field.now.reserved field.now.kind (args_view args.now))) before.left }
     ensures after { args_view result.1.now ≡ left_by field.now.reserved (args_view args.now) }

@@ -1,16 +1,18 @@
-//! Methods, content headers and messages of AMQP 0-9-1 (`amqp0-9-1.xml`, and the specification, sections 2.3.5 and 4.2).
+//! Methods, content headers and messages of AMQP 0-9-1 (`amqp0-9-1.xml`, and the specification, sections 2.3.5 and
+//! 4.2).
 //!
-//! A method payload is the class id and the method id, 16 bits each, and the arguments in order: numbers of 1, 2, 4 and 8
-//! octets, short and long strings, field tables, and bits, of which a run shares octets, the lowest bit first. A content
-//! header payload is the class id 60, the weight 0, the size of the body in 64 bits, the flags in 16, and the properties
-//! whose flags are set. Numbers are big-endian.
+//! A method payload is the class id and the method id, 16 bits each, and the arguments in order: numbers of 1, 2, 4 and
+//! 8 octets, short and long strings, field tables, and bits, of which a run shares octets, the lowest bit first. A
+//! content header payload is the class id 60, the weight 0, the size of the body in 64 bits, the flags in 16, and the
+//! properties whose flags are set. Numbers are big-endian.
 //!
-//! [`read_method`] and [`read_header`] make values that own what they hold. [`MethodRef`] and [`HeaderRef`] see the same in
-//! the payload, where it lies, and take no memory; [`check_method`] and [`check_header`] only look for a fault.
+//! [`read_method`] and [`read_header`] make values that own what they hold. [`MethodRef`] and [`HeaderRef`] see the
+//! same in the payload, where it lies, and take no memory; [`check_method`] and [`check_header`] only look for a fault.
 //!
-//! The definitions of `specs/` say what the functions are proved to do: `Methods` is the table of the methods, `Encoding`
-//! and `Properties` have which octets encode a method and a header, `Plain` the one encoding that is written, `FirstFault`
-//! the first field that can't be read, with its place, and `Reading` and `HeaderReading` reading as functions of octets.
+//! The definitions of `specs/` say what the functions are proved to do: `Methods` is the table of the methods,
+//! `Encoding` and `Properties` have which octets encode a method and a header, `Plain` the one encoding that is
+//! written, `FirstFault` the first field that can't be read, with its place, and `Reading` and `HeaderReading` reading
+//! as functions of octets.
 #![tactic(auto)]
 
 mod arg_ref;

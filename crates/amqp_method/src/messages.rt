@@ -76,9 +76,11 @@ impl Message {
         properties: Properties,
         body: Vec<u8>,
     ) -> Result<Message, (Method, Properties, Vec<u8>)>
-        ensures ok { IfOk result (λ m. message_view m ≡ letter_with (method_view method) (properties_view properties) body.items) }
+        ensures ok { IfOk result (λ m. message_view m ≡ letter_with (method_view method)
+            (properties_view properties) body.items) }
         ensures when { IsOk result ↔ (has_content (method_view method).kind ≡ true) }
-        ensures back { IfErr result (λ p. (method_view p.0 ≡ method_view method) × (properties_view p.1 ≡ properties_view properties) × (p.2.items ≡ body.items)) }
+        ensures back { IfErr result (λ p. (method_view p.0 ≡ method_view method)
+            × (properties_view p.1 ≡ properties_view properties) × (p.2.items ≡ body.items)) }
     {
         if !method.has_content() {
             return Err((method, properties, body));
@@ -112,7 +114,8 @@ impl Message {
     /// The properties and the body of the content, if the message has one.
     pub fn content_parts(&self) -> Option<(&Properties, &[u8])>
         ensures { MatchOption result ((message_view self.now).properties ≡ None)
-            (λ p. ((message_view self.now).properties ≡ Some (properties_view p.0.now)) × ((message_view self.now).body ≡ p.1.now)) }
+            (λ p. ((message_view self.now).properties ≡ Some (properties_view p.0.now))
+            × ((message_view self.now).body ≡ p.1.now)) }
     {
         match &self.form {
             Form::Plain(_) => None,
@@ -127,7 +130,8 @@ impl Message {
     pub fn into_parts(self) -> (Method, Option<(Properties, Vec<u8>)>)
         ensures method { method_view result.0 ≡ (message_view self).call }
         ensures content { MatchOption result.1 ((message_view self).properties ≡ None)
-            (λ p. ((message_view self).properties ≡ Some (properties_view p.0)) × ((message_view self).body ≡ p.1.items)) }
+            (λ p. ((message_view self).properties ≡ Some (properties_view p.0))
+            × ((message_view self).body ≡ p.1.items)) }
     {
         let form = self.form;
         match form {

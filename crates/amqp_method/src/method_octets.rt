@@ -18,8 +18,8 @@ use std::alloc::Global;
 /// The method that a payload encodes: the class id and the method id, 16 bits each, and the arguments (AMQP 0-9-1
 /// specification, section 2.3.5.2).
 ///
-/// Free bits and reserved fields are read in any value and dropped. A fault tells the first field that can't be read, by
-/// its first octet; for a field table, the octet in it.
+/// Free bits and reserved fields are read in any value and dropped. A fault tells the first field that can't be read,
+/// by its first octet; for a field table, the octet in it.
 pub fn read_method(alloc: Global, octets: &[u8]) -> Result<Method, MethodFault>
     // What is read is encoded so.
     ensures found { IfOk result (λ m. EncodesMethod (method_view m) octets.now) }
@@ -50,10 +50,11 @@ fn exact_method(alloc: Global, octets: &[u8]) -> Result<Method, MethodFault>
     Ok(Method::new(lent.kind(), args))
 }
 
-/// Appends the method's payload: the class id, the method id and the arguments. Free bits are 0, and reserved fields are
-/// zero or empty.
+/// Appends the method's payload: the class id, the method id and the arguments. Free bits are 0, and reserved fields
+/// are zero or empty.
 ///
-/// [`TooLong`](amqp_value::ValueFaultKind::TooLong) where a count passes 4294967295. After a fault the output is as it was.
+/// [`TooLong`](amqp_value::ValueFaultKind::TooLong) where a count passes 4294967295. After a fault the output is as it
+/// was.
 pub fn write_method(method: &Method, out: &mut Vec<u8>) -> Result<(), MethodFault>
     ensures ok { OnOk result (out.new.items ≡ out.old.items ++ plain_method (method_view method.now)) }
     // What is written is read again as this method.

@@ -15,7 +15,8 @@ use std::alloc::Global;
 /// How many octets stand before the arguments: the class id and the method id.
 const IDS_LENGTH: usize = 4;
 
-/// A method as it lies in its payload, which is known to encode it. Beside it stands [`Method`], which owns its arguments.
+/// A method as it lies in its payload, which is known to encode it. Beside it stands [`Method`], which owns its
+/// arguments.
 #[derive(Clone, Copy)]
 pub struct MethodRef<'a> {
     kind: Kind,
@@ -36,7 +37,8 @@ impl<'a> MethodRef<'a> {
     ghost use Rattle.amqp_method.specs.Reading.{Equals, method_at};
     ghost use Rattle.amqp_method.specs.Views.{args_view};
 
-    /// The method that a payload encodes. The faults are those of [`read_method`](crate::read_method), and no memory is taken.
+    /// The method that a payload encodes. The faults are those of [`read_method`](crate::read_method), and no memory is
+    /// taken.
     pub fn new(payload: &'a [u8]) -> Result<MethodRef<'a>, MethodFault>
         ensures exact { Equals lent_call result (method_at payload.now) }
         ensures payload { IfOk result (λ m. lent_payload m ≡ payload.now) }

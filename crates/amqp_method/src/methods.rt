@@ -161,8 +161,8 @@ impl Method {
         (kind.kind(), args)
     }
 
-    /// How many octets [`write_method`](crate::write_method) writes of the method. `u64::MAX` stands for every number from
-    /// there on, which no method in memory reaches.
+    /// How many octets [`write_method`](crate::write_method) writes of the method. `u64::MAX` stands for every number
+    /// from there on, which no method in memory reaches.
     pub fn payload_length(&self) -> u64
         ensures { result ≡ capped (length (plain_method (method_view self.now))) }
     {

@@ -53,8 +53,8 @@ fn keep_owned(args: &mut Vec<Arg>, reserved: bool, arg: ArgRef<'_>) -> Result<()
 }
 
 impl<'a> ArgsRef<'a> {
-    /// Builds the value of the first field, which is of this kind, and adds it, unless the field is reserved. The answer
-    /// is what is left after it.
+    /// Builds the value of the first field, which is of this kind, and adds it, unless the field is reserved. The
+    /// answer is what is left after it.
     #[inline(always)]
     fn own_kind(
         self,

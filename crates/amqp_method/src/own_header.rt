@@ -84,7 +84,8 @@ fn long_long_in(value: Option<ArgRef<'_>>) -> Option<u64>
     value?.as_long_long()
 }
 
-/// Each builds the property at a place, whose octets are the first, where it is kept. The answer is the octets after it.
+/// Each builds the property at a place, whose octets are the first, where it is kept. The answer is the octets after
+/// it.
 impl<'a> HeaderRef<'a> {
     #[inline(always)]
     fn text(
@@ -191,8 +192,8 @@ impl<'a> HeaderRef<'a> {
         Ok(())
     }
 
-    /// Makes another header the same as this one, with memory of its own: what it was before is gone. Nothing is checked
-    /// again, so it fails for memory alone, after which the header has some of the properties.
+    /// Makes another header the same as this one, with memory of its own: what it was before is gone. Nothing is
+    /// checked again, so it fails for memory alone, after which the header has some of the properties.
     ///
     /// A header is large, so who keeps it in a box builds it there.
     pub fn read_into(self, alloc: Global, header: &mut Header) -> Result<(), OutOfMemory>

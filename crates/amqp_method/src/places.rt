@@ -64,7 +64,8 @@ impl Arg {
 
     /// The short string, if it is one.
     pub fn as_short_str(&self) -> Option<&ShortStr>
-        ensures { MatchOption result (short_string_of (arg_view self.now) ≡ None) (λ text. short_string_of (arg_view self.now) ≡ Some text.now) }
+        ensures { MatchOption result (short_string_of (arg_view self.now) ≡ None)
+            (λ text. short_string_of (arg_view self.now) ≡ Some text.now) }
     {
         if let Arg::ShortStr(text) = self {
             return Some(text);
@@ -74,7 +75,8 @@ impl Arg {
 
     /// The octets of the long string, if it is one.
     pub fn as_long_str(&self) -> Option<&[u8]>
-        ensures { MatchOption result (long_string_of (arg_view self.now) ≡ None) (λ text. long_string_of (arg_view self.now) ≡ Some text.now) }
+        ensures { MatchOption result (long_string_of (arg_view self.now) ≡ None)
+            (λ text. long_string_of (arg_view self.now) ≡ Some text.now) }
     {
         if let Arg::LongStr(text) = self {
             return Some(text.as_slice());
@@ -84,7 +86,8 @@ impl Arg {
 
     /// The table, if it is one.
     pub fn as_table(&self) -> Option<&Table>
-        ensures { MatchOption result (table_of (arg_view self.now) ≡ None) (λ t. table_of (arg_view self.now) ≡ Some (table_view t.now)) }
+        ensures { MatchOption result (table_of (arg_view self.now) ≡ None)
+            (λ t. table_of (arg_view self.now) ≡ Some (table_view t.now)) }
     {
         if let Arg::Table(table) = self {
             return Some(table);
@@ -188,7 +191,8 @@ impl Method {
     /// The bit at a place, if a bit stands there.
     pub fn bit_at(&self, place: usize) -> Option<bool>
         ensures found { result ≡ found bit_of (argument_at place (method_view self.now).args) }
-        ensures bit { MatchOption result (bit_at place (method_view self.now) ≡ false) (λ holds. bit_at place (method_view self.now) ≡ holds) }
+        ensures bit { MatchOption result (bit_at place (method_view self.now) ≡ false)
+            (λ holds. bit_at place (method_view self.now) ≡ holds) }
     {
         self.arg_at(place)?.as_bit()
     }
@@ -227,7 +231,8 @@ impl Method {
 
     /// The short string at a place, if one stands there.
     pub fn short_str_at(&self, place: usize) -> Option<&ShortStr>
-        ensures found { MatchOption result (found short_string_of (argument_at place (method_view self.now).args) ≡ None)
+        ensures found { MatchOption result (found short_string_of (argument_at place (method_view self.now).args)
+            ≡ None)
             (λ text. found short_string_of (argument_at place (method_view self.now).args) ≡ Some text.now) }
         ensures octets { IfSome result (λ text. octets_at place (method_view self.now) ≡ text.now) }
     {

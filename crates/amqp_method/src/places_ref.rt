@@ -110,7 +110,8 @@ impl<'a> MethodRef<'a> {
     /// The bit at a place, if a bit stands there.
     pub fn bit_at(self, place: usize) -> Option<bool>
         ensures found { result ≡ found bit_of (argument_at place (lent_call self.entry).args) }
-        ensures bit { MatchOption result (bit_at place (lent_call self.entry) ≡ false) (λ holds. bit_at place (lent_call self.entry) ≡ holds) }
+        ensures bit { MatchOption result (bit_at place (lent_call self.entry) ≡ false)
+            (λ holds. bit_at place (lent_call self.entry) ≡ holds) }
     {
         self.arg_at(place)?.as_bit()
     }
@@ -149,7 +150,8 @@ impl<'a> MethodRef<'a> {
 
     /// The short string at a place, if one stands there.
     pub fn short_str_at(self, place: usize) -> Option<&'a [u8]>
-        ensures found { MatchOption result (found short_string_of (argument_at place (lent_call self.entry).args) ≡ None)
+        ensures found { MatchOption result (found short_string_of (argument_at place (lent_call self.entry).args)
+            ≡ None)
             (λ text. found short_string_of (argument_at place (lent_call self.entry).args) ≡ Some text.now) }
         ensures octets { IfSome result (λ text. octets_at place (lent_call self.entry) ≡ text.now) }
     {

@@ -11,7 +11,8 @@ use crate::table::Wanted;
 const CHANNEL: u16 = 20;
 
 impl Method {
-    /// Whether the server replies to the method: some method answers its kind, and its argument no-wait, if it has one, is
+    /// Whether the server replies to the method: some method answers its kind, and its argument no-wait, if it has one,
+    /// is
     /// 0. The classes connection and channel have answers of their own, and no requests.
     #[inline(always)]
     pub fn is_request(&self) -> bool

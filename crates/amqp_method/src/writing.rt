@@ -189,11 +189,14 @@ fn append_value<'a>(
     run: BitRun,
     out: &mut Vec<u8>,
 ) -> Result<(BitRun, &'a [Arg]), MethodFault>
-    ensures ok { OnOk result (out.new.items ≡ out.old.items ++ written_for (value_for field.now.reserved field.now.kind (args_view args.now)) (gathered run)) }
-    ensures after { IfOk result (λ x. gathered x.0 ≡ gathered_after (value_for field.now.reserved field.now.kind (args_view args.now)) (gathered run)) }
+    ensures ok { OnOk result (out.new.items ≡ out.old.items
+        ++ written_for (value_for field.now.reserved field.now.kind (args_view args.now)) (gathered run)) }
+    ensures after { IfOk result (λ x. gathered x.0 ≡ gathered_after
+        (value_for field.now.reserved field.now.kind (args_view args.now)) (gathered run)) }
     ensures left { IfOk result (λ x. args_view x.1.now ≡ left_by field.now.reserved (args_view args.now)) }
     ensures fits { OnOk result (Fitting (value_for field.now.reserved field.now.kind (args_view args.now))) }
-    ensures too_long { result ≡ Err too_long → CountFits (value_for field.now.reserved field.now.kind (args_view args.now)) → ⊥ }
+    ensures too_long { result ≡ Err too_long → CountFits
+        (value_for field.now.reserved field.now.kind (args_view args.now)) → ⊥ }
     ensures err { IfErr result (λ e. (e ≡ too_long) ⊎ (e ≡ out_of_memory)) }
     ensures kept { OnErr result (take (length out.old.items) out.new.items ≡ out.old.items) }
 {
@@ -215,9 +218,11 @@ pub(crate) fn append_args(
     args: &[Arg],
     out: &mut Vec<u8>,
 ) -> Result<(), MethodFault>
-    ensures ok { OnOk result (out.new.items ≡ out.old.items ++ written_values (complete (map field_view fields.now) (args_view args.now)) none_gathered) }
+    ensures ok { OnOk result (out.new.items ≡ out.old.items
+        ++ written_values (complete (map field_view fields.now) (args_view args.now)) none_gathered) }
     ensures fits { OnOk result (AllFitting (complete (map field_view fields.now) (args_view args.now))) }
-    ensures too_long { result ≡ Err too_long → CountsAllFit (complete (map field_view fields.now) (args_view args.now)) → ⊥ }
+    ensures too_long { result ≡ Err too_long → CountsAllFit (complete (map field_view fields.now) (args_view args.now))
+        → ⊥ }
     ensures err { IfErr result (λ e. (e ≡ too_long) ⊎ (e ≡ out_of_memory)) }
     ensures kept { OnErr result (take (length out.old.items) out.new.items ≡ out.old.items) }
 {

@@ -75,7 +75,8 @@ abbrev mutual
   pub EncodesItems : Items → List ℕ → Type 0
   EncodesItems no_items octets = octets ≡ []
   EncodesItems (item value items) octets =
-      (field rest : List ℕ) × (octets ≡ (tag_octet value ∷ field) ++ rest) × EncodesField value field × EncodesItems items rest
+      (field rest : List ℕ) × (octets ≡ (tag_octet value ∷ field) ++ rest) × EncodesField value field
+      × EncodesItems items rest
 
   -- names and tags with values, one after the other
   pub EncodesPairs : Pairs → List ℕ → Type 0

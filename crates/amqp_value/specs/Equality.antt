@@ -58,7 +58,8 @@ scalar-is (long_long_int a) (long_long_int b) e = ap long_long_int (signed-is a 
 scalar-is (float a) (float b) e = ap float (octets-are a b e)
 scalar-is (double a) (double b) e = ap double (octets-are a b e)
 scalar-is (decimal scale a) (decimal other b) e =
-    ap (λ s. decimal s a) (eqb-true scale other (first-true (scale == other) (a == b) e)) ∙ ap (decimal other) (eqb-true a b (second-true (scale == other) (a == b) e))
+    ap (λ s. decimal s a) (eqb-true scale other (first-true (scale == other) (a == b) e))
+    ∙ ap (decimal other) (eqb-true a b (second-true (scale == other) (a == b) e))
 scalar-is (timestamp a) (timestamp b) e = ap timestamp (eqb-true a b e)
 scalar-is void void e = refl
 scalar-is s t e = absurd (true≢false (sym e))
@@ -102,7 +103,8 @@ mutual
   pairs-are no_pairs no_pairs e = refl
   pairs-are (pair name a pairs) (pair other b others) e =
       let later = second-true (bytes_eq name other) (same_datum a b && same_pairs pairs others) e in
-      ap (λ n. pair n a pairs) (octets-are name other (first-true (bytes_eq name other) (same_datum a b && same_pairs pairs others) e))
+      ap (λ n. pair n a pairs) (octets-are name other (first-true (bytes_eq name other)
+      (same_datum a b && same_pairs pairs others) e))
       ∙ ap (λ d. pair other d pairs) (datum-is a b (first-true (same_datum a b) (same_pairs pairs others) later))
       ∙ ap (pair other b) (pairs-are pairs others (second-true (same_datum a b) (same_pairs pairs others) later))
   pairs-are a b e = absurd (true≢false (sym e))
@@ -122,14 +124,17 @@ mutual
   pub pairs-self : (a : Pairs) → same_pairs a a ≡ true
   pairs-self no_pairs = refl
   pairs-self (pair name a pairs) =
-      both (bytes_eq name name) (same_datum a a && same_pairs pairs pairs) (octets-self name) (both (same_datum a a) (same_pairs pairs pairs) (datum-self a) (pairs-self pairs))
+      both (bytes_eq name name) (same_datum a a && same_pairs pairs pairs) (octets-self name)
+      (both (same_datum a a) (same_pairs pairs pairs) (datum-self a) (pairs-self pairs))
 
 -- ---- an equivalence
 
-pub equivalence : {K : Type 0} (same : K → K → Bool) → ((x y : K) → same x y ≡ true → x ≡ y) → ((x : K) → same x x ≡ true) → IsEquivalence same
+pub equivalence : {K : Type 0} (same : K → K → Bool) → ((x y : K) → same x y ≡ true → x ≡ y)
+    → ((x : K) → same x x ≡ true) → IsEquivalence same
 equivalence same is self = record {
   refl = self;
-  symm = λ x y. both_ways (same x y) (same y x) (λ e. subst (λ z. same z x ≡ true) (is x y e) (self x)) (λ e. subst (λ z. same z y ≡ true) (is y x e) (self y));
+  symm = λ x y. both_ways (same x y) (same y x) (λ e. subst (λ z. same z x ≡ true) (is x y e) (self x))
+      (λ e. subst (λ z. same z y ≡ true) (is y x e) (self y));
   congr = λ x y z e. ap (λ w. same w z) (is x y e);
 }
 

@@ -38,7 +38,8 @@ abbrev pub EncodesPairsWithin : (levels : ℕ) → Pairs → List ℕ → Type 0
 EncodesPairsWithin levels pairs prefix = EncodesPairs pairs prefix × (pairs_depth pairs ≤ levels)
 
 mutual
-  -- The octets of an array, the first of which stands at `at`, with so many levels left: whole values, and then one at fault.
+  -- The octets of an array, the first of which stands at `at`, with so many levels left: whole values, and then one at
+  -- fault.
   pub data FaultInItems : ℕ → ℕ → List ℕ → ValueFault → Type 0 where
     in_item : {levels at : ℕ} {octets : List ℕ} {fault : ValueFault} → (items : Items) (prefix rest : List ℕ)
         → octets ≡ prefix ++ rest → EncodesItemsWithin levels items prefix → 0 < length rest
@@ -49,7 +50,8 @@ mutual
     in_name : {levels at : ℕ} {octets : List ℕ} {fault : ValueFault} → (pairs : Pairs) (prefix rest : List ℕ)
         → octets ≡ prefix ++ rest → EncodesPairsWithin levels pairs prefix → PassesName rest
         → fault ≡ fault_at (at + length prefix) PassesItsEnd → FaultInPairs levels at octets fault
-    in_value : {levels at : ℕ} {octets : List ℕ} {fault : ValueFault} → (pairs : Pairs) (name prefix first rest : List ℕ)
+    in_value : {levels at : ℕ} {octets : List ℕ} {fault : ValueFault}
+        → (pairs : Pairs) (name prefix first rest : List ℕ)
         → octets ≡ prefix ++ (first ++ rest) → EncodesPairsWithin levels pairs prefix → EncodesShortString name first
         → FaultInValue levels (at + length prefix + length first) rest fault → FaultInPairs levels at octets fault
 
@@ -60,26 +62,32 @@ mutual
     unknown_tag : {levels at : ℕ} {octets : List ℕ} {fault : ValueFault} → (octet : ℕ) (rest : List ℕ)
         → octets ≡ octet ∷ rest → IsNoTag octet → fault ≡ fault_at at UnknownTag → FaultInValue levels at octets fault
     too_deep : {levels at : ℕ} {octets : List ℕ} {fault : ValueFault} → (octet : ℕ) (rest : List ℕ)
-        → octets ≡ octet ∷ rest → IsNestingTag octet → levels ≡ 0 → fault ≡ fault_at at TooDeep → FaultInValue levels at octets fault
+        → octets ≡ octet ∷ rest → IsNestingTag octet → levels ≡ 0 → fault ≡ fault_at at TooDeep
+        → FaultInValue levels at octets fault
     passes : {levels at : ℕ} {octets : List ℕ} {fault : ValueFault} → (octet : ℕ) (rest : List ℕ) (tag : ScalarTag)
-        → octets ≡ octet ∷ rest → tag_of octet ≡ Some (Fixed tag) → length rest < width_of tag → fault ≡ fault_at (at + 1) PassesItsEnd
+        → octets ≡ octet ∷ rest → tag_of octet ≡ Some (Fixed tag) → length rest < width_of tag
+        → fault ≡ fault_at (at + 1) PassesItsEnd
         → FaultInValue levels at octets fault
     text_passes : {levels at : ℕ} {octets : List ℕ} {fault : ValueFault} → (octet : ℕ) (rest : List ℕ)
         → octets ≡ octet ∷ rest → IsTextTag octet → PassesCounted rest → fault ≡ fault_at (at + 1) PassesItsEnd
         → FaultInValue levels at octets fault
     count_passes : {levels at : ℕ} {octets : List ℕ} {fault : ValueFault} → (octet : ℕ) (rest : List ℕ)
-        → octets ≡ octet ∷ rest → IsNestingTag octet → 0 < levels → PassesCounted rest → fault ≡ fault_at (at + 1) PassesItsEnd
+        → octets ≡ octet ∷ rest → IsNestingTag octet → 0 < levels → PassesCounted rest
+        → fault ≡ fault_at (at + 1) PassesItsEnd
         → FaultInValue levels at octets fault
     in_array : {levels at : ℕ} {octets : List ℕ} {fault : ValueFault} → (inner : ℕ) (field body after : List ℕ)
-        → octets ≡ 65 ∷ (field ++ after) → EncodesLongString body field → levels ≡ suc inner → FaultInItems inner (at + 5) body fault
+        → octets ≡ 65 ∷ (field ++ after) → EncodesLongString body field → levels ≡ suc inner
+        → FaultInItems inner (at + 5) body fault
         → FaultInValue levels at octets fault
     in_table : {levels at : ℕ} {octets : List ℕ} {fault : ValueFault} → (inner : ℕ) (field body after : List ℕ)
-        → octets ≡ 70 ∷ (field ++ after) → EncodesLongString body field → levels ≡ suc inner → FaultInPairs inner (at + 5) body fault
+        → octets ≡ 70 ∷ (field ++ after) → EncodesLongString body field → levels ≡ suc inner
+        → FaultInPairs inner (at + 5) body fault
         → FaultInValue levels at octets fault
 
 -- The fault of octets no prefix of which encodes a table. The octets pass the input only at the outer count.
 pub data FirstFault (octets : List ℕ) (fault : ValueFault) : Type 0 where
   ends : PassesCounted octets → fault ≡ fault_at 0 Ends → FirstFault octets fault
   inside :
-      (field body after : List ℕ) → octets ≡ field ++ after → EncodesLongString body field → FaultInPairs 31 4 body fault
+      (field body after : List ℕ) → octets ≡ field ++ after → EncodesLongString body field
+      → FaultInPairs 31 4 body fault
       → FirstFault octets fault

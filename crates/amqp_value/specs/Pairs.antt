@@ -19,10 +19,12 @@ is_table (byte_array octets) = false
 is_table (array items) = false
 is_table (table pairs) = true
 
--- a table in which the value stands under the name: in place of that of the first pair with the name, or else in a pair after the last
+-- a table in which the value stands under the name: in place of that of the first pair with the name, or else in a pair
+-- after the last
 abbrev pub with_value : Pairs → List ℕ → Datum → Pairs
 with_value no_pairs name value = pair name value no_pairs
-with_value (pair first held pairs) name value = cond (bytes_eq first name) (pair first value pairs) (pair first held (with_value pairs name value))
+with_value (pair first held pairs) name value = cond (bytes_eq first name) (pair first value pairs)
+    (pair first held (with_value pairs name value))
 
 -- a table without the first pair with the name
 abbrev pub without : List ℕ → Pairs → Pairs

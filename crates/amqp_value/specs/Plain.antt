@@ -42,7 +42,8 @@ abbrev mutual
 
   pub plain_pairs : Pairs → List ℕ
   plain_pairs no_pairs = []
-  plain_pairs (pair name value pairs) = plain_short_string name ++ ((tag_octet value ∷ plain_field value) ++ plain_pairs pairs)
+  plain_pairs (pair name value pairs) = plain_short_string name
+      ++ ((tag_octet value ∷ plain_field value) ++ plain_pairs pairs)
 
 abbrev pub plain_value : Datum → List ℕ
 plain_value value = tag_octet value ∷ plain_field value

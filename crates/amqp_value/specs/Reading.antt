@@ -59,7 +59,8 @@ counted end octets =
 abbrev pub name_at : Reader (List ℕ)
 name_at end [] = Err (fault_here end [] PassesItsEnd)
 name_at end (n ∷ octets) =
-    if nat_lt (length octets) n then Err (fault_here end (n ∷ octets) PassesItsEnd) else Ok (take n octets, drop n octets)
+    if nat_lt (length octets) n then Err (fault_here end (n ∷ octets) PassesItsEnd)
+    else Ok (take n octets, drop n octets)
 
 abbrev pub tag_of : ℕ → Option Tag
 tag_of octet =
@@ -146,7 +147,8 @@ under name read = do
   value ← read
   Ok ((name, value.0), value.1)
 
--- What stands after a tag, the first of the octets. The values in an array or a table are read by inner, if any may be there.
+-- What stands after a tag, the first of the octets. The values in an array or a table are read by inner, if any may be
+-- there.
 unfoldable pub after_tag : Option (Reader Datum) → ℕ → List ℕ → List ℕ → Option Tag → Read Datum
 after_tag inner end octets rest None = Err (fault_here end octets UnknownTag)
 after_tag inner end octets rest (Some (Fixed tag)) = do

@@ -40,5 +40,6 @@ abbrev mutual
 
   pub same_pairs : Pairs → Pairs → Bool
   same_pairs no_pairs no_pairs = true
-  same_pairs (pair name a pairs) (pair other b others) = bytes_eq name other && (same_datum a b && same_pairs pairs others)
+  same_pairs (pair name a pairs) (pair other b others) = bytes_eq name other
+      && (same_datum a b && same_pairs pairs others)
   same_pairs pairs others = false

@@ -22,10 +22,11 @@ impl<'a> ArrayRef<'a> {
     ghost use Rattle.amqp_value.specs.Values.{items_of};
     ghost use Rattle.amqp_value.specs.Whole.{items_encoded};
 
-    /// The array whose values all the octets are, without the count that stands before them in a table. Faults are those of
-    /// [`check_table`](crate::check_table): what doesn't fit the octets passes the array's end.
+    /// The array whose values all the octets are, without the count that stands before them in a table. Faults are
+    /// those of [`check_table`](crate::check_table): what doesn't fit the octets passes the array's end.
     pub fn new(octets: &'a [u8]) -> Result<ArrayRef<'a>, ValueFault>
-        ensures exact { Equals (λ a. items_encoded (body_of a)) result (elements (value_at 31) (length octets.now) octets.now) }
+        ensures exact { Equals (λ a. items_encoded (body_of a)) result
+            (elements (value_at 31) (length octets.now) octets.now) }
         ensures octets { IfOk result (λ a. body_of a ≡ octets.now) }
     {
         check_items(octets, octets.len(), MAX_DEPTH - 1)?;

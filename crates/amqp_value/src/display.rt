@@ -53,8 +53,8 @@ fn write_quoted_octet<W: fmt::Write>(f: &mut fmt::Formatter<W>, octet: u8) -> fm
     write_escape(f, octet)
 }
 
-/// Writes octets without memory of its own: those from 20 to 7e but the quote and the backslash as their characters, every
-/// other one as `\x` and two digits.
+/// Writes octets without memory of its own: those from 20 to 7e but the quote and the backslash as their characters,
+/// every other one as `\x` and two digits.
 fn write_escaped<W: fmt::Write>(f: &mut fmt::Formatter<W>, octets: &[u8]) -> fmt::Result
     ensures { WritesOnOk W.write_str_gives f.old result (escaped octets.now) f.new }
 {
@@ -112,7 +112,8 @@ pub(crate) fn write_decimal<W: fmt::Write>(
     scale: u8,
     number: u32,
 ) -> fmt::Result
-    ensures { WritesOnOk W.write_str_gives f.old result (codes "D:" ++ (decimal scale ++ (codes ":" ++ decimal number))) f.new }
+    ensures { WritesOnOk W.write_str_gives f.old result
+        (codes "D:" ++ (decimal scale ++ (codes ":" ++ decimal number))) f.new }
 {
     write!(f, "D:{scale}:{number}")
 }
@@ -226,7 +227,8 @@ fn write_pairs<W: fmt::Write>(f: &mut fmt::Formatter<W>, pairs: &[(ShortStr, Val
 impl fmt::Display for ShortStr {
     ghost output = { λ text. Some (escaped text) };
 
-    /// The octets from 20 to 7e but the quote and the backslash as their characters, every other one as `\x` and two digits.
+    /// The octets from 20 to 7e but the quote and the backslash as their characters, every other one as `\x` and two
+    /// digits.
     fn fmt<W: fmt::Write>(&self, f: &mut fmt::Formatter<W>) -> fmt::Result {
         write_escaped(f, self.as_bytes())
     }

@@ -45,7 +45,8 @@ impl ValueFaultKind {
 
 /// A fault, and the place of the octet that shows it, counted from 0.
 ///
-/// The kind comes first, so that where an answer is a table or a fault, it lies over no word that was written just before.
+/// The kind comes first, so that where an answer is a table or a fault, it lies over no word that was written just
+/// before.
 #[derive(Clone, Copy, Debug, PartialEq, Eq, Error)]
 #[error("{kind} at octet {at}")]
 pub struct ValueFault {

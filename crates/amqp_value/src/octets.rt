@@ -13,8 +13,8 @@ use std::convert::AsSlice;
 use std::fmt;
 use std::marker::Model;
 
-/// How many octets stand in place, without an allocation, which with their length are three words: most names of headers, and
-/// many of their texts, have fewer.
+/// How many octets stand in place, without an allocation, which with their length are three words: most names of
+/// headers, and many of their texts, have fewer.
 pub(crate) const IN_PLACE: usize = 23;
 
 /// How many octets three words have.
@@ -26,14 +26,15 @@ const WORD: usize = 8;
 /// How many octets two words have.
 const TWO_WORDS: usize = 16;
 
-/// Any octets: a long string or a byte array of a table. At most 23 lie in place and take no memory of their own when they are read or copied.
+/// Any octets: a long string or a byte array of a table. At most 23 lie in place and take no memory of their own when
+/// they are read or copied.
 #[derive(Drop)]
 pub struct Octets {
     store: Store,
 }
 
-/// In place the last octet is how many of the others count; those after them say nothing. They begin at a word, so that they are moved
-/// word by word.
+/// In place the last octet is how many of the others count; those after them say nothing. They begin at a word, so that
+/// they are moved word by word.
 #[derive(Drop)]
 enum Store {
     InPlace { word: [u64; 0], octets: [u8; ROOM] },
@@ -151,8 +152,8 @@ impl Octets {
         Ok(Octets { store })
     }
 
-    /// The first `len` octets, of which there may be more. Where there are, the room in place is filled with them, which
-    /// is one copy of a fixed size.
+    /// The first `len` octets, of which there may be more. Where there are, the room in place is filled with them,
+    /// which is one copy of a fixed size.
     #[inline(always)]
     pub(crate) fn prefix(alloc: Global, octets: &[u8], len: usize) -> Result<Octets, AllocError>
         requires within { len ≤ length octets.now }
@@ -207,8 +208,8 @@ impl Octets {
 
 /// Room that begins with the first `len` octets, and ends with their number.
 ///
-/// Few are copied as they are moved later, in words. Their number is written as a word too: a word that was written in parts is waited
-/// for when it is read.
+/// Few are copied as they are moved later, in words. Their number is written as a word too: a word that was written in
+/// parts is waited for when it is read.
 #[inline(always)]
 fn in_place(octets: &[u8], len: usize) -> [u8; ROOM]
     requires within { len ≤ length octets.now }

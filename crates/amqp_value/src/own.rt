@@ -18,8 +18,8 @@ use byteorder::{BigEndian, ByteOrder};
 use std::alloc::Global;
 
 /// How many octets a pair of a table, and a value of an array, are expected to have. Room for as many as the
-/// octets then hold is made at once, but for no more than a few, since a long value looks like many. What is left over is
-/// given back, so a table takes the memory of its pairs and values and no more.
+/// octets then hold is made at once, but for no more than a few, since a long value looks like many. What is left over
+/// is given back, so a table takes the memory of its pairs and values and no more.
 const EXPECTED_PAIR: usize = 12;
 
 const EXPECTED_VALUE: usize = 8;
@@ -70,7 +70,8 @@ fn scalar_value(tag: ScalarTag, field: &[u8]) -> Value
 fn push_one(pairs: &mut Vec<(ShortStr, Value)>, name: ShortStr, tag: ScalarTag, field: &[u8])
     requires room { vec_len pairs.old < vec_capacity pairs.old }
     requires width { length field.now ≡ width_of tag }
-    ensures { map named_view pairs.new.items ≡ map named_view pairs.old.items ++ (name, scalar (scalar_of tag field.now)) ∷ [] }
+    ensures { map named_view pairs.new.items ≡ map named_view pairs.old.items
+        ++ (name, scalar (scalar_of tag field.now)) ∷ [] }
 {
     pairs.push_reserved((name, scalar_value(tag, field)));
 }
@@ -82,7 +83,8 @@ fn push_one(pairs: &mut Vec<(ShortStr, Value)>, name: ShortStr, tag: ScalarTag, 
 fn push_scalar(pairs: &mut Vec<(ShortStr, Value)>, name: ShortStr, tag: ScalarTag, field: &[u8])
     requires room { vec_len pairs.old < vec_capacity pairs.old }
     requires width { length field.now ≡ width_of tag }
-    ensures { map named_view pairs.new.items ≡ map named_view pairs.old.items ++ (name, scalar (scalar_of tag field.now)) ∷ [] }
+    ensures { map named_view pairs.new.items ≡ map named_view pairs.old.items
+        ++ (name, scalar (scalar_of tag field.now)) ∷ [] }
 {
     match tag {
         ScalarTag::Boolean => push_one(pairs, name, ScalarTag::Boolean, field),
@@ -103,14 +105,16 @@ fn push_scalar(pairs: &mut Vec<(ShortStr, Value)>, name: ShortStr, tag: ScalarTa
     }
 }
 
-/// The tag of a value of fixed size, its octets, and those after it, where there are so many octets that the widest would lie in them.
+/// The tag of a value of fixed size, its octets, and those after it, where there are so many octets that the widest
+/// would lie in them.
 ///
 /// So no width has to be looked at, and each kind is met by one jump.
 #[inline(always)]
 #[tactic(auto, unfolding(crate::specs::Reading::value_at, crate::specs::Reading::tagged, crate::specs::Reading::after_tag))]
 fn scalar_octets(octets: &[u8]) -> Option<(ScalarTag, &[u8], &[u8])>
     ensures width { IfSome result (λ x. length x.1.now ≡ width_of x.0) }
-    ensures read { IfSome result (λ x. (levels end : ℕ) → value_at levels end octets.now ≡ Ok (scalar (scalar_of x.0 x.1.now), x.2.now)) }
+    ensures read { IfSome result (λ x. (levels end : ℕ)
+        → value_at levels end octets.now ≡ Ok (scalar (scalar_of x.0 x.1.now), x.2.now)) }
 {
     let (octet, rest) = octets.split_first()?;
     if rest.len() < WIDEST {
@@ -165,7 +169,9 @@ fn push_short_text<'a>(
     field: &'a [u8],
 ) -> Option<&'a [u8]>
     requires room { vec_len pairs.old < vec_capacity pairs.old }
-    ensures added { IfSome result (λ rest. (levels end : ℕ) → AddsOne (map named_view pairs.old.items) (under name (value_at levels end field.now)) rest.now (map named_view pairs.new.items)) }
+    ensures added { IfSome result (λ rest. (levels end : ℕ)
+        → AddsOne (map named_view pairs.old.items) (under name (value_at levels end field.now)) rest.now
+        (map named_view pairs.new.items)) }
     ensures kept { result ≡ None → pairs.new.items ≡ pairs.old.items }
 {
     let (text, after) = short_text(field)?;
@@ -173,13 +179,15 @@ fn push_short_text<'a>(
     Some(after)
 }
 
-/// Builds a pair that takes no memory, and adds it: the name is short, the value has a fixed size or is a short text, and there is room
-/// among the pairs. The answer is the octets after it.
+/// Builds a pair that takes no memory, and adds it: the name is short, the value has a fixed size or is a short text,
+/// and there is room among the pairs. The answer is the octets after it.
 ///
 /// Most pairs are such: [`own_pair`] builds what this one leaves.
 #[inline(always)]
 fn own_short_pair<'a>(pairs: &mut Vec<(ShortStr, Value)>, octets: &'a [u8]) -> Option<&'a [u8]>
-    ensures added { IfSome result (λ rest. (levels end : ℕ) → AddsOne (map named_view pairs.old.items) (named (value_at levels) end octets.now) rest.now (map named_view pairs.new.items)) }
+    ensures added { IfSome result (λ rest. (levels end : ℕ)
+        → AddsOne (map named_view pairs.old.items) (named (value_at levels) end octets.now) rest.now
+        (map named_view pairs.new.items)) }
     ensures kept { result ≡ None → pairs.new.items ≡ pairs.old.items }
 {
     if pairs.len() == pairs.capacity() {

@@ -106,7 +106,8 @@ impl Value {
 
     /// The octets of a long string or a byte array.
     pub fn as_bytes(&self) -> Option<&[u8]>
-        ensures { MatchOption result (octets_in (view self.now) ≡ None) (λ octets. octets_in (view self.now) ≡ Some octets.now) }
+        ensures { MatchOption result (octets_in (view self.now) ≡ None)
+            (λ octets. octets_in (view self.now) ≡ Some octets.now) }
     {
         match self {
             Value::LongString(octets) => Some(octets.as_bytes()),
@@ -133,7 +134,8 @@ impl Value {
 
     /// The values of an array, in order.
     pub fn as_array(&self) -> Option<&[Value]>
-        ensures { MatchOption result (items_in (view self.now) ≡ None) (λ values. items_in (view self.now) ≡ Some (items_view values.now)) }
+        ensures { MatchOption result (items_in (view self.now) ≡ None)
+            (λ values. items_in (view self.now) ≡ Some (items_view values.now)) }
     {
         match self {
             Value::Array(values) => Some(values.as_slice()),
@@ -160,7 +162,8 @@ impl Value {
 
     /// The pairs of a nested table, in order.
     pub fn as_table(&self) -> Option<&[(ShortStr, Value)]>
-        ensures { MatchOption result (pairs_in (view self.now) ≡ None) (λ pairs. pairs_in (view self.now) ≡ Some (pairs_view pairs.now)) }
+        ensures { MatchOption result (pairs_in (view self.now) ≡ None)
+            (λ pairs. pairs_in (view self.now) ≡ Some (pairs_view pairs.now)) }
     {
         match self {
             Value::Table(pairs) => Some(pairs.as_slice()),
@@ -187,7 +190,8 @@ impl Value {
 
     /// The value of the first pair with this name, where the value is a nested table that has one.
     pub fn get(&self, name: &[u8]) -> Option<&Value>
-        ensures { MatchOption result (value_in name.now (view self.now) ≡ None) (λ value. value_in name.now (view self.now) ≡ Some (view value.now)) }
+        ensures { MatchOption result (value_in name.now (view self.now) ≡ None)
+            (λ value. value_in name.now (view self.now) ≡ Some (view value.now)) }
     {
         find(self.as_table()?, name)
     }

@@ -12,8 +12,8 @@ use crate::value_ref::ValueRef;
 use byteorder::{BigEndian, ByteOrder};
 use std::alloc::Global;
 
-/// A field table that lies in octets which are lent: a count of 32 bits, and that many octets of names with values. It was
-/// checked, so reading it never fails, and takes no memory.
+/// A field table that lies in octets which are lent: a count of 32 bits, and that many octets of names with values. It
+/// was checked, so reading it never fails, and takes no memory.
 #[derive(Clone, Copy)]
 pub struct TableRef<'a> {
     octets: &'a [u8],
@@ -41,7 +41,8 @@ impl<'a> TableRef<'a> {
         })
     }
 
-    /// The table that a prefix of the octets encodes, where that is known: the count is read, and nothing is checked again.
+    /// The table that a prefix of the octets encodes, where that is known: the count is read, and nothing is checked
+    /// again.
     pub fn of_checked(octets: &'a [u8]) -> TableRef<'a>
         requires { BeginsTable octets.now }
         ensures exact { table_at octets.now ≡ Ok (table_ref_view result, length (octets_of result)) }

@@ -23,7 +23,8 @@ pub struct Table {
     pub ghost depth_is_bounded: { table_depth (pairs_view pairs.items) ≤ 32 },
 }
 
-/// Written out, so that no crate above proves again of each part that it can be dropped, and so that few octets are moved.
+/// Written out, so that no crate above proves again of each part that it can be dropped, and so that few octets are
+/// moved.
 impl Drop for Table {
     #[inline(always)]
     fn drop(self) {
@@ -92,9 +93,9 @@ impl Table {
         Ok(())
     }
 
-    /// Puts a value under a name: in place of that of the first pair with the name, which is the answer, or else in a pair
-    /// after the last. TooDeep at 0 where the table would nest deeper than [`MAX_DEPTH`]; after a fault the table is as it
-    /// was, and name and value are dropped.
+    /// Puts a value under a name: in place of that of the first pair with the name, which is the answer, or else in a
+    /// pair after the last. TooDeep at 0 where the table would nest deeper than [`MAX_DEPTH`]; after a fault the table
+    /// is as it was, and name and value are dropped.
     pub fn set(&mut self, name: ShortStr, value: Value) -> Result<Option<Value>, ValueFault>
         ensures ok { OnOk result (table_view self.new ≡ with_value (table_view self.old) name (view value)) }
         ensures held { IfOk result (λ held. MatchOption held (value_named name (table_view self.old) ≡ None)

@@ -12,8 +12,8 @@ use crate::table_ref::TableRef;
 use crate::values::Value;
 use std::alloc::Global;
 
-/// A field value that lies in octets which are lent: one variant for each tag, as [`Value`](crate::Value) has them. Numbers
-/// are read, all else stays where it is.
+/// A field value that lies in octets which are lent: one variant for each tag, as [`Value`](crate::Value) has them.
+/// Numbers are read, all else stays where it is.
 #[derive(Clone, Copy)]
 pub enum ValueRef<'a> {
     /// `t`: one octet, 0 where it doesn't hold.

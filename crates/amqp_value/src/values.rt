@@ -151,7 +151,8 @@ fn is_in_place(value: &Value) -> bool {
     }
 }
 
-/// Drops pairs, the last first. Each is looked at where it lies: what has no memory to give back, as most haven't, isn't read to be dropped.
+/// Drops pairs, the last first. Each is looked at where it lies: what has no memory to give back, as most haven't,
+/// isn't read to be dropped.
 #[inline(always)]
 pub(crate) fn drop_pairs(mut pairs: Vec<(ShortStr, Value)>) {
     while let Some((name, value)) = pairs.last() {

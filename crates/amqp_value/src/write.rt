@@ -160,7 +160,8 @@ fn put_value(out: &mut Vec<u8>, value: &Value) -> Result<(), ValueFault>
 #[cycle(write)]
 fn put_array(out: &mut Vec<u8>, values: &[Value]) -> Result<(), ValueFault>
     ensures ok { OnOk result (out.new.items ≡ out.old.items ++ plain_value (array (items_view values.now))) }
-    ensures encoded { OnOk result (EncodesField (array (items_view values.now)) (plain_field (array (items_view values.now)))) }
+    ensures encoded { OnOk result (EncodesField (array (items_view values.now))
+        (plain_field (array (items_view values.now)))) }
     ensures err { IfErr result (λ e. (e ≡ fault_at 0 TooLong) ⊎ (e ≡ out_of_memory)) }
     ensures too_long { result ≡ Err (fault_at 0 TooLong) → CountsFit (array (items_view values.now)) → ⊥ }
     ensures kept { OnErr result (take (length out.old.items) out.new.items ≡ out.old.items) }
@@ -175,7 +176,8 @@ fn put_array(out: &mut Vec<u8>, values: &[Value]) -> Result<(), ValueFault>
 #[cycle(write)]
 fn put_table(out: &mut Vec<u8>, pairs: &[(ShortStr, Value)]) -> Result<(), ValueFault>
     ensures ok { OnOk result (out.new.items ≡ out.old.items ++ plain_value (table_of (pairs_view pairs.now))) }
-    ensures encoded { OnOk result (EncodesField (table_of (pairs_view pairs.now)) (plain_field (table_of (pairs_view pairs.now)))) }
+    ensures encoded { OnOk result (EncodesField (table_of (pairs_view pairs.now))
+        (plain_field (table_of (pairs_view pairs.now)))) }
     ensures err { IfErr result (λ e. (e ≡ fault_at 0 TooLong) ⊎ (e ≡ out_of_memory)) }
     ensures too_long { result ≡ Err (fault_at 0 TooLong) → CountsFit (table_of (pairs_view pairs.now)) → ⊥ }
     ensures kept { OnErr result (take (length out.old.items) out.new.items ≡ out.old.items) }
@@ -249,7 +251,8 @@ pub fn write_table(table: &Table, out: &mut Vec<u8>) -> Result<(), ValueFault>
 /// A table without a tag: its count and its pairs.
 fn put_outer(out: &mut Vec<u8>, pairs: &[(ShortStr, Value)]) -> Result<(), ValueFault>
     ensures ok { OnOk result (out.new.items ≡ out.old.items ++ plain_table (pairs_view pairs.now)) }
-    ensures encoded { OnOk result (EncodesField (table_of (pairs_view pairs.now)) (plain_table (pairs_view pairs.now))) }
+    ensures encoded { OnOk result (EncodesField (table_of (pairs_view pairs.now))
+        (plain_table (pairs_view pairs.now))) }
     ensures err { IfErr result (λ e. (e ≡ fault_at 0 TooLong) ⊎ (e ≡ out_of_memory)) }
     ensures too_long { result ≡ Err (fault_at 0 TooLong) → CountsFit (table_of (pairs_view pairs.now)) → ⊥ }
     ensures kept { OnErr result (take (length out.old.items) out.new.items ≡ out.old.items) }

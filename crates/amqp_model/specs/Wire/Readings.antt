@@ -28,7 +28,7 @@ abbrev pub header_reading : Option methods.Header → Reading
 header_reading (Some header) = HeaderOf header.body_size header.properties
 header_reading None = MalformedHeader
 
-abbrev is_empty : List ℕ → Bool
+abbrev pub is_empty : List ℕ → Bool
 is_empty [] = true
 is_empty (octet ∷ later) = false
 
