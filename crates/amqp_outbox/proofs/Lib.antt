@@ -1,3 +1,5 @@
+pub mod BodyParts
+mod ChunkLemmas
 mod OutboxFrames
 mod OutboxHanding
 mod OutboxLapMoves
@@ -27,3 +29,4 @@ mod PiecesMoves
 mod PiecesPasses
 mod PiecesQueueLemmas
 mod ReadLemmas
+mod StagedFrames

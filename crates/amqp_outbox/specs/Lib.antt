@@ -9,3 +9,5 @@ pub mod PiecesFields
 pub mod PiecesWrites
 pub mod PiecesRing
 pub mod PiecesLent
+pub mod Chunks
+pub mod ChunksFields

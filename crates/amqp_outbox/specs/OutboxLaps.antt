@@ -19,6 +19,10 @@ slot_lap lap last slot = cond (slot.channel == 0) 0 (lap_after lap last slot)
 abbrev pub laps_in : List Waiting → List ℕ
 laps_in row = map (λ (waiting : Waiting). waiting.lap) row
 
+-- what is kept for the laps of frames that are staged
+abbrev pub no_laps : List Frame → List ℕ
+no_laps frames = map (λ (f : Frame). 0) frames
+
 -- the laps of the frames of a row
 abbrev pub laps_of : (lap last : ℕ) → List Slot → List ℕ
 laps_of lap last [] = []

@@ -3,18 +3,22 @@
 //!
 //! An [`Outbox`] is handed methods, content headers and parts of bodies. They are staged, which encodes them and is what
 //! may want memory, and then put, each frame in its place, which can't fail. What each call does is stated by its
-//! contract: `specs/OutboxView` has what callers see of an outbox, and `amqp_model` the fair order.
+//! contract: `specs/OutboxView` has what callers see of an outbox, and `amqp_model` the fair order. The parts of a body
+//! may come out of [`Chunks`], which lets their octets go as they are staged.
 #![tactic(auto)]
 
+mod chunks;
 mod handing;
 mod lending;
 mod outbox;
+mod parts;
 mod queues;
 mod ring;
 mod send_queue;
 mod slots;
 mod staging;
 
+pub use crate::chunks::Chunks;
 pub use crate::handing::HandOverFault;
 pub use crate::lending::Pieces;
 pub use crate::outbox::Outbox;

@@ -25,12 +25,14 @@ ghost use Rattle.amqp_model.specs.End.Controls.{heartbeat_frame};
 ghost use Rattle.amqp_model.specs.Wire.Methods.{ReadsBack};
 ghost use Rattle.amqp_model.specs.Output.Outputs.{output_octets, waiting_on, after_puts, after_writing};
 ghost use Rattle.amqp_outbox.specs.OutboxFaults.{begun, out_of_memory, too_long};
-ghost use Rattle.amqp_outbox.specs.OutboxFrames.{header_frame, body_frame, HeaderReadsBack};
+ghost use Rattle.amqp_outbox.specs.OutboxFrames.{header_frame, body_frame, body_frames, HeaderReadsBack};
 ghost use Rattle.amqp_outbox.specs.OutboxLaps.{laps_in};
 ghost use Rattle.amqp_outbox.specs.OutboxSlots.{slots_in, moved_up, moved_down};
 ghost use Rattle.amqp_outbox.specs.OutboxView.{only, begins_with, with_staged, with_output, all_put, IsPutOfFirst};
 
+use crate::chunks::Chunks;
 use crate::handing::{HandOverFault, stage_row};
+use crate::parts::{append_parts, count_parts};
 use crate::send_queue::SendQueue;
 use crate::slots::{Waiting, begun_of, length_from, length_on, place_of};
 use crate::staging::{
@@ -379,6 +381,34 @@ impl Outbox {
         append_body(&mut self.octets, channel, part)?;
         let kind = FrameKind::Body;
         enlist(&mut self.octets, &mut self.slots, at, kind, channel)?;
+        Ok(())
+    }
+
+    /// Stages a body in parts, each of so many octets, the last with what is left, and lets the chunks go that it
+    /// lies in. Where there is no memory, the chunks are as they were: room is made for all parts before any is staged.
+    pub fn stage_chunks(
+        &mut self,
+        channel: u16,
+        room: u32,
+        chunks: &mut Chunks,
+    ) -> Result<(), StageFault>
+        requires { 0 < room }
+        ensures ok { OnOk result (self.new ≡ with_staged self.old (body_frames channel room chunks.old)) }
+        ensures taken { OnOk result (chunks.new ≡ []) }
+        ensures same { OnErr result (self.new ≡ self.old) }
+        ensures kept { OnErr result (chunks.new ≡ chunks.old) }
+        ensures err { IfErr result (λ e. e ≡ out_of_memory) }
+    {
+        let Some(parts) = count_parts(chunks.len(), room) else {
+            return Err(StageFault::OutOfMemory);
+        };
+        self.drop_written(parts.octets);
+        self.drop_begun();
+        let waiting = self.slots.len() - self.slots_begun;
+        expect_lap(waiting.saturating_add(parts.count), self.lap)?;
+        self.octets.reserve(parts.octets)?;
+        self.slots.reserve(parts.count)?;
+        append_parts(&mut self.octets, &mut self.slots, channel, room, chunks);
         Ok(())
     }
 
