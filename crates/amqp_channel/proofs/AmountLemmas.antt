@@ -1,5 +1,5 @@
 -- How many octets are kept of the contents under way.
-use Rattle.std.proofs.Common.{nat_eq, None, Some, ◌≡◌, ◌≢◌, ◌<◌, ◌≤◌, ◌+◌, ◌*◌, ◌^◌, Bool, true, false, eqb, ℕ, zero, suc, [], Option, refl, ap, sym, ◌∙◌, arith, length, length-append}
+use Rattle.std.proofs.Common.{nat_eq, None, Some, ◌≡◌, ◌≢◌, ◌<◌, ◌^◌, Bool, true, false, eqb, ℕ, zero, suc, Option, refl, ap, sym, ◌∙◌, arith}
 use Rattle.std.proofs.lemmas.Bool.{eqb-true, eqb-false, true≢false}
 use Rattle.amqp_model.specs.End.Amounts.{body_octets_on, header_octets, header_octets_on, IsSum}
 use Rattle.amqp_model.specs.End.Asks.{is_free}
@@ -7,10 +7,9 @@ use Rattle.amqp_model.specs.End.Channels as model
 use Rattle.amqp_model.specs.Wire.Gathering.{Gathering, Nothing, HeaderDue, BodyDue}
 use Rattle.std.specs.HashMap.{get, IsEmpty, IsUnchanged}
 use Rattle.std.specs.Map.{lookup}
-use Rattle.indexmap.specs.IndexMap.{with_value_at}
-use Rattle.amqp_channel.specs.AmountView.{ChangesBy, IsPartOf}
-use Rattle.amqp_channel.specs.Used.{Used, body_octets_at, gathered_there, header_octets_at, is_lent_there, kept_at, used_gathered, used_view, BodiesFit, KeepsEntriesAt, NoneLentIn, PutAt}
-use Rattle.amqp_channel.specs.ChannelView.{channel_view, gathered_view, is_lent}
+use Rattle.amqp_channel.specs.Channels.AmountView.{ChangesBy, IsPartOf}
+use Rattle.amqp_channel.specs.Channels.Used.{Used, body_octets_at, gathered_there, header_octets_at, is_lent_there, kept_at, used_gathered, used_view, BodiesFit, NoneLentIn}
+use Rattle.amqp_channel.specs.Channel.ChannelView.{channel_view, gathered_view, is_lent}
 use Rattle.amqp_channel.specs.declared.channel.Channel.{Channel}
 use Rattle.amqp_channel.specs.declared.channel.Channel.TheVariants.{Free, Opening, Closing, Open, LentHeader, LentBody}
 use Rattle.amqp_channel.proofs.UsedLemmas.{at_gathered, at_used}

@@ -6,7 +6,7 @@ use Rattle.amqp_method.specs.declared.fields.FieldKind.TheVariants.{Short, Short
 use Rattle.amqp_method.specs.declared.kinds.Kind.TheVariants as kinds
 use Rattle.amqp_method.specs.Views.{arg_view, args_view}
 use Rattle.amqp_model.specs.Wire.Methods.{MethodKind, argument_at}
-use Rattle.amqp_channel.specs.Reasons.{IsClose, AreOfClose, BeginsWithText}
+use Rattle.amqp_channel.specs.Events.Closes.{IsClose, AreOfClose, BeginsWithText}
 
 -- the argument at a place where there is one
 pub argument_found : (place : ℕ) (args : List Arg) (other : Arg) → place < length args → argument_at place (args_view args) ≡ Some (arg_view (get_or args place other))

@@ -1,9 +1,16 @@
 -- The lowest channel that is free.
-use Rattle.std.proofs.Common.{◌≡◌, ◌≢◌, ◌<◌, ◌≤◌, ◌+◌, Bool, true, false, eqb, ℕ, zero, suc, Some, None, refl, ap, sym, ◌∙◌, arith}
-use Rattle.std.proofs.lemmas.Bool.{false≢true, eqb-true, eqb-false}
+use Rattle.std.proofs.Common.{◌≡◌, ◌≢◌, ◌<◌, ◌≤◌, ◌+◌, Bool, true, false, eqb, nat_eq, ℕ, zero, suc, Option, Some, None, IfSome, unwrap_or, refl, ap, subst, sym, ◌∙◌, arith, inl, inr, ◌⊎◌}
+use Rattle.std.proofs.lemmas.Bool.{cases_lt, false≢true, eqb-true, eqb-false, ne_eqb}
 use Rattle.amqp_model.specs.End.Asks.{is_free, first_free}
 use Rattle.amqp_model.specs.End.Channels.{Channel, Free, Opening, Closing, Open}
-use Rattle.amqp_channel.specs.Used.{Used, used_view, NoneFreeBelow}
+use Rattle.std.proofs.lemmas.Option.{none-some}
+use Rattle.std.specs.HashMap.{get, IsUnchanged, UpdatesBy}
+use Rattle.std.specs.Map.{lookup}
+use Rattle.amqp_channel.specs.Channel.ChannelView.{channel_view}
+use Rattle.amqp_channel.specs.Channels.Passed.{IsPassed, PassedAreTaken}
+use Rattle.amqp_channel.specs.Channels.Used.{Used, kept_at, used_view, IsTakenOut, NoneElseFree, NoneFreeBelow, NoneKeptFree}
+use Rattle.amqp_channel.specs.declared.free_numbers.FreeNumbers.{FreeNumbers}
+use Rattle.amqp_channel.proofs.UsedLemmas.{at_used}
 
 -- a number that is free stands at the end, one that is taken before it
 same_or_below : (from n : ℕ) → from ≤ n → (from < n → ⊥) → from ≡ n
@@ -73,3 +80,66 @@ free_is Free h = refl
 free_is Opening h = absurd (false≢true h)
 free_is Closing h = absurd (false≢true h)
 free_is (Open life) h = absurd (false≢true h)
+
+-- The numbers that were passed.
+
+-- those of the other channels are taken still, and so is this one
+pub still_passed : (used : Used) (numbers : FreeNumbers) (number : ℕ)
+    → ((j : ℕ) → IsPassed numbers (suc j) → suc j ≢ number → is_free (used_view used (suc j)) ≡ false)
+    → is_free (used_view used number) ≡ false → PassedAreTaken used numbers
+still_passed used numbers number others here = λ j passed. taken_at (eqb (suc j) number) used j number refl (others j passed) here
+
+-- below a number all are taken, and so they are passed
+pub all_passed : (used : Used) (old new : FreeNumbers) (number : ℕ) → PassedAreTaken used old → NoneFreeBelow used number
+    → ((other : ℕ) → number ≤ other → IsPassed new other → IsPassed old other) → PassedAreTaken used new
+all_passed used old new number taken below passed j here = by (cases_lt (suc j) number)
+  where
+    by : (suc j < number) ⊎ (number ≤ suc j) → is_free (used_view used (suc j)) ≡ false
+    by (inl before) = below j before
+    by (inr from) = taken j (passed (suc j) from here)
+
+-- up to the number that was found, or to the greatest
+pub below_found : (used : Used) (found : Option ℕ) (most : ℕ) → IfSome found (λ number. (0 < number) × NoneFreeBelow used number)
+    → (found ≡ None → NoneFreeBelow used (most + 1)) → NoneFreeBelow used (unwrap_or found most)
+below_found used (Some number) most some none = some.1
+below_found used None most some none = λ j below. none refl j (omega arith)
+
+-- A channel that was taken out.
+
+pub takes_out : (old between new : Used) (number : ℕ) → UpdatesBy nat_eq (nat_eq number) old between None → IsUnchanged between new → IsTakenOut old number new
+takes_out old between new number updates same = record {
+  here = ap (λ entries. lookup (nat_eq number) entries) same ∙ updates.1;
+  others = λ other apart. ap (λ entries. lookup (nat_eq other) entries) same ∙ updates.2 other (ne_eqb number other (λ e. apart (sym e)));
+}
+
+view_apart : (used new : Used) (number : ℕ) → IsTakenOut used number new → (other : ℕ) → other ≢ number → used_view new other ≡ used_view used other
+view_apart used new number out zero apart = refl
+view_apart used new number out (suc n) apart = ap kept_at (out.others (suc n) apart)
+
+-- it was Free, so all are as they were
+pub views_after : (used new : Used) (number : ℕ) → 0 < number → is_free (used_view used number) ≡ true → IsTakenOut used number new
+    → (other : ℕ) → used_view new other ≡ used_view used other
+views_after used new number above free out other = by (eqb other number) refl
+  where
+    by : (b : Bool) → eqb other number ≡ b → used_view new other ≡ used_view used other
+    by true e =
+        let is : other ≡ number = eqb-true other number e in
+        ap (used_view new) is
+        ∙ (at_used new number above ∙ (ap kept_at out.here ∙ (sym (free_is (used_view used number) free) ∙ sym (ap (used_view used) is))))
+    by false e = view_apart used new number out other (eqb-false other number e)
+
+-- and no channel that is left is Free
+pub none_left : (used new : Used) (number : ℕ) → IsTakenOut used number new → NoneElseFree used number → NoneKeptFree new
+none_left used new number out none other channel kept = by (eqb other number) refl
+  where
+    by : (b : Bool) → eqb other number ≡ b → is_free (channel_view channel) ≡ false
+    by true e = absurd (none-some channel (sym out.here ∙ (ap (get nat_eq new) (sym (eqb-true other number e)) ∙ kept)))
+    by false e = none other channel (eqb-false other number e) (sym (out.others other (eqb-false other number e)) ∙ kept)
+
+-- the number is passed no longer
+pub passed_after : (used new : Used) (old left : FreeNumbers) (number : ℕ)
+    → ((j : ℕ) → IsPassed old (suc j) → suc j ≢ number → is_free (used_view used (suc j)) ≡ false)
+    → ((other : ℕ) → used_view new other ≡ used_view used other) → ((j : ℕ) → IsPassed left (suc j) → IsPassed old (suc j))
+    → (IsPassed left number → ⊥) → PassedAreTaken new left
+passed_after used new old left number taken same passed here j at =
+    ap is_free (same (suc j)) ∙ taken j (passed j at) (λ is. here (subst (IsPassed left) is at))

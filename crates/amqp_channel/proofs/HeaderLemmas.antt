@@ -1,5 +1,5 @@
 -- How many octets the header has of the content under way.
-use Rattle.std.proofs.Common.{◌≡◌, ℕ, List, length, refl, ap, sym, ◌∙◌}
+use Rattle.std.proofs.Common.{◌≡◌, ℕ, List, length, refl, ap, sym}
 use Rattle.amqp_value.specs.Lengths.{capped}
 use Rattle.amqp_method.specs.declared.header_ref.HeaderRef.{HeaderRef}
 use Rattle.amqp_method.specs.HeaderRefView.{lent_header}
@@ -8,7 +8,7 @@ use Rattle.amqp_model.specs.End.Amounts.{header_octets, OneHeaderLength}
 use Rattle.amqp_model.specs.Wire.Gathering.{Gathering, Nothing, HeaderDue, BodyDue}
 use Rattle.amqp_model.specs.Wire.Readings.{Reading, BodyOf}
 use Rattle.amqp_channel.specs.ReadingView.{header_said}
-use Rattle.amqp_channel.specs.VerdictView.{continued_with, headed_with, IsHeaderDue}
+use Rattle.amqp_channel.specs.Verdict.VerdictView.{continued_with, headed_with, IsHeaderDue}
 
 -- a part of the body leaves the header
 pub header_continued : (reading : Reading) (gathering : Gathering) → header_octets (continued_with reading gathering) ≡ header_octets gathering

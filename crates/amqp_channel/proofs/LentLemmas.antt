@@ -7,8 +7,9 @@ use Rattle.amqp_model.specs.Lent.Streaming.{Streaming, NoContent, AwaitsHeader, 
 use Rattle.amqp_model.specs.Wire.Gathering.{Gathering, Nothing, HeaderDue, BodyDue}
 use Rattle.amqp_model.specs.Wire.Notes.{Role, Client, Server}
 use Rattle.amqp_model.specs.Wire.Readings.{Reading, Calls, HeaderOf, BodyOf}
-use Rattle.amqp_channel.specs.LentView.{content_on, content_with, known_on, progress_with, stands_on, FitsProgress}
-use Rattle.amqp_channel.specs.VerdictView.{goes_on, told_in, FitsTold, LeavesDue}
+use Rattle.amqp_channel.specs.Channel.ChannelView.{content_on}
+use Rattle.amqp_channel.specs.Verdict.LentView.{content_with, known_on, progress_with, stands_on, FitsProgress}
+use Rattle.amqp_channel.specs.Verdict.VerdictView.{goes_on, told_in, FitsTold, LeavesDue}
 use Rattle.amqp_channel.specs.declared.verdict.Told.{Told}
 use Rattle.amqp_channel.specs.declared.verdict.Told.TheVariants as told
 

@@ -8,8 +8,8 @@ use Rattle.std.specs.HashMap.{get}
 use Rattle.indexmap.specs.IndexMap.{with_value_at, IsUnique}
 use Rattle.indexmap.proofs.CallerLemmas.{updates-with_value_at}
 use Rattle.amqp_model.specs.End.Asks.{is_free}
-use Rattle.amqp_channel.specs.ChannelView.{channel_view}
-use Rattle.amqp_channel.specs.Used.{Used, kept_at, used_view, HoldsAt, KeepsEntriesAt, KeepsOthersAt, KeptAt, NoneElseFree, NoneFreeBelow, NoneKeptFree, PutAt, WritesAt}
+use Rattle.amqp_channel.specs.Channel.ChannelView.{channel_view}
+use Rattle.amqp_channel.specs.Channels.Used.{Used, kept_at, used_view, HoldsAt, KeepsEntriesAt, KeepsOthersAt, KeptAt, NoneElseFree, NoneFreeBelow, NoneKeptFree, PutAt, WritesAt}
 use Rattle.amqp_channel.specs.declared.channel.Channel.{Channel}
 use Rattle.amqp_channel.proofs.UsedLemmas.{at_used}
 

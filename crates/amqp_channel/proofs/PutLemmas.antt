@@ -12,9 +12,9 @@ use Rattle.amqp_model.specs.End.Machine.{channel_after}
 use Rattle.amqp_model.specs.Wire.Methods.{Method, Properties}
 use Rattle.amqp_model.specs.Wire.Notes.{Role, Client, Server}
 use Rattle.amqp_model.specs.Wire.Readings.{Reading, Calls, HeaderOf, MalformedHeader, BodyOf}
-use Rattle.amqp_channel.specs.VerdictView.{IsPart}
-use Rattle.amqp_channel.specs.Puts.{after_payloads}
-use Rattle.amqp_channel.specs.Used.{is_open_at}
+use Rattle.amqp_channel.specs.Verdict.VerdictView.{IsPart}
+use Rattle.amqp_channel.specs.Channels.Payloads.{after_payloads}
+use Rattle.amqp_channel.specs.Channels.Used.{is_open_at}
 
 part_stays : (role : Role) (frame : Frame) (reading : Reading) (life : Life) → IsPart reading → channel_after role (PutHere reading frame) (Open life) ≡ Open life
 part_stays Client frame (HeaderOf size properties) life h = refl

@@ -7,9 +7,8 @@ use Rattle.std.specs.Cmp.{nat_eq_equiv}
 use Rattle.std.specs.HashMap.{get}
 use Rattle.indexmap.specs.IndexMap.{with_value_at, IsUnique}
 use Rattle.amqp_model.specs.End.FrameVerdict.{is_gathering}
-use Rattle.amqp_channel.specs.ChannelView.{channel_view, is_lent}
-use Rattle.amqp_channel.specs.LentView.{content_on}
-use Rattle.amqp_channel.specs.Used.{Used, is_lent_there, kept_at, used_view, IsIdleAt, KeepsEntriesAt, NoneLentIn, PutAt}
+use Rattle.amqp_channel.specs.Channel.ChannelView.{channel_view, is_lent, content_on}
+use Rattle.amqp_channel.specs.Channels.Used.{Used, is_lent_there, kept_at, used_view, IsIdleAt, KeepsEntriesAt, NoneLentIn, PutAt}
 use Rattle.amqp_channel.specs.declared.channel.Channel.{Channel}
 use Rattle.amqp_channel.specs.declared.channel.Channel.TheVariants.{Free, Opening, Closing, Open, LentHeader, LentBody}
 use Rattle.amqp_channel.proofs.UsedLemmas.{at_used}

@@ -6,7 +6,7 @@ use Rattle.amqp_model.specs.History.Histories.{ChannelEntry, TookHere}
 use Rattle.amqp_model.specs.End.Machine.{paused_by, hears_flow_ok, life_after, open_after_taking, channel_after}
 use Rattle.amqp_model.specs.History.Replies.{one_if}
 use Rattle.amqp_model.specs.Wire.Notes as notes
-use Rattle.amqp_channel.specs.LifeView.{IsOther}
+use Rattle.amqp_channel.specs.Channel.LifeView.{IsOther}
 use Rattle.amqp_channel.specs.declared.verdict.Told.{Told}
 use Rattle.amqp_channel.specs.declared.verdict.Told.TheVariants as told
 use Rattle.amqp_model.specs.End.Channels.{Agreed, Life, Channel, Free, Opening, Closing, Open}
@@ -18,8 +18,8 @@ use Rattle.amqp_model.specs.History.Negotiation.{Config}
 use Rattle.amqp_model.specs.Wire.Notes.{Role, Client, Server, is_client}
 use Rattle.amqp_model.specs.Wire.Readings.{Reading, Calls, kind_of}
 use Rattle.amqp_channel.specs.Roles.{role_of}
-use Rattle.amqp_channel.specs.VerdictView.{Fits, FitsEvent, FitsTold, IsUnanswered, Rules, RulesByState, MessageRules, TellsMessage, SentOnChannel, verdict_view, whole_now, left_by, told_on, whole_of}
-use Rattle.amqp_channel.specs.Leaving.{LeavesAfter, facts_here}
+use Rattle.amqp_channel.specs.Verdict.VerdictView.{Fits, FitsEvent, FitsTold, IsUnanswered, Rules, RulesByState, MessageRules, TellsMessage, SentOnChannel, verdict_view, whole_now, left_by, told_on, whole_of}
+use Rattle.amqp_channel.specs.Verdict.Leaving.{LeavesAfter, facts_here}
 use Rattle.amqp_channel.specs.declared.verdict.Verdict.{Verdict}
 use Rattle.amqp_channel.specs.declared.verdict.Verdict.TheVariants.{Proceeds, Faults}
 use Rattle.amqp_model.specs.Wire.Contents.{Content, Calls as PayloadCalls}

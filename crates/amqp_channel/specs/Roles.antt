@@ -1,10 +1,12 @@
--- The roles of the code, in the words of the model, and which methods each may put and take.
+-- The roles of the code, in the words of the model, and which methods each may put and take: `amqp0-9-1.xml` says of
+-- each method which peer accepts it. Read before: the model's `Wire.Notes`.
 use Rattle.std.specs.Prelude.{◌≡◌, Bool, not}
 use Rattle.amqp_model.specs.Wire.Notes.{Role, Client, Server, other_end, is_client}
 use Rattle.amqp_model.specs.Wire.Methods.{MethodKind, sends}
 use Rattle.amqp_channel.specs.declared.side.Side.{Side}
 use Rattle.amqp_channel.specs.declared.side.Side.TheVariants as side
 
+-- the role that a side plays
 abbrev pub role_of : Side → Role
 role_of side.Client = Client
 role_of side.Server = Server

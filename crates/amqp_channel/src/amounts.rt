@@ -2,8 +2,8 @@
 ghost use Rattle.std.specs.Prelude.{◌≡◌, ◌+◌, ◌*◌, ◌^◌, ◌≤◌, length};
 ghost use Rattle.amqp_model.specs.End.Amounts.{body_octets_on, header_octets, header_octets_on, IsSum};
 ghost use Rattle.amqp_model.specs.Wire.Gathering.{kept};
-ghost use Rattle.amqp_channel.specs.ChannelView.{gathered_view};
-ghost use Rattle.amqp_channel.specs.GatheringView.{gathering_view};
+ghost use Rattle.amqp_channel.specs.Channel.ChannelView.{gathered_view};
+ghost use Rattle.amqp_channel.specs.Contents.GatheringView.{gathering_view};
 
 use crate::channel::Channel;
 use crate::channels::Channels;
@@ -43,7 +43,7 @@ impl Amount {
 }
 
 impl Amounts {
-    ghost use Rattle.amqp_channel.specs.AmountView.{ChangesBy, IsPartOf};
+    ghost use Rattle.amqp_channel.specs.Channels.AmountView.{ChangesBy, IsPartOf};
 
     /// No content is under way.
     pub(crate) fn none() -> Amounts
@@ -99,10 +99,10 @@ impl Channel {
 }
 
 impl Channels {
-    ghost use Rattle.amqp_channel.specs.ChannelsView.{channels_gathered, channels_view, NoneLent};
+    ghost use Rattle.amqp_channel.specs.Channels.ChannelsView.{channels_gathered, channels_view, NoneLent};
 
     /// How many octets the headers of the contents under way have together. A content that is lent counts nothing.
-    #[tactic(auto, using(crate::proofs::SumLemmas::sum_is_small, crate::proofs::AmountLemmas::headers_fit, crate::proofs::AmountLemmas::all_headers))]
+    #[tactic(auto, using(crate::proofs::SumLemmas::sum_is_small, crate::proofs::AmountLemmas::headers_fit))]
     pub fn header_octets(&self) -> u128
         ensures gathered { IsSum (λ number. header_octets_on (channels_gathered self.now number)) result }
         ensures sum { NoneLent self.now → IsSum (λ number. header_octets_on (channels_view self.now number)) result }

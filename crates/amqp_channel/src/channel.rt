@@ -12,6 +12,7 @@ ghost use Rattle.std.specs.Prelude.{◌≡◌, ◌<◌, ◌≤◌, ◌==◌, tru
 ghost use Rattle.amqp_method.specs.HeaderRefView.{lent_header};
 ghost use Rattle.amqp_method.specs.MethodRefView.{lent_call};
 ghost use Rattle.amqp_method.specs.MethodView.{method_view};
+ghost use Rattle.amqp_method.specs.Requests.{is_request};
 ghost use Rattle.amqp_model.specs.End.Channels as model;
 ghost use Rattle.amqp_model.specs.End.Channels.{Closing, Free, Open, Opening, new_life};
 ghost use Rattle.amqp_model.specs.End.FrameVerdict.{is_gathering};
@@ -19,16 +20,15 @@ ghost use Rattle.amqp_model.specs.Lent.Alike.{AlikeChannels};
 ghost use Rattle.amqp_model.specs.Lent.Streaming.{gathered_as, streamed};
 ghost use Rattle.amqp_model.specs.Wire.Frame.{Frame};
 ghost use Rattle.amqp_model.specs.Wire.Readings.{BodyOf, Calls, HeaderOf, MalformedHeader, kind_of};
-ghost use Rattle.amqp_channel.specs.ChannelView.{channel_view, is_lent, IsFree, IsOpen};
-ghost use Rattle.amqp_channel.specs.ContentView.{content_there};
-ghost use Rattle.amqp_channel.specs.LentView.{content_on, known_on, stands_on};
-ghost use Rattle.amqp_channel.specs.LifeView.{life_on, IsOther};
-ghost use Rattle.amqp_channel.specs.ProgressView.{progress_view};
-ghost use Rattle.amqp_channel.specs.ReadingView.{reading_view};
+ghost use Rattle.amqp_channel.specs.Channel.ChannelView.{channel_view, is_lent, IsFree, IsOpen, content_on};
+ghost use Rattle.amqp_channel.specs.Contents.ContentView.{content_there};
+ghost use Rattle.amqp_channel.specs.Verdict.LentView.{known_on, stands_on};
+ghost use Rattle.amqp_channel.specs.Channel.LifeView.{life_on, IsOther};
+ghost use Rattle.amqp_channel.specs.Contents.GatheringView.{progress_view};
+ghost use Rattle.amqp_channel.specs.ReadingView.{reading_view, unread_view};
 ghost use Rattle.amqp_channel.specs.Roles.{role_of};
-ghost use Rattle.amqp_channel.specs.Unreads.{unread_view};
-ghost use Rattle.amqp_channel.specs.Used.{is_closing_at, is_open_at};
-ghost use Rattle.amqp_channel.specs.VerdictView.{goes_on, handed_out, left_by, told_on, whole_now, whole_of, Drops, Fits, FitsTold, IsDiscarded, IsPart, Rules, RulesByState, SentOnChannel};
+ghost use Rattle.amqp_channel.specs.Channels.Used.{is_closing_at, is_open_at};
+ghost use Rattle.amqp_channel.specs.Verdict.VerdictView.{goes_on, handed_out, left_by, told_on, whole_now, whole_of, Drops, Fits, FitsTold, IsDiscarded, IsPart, Rules, RulesByState, SentOnChannel};
 
 use crate::codes::CloseCode;
 use crate::gathering::Gathering;
@@ -45,7 +45,7 @@ use std::mem;
 
 /// What is kept of a channel.
 ///
-/// The fields of a lent content stand in the variant, so that a channel takes 40 octets.
+/// The fields of a lent content stand in the variant, which takes no more room than that of a channel that is Open.
 #[derive(Drop)]
 pub enum Channel {
     Free,
@@ -73,7 +73,7 @@ impl Channel {
     ghost use Rattle.amqp_model.specs.Wire.Notes.{Client};
     ghost use Rattle.amqp_method.specs.MethodView.{method_view};
     ghost use Rattle.amqp_model.specs.End.Asks.{message_payloads};
-    ghost use Rattle.amqp_channel.specs.Puts.{after_payloads};
+    ghost use Rattle.amqp_channel.specs.Channels.Payloads.{after_payloads};
 
     pub(crate) fn is_free(&self) -> bool
         ensures { result ≡ is_free (channel_view self.now) }
@@ -152,6 +152,7 @@ impl Channel {
             ≡ channel_after (role_of site.side) (PutHere (Calls (method_view method.now)) frame)
             (channel_view self.old)) }
         ensures err { OnErr result (channel_view self.new ≡ channel_view self.old) }
+        ensures no_room { is_request (method_view method.now) ≡ false → IsOk result }
     {
         match self {
             Channel::Open(life) => life.standing.put(alloc, site.side, method),
@@ -178,6 +179,7 @@ impl Channel {
             → channel_view self.new ≡ after_payloads (role_of site.side) site.number
             (message_payloads frame_max message) (channel_view self.old)) }
         ensures err { OnErr result (channel_view self.new ≡ channel_view self.old) }
+        ensures no_room { is_request (method_view method.now) ≡ false → IsOk result }
     {
         self.put_method(alloc, site, method)
     }
@@ -252,6 +254,7 @@ impl Channel {
     }
 
     /// A method of any kind.
+    #[inline(always)]
     fn judge_method(&self, site: Site, method: MethodRef<'_>) -> Verdict
         requires { 0 < site.number }
         ensures { Rules site (channel_view self.now) (Calls (lent_call method.entry)) result }
@@ -393,6 +396,7 @@ impl Channel {
     }
 
     /// What the rules say of a frame on this channel, on a connection that is Running.
+    #[inline(always)]
     pub(crate) fn judge(&self, site: Site, reading: Reading<'_>) -> Verdict
         requires { 0 < site.number }
         ensures rules { Rules site (channel_view self.now) (reading_view reading.entry) result }
@@ -407,7 +411,7 @@ impl Channel {
             Reading::Header(header) => self.judge_header(site, header),
             Reading::MalformedHeader => self.judge_malformed(site),
             Reading::Body(octets) => self.judge_body(site, octets),
-            Reading::Heartbeat { .. } => Verdict::Faults(CloseCode::FrameError),
+            Reading::Heartbeat(_) => Verdict::Faults(CloseCode::FrameError),
         }
     }
 }
@@ -594,6 +598,7 @@ impl Channel {
     }
 
     /// What a frame changes beside the content under way. Out of memory, the channel stays as it was.
+    #[inline(always)]
     fn apply_standing(
         &mut self,
         alloc: Global,
@@ -621,6 +626,7 @@ impl Channel {
     }
 
     /// What a frame leaves that neither opens nor ends a life, where contents are lent.
+    #[inline(always)]
     #[tactic(auto, using(crate::proofs::LentLemmas::lent_alike, crate::proofs::LentLemmas::standing_alike, crate::proofs::LentLemmas::progress_fits, crate::proofs::LentLemmas::alike_itself))]
     fn apply_open_lent(
         &mut self,
@@ -652,6 +658,7 @@ impl Channel {
     }
 
     /// What a frame leaves of which this is told, where contents are lent.
+    #[inline(always)]
     #[tactic(auto, using(crate::proofs::LentLemmas::alike_itself))]
     fn apply_told_lent(
         &mut self,
@@ -690,6 +697,7 @@ impl Channel {
 
     /// Leaves the channel as a frame with this verdict does, but for its content: of one under way is kept how far it
     /// has come, since its octets are lent as they come. Out of memory, the channel stays as it was.
+    #[inline(always)]
     #[tactic(auto, using(crate::proofs::LentLemmas::alike_itself))]
     pub(crate) fn apply_lent(
         &mut self,

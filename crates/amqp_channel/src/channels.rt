@@ -2,24 +2,23 @@
 //!
 //! A channel is kept from its open to its end, and none that is Free is kept: memory is bounded by the channels in use,
 //! whatever their numbers are.
-ghost use Rattle.std.specs.Prelude.{◌≡◌, ◌≢◌, ◌+◌, ◌<◌, ◌≤◌, true, false, not, ℕ, suc, IsOk, IfOk, IfNone, IfSome, OnErr, OnOk, MatchOption, None};
+ghost use Rattle.std.specs.Prelude.{◌≡◌, ◌≢◌, ◌+◌, ◌<◌, ◌≤◌, true, false, not, ℕ, suc, IfNone, IfSome, OnErr, OnOk, MatchOption, None};
 ghost use Rattle.amqp_model.specs.End.Amounts.{IsSum};
 ghost use Rattle.amqp_model.specs.End.Asks.{is_free, first_free};
 ghost use Rattle.amqp_model.specs.End.Channels.{Free};
-ghost use Rattle.amqp_model.specs.Lent.Alike.{AlikeChannels};
-ghost use Rattle.amqp_channel.specs.ChannelView.{channel_view, is_lent};
-ghost use Rattle.amqp_channel.specs.ContentView.{content_there};
-ghost use Rattle.amqp_channel.specs.Used.{body_octets_at, header_octets_at, is_closing_at, used_gathered, used_view, BodiesFit, HoldsAt, IsIdleAt, IsKeptAt, KeepsEntriesAt, KeepsOthersAt, KeptAt, NoneElseFree, NoneFreeBelow, NoneKeptFree, NoneLentIn, PutAt, WritesAt};
+ghost use Rattle.amqp_channel.specs.Channel.ChannelView.{channel_view, is_lent};
+ghost use Rattle.amqp_channel.specs.Channels.Used.{body_octets_at, header_octets_at, is_closing_at, used_gathered, used_view, BodiesFit, HoldsAt, IsIdleAt, IsKeptAt, IsTakenOut, KeepsEntriesAt, KeepsOthersAt, KeptAt, NoneElseFree, NoneFreeBelow, NoneKeptFree, NoneLentIn, PutAt, WritesAt};
+ghost use Rattle.amqp_channel.specs.Channels.Passed.{IsPassed, PassedAreTaken};
 ghost use Rattle.indexmap.specs.IndexMap.{index_map_len};
 ghost use Rattle.std.specs.HashMap.{IsUnchanged};
-ghost use Rattle.amqp_channel.specs.Roles.{role_of};
 ghost use Rattle.amqp_channel.specs.ReadingView.{reading_view};
-ghost use Rattle.amqp_channel.specs.VerdictView.{Drops, Fits, IsPart, Rules, handed_out, left_by};
+ghost use Rattle.amqp_channel.specs.Verdict.VerdictView.{Drops, Fits, IsPart, Rules};
 
 mod puts;
 
 use crate::amounts::{Amount, Amounts};
 use crate::channel::Channel;
+use crate::free_numbers::FreeNumbers;
 use crate::reading::Reading;
 use crate::side::Side;
 use crate::site::Site;
@@ -33,12 +32,10 @@ pub struct Channels {
     used: IndexMap<u16, Channel>,
     /// Where the channel of the last frame stood among them.
     last: usize,
-    /// No number from 1 up to this one, which is not among them, is free.
-    low: u16,
+    numbers: FreeNumbers,
     /// How many octets are kept of the contents under way.
     pub(crate) amounts: Amounts,
-    ghost low_is_least: { 1 ≤ low },
-    ghost taken_below: { NoneFreeBelow used low },
+    ghost passed_are_taken: { PassedAreTaken used numbers },
     ghost none_free: { NoneKeptFree used },
     ghost counts_headers: { IsSum (header_octets_at used) amounts.headers },
     ghost counts_bodies: { IsSum (body_octets_at used) amounts.bodies },
@@ -51,51 +48,82 @@ impl Drop for Channels {
         let Channels {
             used: _,
             last: _,
-            low: _,
+            numbers: _,
             amounts: _,
         } = self;
     }
 }
 
-/// Takes out a channel that is Free. The answer is a number below which none is Free.
+/// Below so many channels no room is given back.
+const FEW: usize = 8;
+
+/// Gives room back as channels end: where their number comes down to a power of two, the room for more than twice as
+/// many. If that takes memory and it is refused, the room stays as it is.
+fn give_back(used: &mut IndexMap<u16, Channel>)
+    ensures { IsUnchanged used.old used.new }
+{
+    let count = used.len();
+    if FEW <= count && count.is_power_of_two() {
+        used.shrink_to(2 * count);
+    }
+}
+
+/// Takes the channel of a number out.
+fn remove(used: &mut IndexMap<u16, Channel>, number: u16)
+    ensures { IsTakenOut used.old number used.new }
+{
+    let _ = used.swap_remove(&number);
+    give_back(used);
+}
+
+/// Takes out a channel that is Free.
 ///
 /// It stands apart, since few frames end a channel.
 #[inline(never)]
-fn take_out(used: &mut IndexMap<u16, Channel>, low: u16, number: u16) -> u16
+fn take_out(
+    used: &mut IndexMap<u16, Channel>,
+    numbers: &mut FreeNumbers,
+    alloc: Global,
+    number: u16,
+)
     requires above { 0 < number }
     requires free { is_free (used_view used.old number) ≡ true }
-    requires least { 1 ≤ low }
-    requires taken { (j : ℕ) → suc j < low → suc j ≢ number → is_free (used_view used.old (suc j)) ≡ false }
+    requires taken { (j : ℕ) → IsPassed numbers.old (suc j) → suc j ≢ number
+        → is_free (used_view used.old (suc j)) ≡ false }
     requires none { NoneElseFree used.old number }
     ensures same { (other : ℕ) → used_view used.new other ≡ used_view used.old other }
     ensures gathered { (other : ℕ) → used_gathered used.new other ≡ used_gathered used.old other }
-    ensures least { 1 ≤ result }
-    ensures taken { NoneFreeBelow used.new result }
+    ensures taken { PassedAreTaken used.new numbers.new }
     ensures none { NoneKeptFree used.new }
     ensures gathers { NoneLentIn used.old → NoneLentIn used.new }
 {
-    let _ = used.swap_remove(&number);
-    if number < low { number } else { low }
+    remove(used, number);
+    numbers.free(alloc, number, used.len());
 }
 
-/// Takes a channel out if it is Free. The answer is a number below which none is Free.
-fn tidy(used: &mut IndexMap<u16, Channel>, low: u16, number: u16, over: bool) -> u16
+/// Takes a channel out if it is Free.
+fn tidy(
+    used: &mut IndexMap<u16, Channel>,
+    numbers: &mut FreeNumbers,
+    alloc: Global,
+    number: u16,
+    over: bool,
+)
     requires above { 0 < number }
     requires free { over ≡ is_free (used_view used.old number) }
-    requires least { 1 ≤ low }
-    requires taken { (j : ℕ) → suc j < low → suc j ≢ number → is_free (used_view used.old (suc j)) ≡ false }
+    requires taken { (j : ℕ) → IsPassed numbers.old (suc j) → suc j ≢ number
+        → is_free (used_view used.old (suc j)) ≡ false }
     requires none { NoneElseFree used.old number }
     ensures same { (other : ℕ) → used_view used.new other ≡ used_view used.old other }
     ensures gathered { (other : ℕ) → used_gathered used.new other ≡ used_gathered used.old other }
-    ensures least { 1 ≤ result }
-    ensures taken { NoneFreeBelow used.new result }
+    ensures taken { PassedAreTaken used.new numbers.new }
     ensures none { NoneKeptFree used.new }
     ensures gathers { NoneLentIn used.old → NoneLentIn used.new }
 {
     if !over {
-        return low;
+        return;
     }
-    take_out(used, low, number)
+    take_out(used, numbers, alloc, number);
 }
 
 /// Keeps a channel under a number. Out of memory, all is as it was.
@@ -110,7 +138,9 @@ fn keep(used: &mut IndexMap<u16, Channel>, number: u16, channel: Channel) -> Res
 }
 
 impl Channels {
-    ghost use Rattle.amqp_channel.specs.ChannelsView.{channels_view, NoneLent, NoneUnderWay, OnlyAt};
+    ghost use Rattle.amqp_channel.specs.Channels.ChannelsView.{channels_view, NoneLent, NoneUnderWay, OnlyAt};
+    ghost use Rattle.amqp_channel.specs.Channels.Applies.{Applies, AppliesLent};
+    ghost use Rattle.amqp_channel.specs.Channels.Finds.{FindsFree};
 
     /// A connection begins with no channel in use.
     pub fn new(alloc: Global) -> Channels
@@ -120,7 +150,7 @@ impl Channels {
         Channels {
             used: IndexMap::new(alloc),
             last: 0,
-            low: 1,
+            numbers: FreeNumbers::new(),
             amounts: Amounts::none(),
         }
     }
@@ -148,6 +178,7 @@ impl Channels {
         }
         let left = channel.amount();
         keep(&mut self.used, number, channel)?;
+        self.numbers.take(number);
         self.amounts = self.amounts.after(Amount::none(), left);
         Ok(())
     }
@@ -181,6 +212,7 @@ impl Channels {
     }
 
     /// What the rules say of a frame on a channel.
+    #[inline(always)]
     pub fn judge(&self, site: Site, reading: Reading<'_>) -> Verdict
         requires { 0 < site.number }
         ensures rules { Rules site (channels_view self.now site.number) (reading_view reading.entry) result }
@@ -207,15 +239,7 @@ impl Channels {
         requires above { 0 < number }
         requires fits { Fits (channels_view self.old number) (reading_view reading) verdict }
         requires gathers { NoneLent self.old }
-        ensures gathers { NoneLent self.new }
-        ensures content { IfOk result (λ content. content_there content
-            ≡ handed_out (channels_view self.old number) (reading_view reading.entry) verdict) }
-        ensures left { OnOk result (channels_view self.new number
-            ≡ left_by (role_of side) (reading_view reading.entry) verdict (channels_view self.old number)) }
-        ensures others { OnlyAt number (channels_view self.old) (channels_view self.new) }
-        ensures err { OnErr result (channels_view self.new number ≡ channels_view self.old number) }
-        // What is dropped takes no memory.
-        ensures drops { is_closing_at (channels_view self.old number) ≡ true → Drops verdict → IsOk result }
+        ensures { Applies side number (reading_view reading.entry) verdict self.old result self.new }
     {
         match self.place_of(number) {
             Some(place) => {
@@ -226,7 +250,7 @@ impl Channels {
                 let left = channel.amount();
                 let over = channel.is_free();
                 self.amounts = self.amounts.after(before, left);
-                self.low = tidy(&mut self.used, self.low, number, over);
+                tidy(&mut self.used, &mut self.numbers, alloc, number, over);
                 answer
             }
             None => self.apply_unused(alloc, side, number, reading, verdict),
@@ -247,15 +271,7 @@ impl Channels {
         requires free { channels_view self.old number ≡ Free }
         requires fits { Fits (channels_view self.old number) (reading_view reading) verdict }
         requires gathers { NoneLent self.old }
-        ensures gathers { NoneLent self.new }
-        ensures content { IfOk result (λ content. content_there content
-            ≡ handed_out (channels_view self.old number) (reading_view reading.entry) verdict) }
-        ensures left { OnOk result (channels_view self.new number
-            ≡ left_by (role_of side) (reading_view reading.entry) verdict (channels_view self.old number)) }
-        ensures others { OnlyAt number (channels_view self.old) (channels_view self.new) }
-        ensures err { OnErr result (channels_view self.new number ≡ channels_view self.old number) }
-        // What is dropped takes no memory.
-        ensures drops { is_closing_at (channels_view self.old number) ≡ true → Drops verdict → IsOk result }
+        ensures { Applies side number (reading_view reading.entry) verdict self.old result self.new }
     {
         let mut channel = Channel::Free;
         let content = channel.apply(alloc, side, reading, verdict)?;
@@ -276,13 +292,7 @@ impl Channels {
     ) -> Result<(), OutOfMemory>
         requires above { 0 < number }
         requires fits { Fits (channels_view self.old number) (reading_view reading) verdict }
-        ensures left { OnOk result (AlikeChannels
-            (left_by (role_of side) (reading_view reading.entry) verdict (channels_view self.old number))
-            (channels_view self.new number)) }
-        ensures others { OnlyAt number (channels_view self.old) (channels_view self.new) }
-        ensures err { OnErr result (channels_view self.new number ≡ channels_view self.old number) }
-        // What is dropped takes no memory.
-        ensures drops { is_closing_at (channels_view self.old number) ≡ true → Drops verdict → IsOk result }
+        ensures { AppliesLent side number (reading_view reading.entry) verdict self.old result self.new }
     {
         match self.place_of(number) {
             Some(place) => {
@@ -293,7 +303,7 @@ impl Channels {
                 let left = channel.amount();
                 let over = channel.is_free();
                 self.amounts = self.amounts.after(before, left);
-                self.low = tidy(&mut self.used, self.low, number, over);
+                tidy(&mut self.used, &mut self.numbers, alloc, number, over);
                 answer
             }
             None => self.apply_lent_unused(alloc, side, number, reading, verdict),
@@ -313,13 +323,7 @@ impl Channels {
         requires above { 0 < number }
         requires free { channels_view self.old number ≡ Free }
         requires fits { Fits (channels_view self.old number) (reading_view reading) verdict }
-        ensures left { OnOk result (AlikeChannels
-            (left_by (role_of side) (reading_view reading.entry) verdict (channels_view self.old number))
-            (channels_view self.new number)) }
-        ensures others { OnlyAt number (channels_view self.old) (channels_view self.new) }
-        ensures err { OnErr result (channels_view self.new number ≡ channels_view self.old number) }
-        // What is dropped takes no memory.
-        ensures drops { is_closing_at (channels_view self.old number) ≡ true → Drops verdict → IsOk result }
+        ensures { AppliesLent side number (reading_view reading.entry) verdict self.old result self.new }
     {
         let mut channel = Channel::Free;
         channel.apply_lent(alloc, side, reading, verdict)?;
@@ -381,7 +385,8 @@ impl Channels {
         ensures free { IfSome result (λ number. is_free (channels_view self.now number) ≡ true) }
         ensures none { result ≡ None → NoneFreeBelow self.now.used (most + 1) }
     {
-        for number in self.low..=most {
+        let start = self.numbers.lowest();
+        for number in start..=most {
             if !self.is_taken(number) {
                 return Some(number);
             }
@@ -389,23 +394,13 @@ impl Channels {
         None
     }
 
-    /// The lowest number that is free, up to the greatest. Of those below, none is looked at again while they stay in use.
+    /// The lowest number that is free, up to the greatest. Numbers in use below it are looked at again only once as
+    /// many channels have ended as are left.
     pub fn lowest_free(&mut self, most: u16) -> Option<u16>
-        ensures lowest { result ≡ first_free (channels_view self.old) most 1 }
-        ensures above { IfSome result (λ number. 0 < number) }
-        ensures free { IfSome result (λ number. is_free (channels_view self.old number) ≡ true) }
-        ensures same { (number : ℕ) → channels_view self.new number ≡ channels_view self.old number }
-        ensures gathers { NoneLent self.old → NoneLent self.new }
+        ensures { FindsFree most self.old result self.new }
     {
         let found = self.find_free(most);
-        match found {
-            Some(number) => self.low = number,
-            None => {
-                if self.low < most {
-                    self.low = most;
-                }
-            }
-        }
+        self.numbers.pass(found.unwrap_or(most));
         found
     }
 }

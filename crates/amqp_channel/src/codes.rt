@@ -1,7 +1,7 @@
 //! The codes with which an end closes of itself (AMQP 0-9-1 specification, `amqp0-9-1.xml`, the constants with reply codes).
 ghost use Rattle.std.specs.Prelude.{◌≡◌, Some};
 ghost use Rattle.amqp_model.specs.End.Closes.{number_of, text_of};
-ghost use Rattle.amqp_channel.specs.Closes.{code_view};
+ghost use Rattle.amqp_channel.specs.Events.Closes.{code_view};
 
 use std::fmt;
 

@@ -8,8 +8,8 @@ ghost use Rattle.amqp_method.specs.HeaderRefView.{lent_header};
 ghost use Rattle.amqp_method.specs.HeaderView.{properties_view};
 ghost use Rattle.amqp_model.specs.Wire.Methods.{header_at};
 ghost use Rattle.amqp_model.specs.Wire.Readings.{HeaderOf, header_reading};
-ghost use Rattle.amqp_channel.specs.ContentView.{content_view};
-ghost use Rattle.amqp_channel.specs.DeferredView.{properties_of, IsHeaderOf};
+ghost use Rattle.amqp_channel.specs.Contents.ContentView.{content_view};
+ghost use Rattle.amqp_channel.specs.Contents.DeferredView.{properties_of, IsHeaderOf};
 
 use crate::read::read_content_header;
 use amqp_method::{Content, HeaderRef, OutOfMemory};

@@ -2,7 +2,7 @@
 ghost use Rattle.std.specs.Prelude.{◌++◌, codes, Some};
 ghost use Rattle.std.specs.Fmt.{WritesOnOk, decimal};
 ghost use Rattle.amqp_value.specs.Text.{quoted};
-ghost use Rattle.amqp_channel.specs.EventTexts.{channel_text, flow_text, reason_text, closer_text, event_text, side_text, state_text};
+ghost use Rattle.amqp_channel.specs.Events.EventTexts.{channel_text, flow_text, reason_text, closer_text, event_text, side_text, state_text};
 ghost use Rattle.amqp_method.specs.MessageView.{message_view};
 ghost use Rattle.amqp_method.specs.Texts.{bit_text, text_of_message};
 

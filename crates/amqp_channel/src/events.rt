@@ -7,8 +7,8 @@ ghost use Rattle.amqp_model.specs.Wire.Methods.{octets_at};
 ghost use Rattle.amqp_method.specs.MethodRefView.{lent_call};
 ghost use Rattle.amqp_method.specs.MethodView.{method_view};
 ghost use Rattle.amqp_model.specs.End.Events.{reason_in};
-ghost use Rattle.amqp_channel.specs.EventView.{event_view, reason_there};
-ghost use Rattle.amqp_channel.specs.Reasons.{reason_view, IsClose, AreOfClose, BeginsWithText};
+ghost use Rattle.amqp_channel.specs.Events.EventView.{event_view, reason_there};
+ghost use Rattle.amqp_channel.specs.Events.Closes.{reason_view, IsClose, AreOfClose, BeginsWithText};
 
 use amqp_method::{Arg, FieldKind, Kind, Message, Method, MethodRef, OutOfMemory};
 use amqp_value::ShortStr;

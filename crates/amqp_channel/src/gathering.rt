@@ -4,13 +4,11 @@ ghost use Rattle.amqp_method.specs.CarrierView.{carrier_view};
 ghost use Rattle.amqp_model.specs.End.FrameVerdict.{is_gathering};
 ghost use Rattle.amqp_model.specs.Wire.Gathering.{Nothing, HeaderDue};
 ghost use Rattle.amqp_model.specs.Wire.Readings.{BodyOf};
-ghost use Rattle.amqp_channel.specs.ContentView.{content_view};
-ghost use Rattle.amqp_channel.specs.Filling.{filling_of};
-ghost use Rattle.amqp_channel.specs.GatheringKept.{IsBodyDue, IsKeptIn};
-ghost use Rattle.amqp_channel.specs.GatheringView.{gathering_view};
+ghost use Rattle.amqp_channel.specs.Contents.ContentView.{content_view};
+ghost use Rattle.amqp_channel.specs.Contents.GatheringView.{filling_of, IsBodyDue, IsKeptIn, gathering_view};
 ghost use Rattle.amqp_channel.specs.ReadingView.{header_said};
 ghost use Rattle.amqp_channel.specs.declared.gathering.Filling.TheVariants.{Short};
-ghost use Rattle.amqp_channel.specs.VerdictView.{continued_with, headed_with, whole_at, whole_with, IsHeaderDue, IsWhole};
+ghost use Rattle.amqp_channel.specs.Verdict.VerdictView.{continued_with, headed_with, whole_at, whole_with, IsHeaderDue, IsWhole};
 
 use crate::deferred::{Deferred, is_deferred};
 use amqp_method::{Content, HeaderRef, OutOfMemory};

@@ -1,11 +1,12 @@
 //! The channels of an AMQP 0-9-1 connection: what an end keeps of each, and what comes of the frames that it takes and puts
 //! there.
 //!
-//! [`Channels`] keeps the channels in use. A frame is read once, as a [`Reading`] that is lent; [`Channels::judge`] says by the
-//! rules what comes of it, which is a [`Verdict`], and changes nothing; [`Channels::apply`] leaves its channel as the frame does;
-//! and [`EventParts::tell`] takes the parts of the event. What stands on channel 0, and what an end does with a verdict, is for `amqp_core`. What each
-//! call does is stated by its contract: `specs/ChannelsView` has what callers see of the channels, `specs/VerdictView` the
-//! verdicts, and `amqp_model` the definitions that they are compared with.
+//! [`Channels`] keeps the channels in use. A frame is read once, as a [`Reading`] that is lent; [`Channels::judge`] says by
+//! the rules what comes of it, which is a [`Verdict`], and changes nothing; [`Channels::apply`] leaves its channel as the
+//! frame does; and [`EventParts::tell`] takes the parts of the event. What stands on channel 0, and what an end does with a
+//! verdict, is for `amqp_core`. What each call does is stated by its contract: `specs/Channels` has what callers see of
+//! the channels and the relation of each call, `specs/Verdict` the verdicts, and `amqp_model` the definitions that they
+//! are compared with.
 #![tactic(auto)]
 
 mod aligned;
@@ -16,6 +17,7 @@ mod codes;
 mod deferred;
 mod display;
 mod events;
+mod free_numbers;
 mod gathering;
 mod life;
 mod parts;

@@ -13,11 +13,11 @@ ghost use Rattle.amqp_model.specs.Wire.Methods.{carries_content as content_follo
 ghost use Rattle.amqp_model.specs.Wire.Notes.{Client, Server};
 ghost use Rattle.amqp_model.specs.Wire.Readings as readings;
 ghost use Rattle.amqp_model.specs.Wire.Readings.{Calls, BodyOf, HeaderOf, kind_of};
-ghost use Rattle.amqp_channel.specs.ContentView.{content_there, content_view};
-ghost use Rattle.amqp_channel.specs.GatheringView.{gathering_view};
+ghost use Rattle.amqp_channel.specs.Contents.ContentView.{content_there, content_view};
+ghost use Rattle.amqp_channel.specs.Contents.GatheringView.{gathering_view};
 ghost use Rattle.amqp_channel.specs.ReadingView.{header_said, reading_view};
 ghost use Rattle.amqp_channel.specs.Roles.{role_of};
-ghost use Rattle.amqp_channel.specs.VerdictView.{asked_with, replies_in, told_in, verdict_view, whole_at, whole_of, whole_with, FitsTold, IsDiscarded, IsFlow, IsHeaderDue, IsWhole, MessageRules, Rules, RulesByState, TellsMessage};
+ghost use Rattle.amqp_channel.specs.Verdict.VerdictView.{asked_with, replies_in, told_in, verdict_view, whole_at, whole_of, whole_with, FitsTold, IsDiscarded, IsFlow, IsHeaderDue, IsWhole, MessageRules, Rules, RulesByState, TellsMessage};
 
 use crate::codes::CloseCode;
 use crate::gathering::{Filling, Gathering, fill};
@@ -47,7 +47,7 @@ pub struct Life {
 }
 
 impl Life {
-    ghost use Rattle.amqp_channel.specs.LifeView.{life_view, IsIdle, IsOther};
+    ghost use Rattle.amqp_channel.specs.Channel.LifeView.{life_view, IsIdle, IsOther};
 
     /// A life begins with nothing under way.
     pub(crate) fn new() -> Life
@@ -105,7 +105,7 @@ pub(crate) fn judge_part(site: Site, size: u64, came: u64, octets: &[u8]) -> Ver
 }
 
 impl Life {
-    ghost use Rattle.amqp_channel.specs.LifeView.{life_view, IsIdle, IsOther};
+    ghost use Rattle.amqp_channel.specs.Channel.LifeView.{life_view, IsIdle, IsOther};
 
     /// What a client takes: a reply has to be to the request that waits.
     fn judge_reply(&self, method: MethodRef<'_>) -> Verdict
@@ -226,7 +226,7 @@ impl Life {
 }
 
 impl Life {
-    ghost use Rattle.amqp_channel.specs.LifeView.{life_view, IsIdle, IsOther};
+    ghost use Rattle.amqp_channel.specs.Channel.LifeView.{life_view, IsIdle, IsOther};
 
     /// A server keeps a request that it takes.
     fn keep_asked(
@@ -379,7 +379,7 @@ impl Life {
 }
 
 impl Life {
-    ghost use Rattle.amqp_channel.specs.LifeView.{life_view, IsIdle, IsOther};
+    ghost use Rattle.amqp_channel.specs.Channel.LifeView.{life_view, IsIdle, IsOther};
 
     /// The frame that makes a content whole: the last part of its body, or its header.
     fn finish_content(
@@ -402,7 +402,7 @@ impl Life {
             Reading::UnknownMethod => unreachable!(),
             Reading::MalformedMethod => unreachable!(),
             Reading::MalformedHeader => unreachable!(),
-            Reading::Heartbeat { .. } => unreachable!(),
+            Reading::Heartbeat(_) => unreachable!(),
         }
     }
 

@@ -51,8 +51,8 @@ impl PlainMethod {
     ghost use Rattle.amqp_method.specs.MessageView.{message_view};
     ghost use Rattle.amqp_method.specs.MethodView.{method_view};
     ghost use Rattle.amqp_model.specs.End.Events.{Plain};
-    ghost use Rattle.amqp_channel.specs.Messages.{message_of};
-    ghost use Rattle.amqp_channel.specs.PartsView.{plain_view};
+    ghost use Rattle.amqp_channel.specs.Events.EventView.{message_of};
+    ghost use Rattle.amqp_channel.specs.Events.PartsView.{plain_view};
 
     fn new(method: Method) -> PlainMethod
         requires { has_content (method_view method).kind ≡ false }
@@ -79,11 +79,11 @@ impl PlainMethod {
 
 impl EventParts {
     ghost use Rattle.std.specs.Prelude.{◌≡◌, Some, None, IsOk, OnOk};
-    ghost use Rattle.amqp_channel.specs.ContentView.{content_there};
-    ghost use Rattle.amqp_channel.specs.EventView.{event_view};
-    ghost use Rattle.amqp_channel.specs.PartsView.{parts_there, parts_view};
+    ghost use Rattle.amqp_channel.specs.Contents.ContentView.{content_there};
+    ghost use Rattle.amqp_channel.specs.Events.EventView.{event_view};
+    ghost use Rattle.amqp_channel.specs.Events.PartsView.{parts_there, parts_view};
     ghost use Rattle.amqp_channel.specs.ReadingView.{reading_view};
-    ghost use Rattle.amqp_channel.specs.VerdictView.{event_told, FitsEvent, IsDiscarded};
+    ghost use Rattle.amqp_channel.specs.Verdict.VerdictView.{event_told, FitsEvent, IsDiscarded};
 
     /// Puts the parts where the caller has room for them, in which nothing is yet: to look whether there is anything to drop
     /// would cost each frame some nanoseconds.

@@ -1,9 +1,8 @@
 //! How far a content has come that is under way on a channel.
 ghost use Rattle.std.specs.Prelude.{◌≡◌};
 ghost use Rattle.amqp_model.specs.Lent.Streaming.{came, is_streaming, streamed};
-ghost use Rattle.amqp_channel.specs.GatheringView.{gathering_view};
-ghost use Rattle.amqp_channel.specs.LentView.{progress_with, FitsProgress};
-ghost use Rattle.amqp_channel.specs.ProgressView.{progress_view};
+ghost use Rattle.amqp_channel.specs.Contents.GatheringView.{gathering_view, progress_view};
+ghost use Rattle.amqp_channel.specs.Verdict.LentView.{progress_with, FitsProgress};
 ghost use Rattle.amqp_channel.specs.ReadingView.{reading_view};
 
 use crate::gathering::Gathering;

@@ -2,7 +2,7 @@
 ghost use Rattle.std.specs.Prelude.{◌≡◌, IfOk};
 ghost use Rattle.amqp_model.specs.Wire.Methods.{header_at};
 ghost use Rattle.amqp_model.specs.Wire.Readings.{header_reading};
-ghost use Rattle.amqp_channel.specs.Reads.{header_seen};
+ghost use Rattle.amqp_channel.specs.ReadingView.{header_seen};
 
 use amqp_method::{Header, MethodFaultKind, OutOfMemory, read_header_into};
 use std::alloc::Global;

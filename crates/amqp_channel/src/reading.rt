@@ -19,11 +19,12 @@ pub enum Reading<'a> {
     Header(HeaderRef<'a>),
     MalformedHeader,
     Body(&'a [u8]),
-    Heartbeat { empty: bool },
+    Heartbeat(&'a [u8]),
 }
 
 impl<'a> Reading<'a> {
     /// What a whole frame says.
+    #[inline(always)]
     pub fn of(frame: FrameRef<'a>) -> Reading<'a>
         ensures { reading_view result ≡ reading (lent frame.entry) }
     {
@@ -31,9 +32,7 @@ impl<'a> Reading<'a> {
             FrameKind::Method => Reading::of_method(frame.payload),
             FrameKind::Header => Reading::of_header(frame.payload),
             FrameKind::Body => Reading::Body(frame.payload),
-            FrameKind::Heartbeat => Reading::Heartbeat {
-                empty: frame.payload.is_empty(),
-            },
+            FrameKind::Heartbeat => Reading::Heartbeat(frame.payload),
         }
     }
 
@@ -77,8 +76,8 @@ pub enum Unread {
 
 impl Unread {
     ghost use Rattle.std.specs.Prelude.{◌≡◌};
-    ghost use Rattle.amqp_channel.specs.Closes.{code_view};
-    ghost use Rattle.amqp_channel.specs.Unreads.{unread_code};
+    ghost use Rattle.amqp_channel.specs.Events.Closes.{code_view};
+    ghost use Rattle.amqp_channel.specs.ReadingView.{unread_code};
 
     /// The code with which it is answered.
     pub fn code(self) -> CloseCode

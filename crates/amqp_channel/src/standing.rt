@@ -3,9 +3,10 @@
 //!
 //! A connection has up to tens of thousands of channels, most of them idle. So the marks stand in each variant, beside its tag,
 //! and the requests in a box, which is there from the first request on.
-ghost use Rattle.std.specs.Prelude.{◌≡◌, ◌++◌, ◌∷◌, false, [], drop, length, IfOk, OnOk, OnErr};
+ghost use Rattle.std.specs.Prelude.{◌≡◌, ◌++◌, ◌∷◌, false, [], drop, length, IfOk, IsOk, OnOk, OnErr};
 ghost use Rattle.amqp_method.specs.MethodRefView.{lent_call};
 ghost use Rattle.amqp_method.specs.MethodView.{method_view};
+ghost use Rattle.amqp_method.specs.Requests.{is_request};
 ghost use Rattle.amqp_model.specs.End.Answers.{first_of};
 ghost use Rattle.amqp_model.specs.End.Channels.{Open};
 ghost use Rattle.amqp_model.specs.End.FrameVerdict.{answers_first};
@@ -15,12 +16,12 @@ ghost use Rattle.amqp_model.specs.Wire.Frame.{Frame};
 ghost use Rattle.amqp_model.specs.Wire.Gathering.{Gathering};
 ghost use Rattle.amqp_model.specs.Wire.Notes.{Server};
 ghost use Rattle.amqp_model.specs.Wire.Readings.{Calls, kind_of};
-ghost use Rattle.amqp_channel.specs.LentView.{StandsAs};
-ghost use Rattle.amqp_channel.specs.LifeView.{life_on, IsOther};
+ghost use Rattle.amqp_channel.specs.Verdict.LentView.{StandsAs};
+ghost use Rattle.amqp_channel.specs.Channel.LifeView.{life_on, IsOther};
 ghost use Rattle.amqp_channel.specs.ReadingView.{reading_view};
 ghost use Rattle.amqp_channel.specs.Roles.{role_of};
-ghost use Rattle.amqp_channel.specs.StandingView.{awaits_in, paused_in, requests_in};
-ghost use Rattle.amqp_channel.specs.VerdictView.{asked_with, replies_in, told_in};
+ghost use Rattle.amqp_channel.specs.Channel.StandingView.{awaits_in, paused_in, requests_in};
+ghost use Rattle.amqp_channel.specs.Verdict.VerdictView.{asked_with, replies_in, told_in};
 
 use crate::reading::Reading;
 use crate::side::Side;
@@ -200,6 +201,7 @@ impl Standing {
             (Open (life_on content self.old))) }
         ensures err { OnErr result ((content : Gathering) → Open (life_on content self.new)
             ≡ Open (life_on content self.old)) }
+        ensures no_room { is_request (method_view method.now) ≡ false → IsOk result }
     {
         match side {
             Side::Client => {
@@ -230,6 +232,7 @@ impl Standing {
     }
 
     /// A method without content: a client's reply takes its request away, and a server keeps a request.
+    #[inline(always)]
     fn take_method(
         &mut self,
         alloc: Global,
@@ -255,6 +258,7 @@ impl Standing {
 
     /// What a frame changes that neither opens nor ends a life. The content under way is a reply, or isn't. Out of memory,
     /// all is as it was.
+    #[inline(always)]
     pub(crate) fn take(
         &mut self,
         alloc: Global,

@@ -3,9 +3,9 @@ ghost use Rattle.std.specs.Prelude.{◌≡◌, length};
 ghost use Rattle.amqp_model.specs.End.Answers.{due_by, kept_by};
 ghost use Rattle.amqp_model.specs.End.Channels.{state_of};
 ghost use Rattle.amqp_model.specs.Wire.Gathering.{kept};
-ghost use Rattle.amqp_channel.specs.ChannelView.{channel_view};
-ghost use Rattle.amqp_channel.specs.GatheringView.{gathering_view};
-ghost use Rattle.amqp_channel.specs.StateView.{state_view};
+ghost use Rattle.amqp_channel.specs.Channel.ChannelView.{channel_view};
+ghost use Rattle.amqp_channel.specs.Contents.GatheringView.{gathering_view};
+ghost use Rattle.amqp_channel.specs.Events.EventView.{state_view};
 
 use crate::channel::Channel;
 use crate::gathering::Gathering;

@@ -1,38 +1,26 @@
 //! What an end puts on its channels.
-ghost use Rattle.std.specs.Prelude.{◌≡◌, ◌<◌, true, ℕ, List, OnOk, OnErr};
+ghost use Rattle.std.specs.Prelude.{◌≡◌, ◌<◌, true};
 ghost use Rattle.amqp_method.specs.MethodView.{method_view};
-ghost use Rattle.amqp_model.specs.End.Asks.{is_free, message_payloads};
-ghost use Rattle.amqp_model.specs.End.Closes.{Cause, close_for, flow_as, without_arguments};
-ghost use Rattle.amqp_model.specs.End.Events.{Message, method_of};
-ghost use Rattle.amqp_model.specs.Wire.Frame.{Frame};
-ghost use Rattle.amqp_model.specs.History.Histories.{PutHere};
-ghost use Rattle.amqp_model.specs.End.Machine.{channel_after};
-ghost use Rattle.amqp_model.specs.Wire.Notes.{Client};
+ghost use Rattle.amqp_model.specs.End.Asks.{is_free};
 ghost use Rattle.amqp_model.specs.Wire.Readings.{Calls, kind_of};
-ghost use Rattle.amqp_channel.specs.LifeView.{IsOther};
-ghost use Rattle.amqp_channel.specs.Puts.{after_payloads};
-ghost use Rattle.amqp_channel.specs.Roles.{role_of};
-ghost use Rattle.amqp_channel.specs.Used.{is_open_at};
+ghost use Rattle.amqp_channel.specs.Channel.LifeView.{IsOther};
+ghost use Rattle.amqp_channel.specs.Channels.Used.{is_open_at};
 
 use crate::channel::Channel;
 use crate::channels::Channels;
 use crate::site::Site;
-use amqp_method::{Kind, Method, OutOfMemory};
+use amqp_method::{Method, OutOfMemory};
 use std::alloc::Global;
 
 impl Channels {
-    ghost use Rattle.amqp_channel.specs.ChannelsView.{channels_view, NoneLent, OnlyAt};
+    ghost use Rattle.amqp_channel.specs.Channels.ChannelsView.{channels_view};
+    ghost use Rattle.amqp_channel.specs.Channels.Puts.{PutsClose, PutsFlow, PutsMessage, PutsOpen};
 
     /// An open that a client puts.
     pub fn put_open(&mut self, number: u16) -> Result<(), OutOfMemory>
         requires above { 0 < number }
         requires free { is_free (channels_view self.old number) ≡ true }
-        ensures at { OnOk result ((frame : Frame) → channels_view self.new number
-            ≡ channel_after Client (PutHere (Calls (without_arguments Kind.ChannelOpen)) frame)
-            (channels_view self.old number)) }
-        ensures gathers { NoneLent self.old → NoneLent self.new }
-        ensures others { OnOk result (OnlyAt number (channels_view self.old) (channels_view self.new)) }
-        ensures err { OnErr result ((other : ℕ) → channels_view self.new other ≡ channels_view self.old other) }
+        ensures { PutsOpen number self.old result self.new }
     {
         let mut channel = Channel::Free;
         channel.put_open();
@@ -43,11 +31,7 @@ impl Channels {
     pub fn put_close(&mut self, site: Site)
         requires above { 0 < site.number }
         requires open { is_open_at (channels_view self.old site.number) ≡ true }
-        ensures at { (code : ℕ) (text : List ℕ) (cause : Cause) (frame : Frame) → channels_view self.new site.number
-            ≡ channel_after (role_of site.side) (PutHere (Calls (close_for Kind.ChannelClose code text cause)) frame)
-            (channels_view self.old site.number) }
-        ensures gathers { NoneLent self.old → NoneLent self.new }
-        ensures others { OnlyAt site.number (channels_view self.old) (channels_view self.new) }
+        ensures { PutsClose site self.old self.new }
     {
         match self.used.get_mut(&site.number) {
             Some(channel) => {
@@ -64,10 +48,7 @@ impl Channels {
     pub fn put_flow(&mut self, site: Site, active: bool)
         requires above { 0 < site.number }
         requires open { is_open_at (channels_view self.old site.number) ≡ true }
-        ensures at { (frame : Frame) → channels_view self.new site.number ≡ channel_after (role_of site.side)
-            (PutHere (Calls (flow_as Kind.ChannelFlow active)) frame) (channels_view self.old site.number) }
-        ensures gathers { NoneLent self.old → NoneLent self.new }
-        ensures others { OnlyAt site.number (channels_view self.old) (channels_view self.new) }
+        ensures { PutsFlow site active self.old self.new }
     {
         match self.used.get_mut(&site.number) {
             Some(channel) => {
@@ -90,12 +71,7 @@ impl Channels {
         requires above { 0 < site.number }
         requires open { is_open_at (channels_view self.old site.number) ≡ true }
         requires other { IsOther (kind_of (Calls (method_view method.now))) }
-        ensures at { OnOk result ((frame_max : ℕ) (message : Message) → method_of message ≡ method_view method.now
-            → channels_view self.new site.number ≡ after_payloads (role_of site.side) site.number
-            (message_payloads frame_max message) (channels_view self.old site.number)) }
-        ensures gathers { NoneLent self.old → NoneLent self.new }
-        ensures others { OnlyAt site.number (channels_view self.old) (channels_view self.new) }
-        ensures err { OnErr result (channels_view self.new site.number ≡ channels_view self.old site.number) }
+        ensures { PutsMessage site (method_view method.now) self.old result self.new }
     {
         match self.used.get_mut(&site.number) {
             Some(channel) => {

@@ -1,7 +1,7 @@
 use Rattle.std.proofs.Common.{ap, ◌∙◌}
-use Rattle.amqp_channel.specs.ChannelView.{channel_view}
-use Rattle.amqp_channel.specs.LentView.{progress_with}
-use Rattle.amqp_channel.specs.ProgressView.{progress_view}
+use Rattle.amqp_channel.specs.Channel.ChannelView.{channel_view}
+use Rattle.amqp_channel.specs.Verdict.LentView.{progress_with}
+use Rattle.amqp_channel.specs.Contents.GatheringView.{progress_view}
 use Rattle.amqp_channel.specs.ReadingView.{reading_view}
 use Rattle.amqp_channel.specs.Roles.{role_of}
 use Rattle.amqp_channel.proofs.LentLemmas.{lent_alike}

@@ -1,7 +1,7 @@
 use Rattle.std.proofs.Common.{refl}
 use Rattle.std.proofs.lemmas.List.{length-replicate}
 use Rattle.amqp_model.specs.Lent.Streaming.{AwaitsBody, gathered_as}
-use Rattle.amqp_channel.specs.LifeView.{life_on}
+use Rattle.amqp_channel.specs.Channel.LifeView.{life_on}
 use Rattle.amqp_channel.proofs.channel.Channel.judge_open_body.Goals as goal
 
 pub returns-in-LentBody : goal.returns-in-LentBody

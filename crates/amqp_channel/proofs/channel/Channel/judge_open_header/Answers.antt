@@ -1,6 +1,6 @@
 use Rattle.std.proofs.Common.{refl}
 use Rattle.amqp_model.specs.Lent.Streaming.{AwaitsHeader, gathered_as}
-use Rattle.amqp_channel.specs.LifeView.{life_on}
+use Rattle.amqp_channel.specs.Channel.LifeView.{life_on}
 use Rattle.amqp_channel.proofs.channel.Channel.judge_open_header.Goals as goal
 
 pub returns-in-LentHeader : goal.returns-in-LentHeader

@@ -3,7 +3,7 @@ use Rattle.std.proofs.Common.{refl}
 use Rattle.amqp_method.specs.MethodRefView.{lent_call}
 use Rattle.amqp_model.specs.End.Channels.{Open}
 use Rattle.amqp_model.specs.Lent.Streaming.{AwaitsBody, AwaitsHeader, gathered_as}
-use Rattle.amqp_channel.specs.LifeView.{life_on, life_view}
+use Rattle.amqp_channel.specs.Channel.LifeView.{life_on, life_view}
 use Rattle.amqp_channel.proofs.VerdictLemmas.{state_rules}
 use Rattle.amqp_channel.proofs.channel.Channel.judge_state.Goals as goal
 

@@ -2,8 +2,8 @@
 use Rattle.std.proofs.Common.{ap, sym, ◌∙◌}
 use Rattle.std.proofs.lemmas.Result.{on_err_weaker}
 use Rattle.amqp_model.specs.Lent.Streaming.{AwaitsBody, AwaitsHeader, gathered_as}
-use Rattle.amqp_channel.specs.ChannelView.{channel_view}
-use Rattle.amqp_channel.specs.GatheringView.{gathering_view}
+use Rattle.amqp_channel.specs.Channel.ChannelView.{channel_view}
+use Rattle.amqp_channel.specs.Contents.GatheringView.{gathering_view}
 use Rattle.amqp_channel.proofs.channel.Channel.put_method.Goals as goal
 
 pub returns-in-Open-clause-err : goal.returns-in-Open-clause-err

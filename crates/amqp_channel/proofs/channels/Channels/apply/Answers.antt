@@ -19,14 +19,14 @@ invariant_of-self-clause-counts_headers c =
     let self = c.args.self.now in
     let channel = c.apply-answer.new.self in
     let written = with_value_at self.used c.in-Some.place channel in
-    let used = c.tidy-self.new.used in
+    let used = c.tidy.new.used in
     let here = now_here self.used c.args.number c.requires.above c.index_mut-channel.result.now
     (c.in-Some.ensures.kept c.index_mut-channel.result.now (search rules)) in
     headers_written self.used used self.amounts c.after-self.result self.counts_headers self.counts_bodies self.bodies_fit c.args.number c.requires.above
     (search rules) c.amount-before.result c.amount-left.result channel
     (c.amount-before.ensures.header ∙ sym (ap header_octets_on here)) (c.amount-before.ensures.body ∙ sym (ap body_octets_on here))
-    (λ other apart. c.tidy-self.ensures.gathered other ∙ views_same self.used written c.args.number (c.in-Some.ensures.entries channel) other apart)
-    (c.tidy-self.ensures.gathered c.args.number ∙ now_here written c.args.number c.requires.above channel (c.in-Some.ensures.put channel)) c.amount-left.ensures.header c.amount-left.ensures.body (search rules)
+    (λ other apart. c.tidy.ensures.gathered other ∙ views_same self.used written c.args.number (c.in-Some.ensures.entries channel) other apart)
+    (c.tidy.ensures.gathered c.args.number ∙ now_here written c.args.number c.requires.above channel (c.in-Some.ensures.put channel)) c.amount-left.ensures.header c.amount-left.ensures.body (search rules)
     c.after-self.ensures
 
 pub invariant_of-self-clause-counts_bodies : goal.invariant_of-self-clause-counts_bodies
@@ -34,14 +34,14 @@ invariant_of-self-clause-counts_bodies c =
     let self = c.args.self.now in
     let channel = c.apply-answer.new.self in
     let written = with_value_at self.used c.in-Some.place channel in
-    let used = c.tidy-self.new.used in
+    let used = c.tidy.new.used in
     let here = now_here self.used c.args.number c.requires.above c.index_mut-channel.result.now
     (c.in-Some.ensures.kept c.index_mut-channel.result.now (search rules)) in
     bodies_written self.used used self.amounts c.after-self.result self.counts_headers self.counts_bodies self.bodies_fit c.args.number c.requires.above
     (search rules) c.amount-before.result c.amount-left.result channel
     (c.amount-before.ensures.header ∙ sym (ap header_octets_on here)) (c.amount-before.ensures.body ∙ sym (ap body_octets_on here))
-    (λ other apart. c.tidy-self.ensures.gathered other ∙ views_same self.used written c.args.number (c.in-Some.ensures.entries channel) other apart)
-    (c.tidy-self.ensures.gathered c.args.number ∙ now_here written c.args.number c.requires.above channel (c.in-Some.ensures.put channel)) c.amount-left.ensures.header c.amount-left.ensures.body (search rules)
+    (λ other apart. c.tidy.ensures.gathered other ∙ views_same self.used written c.args.number (c.in-Some.ensures.entries channel) other apart)
+    (c.tidy.ensures.gathered c.args.number ∙ now_here written c.args.number c.requires.above channel (c.in-Some.ensures.put channel)) c.amount-left.ensures.header c.amount-left.ensures.body (search rules)
     c.after-self.ensures
 
 pub invariant_of-self-clause-bodies_fit : goal.invariant_of-self-clause-bodies_fit
@@ -49,18 +49,25 @@ invariant_of-self-clause-bodies_fit c =
     let self = c.args.self.now in
     let channel = c.apply-answer.new.self in
     let written = with_value_at self.used c.in-Some.place channel in
-    let used = c.tidy-self.new.used in
+    let used = c.tidy.new.used in
     let here = now_here self.used c.args.number c.requires.above c.index_mut-channel.result.now
     (c.in-Some.ensures.kept c.index_mut-channel.result.now (search rules)) in
     fit_written self.used used self.amounts c.after-self.result self.counts_headers self.counts_bodies self.bodies_fit c.args.number c.requires.above
     (search rules) c.amount-before.result c.amount-left.result channel
     (c.amount-before.ensures.header ∙ sym (ap header_octets_on here)) (c.amount-before.ensures.body ∙ sym (ap body_octets_on here))
-    (λ other apart. c.tidy-self.ensures.gathered other ∙ views_same self.used written c.args.number (c.in-Some.ensures.entries channel) other apart)
-    (c.tidy-self.ensures.gathered c.args.number ∙ now_here written c.args.number c.requires.above channel (c.in-Some.ensures.put channel)) c.amount-left.ensures.header c.amount-left.ensures.body (search rules)
+    (λ other apart. c.tidy.ensures.gathered other ∙ views_same self.used written c.args.number (c.in-Some.ensures.entries channel) other apart)
+    (c.tidy.ensures.gathered c.args.number ∙ now_here written c.args.number c.requires.above channel (c.in-Some.ensures.put channel)) c.amount-left.ensures.header c.amount-left.ensures.body (search rules)
     c.after-self.ensures
 
-pub returns-in-Some-clause-gathers : goal.returns-in-Some-clause-gathers
-returns-in-Some-clause-gathers c =
-    c.tidy-self.ensures.gathers
-    (none_lent_put c.args.self.now.used c.in-Some.place c.args.number c.apply-answer.new.self c.in-Some.ensures.entries c.in-Some.ensures.put
-    c.apply-answer.ensures.gathers c.requires.gathers)
+pub returns-in-Some : goal.returns-in-Some
+returns-in-Some c = record {
+  left = search rules;
+  content = search rules;
+  err = search rules;
+  others = search rules;
+  drops = search rules;
+  gathers =
+      c.tidy.ensures.gathers
+      (none_lent_put c.args.self.now.used c.in-Some.place c.args.number c.apply-answer.new.self c.in-Some.ensures.entries
+      c.in-Some.ensures.put c.apply-answer.ensures.gathers c.requires.gathers);
+}

@@ -1,8 +1,11 @@
 use Rattle.std.proofs.Common.{rules, ◌≡◌, true, false, arith}
 use Rattle.amqp_model.specs.End.Asks.{is_free}
-use Rattle.amqp_channel.specs.Used.{used_view}
+use Rattle.amqp_channel.specs.Channels.Used.{used_view}
 use Rattle.amqp_channel.proofs.FreeLemmas.{lowest_is, none_is, one_more}
 use Rattle.amqp_channel.proofs.channels.Channels.find_free.Goals as goal
+
+pub loop-number-init : goal.loop-number-init
+loop-number-init c = λ j below. c.args.self.now.passed_are_taken j (c.lowest-start.ensures.passed j below)
 
 pub returns-then-not-is_taken-clause-lowest : goal.returns-then-not-is_taken-clause-lowest
 returns-then-not-is_taken-clause-lowest c =

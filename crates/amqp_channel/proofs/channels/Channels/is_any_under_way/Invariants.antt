@@ -1,5 +1,5 @@
 use Rattle.std.proofs.Common.{ℕ, ◌<◌}
-use Rattle.amqp_channel.specs.Used.{IsIdleAt}
+use Rattle.amqp_channel.specs.Channels.Used.{IsIdleAt}
 use Rattle.amqp_channel.proofs.channels.Channels.is_any_under_way.Given as goal
 
 abbrev pub invariant-loop-place : goal.invariant-loop-place

@@ -1,7 +1,7 @@
 -- Nothing is kept of channels that are all Free.
 use Rattle.std.proofs.Common.{◌≡◌, ap, sym, subst, arith}
 use Rattle.amqp_model.specs.End.Amounts.{body_octets_on, header_octets_on, IsSum}
-use Rattle.amqp_channel.specs.Used.{body_octets_at, header_octets_at}
+use Rattle.amqp_channel.specs.Channels.Used.{body_octets_at, header_octets_at}
 use Rattle.amqp_channel.proofs.SumLemmas.{sum_of_none}
 use Rattle.amqp_channel.proofs.AmountLemmas.{none_used}
 use Rattle.amqp_channel.proofs.channels.Channels.new.Goals as goal

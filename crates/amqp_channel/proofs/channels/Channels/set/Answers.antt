@@ -5,9 +5,11 @@ use Rattle.std.specs.Map.{lookup}
 use Rattle.amqp_model.specs.End.Amounts.{body_octets_on, header_octets_on}
 use Rattle.amqp_model.specs.End.Asks.{is_free}
 use Rattle.amqp_model.specs.End.Channels.{Free}
-use Rattle.amqp_channel.specs.Used.{body_octets_at, header_octets_at, used_gathered, IsKeptAt}
+use Rattle.amqp_channel.specs.Channels.Used.{body_octets_at, header_octets_at, kept_at, used_gathered, IsKeptAt}
 use Rattle.amqp_channel.proofs.AmountLemmas.{bodies_written, fit_written, free_kept, gathered_unchanged, headers_written, is_part, now_here, view_unchanged, views_same}
+use Rattle.amqp_channel.proofs.FreeLemmas.{still_passed}
 use Rattle.amqp_channel.proofs.SumLemmas.{sum_same}
+use Rattle.amqp_channel.proofs.UsedLemmas.{at_used}
 use Rattle.amqp_channel.proofs.channels.Channels.set.Goals as goal
 
 -- nothing was there
@@ -54,6 +56,16 @@ invariant_of-self-2-clause-bodies_fit c =
     (views_same self.used used c.args.number kept.others) (now_here used c.args.number c.requires.above c.args.channel kept.here)
     c.amount-left.ensures.header c.amount-left.ensures.body (search rules) c.after-self.ensures
 
+-- The number is taken now.
+pub invariant_of-self-2-clause-passed_are_taken : goal.invariant_of-self-2-clause-passed_are_taken
+invariant_of-self-2-clause-passed_are_taken c =
+    let self = c.args.self.now in
+    let used = c.keep.new.used in
+    let kept : IsKeptAt self.used c.args.number c.args.channel used = search rules in
+    still_passed used c.take.new.self c.args.number
+    (λ j passed apart. ap is_free (ap kept_at (kept.others (suc j) apart)) ∙ self.passed_are_taken j (c.take.ensures (suc j) apart passed))
+    (ap is_free (at_used used c.args.number c.requires.above ∙ ap kept_at kept.here) ∙ (sym c.is_free.ensures ∙ c.if-is_free.false))
+
 -- Out of memory, all are as they were.
 pub invariant_of-self : goal.invariant_of-self
 invariant_of-self c =
@@ -63,8 +75,7 @@ invariant_of-self c =
     let views = view_unchanged self.used used same in
     let gathered = gathered_unchanged self.used used same in
     record {
-      low_is_least = self.low_is_least;
-      taken_below = λ j below. ap is_free (views (suc j)) ∙ self.taken_below j below;
+      passed_are_taken = λ j passed. ap is_free (views (suc j)) ∙ self.passed_are_taken j passed;
       none_free = λ number channel there. self.none_free number channel (sym (ap (λ entries. lookup (nat_eq number) entries) same) ∙ there);
       counts_headers = sum_same self.amounts.headers (header_octets_at self.used) (header_octets_at used) (λ n. ap header_octets_on (gathered n)) self.counts_headers;
       counts_bodies = sum_same self.amounts.bodies (body_octets_at self.used) (body_octets_at used) (λ n. ap body_octets_on (gathered n)) self.counts_bodies;

@@ -1,8 +1,8 @@
 use Rattle.std.proofs.Common.{rules}
 use Rattle.amqp_method.specs.CarrierView.{carrier_view}
 use Rattle.amqp_method.specs.HeaderView.{properties_view}
-use Rattle.amqp_channel.specs.DeferredView.{properties_of}
-use Rattle.amqp_channel.specs.LifeView.{life_view}
+use Rattle.amqp_channel.specs.Contents.DeferredView.{properties_of}
+use Rattle.amqp_channel.specs.Channel.LifeView.{life_view}
 use Rattle.amqp_channel.proofs.life.Life.judge_body.Goals as goal
 
 pub returns-in-BodyDue : goal.returns-in-BodyDue

@@ -1,7 +1,7 @@
 use Rattle.std.proofs.Common.{ap}
 use Rattle.amqp_method.specs.CarrierView.{carrier_view}
-use Rattle.amqp_channel.specs.GatheringView.{gathering_view}
-use Rattle.amqp_channel.specs.LifeView.{life_view}
+use Rattle.amqp_channel.specs.Contents.GatheringView.{gathering_view}
+use Rattle.amqp_channel.specs.Channel.LifeView.{life_view}
 use Rattle.amqp_channel.proofs.life.Life.judge_header.Goals as goal
 
 pub returns-in-HeaderDue : goal.returns-in-HeaderDue

@@ -2,9 +2,9 @@
 use Rattle.std.proofs.Common.{rules, ◌≡◌, ◌<◌, ◌^◌, length, ap, sym, ◌∙◌, arith}
 use Rattle.amqp_value.specs.Lengths.{capped}
 use Rattle.amqp_model.specs.End.Amounts.{header_octets}
-use Rattle.amqp_channel.specs.GatheringView.{gathering_view}
+use Rattle.amqp_channel.specs.Contents.GatheringView.{gathering_view}
 use Rattle.amqp_channel.specs.ReadingView.{header_said}
-use Rattle.amqp_channel.specs.VerdictView.{headed_with}
+use Rattle.amqp_channel.specs.Verdict.VerdictView.{headed_with}
 use Rattle.amqp_channel.proofs.HeaderLemmas.{header_headed}
 use Rattle.amqp_channel.proofs.life.Life.keep_header.Goals as goal
 
