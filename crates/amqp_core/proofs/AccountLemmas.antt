@@ -23,7 +23,7 @@ use Rattle.amqp_model.specs.Laws.OctetLaws.{OneIsSaid, IsWhole, TellsLast}
 use Rattle.amqp_model.specs.Stream.Pieces.{IsFedBy, SplitsFor, FeedFindsFault, with_taken, reads_frames}
 use Rattle.amqp_model.specs.Stream.Traces.{item_in_event}
 use Rattle.amqp_core.specs.Traced.AccountView.{Came, IsAccount, IsFresh, came_by, came_of_frame, item_in_outcome, note_there, puts_alone}
-use Rattle.amqp_core.specs.Faults.Answering.{answer_with, AnswersFrame, Reports, Tells as TellsEvent, ran_out}
+use Rattle.amqp_core.specs.Faults.Answering.{answer_with, AnswersEvent, AnswersFrame, Reports, ran_out}
 use Rattle.amqp_core.specs.End.Feeding.{IsFed, event_in, taken_with}
 use Rattle.amqp_core.specs.Connection.Owed.{owed_view}
 use Rattle.amqp_core.specs.declared.account.Account.{Account}
@@ -225,7 +225,7 @@ abbrev event_or : Outcome → Option Event
 event_or (Finished event) = event
 event_or outcome = None
 
-pub nothing_finished : (outcome : Outcome) → TellsEvent None outcome → outcome ≢ Finished (Some Quiet)
+pub nothing_finished : (outcome : Outcome) → AnswersEvent None outcome → outcome ≢ Finished (Some Quiet)
 nothing_finished Unfinished says e = false≢true (sym (ap is_unfinished e))
 nothing_finished (Finished told) says e = let there : told ≡ Some Quiet = ap event_or e in none_is_some (sym there ∙ says)
 nothing_finished (Found fault) says e = absurd says
@@ -235,12 +235,12 @@ fault_finished outcome (inl says) e = false≢true (sym (ap is_found (sym says �
 fault_finished outcome (inr says) e = false≢true (sym (ap is_found (sym says ∙ e)))
 
 -- A part of the header came, or an octet that differs: no frame is taken, and nothing put.
-pub quiet_unfinished : (outcome : Outcome) → TellsEvent (Some Quiet) outcome → outcome ≢ Unfinished
+pub quiet_unfinished : (outcome : Outcome) → AnswersEvent (Some Quiet) outcome → outcome ≢ Unfinished
 quiet_unfinished Unfinished says e = none_is_some says
 quiet_unfinished (Finished told) says e = false≢true (ap is_unfinished e)
 quiet_unfinished (Found fault) says e = absurd says
 
-quiet_found : (outcome : Outcome) → TellsEvent (Some Quiet) outcome → outcome ≢ Found WrongProtocolHeader
+quiet_found : (outcome : Outcome) → AnswersEvent (Some Quiet) outcome → outcome ≢ Found WrongProtocolHeader
 quiet_found Unfinished says e = none_is_some says
 quiet_found (Finished told) says e = false≢true (ap is_found e)
 quiet_found (Found fault) says e = absurd says
@@ -250,7 +250,7 @@ pub account_of_part : (role : Role) (config : Config role) (event : Option Event
     → IsAccount role config old piece (after_feed role config old piece) octets came
 account_of_part role config event old new piece count octets came awaits none fed octets_are came_is =
     account_of_opening role config old piece (after_feed role config old piece) octets came awaits (octets_are ∙ fed.taken) (λ e. came_is)
-    (λ e. absurd (nothing_finished (after_feed role config old piece).outcome (subst (λ o. TellsEvent o (after_feed role config old piece).outcome) none fed.answer) e)) (λ e. came_is)
+    (λ e. absurd (nothing_finished (after_feed role config old piece).outcome (subst (λ o. AnswersEvent o (after_feed role config old piece).outcome) none fed.answer) e)) (λ e. came_is)
 
 pub account_of_other : (role : Role) (config : Config role) (old new : Endpoint) (piece : List ℕ) (octets : ℕ) (came : Came)
     → awaits_opening role old.end.phase ≡ true → IsFed (Err core.Fatal) old (after_feed role config old piece) new → octets ≡ (after_feed role config old piece).taken → came ≡ puts_alone []
@@ -263,7 +263,7 @@ pub account_of_whole : (role : Role) (config : Config role) (event : Option Even
     → awaits_opening role old.end.phase ≡ true → event ≡ Some Quiet → IsFed (Ok (record { octets = count; event = event })) old (after_feed role config old piece) new → octets ≡ count → came ≡ puts_alone (greeting role config)
     → IsAccount role config old piece (after_feed role config old piece) octets came
 account_of_whole role config event old new piece count octets came awaits quiet fed octets_are came_is =
-    let says = subst (λ o. TellsEvent o (after_feed role config old piece).outcome) quiet fed.answer in
+    let says = subst (λ o. AnswersEvent o (after_feed role config old piece).outcome) quiet fed.answer in
     account_of_opening role config old piece (after_feed role config old piece) octets came awaits (octets_are ∙ fed.taken)
     (λ e. absurd (quiet_unfinished (after_feed role config old piece).outcome says e)) (λ e. came_is) (λ e. absurd (quiet_found (after_feed role config old piece).outcome says e))
 

@@ -21,10 +21,9 @@ use Rattle.amqp_model.specs.Output.Outputs.{after_puts}
 use Rattle.amqp_model.specs.End.ReadingBack.{AskReadsBack}
 use Rattle.amqp_model.specs.Wire.Readings.{Calls, payload_of, method_reading, header_reading, reading}
 use Rattle.amqp_outbox.specs.OutboxView.{Outgoing, only, with_staged, all_put}
-use Rattle.amqp_channel.specs.ChannelsView.{OnlyAt}
-use Rattle.amqp_channel.specs.EventView.{agreed_view}
-use Rattle.amqp_channel.specs.Messages.{message_of}
-use Rattle.amqp_channel.specs.Puts.{after_payloads}
+use Rattle.amqp_channel.specs.Channels.ChannelsView.{OnlyAt}
+use Rattle.amqp_channel.specs.Events.EventView.{agreed_view, message_of}
+use Rattle.amqp_channel.specs.Channels.Payloads.{after_payloads}
 use Rattle.amqp_channel.specs.Roles.{role_of}
 use Rattle.amqp_channel.specs.declared.events.Agreed.{Agreed}
 use Rattle.amqp_channel.specs.declared.site.Site.{Site}
@@ -226,7 +225,7 @@ begins_none kinds.ChannelClose active = refl
 begins_none kinds.ChannelCloseOk active = refl
 begins_none kind active = refl
 
-carries_if : (method : Method) → has_content method.kind ≡ true → carries_content method ≡ true
+pub carries_if : (method : Method) → has_content method.kind ≡ true → carries_content method ≡ true
 carries_if method h = rw h refl
 
 carries_not : (method : Method) → has_content method.kind ≡ false → carries_content method ≡ false

@@ -14,7 +14,7 @@ use Rattle.amqp_model.specs.History.Negotiation.{Config}
 use Rattle.amqp_model.specs.Wire.Frame.{Frame}
 use Rattle.amqp_model.specs.Wire.Notes.{Role}
 use Rattle.amqp_model.specs.Wire.Readings.{Reading, Beat}
-use Rattle.amqp_channel.specs.ChannelsView.{OnlyAt}
+use Rattle.amqp_channel.specs.Channels.ChannelsView.{OnlyAt}
 use Rattle.amqp_core.specs.Connection.View.{EndLeft, frame_at}
 use Rattle.amqp_core.specs.Connection.Stages.{leaves}
 use Rattle.amqp_core.proofs.EntryLemmas.{entry_leaving, nothing_stays, no_call, IsNoCall}

@@ -19,7 +19,7 @@ use Rattle.amqp_model.specs.History.Negotiation.{Config, FRAME_MIN, connection_o
 use Rattle.amqp_model.specs.Wire.Notes.{Role, Client, Server, is_client}
 use Rattle.amqp_value.specs.Tables.{table_view}
 use Rattle.amqp_value.specs.Values.{Pairs}
-use Rattle.amqp_channel.specs.EventView.{agreed_there}
+use Rattle.amqp_channel.specs.Events.EventView.{agreed_there}
 use Rattle.amqp_channel.specs.declared.events.Agreed as code_agreed
 use Rattle.amqp_outbox.specs.OutboxView.{Outgoing}
 use Rattle.amqp_core.specs.Asks.Controlled.{frames_by, refusal_by, IsControlled, IsRefusedControl, PutsFrames, RefusesFirst}

@@ -14,10 +14,9 @@ use Rattle.amqp_model.specs.Wire.Methods.{Method}
 use Rattle.amqp_model.specs.History.Negotiation.{Config}
 use Rattle.amqp_model.specs.Wire.Readings.{Reading, Calls}
 use Rattle.amqp_channel.specs.Roles.{role_of}
-use Rattle.amqp_channel.specs.Leaving.{after_owed}
-use Rattle.amqp_channel.specs.VerdictView.{reply_there}
+use Rattle.amqp_channel.specs.Verdict.Leaving.{after_owed}
+use Rattle.amqp_channel.specs.Verdict.VerdictView.{reply_there}
 use Rattle.amqp_channel.specs.declared.site.Site.{Site}
-use Rattle.amqp_channel.specs.declared.verdict.Verdict.{Verdict}
 use Rattle.amqp_channel.specs.declared.verdict.Verdict.TheVariants as code
 use Rattle.amqp_core.specs.Connection.OneChannel.{running_end, frame_here, StepsAsEnd}
 
@@ -60,7 +59,7 @@ step_by site config limits channels kind payload reading methods after h after_i
     ∙ (owed_above site config limits methods (channel_after (role_of site.side) (TookHere reading (frame_here site kind payload)) (channels site.number)) channels h
     ∙ ap (λ c. running_end site limits (set_channel site.number c channels)) (sym after_is))
 
-pub steps_as_end : (site : Site) (config : Config (role_of site.side)) (limits : Agreed) (channels : ℕ → Channel) (kind : FrameKind) (payload : List ℕ) (reading : Reading) (said : Verdict) → StepsAsEnd site config limits channels kind payload reading said
+pub steps_as_end : StepsAsEnd
 steps_as_end site config limits channels kind payload reading (code.Proceeds told due) h most rules goes =
     let same = sym (rules.verdict config limits most) in
     record {

@@ -12,7 +12,7 @@ use Rattle.amqp_model.specs.History.Negotiation.{Config}
 use Rattle.amqp_model.specs.Wire.Notes.{Role, Client, Server}
 use Rattle.amqp_model.specs.Wire.Frame.{Frame}
 use Rattle.amqp_model.specs.Wire.Readings.{Reading, Calls, UnknownMethod, MalformedMethod, HeaderOf, MalformedHeader, BodyOf, Beat, is_call}
-use Rattle.amqp_channel.specs.Leaving.{after_owed}
+use Rattle.amqp_channel.specs.Verdict.Leaving.{after_owed}
 use Rattle.amqp_core.specs.Connection.Stages.{leaves}
 
 -- the end with this channel set

@@ -15,7 +15,7 @@ use Rattle.amqp_model.specs.Laws.OctetLaws.{FeedStaysClosed, FeedStaysFailed, no
 use Rattle.amqp_model.specs.Stream.Octets.{opening_read}
 use Rattle.amqp_core.specs.Faults.Answering.{Reports, ran_out, is_out_of_memory}
 use Rattle.amqp_core.specs.End.Counted.{is_failed}
-use Rattle.amqp_core.specs.Faults.FeedFaults.{FeedFaults, IsRefused, FailsAfter}
+use Rattle.amqp_core.specs.Faults.FeedFaults.{FeedFaults, TakesNothing, FailsAfter}
 use Rattle.amqp_core.specs.Stream.Lending.{AnswersLent, IsLent, LentSeen}
 use Rattle.amqp_core.specs.End.Feeding.{AnswersPiece, IsFed, seen, SameEndpoint, ran_out_of}
 use Rattle.amqp_core.specs.Faults.Overs.{IsOver}
@@ -151,7 +151,7 @@ ran_seen (Ok taken) = refl
 ran_seen (Err fault) = refl
 
 refused : (fault : events.Fault) (answer : CoreFault) (result : Result Taken CoreFault) (old new : Endpoint) (fed : Feeding) → IsFed (seen result) old fed new → fed ≡ nothing_taken old fault
-    → ((told : CoreFault) → Reports told (Found fault) → is_out_of_memory told ≡ false → told ≡ answer) → ran_out result ≡ false → IsRefused answer result old new
+    → ((told : CoreFault) → Reports told (Found fault) → is_out_of_memory told ≡ false → told ≡ answer) → ran_out result ≡ false → TakesNothing answer result old new
 refused fault answer result old new fed is nothing by lasts = record {
   answer = over_answer fault answer result fed.outcome is.answer (ap (λ (f : Feeding). f.outcome) nothing) by lasts;
   same = same_left (ran_out (seen result)) old new fed (ran_seen result ∙ lasts) (ap (λ (f : Feeding). f.endpoint) nothing) is.left;

@@ -12,7 +12,7 @@ use Rattle.amqp_model.specs.History.Negotiation.{Config}
 use Rattle.amqp_model.specs.Wire.Notes.{Role, Client, Server}
 use Rattle.amqp_model.specs.Pair.Sent.{Telling, life_on, told, said, told_at, goes_on_with}
 use Rattle.amqp_model.specs.Stream.Traces.{IsTaken, Noted, noted, trace, PutsTellNothing, SaysMethod, TracePuts, telling_at, telling_above}
-use Rattle.amqp_channel.specs.EventView.{agreed_view}
+use Rattle.amqp_channel.specs.Events.EventView.{agreed_view}
 use Rattle.amqp_channel.specs.declared.verdict.Reply.TheVariants as replies
 use Rattle.amqp_core.specs.Traced.Noting.{item_of_reply, lives_in, noted_owed, notes_owed, said_by_owed, told_by}
 use Rattle.amqp_core.specs.Connection.Owed.{owed_view, starts, answers_start, tunes, answers_tune}

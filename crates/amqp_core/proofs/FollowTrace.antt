@@ -30,7 +30,7 @@ use Rattle.amqp_model.specs.Pair.Sent.{life_on, told}
 use Rattle.amqp_model.specs.Stream.Traces.{IsTaken, Noted, noted, PutsTellNothing, SaysMethod, TellsEvent, TracePuts, telling_at}
 use Rattle.amqp_core.specs.Traced.AccountView.{Came, IsAccount, item_in_outcome, puts_alone, came_of_frame}
 use Rattle.amqp_core.specs.Faults.FaultShown as shows
-use Rattle.amqp_core.specs.Faults.FaultShown.{ShowsFault}
+use Rattle.amqp_core.specs.Faults.FaultShown.{EndsInFault}
 use Rattle.amqp_core.specs.Traced.Noting.{lives_in, notes_owed, said_by_owed, told_by}
 use Rattle.amqp_core.specs.Connection.Owed.{owed_view}
 use Rattle.amqp_core.specs.Config.Settings.{config_view, role_for}
@@ -118,10 +118,10 @@ pub stood : (role : Role) (config : Config role) (new : Kept) (history : History
 stood role config new history fed written f w stands = tracing.stands
     (subst (λ xs. EndpointStandsFor role config new.endpoint history xs new.written) (sym f) (subst (λ ys. EndpointStandsFor role config new.endpoint history fed ys) (sym w) stands))
 
-fell : (role : Role) (config : Config role) (limit : ℕ) (opening : List ℕ) (new : Kept) (history : History) (fed written : List ℕ) → OpensWith role history opening → new.fed ≡ fed → new.written ≡ written → HasFailed role config limit opening history fed written new.endpoint → ShowsFault role config limit history fed → Stands role config new history
+fell : (role : Role) (config : Config role) (limit : ℕ) (opening : List ℕ) (new : Kept) (history : History) (fed written : List ℕ) → OpensWith role history opening → new.fed ≡ fed → new.written ≡ written → HasFailed role config limit opening history fed written new.endpoint → EndsInFault role config limit history fed → Stands role config new history
 fell role config limit opening new history fed written opens f w failed shown = tracing.failed limit opening opens
     (subst (λ xs. HasFailed role config limit opening history xs new.written new.endpoint) (sym f) (subst (λ ys. HasFailed role config limit opening history fed ys new.endpoint) (sym w) failed))
-    (subst (λ xs. ShowsFault role config limit history xs) (sym f) shown)
+    (subst (λ xs. EndsInFault role config limit history xs) (sym f) shown)
 
 -- The octets fed end with those that are unfinished, and then with those taken.
 
@@ -146,7 +146,7 @@ ends_taken fed unfinished taken last ends is = record {
 
 shown_in_frame : (role : Role) (config : Config role) (old : Endpoint) (history : History) (fed written piece : List ℕ) (count : ℕ) (frame : Frame) (fault : Fault)
     → EndpointStandsFor role config old history fed written → ReadsEach role old.end history → old.unfinished ++ take count piece ≡ frame_octets frame → end_verdict config old.end frame ≡ Faults fault
-    → VerdictOfHistory role config false old.end history frame → ShowsFault role config (frame_limit old.end.agreed) (then_taken config old.end frame history) (fed ++ take count piece)
+    → VerdictOfHistory role config false old.end history frame → EndsInFault role config (frame_limit old.end.agreed) (then_taken config old.end frame history) (fed ++ take count piece)
 shown_in_frame role config old history fed written piece count frame fault stands reads whole verdict law =
     let ends = ends_taken fed old.unfinished (take count piece) (frame_octets frame) (ends_unfinished role (frame_limit old.end.agreed) history fed old.unfinished stands.read) whole in
     shows.in_frame history frame fault ends.earlier stands.lawful (sym (law stands.stands) ∙ verdict)
@@ -154,7 +154,7 @@ shown_in_frame role config old history fed written piece count frame fault stand
 
 shown_in_octets : (role : Role) (config : Config role) (old : Endpoint) (history : History) (fed written piece : List ℕ) (count : ℕ) (kind : FrameFaultKind)
     → EndpointStandsFor role config old history fed written → ReadsEach role old.end history → TellsLast (frame_limit old.end.agreed) (old.unfinished ++ take count piece) kind
-    → ShowsFault role config (frame_limit old.end.agreed) (then_put (map frame_of (owed_at_fault config old.end kind)) history) (fed ++ take count piece)
+    → EndsInFault role config (frame_limit old.end.agreed) (then_put (map frame_of (owed_at_fault config old.end kind)) history) (fed ++ take count piece)
 shown_in_octets role config old history fed written piece count kind stands reads tells =
     let ends = ends_taken fed old.unfinished (take count piece) (old.unfinished ++ take count piece) (ends_unfinished role (frame_limit old.end.agreed) history fed old.unfinished stands.read) refl in
     shows.in_octets history kind ends.earlier (old.unfinished ++ take count piece) stands.lawful tells

@@ -22,7 +22,7 @@ use Rattle.amqp_model.specs.Wire.Notes.{Role, Client, Server}
 use Rattle.amqp_model.specs.Output.Outputs.{Output, output_octets, after_put, after_puts}
 use Rattle.amqp_model.specs.Wire.Readings.{reading}
 use Rattle.amqp_outbox.specs.OutboxView.{Outgoing, only}
-use Rattle.amqp_channel.specs.EventView.{agreed_view}
+use Rattle.amqp_channel.specs.Events.EventView.{agreed_view}
 use Rattle.amqp_channel.specs.declared.verdict.Reply.TheVariants as replies
 use Rattle.amqp_core.specs.Faults.Answering.{PutsAs, is_out_of_memory, ran_out}
 use Rattle.amqp_core.specs.End.Growth.{GrowsLittle}

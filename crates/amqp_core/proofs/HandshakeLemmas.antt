@@ -13,7 +13,7 @@ use Rattle.amqp_model.specs.Wire.Notes.{Role, Client, Server, is_client}
 use Rattle.amqp_model.specs.End.StateFromHistory.{awaits_tune_ok}
 use Rattle.amqp_model.specs.History.Histories.{TookHere}
 use Rattle.amqp_model.specs.Wire.Readings.{Reading, Calls}
-use Rattle.amqp_channel.specs.Used.{is_closing_at}
+use Rattle.amqp_channel.specs.Channels.Used.{is_closing_at}
 use Rattle.amqp_core.specs.Connection.View.{EndLeft, frame_at}
 use Rattle.amqp_core.specs.Connection.Handshakes.{within, is_in_handshake, awaited_in, answers_at, answered_in}
 use Rattle.amqp_core.specs.Connection.Owed.{answers_start, tunes, answers_tune}

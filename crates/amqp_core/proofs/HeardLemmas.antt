@@ -22,8 +22,8 @@ use Rattle.amqp_model.specs.Wire.Frame.{Frame}
 use Rattle.amqp_model.specs.Wire.Methods.{Method, MethodKind, same_kind}
 use Rattle.amqp_model.specs.Wire.Notes.{Role}
 use Rattle.amqp_model.specs.Wire.Readings.{Reading, Calls, reading as says}
-use Rattle.amqp_channel.specs.Reasons.{IsClose}
-use Rattle.amqp_channel.specs.VerdictView.{event_told as channel_told, whole_now}
+use Rattle.amqp_channel.specs.Events.Closes.{IsClose}
+use Rattle.amqp_channel.specs.Verdict.VerdictView.{event_told as channel_told, whole_now}
 use Rattle.amqp_channel.specs.declared.verdict.Told.{Told}
 use Rattle.amqp_channel.specs.declared.verdict.Told.TheVariants as told
 use Rattle.amqp_channel.specs.declared.verdict.Verdict.TheVariants as ruled

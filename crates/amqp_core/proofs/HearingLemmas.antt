@@ -23,7 +23,7 @@ use Rattle.amqp_model.specs.Wire.Frame.{Frame}
 use Rattle.amqp_model.specs.Wire.Methods.{MethodKind}
 use Rattle.amqp_model.specs.Wire.Notes.{Role}
 use Rattle.amqp_model.specs.Wire.Readings.{reading}
-use Rattle.amqp_core.specs.Faults.Answering.{Reports, Tells, is_out_of_memory, ran_out}
+use Rattle.amqp_core.specs.Faults.Answering.{Reports, AnswersEvent, is_out_of_memory, ran_out}
 use Rattle.amqp_core.specs.Heard.OfEnd.{HearsOn, is_kept}
 use Rattle.amqp_core.specs.End.Feeding.{AnswersPiece, seen}
 use Rattle.amqp_core.specs.Heard.View.{Said, kept_of_kind, said_after}
@@ -48,7 +48,7 @@ reports_found core.OutOfMemory outcome e r = absurd (false≢true (sym e))
 reports_found core.Failed outcome e r = ap is_found r
 reports_found core.Closed outcome e r = ap is_found r
 
-tells_none : (event : Option events.Event) (outcome : Outcome) → Tells event outcome → is_found outcome ≡ false
+tells_none : (event : Option events.Event) (outcome : Outcome) → AnswersEvent event outcome → is_found outcome ≡ false
 tells_none event Unfinished t = refl
 tells_none event (Finished told) t = refl
 tells_none event (Found fault) t = absurd t

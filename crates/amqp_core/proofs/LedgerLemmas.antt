@@ -8,7 +8,7 @@ use Rattle.amqp_channel.specs.Roles.{role_of}
 use Rattle.amqp_channel.specs.declared.side.Side.{Side}
 use Rattle.amqp_core.specs.Traced.CountView.{lives_view}
 use Rattle.amqp_core.specs.Traced.CountsLives.{CountsLives}
-use Rattle.amqp_core.specs.Traced.LifeCounts.{LifeCount, after_word, counted, counted_with, nothing_counted}
+use Rattle.amqp_core.specs.Traced.LifeCounts.{LifeCount, after_word, counted_lives, count_with, no_lives}
 use Rattle.amqp_core.specs.Traced.Notes.{note_view, noted_as}
 use Rattle.amqp_core.specs.declared.lives.Lives.{Lives}
 use Rattle.amqp_core.specs.declared.notes.Note.{Note}
@@ -17,20 +17,20 @@ use Rattle.amqp_core.proofs.LifeCountLemmas.{counted-last}
 pub mapped-last : {A B : Type 0} (f : A → B) (items new : List A) (item : A) → new ≡ items ++ item ∷ [] → map f new ≡ map f items ++ f item ∷ []
 mapped-last f items new item e = ap (map f) e ∙ map-append f items (item ∷ [])
 
-count_is : (side : Side) (notes : List Note) (kept : Lives) (channel : ℕ) → CountsLives side notes kept → lives_view kept channel ≡ counted (role_of side) channel (map note_view notes)
+count_is : (side : Side) (notes : List Note) (kept : Lives) (channel : ℕ) → CountsLives side notes kept → lives_view kept channel ≡ counted_lives (role_of side) channel (map note_view notes)
 count_is side notes kept channel counts = λ i. record { lives = counts.lives channel i; waits = counts.waits channel i }
 
 count_then : (side : Side) (notes items : List Note) (note : Note) (old new : Lives) (channel : ℕ) → CountsLives side notes old
-    → lives_view new channel ≡ counted_with (role_of side) channel (note_view note) (lives_view old channel) → items ≡ notes ++ note ∷ []
-    → lives_view new channel ≡ counted (role_of side) channel (map note_view items)
+    → lives_view new channel ≡ count_with (role_of side) channel (note_view note) (lives_view old channel) → items ≡ notes ++ note ∷ []
+    → lives_view new channel ≡ counted_lives (role_of side) channel (map note_view items)
 count_then side notes items note old new channel counts step items_are =
     step
-    ∙ (ap (counted_with (role_of side) channel (note_view note)) (count_is side notes old channel counts)
-    ∙ (sym (counted-last (role_of side) channel nothing_counted (map note_view notes) (note_view note)) ∙ ap (counted (role_of side) channel) (sym (mapped-last note_view notes items note items_are))))
+    ∙ (ap (count_with (role_of side) channel (note_view note)) (count_is side notes old channel counts)
+    ∙ (sym (counted-last (role_of side) channel no_lives (map note_view notes) (note_view note)) ∙ ap (counted_lives (role_of side) channel) (sym (mapped-last note_view notes items note items_are))))
 
 -- one more note is counted
 pub counts-note : (side : Side) (notes items : List Note) (note : Note) (old new : Lives) → CountsLives side notes old
-    → ((channel : ℕ) → lives_view new channel ≡ counted_with (role_of side) channel (note_view note) (lives_view old channel)) → items ≡ notes ++ note ∷ []
+    → ((channel : ℕ) → lives_view new channel ≡ count_with (role_of side) channel (note_view note) (lives_view old channel)) → items ≡ notes ++ note ∷ []
     → CountsLives side items new
 counts-note side notes items note old new counts step items_are = record {
   lives = λ channel. ap (λ (c : LifeCount). c.lives) (count_then side notes items note old new channel counts (step channel) items_are);
@@ -49,7 +49,7 @@ pub counts-other : (side : Side) (notes items : List Note) (note : Note) (number
     → note_view note ≡ noted_as IsPut number Other → items ≡ notes ++ note ∷ [] → CountsLives side items kept
 counts-other side notes items note number kept counts is items_are =
     counts-note side notes items note kept kept counts
-    (λ channel. sym (ap (λ n. counted_with (role_of side) channel n (lives_view kept channel)) is ∙ other_counts (role_of side) (lives_view kept channel) (number == 0) (number == channel)))
+    (λ channel. sym (ap (λ n. count_with (role_of side) channel n (lives_view kept channel)) is ∙ other_counts (role_of side) (lives_view kept channel) (number == 0) (number == channel)))
     items_are
 
 -- so many notes, one after another

@@ -15,7 +15,7 @@ use Rattle.amqp_model.specs.Wire.Contents.{Content}
 use Rattle.amqp_model.specs.Wire.Methods.{Method, MethodKind, octets_at, same_kind}
 use Rattle.amqp_model.specs.Wire.Notes.{Role}
 use Rattle.amqp_model.specs.Wire.Readings.{Reading, Calls, reading as says}
-use Rattle.amqp_channel.specs.VerdictView.{IsWhole, event_told, whole_now}
+use Rattle.amqp_channel.specs.Verdict.VerdictView.{IsWhole, event_told, whole_now}
 use Rattle.amqp_channel.specs.declared.verdict.Reply.{Reply}
 use Rattle.amqp_channel.specs.declared.verdict.Told.{Told}
 use Rattle.amqp_channel.specs.declared.verdict.Told.TheVariants as told

@@ -5,7 +5,7 @@ use Rattle.amqp_method.specs.Places.{argument_at, found, short_of, short_string_
 use Rattle.amqp_method.specs.declared.fields.FieldKind.TheVariants.{Short, ShortStr}
 use Rattle.amqp_method.specs.declared.kinds.Kind.TheVariants as kinds
 use Rattle.amqp_model.specs.Wire.Methods.{MethodKind}
-use Rattle.amqp_channel.specs.Reasons.{IsClose}
+use Rattle.amqp_channel.specs.Events.Closes.{IsClose}
 
 is_short : (arg : Argument) → kind_of arg ≡ Short → short_of arg ≡ None → ⊥
 is_short (short n) e none = cc

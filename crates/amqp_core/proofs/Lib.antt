@@ -33,6 +33,7 @@ pub mod SettingsWrite
 pub mod OwedLemmas
 pub mod RefusalLemmas
 pub mod PieceLemmas
+pub mod ContentLemmas
 pub mod AskLemmas
 pub mod AccountLemmas
 pub mod BlameLemmas

@@ -1,75 +1,17 @@
 -- A body that is cut: part by part, and a message as payloads that read back.
-use Rattle.std.proofs.Common.{◌≡◌, ◌<◌, ◌≤◌, ◌+◌, ◌-◌, ◌/◌, nat_lt, Bool, true, false, ℕ, zero, suc, min, List, [], ◌∷◌, ◌++◌, map, length, take, drop, length-drop, Option, Some, refl, ap, sym, ◌∙◌, arith, append_assoc, append-nil}
-use Rattle.std.proofs.Math.Nat.{add-div_right, div-eq_of_lt}
-use Rattle.std.proofs.lemmas.Bool.Decides.{nat_tests}
-use Rattle.std.proofs.lemmas.List.{take_min}
+use Rattle.std.proofs.Common.{◌≡◌, ◌<◌, ℕ, min, List, [], ◌∷◌, ◌++◌, map, length, take, drop, Option, Some, refl, ap, sym, ◌∙◌, append_assoc, append-nil}
 use Rattle.amqp_method.specs.Properties.{header}
 use Rattle.amqp_model.specs.End.Asks.{payload_frame, message_payloads}
 use Rattle.amqp_model.specs.End.Closes.{method_frame}
-use Rattle.amqp_model.specs.Wire.Contents.{Body, first_pieces, pieces, room_in}
+use Rattle.amqp_model.specs.Wire.Contents.{Body, pieces, room_in}
 use Rattle.amqp_model.specs.Wire.Frame.{Frame}
 use Rattle.amqp_model.specs.Wire.Methods.{Method, Properties}
 use Rattle.amqp_outbox.specs.OutboxFrames.{header_frame, body_frame}
 use Rattle.amqp_outbox.specs.OutboxView.{Outgoing, with_staged}
-use Rattle.amqp_channel.specs.Messages.{message_by}
-
-first_count : (a room n : ℕ) → 0 < room → n ≡ suc a → (n + room - 1) / room ≡ suc (a / room)
-first_count a room n some e =
-    let before : n + room - 1 ≡ a + room = omega arith in
-    ap (λ k. k / room) before ∙ (add-div_right a some ∙ omega arith)
-
-left_long : (a room n : ℕ) → 0 < room → n ≡ suc a → room ≤ n → a / room ≡ (n - room + room - 1) / room
-left_long a room n some e long = let before : a ≡ n - room + room - 1 = omega arith in ap (λ k. k / room) before
-
-left_short : (a room n : ℕ) → 0 < room → n ≡ suc a → n < room → a / room ≡ (n - room + room - 1) / room
-left_short a room n some e short =
-    let none : a < room = omega arith in
-    let rest : n - room + room - 1 < room = omega arith in
-    div-eq_of_lt none ∙ sym (div-eq_of_lt rest)
-
-is_short : (n room : ℕ) → nat_lt n room ≡ true → n < room
-is_short n room h = grind (arith, nat_tests)
-
-is_long : (n room : ℕ) → nat_lt n room ≡ false → room ≤ n
-is_long n room h = grind (arith, nat_tests)
-
-left_by : (b : Bool) (a room n : ℕ) → nat_lt n room ≡ b → 0 < room → n ≡ suc a → a / room ≡ (n - room + room - 1) / room
-left_by true a room n short some e = left_short a room n some e (is_short n room short)
-left_by false a room n long some e = left_long a room n some e (is_long n room long)
-
-left : (a room n : ℕ) → 0 < room → n ≡ suc a → a / room ≡ (n - room + room - 1) / room
-left a room n some e = left_by (nat_lt n room) a room n refl some e
-
-counted : (room n : ℕ) → 0 < room → 0 < n → (n + room - 1) / room ≡ suc ((n - room + room - 1) / room)
-counted room zero some more = absurd (omega arith)
-counted room (suc a) some more = first_count a room (suc a) some refl ∙ ap suc (left a room (suc a) some refl)
-
--- octets that are not empty: the first part, and the parts of the rest
-pub pieces_more : (octets : List ℕ) (room : ℕ) → 0 < room → 0 < length octets → pieces room octets ≡ take room octets ∷ pieces room (drop room octets)
-pieces_more octets room some more =
-    ap (λ n. first_pieces n room octets) (counted room (length octets) some more)
-    ∙ ap (λ k. take room octets ∷ first_pieces ((k + room - 1) / room) room (drop room octets)) (sym (length-drop room octets))
-
-pub pieces_none : (room : ℕ) → 0 < room → pieces room [] ≡ []
-pieces_none room some = let none : 0 + room - 1 < room = omega arith in ap (λ n. first_pieces n room []) (div-eq_of_lt none)
+use Rattle.amqp_channel.specs.Events.EventView.{message_by}
+use Rattle.amqp_outbox.proofs.BodyParts.{pieces_none, cut_once}
 
 -- A part that is staged.
-
-same_drop : (rest : List ℕ) (room : ℕ) → drop (min room (length rest)) rest ≡ drop room rest
-same_drop [] zero = refl
-same_drop [] (suc room) = let none : min (suc room) 0 ≡ 0 = omega arith in ap (λ n. drop n []) none
-same_drop (x ∷ rest) zero = let none : min 0 (length (x ∷ rest)) ≡ 0 = omega arith in ap (λ n. drop n (x ∷ rest)) none
-same_drop (x ∷ rest) (suc room) =
-    let less : min (suc room) (length (x ∷ rest)) ≡ suc (min room (length rest)) = omega arith in
-    ap (λ n. drop n (x ∷ rest)) less ∙ same_drop rest room
-
-cut_once : (room size : ℕ) (rest : List ℕ) → 0 < room → 0 < length rest → size ≡ min (length rest) room
-    → pieces room rest ≡ take size rest ∷ pieces room (drop size rest)
-cut_once room size rest some more e =
-    let size_is : size ≡ min room (length rest) = omega arith in
-    pieces_more rest room some more
-    ∙ (ap (λ p. p ∷ pieces room (drop room rest)) (sym (ap (λ n. take n rest) size_is ∙ take_min room rest))
-    ∙ ap (λ l. take size rest ∷ pieces room l) (sym (ap (λ n. drop n rest) size_is ∙ same_drop rest room)))
 
 pub part_staged : (staged : List Frame) (channel room size : ℕ) (rest part later : List ℕ) → 0 < room → 0 < length rest → size ≡ min (length rest) room
     → part ≡ take size rest → later ≡ drop size rest

@@ -9,7 +9,7 @@ use Rattle.amqp_model.specs.End.Machine.{set_channel, channel_after, end_after, 
 use Rattle.amqp_model.specs.Wire.Methods.{Method, Properties}
 use Rattle.amqp_model.specs.History.Negotiation.{Config}
 use Rattle.amqp_model.specs.Wire.Readings.{Reading, Calls, UnknownMethod, MalformedMethod, HeaderOf, MalformedHeader, BodyOf, Beat, payload_of, reading as reading_of}
-use Rattle.amqp_channel.specs.Puts.{reading_as, after_payloads}
+use Rattle.amqp_channel.specs.Channels.Payloads.{reading_as, after_payloads}
 use Rattle.amqp_channel.specs.Roles.{role_of}
 use Rattle.amqp_channel.specs.declared.site.Site.{Site}
 use Rattle.amqp_core.proofs.EndLemmas.{entry_above, set_here, set_twice}
@@ -73,7 +73,7 @@ from_set site config limits (payload ∷ payloads) channel channels h written sa
     ∙ ap (running_end site limits) (set_twice site.number channel (after channel) channels)))
     ∙ from_set site config limits payloads (after channel) channels h written.1 say.1
 
-pub puts_as_end : (site : Site) (config : Config (role_of site.side)) (limits : Agreed) (channels : ℕ → Channel) (payload : Payload) (later : List Payload) → PutsAsEnd site config limits channels payload later
+pub puts_as_end : PutsAsEnd
 puts_as_end site config limits channels payload later h written say =
     ap (end_after_put (role_of site.side) config (map (payload_frame site.number) later)) (put_once site config limits payload channels h written.0 say.0)
     ∙ from_set site config limits later (channel_after (role_of site.side) (PutHere (reading_as payload) (payload_frame site.number payload)) (channels site.number)) channels h written.1 say.1

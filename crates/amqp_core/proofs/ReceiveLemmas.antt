@@ -14,9 +14,9 @@ use Rattle.amqp_model.specs.Wire.Methods.{Header, header_at}
 use Rattle.amqp_model.specs.Output.Outputs.{after_puts, Output}
 use Rattle.amqp_model.specs.Wire.Readings.{Reading, Calls, header_reading, reading as says}
 use Rattle.amqp_outbox.specs.OutboxView.{Outgoing, only}
-use Rattle.amqp_channel.specs.Used.{is_closing_at}
-use Rattle.amqp_channel.specs.VerdictView.{reply_there}
-use Rattle.amqp_channel.specs.ChannelsView.{OnlyAt}
+use Rattle.amqp_channel.specs.Channels.Used.{is_closing_at}
+use Rattle.amqp_channel.specs.Verdict.VerdictView.{reply_there}
+use Rattle.amqp_channel.specs.Channels.ChannelsView.{OnlyAt}
 use Rattle.amqp_channel.specs.declared.verdict.Verdict.TheVariants as ruled
 use Rattle.amqp_channel.specs.declared.verdict.Told.TheVariants as told
 use Rattle.amqp_channel.proofs.VerdictLemmas.{fits_event}

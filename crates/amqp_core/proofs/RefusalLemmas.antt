@@ -9,8 +9,8 @@ use Rattle.amqp_model.specs.Wire.Methods.{MethodKind, Method, Properties, bit_at
 use Rattle.amqp_model.specs.Wire.Notes.{Role, Client, Server, is_client}
 use Rattle.amqp_model.specs.Wire.Readings.{Calls, kind_of, kind_of_method}
 use Rattle.amqp_model.specs.End.ReadingBack.{header_of}
-use Rattle.amqp_channel.specs.LifeView.{IsOther}
-use Rattle.amqp_channel.specs.Messages.{message_by}
+use Rattle.amqp_channel.specs.Channel.LifeView.{IsOther}
+use Rattle.amqp_channel.specs.Events.EventView.{message_by}
 use Rattle.amqp_core.specs.Asks.Refusals.{IsOpenIn, passes, is_too_large, by_pause, by_kind, by_size, reply_refusal, refusal_in}
 
 pub too_large_by : (frame_max : ℕ) (method : Method) (there : Option Properties) (body : List ℕ) (properties : Properties) → there ≡ Some properties

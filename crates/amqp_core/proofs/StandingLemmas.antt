@@ -14,7 +14,7 @@ use Rattle.amqp_model.specs.Laws.OctetLaws.{EndpointStandsFor, HasFailed, WroteF
 use Rattle.amqp_model.specs.Stream.Octets.{FedAs, frames_put, opening_written}
 use Rattle.amqp_model.specs.Output.Outputs.{Output, output_octets}
 use Rattle.amqp_model.specs.Stream.RunningOut.{RanOut, RunsOut, RanOutWrites, out_of_memory}
-use Rattle.amqp_core.specs.Faults.FaultShown.{ShowsFault}
+use Rattle.amqp_core.specs.Faults.FaultShown.{EndsInFault}
 use Rattle.amqp_core.specs.End.Feeding.{SameEndpoint, ran_out_of}
 use Rattle.amqp_core.specs.Traced.Tracing as tracing
 use Rattle.amqp_core.specs.Traced.Tracing.{Kept, Stands, ran_out, with_unfinished}
@@ -38,7 +38,7 @@ stands-wrote role config old new history n wrote failed out within endpoint_is f
     tracing.failed limit opening opens (subst (λ (e : Endpoint). HasFailed role config limit opening history new.fed new.written e) (sym endpoint_is)
     (subst (λ f. HasFailed role config limit opening history f new.written (after_wrote n old.endpoint)) (sym fed_is)
     (subst (λ w. HasFailed role config limit opening history old.fed w (after_wrote n old.endpoint)) (sym written_is) (failed limit opening stands within))))
-    (subst (λ f. ShowsFault role config limit history f) (sym fed_is) shown)
+    (subst (λ f. EndsInFault role config limit history f) (sym fed_is) shown)
 stands-wrote role config old new history n wrote failed out within endpoint_is fed_is written_is (ran_out unfinished stands) =
     ran_out unfinished (subst (λ (e : Endpoint). RanOut role config (with_unfinished e unfinished) history new.fed new.written) (sym endpoint_is)
     (subst (λ f. RanOut role config (with_unfinished (after_wrote n old.endpoint) unfinished) history f new.written) (sym fed_is)

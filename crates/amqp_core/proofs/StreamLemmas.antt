@@ -35,7 +35,7 @@ use Rattle.amqp_model.specs.Wire.Notes.{Role}
 use Rattle.amqp_model.specs.Wire.Readings.{Reading, reading}
 use Rattle.amqp_frame.specs.Splitting.{IsRest}
 use Rattle.amqp_outbox.specs.OutboxView.{Outgoing}
-use Rattle.amqp_core.specs.Faults.Answering.{answer_with, AnswersFrame, PutsAs, Tells, ran_out}
+use Rattle.amqp_core.specs.Faults.Answering.{answer_with, AnswersFrame, PutsAs, AnswersEvent, ran_out}
 use Rattle.amqp_core.specs.Connection.View.{connection_end}
 use Rattle.amqp_core.specs.End.Bounded.{IsBounded}
 use Rattle.amqp_core.specs.End.EndpointView.{FieldsFit, IsSound, endpoint_view, is_opened, role_at, unfinished_of}
@@ -214,19 +214,19 @@ lends_of_rest role config old piece fed count one r is there rest =
 
 -- Of the protocol header nothing is told until it is whole.
 
-event_unfinished : (event : Event) (outcome : Outcome) → Tells (Some event) outcome → outcome ≢ Unfinished
+event_unfinished : (event : Event) (outcome : Outcome) → AnswersEvent (Some event) outcome → outcome ≢ Unfinished
 event_unfinished event Unfinished says e = none_is_some says
 event_unfinished event (Finished told) says e = false≢true (ap is_unfinished e)
 event_unfinished event (Found fault) says e = absurd says
 
-pub lends_nothing : (role : Role) (config : Config role) (old : Endpoint) (piece : List ℕ) (fed : Feeding) → awaits_opening role old.end.phase ≡ true → Tells None fed.outcome → LendsOf role config old piece fed None
+pub lends_nothing : (role : Role) (config : Config role) (old : Endpoint) (piece : List ℕ) (fed : Feeding) → awaits_opening role old.end.phase ≡ true → AnswersEvent None fed.outcome → LendsOf role config old piece fed None
 lends_nothing role config old piece fed awaits says = record {
   waits = λ e. refl;
   greets = λ same e. absurd (nothing_finished fed.outcome says e);
   takes = λ frame phase completes. absurd (no_frames role old.end.phase awaits phase);
 }
 
-pub lends_quiet : (role : Role) (config : Config role) (old : Endpoint) (piece : List ℕ) (fed : Feeding) (event : Event) → awaits_opening role old.end.phase ≡ true → Tells (Some event) fed.outcome → LendsOf role config old piece fed (Some (Other Quiet))
+pub lends_quiet : (role : Role) (config : Config role) (old : Endpoint) (piece : List ℕ) (fed : Feeding) (event : Event) → awaits_opening role old.end.phase ≡ true → AnswersEvent (Some event) fed.outcome → LendsOf role config old piece fed (Some (Other Quiet))
 lends_quiet role config old piece fed event awaits says = record {
   waits = λ e. absurd (event_unfinished event fed.outcome says e);
   greets = λ same e. refl;
@@ -239,7 +239,7 @@ abbrev pub seen_with : {A : Type 0} → Result A CoreFault → (octets : ℕ) �
 seen_with (Ok done) octets event = Ok (record { octets = octets; event = event })
 seen_with (Err fault) octets event = Err fault
 
-faultless : (event : Option Event) (outcome : Outcome) → Tells event outcome → AnswersLent (Ok (record { octets = 0; event = None })) outcome
+faultless : (event : Option Event) (outcome : Outcome) → AnswersEvent event outcome → AnswersLent (Ok (record { octets = 0; event = None })) outcome
 faultless event Unfinished told = tt
 faultless event (Finished other) told = tt
 faultless event (Found fault) told = absurd told
@@ -339,6 +339,11 @@ ran_step (Err fault) given = refl
 pub step_count : (result : Result Step CoreFault) (given : Option Frame) (P : ℕ → Type 0) → IfOk (step_seen result given) (λ seen. P seen.octets) → IfOk result (λ step. P step.octets)
 step_count (Ok step) given P holds = holds
 step_count (Err fault) given P holds = holds
+
+pub count_step : (result : Result Step CoreFault) (given : Option Frame) (P : ℕ → Type 0)
+    → IfOk result (λ step. P step.octets) → IfOk (step_seen result given) (λ seen. P seen.octets)
+count_step (Ok step) given P holds = holds
+count_step (Err fault) given P holds = holds
 
 -- The splitter after each answer.
 

@@ -21,7 +21,7 @@ use Rattle.amqp_model.specs.End.ReadingBack.{WritesReadBack}
 use Rattle.amqp_model.specs.Wire.Readings.{kind_of, method_reading}
 use Rattle.amqp_model.specs.Pair.Sent.{Telling, life_on, told, said, told_at, goes_on_with}
 use Rattle.amqp_model.specs.Stream.Traces.{Other, IsPut, IsTaken, noted, trace, word_of, TracePuts, TellsEvent, PutsTellNothing, SaysMethod, item_in_event, telling_at, telling_above}
-use Rattle.amqp_channel.specs.EventView.{agreed_view}
+use Rattle.amqp_channel.specs.Events.EventView.{agreed_view}
 use Rattle.amqp_core.specs.Traced.AccountView.{item_in_outcome}
 use Rattle.amqp_core.specs.Traced.Noting.{noted_owed, said_by_owed}
 use Rattle.amqp_core.specs.Connection.Owed.{owed_view, starts, answers_start, tunes, answers_tune}

@@ -14,7 +14,7 @@ use Rattle.amqp_model.specs.Stream.Endpoint as model
 use Rattle.amqp_model.specs.Stream.Pieces.{HoldsUnfinished}
 use Rattle.amqp_model.specs.Wire.Gathering.{Gathering, Nothing, HeaderDue, BodyDue}
 use Rattle.amqp_model.specs.Wire.Notes.{Role}
-use Rattle.amqp_channel.specs.LentView.{content_on}
+use Rattle.amqp_channel.specs.Channel.ChannelView.{content_on}
 use Rattle.amqp_core.specs.End.Bounded.{IsBounded}
 use Rattle.amqp_core.specs.Connection.View.{connection_end}
 use Rattle.amqp_core.specs.End.EndpointView.{FieldsFit, IsSound, unfinished_of}

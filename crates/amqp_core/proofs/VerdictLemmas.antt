@@ -17,13 +17,13 @@ use Rattle.amqp_model.specs.History.Negotiation as negotiation
 use Rattle.amqp_model.specs.History.Negotiation.{Config, agreed_in, tunes_too_small}
 use Rattle.amqp_model.specs.Wire.Notes.{Role, is_client}
 use Rattle.amqp_model.specs.Wire.Readings.{Reading, Calls, UnknownMethod, MalformedMethod, HeaderOf, MalformedHeader, BodyOf, Beat}
-use Rattle.amqp_channel.specs.ChannelsView.{channels_view}
-use Rattle.amqp_channel.specs.Closes.{code_view}
-use Rattle.amqp_channel.specs.EventView.{agreed_view}
+use Rattle.amqp_channel.specs.Channels.ChannelsView.{channels_view}
+use Rattle.amqp_channel.specs.Events.Closes.{code_view}
+use Rattle.amqp_channel.specs.Events.EventView.{agreed_view}
 use Rattle.amqp_channel.specs.Roles.{role_of}
-use Rattle.amqp_channel.specs.VerdictView.{left_by, reply_there, verdict_view, whole_now, Rules}
-use Rattle.amqp_channel.specs.Used.{is_closing_at}
-use Rattle.amqp_channel.specs.Leaving.{LeavesAfter}
+use Rattle.amqp_channel.specs.Verdict.VerdictView.{left_by, reply_there, verdict_view, whole_now, Rules}
+use Rattle.amqp_channel.specs.Channels.Used.{is_closing_at}
+use Rattle.amqp_channel.specs.Verdict.Leaving.{LeavesAfter}
 use Rattle.amqp_channel.specs.declared.channels.Channels.{Channels}
 use Rattle.amqp_channel.specs.declared.codes.CloseCode as code_codes
 use Rattle.amqp_channel.specs.declared.codes.CloseCode.TheVariants as codes

@@ -5,7 +5,7 @@ pub mod HandshakeMethods
 pub mod Handshakes
 pub mod Owed
 pub mod FreeBefore
-pub mod Gathers
+pub mod GathersWhole
 pub mod View
 pub mod Rulings
 pub mod Verdicts

@@ -1,5 +1,5 @@
--- What `End` does, call by call. `View` says what callers see of it; `Feeds`, `Asks`, `Controls` and `Queries` have
--- the relation of each call.
+-- What `End` does, call by call. `View` says what callers see of it; `Beginning`, `Feeds`, `Writes`, `Asks`, `Controls`
+-- and `Queries` have the relation of each call.
 pub mod EndpointView
 pub mod View
 pub mod Kept
@@ -16,5 +16,6 @@ pub mod OfHistory
 pub mod Counted
 pub mod Queries
 pub mod Feeds
+pub mod Writes
 pub mod Asks
 pub mod Controls

@@ -1,10 +1,7 @@
 pub use Rattle.amqp_channel.specs.Roles
-pub use Rattle.amqp_channel.specs.Messages
-pub use Rattle.amqp_channel.specs.Closes
-pub use Rattle.amqp_channel.specs.Reasons
-pub use Rattle.amqp_channel.specs.EventView
-pub use Rattle.amqp_channel.specs.EventTexts
-pub use Rattle.amqp_channel.specs.StateView
+pub use Rattle.amqp_channel.specs.Events.Closes
+pub use Rattle.amqp_channel.specs.Events.EventView
+pub use Rattle.amqp_channel.specs.Events.EventTexts
 pub mod Events
 pub mod Config
 pub mod Connection
@@ -15,3 +12,4 @@ pub mod End
 pub mod Stream
 pub mod Traced
 pub mod Texts
+pub mod Laws

@@ -8,6 +8,7 @@ pub mod Lending
 pub mod History
 pub mod Queries
 pub mod Lends
+pub mod Writes
 pub mod Asks
 pub mod Controls
 pub mod Turning

@@ -7,7 +7,7 @@ use Rattle.amqp_method.specs.MessageView.{message_view}
 use Rattle.amqp_method.specs.Methods.{row}
 use Rattle.amqp_method.specs.Texts.{text_of_message}
 use Rattle.amqp_method.specs.declared.kinds.Kind.{Kind}
-use Rattle.amqp_channel.specs.EventTexts.{channel_text, flow_text}
+use Rattle.amqp_channel.specs.Events.EventTexts.{channel_text, flow_text}
 use Rattle.amqp_core.specs.declared.asks.Ask.{Ask}
 use Rattle.amqp_core.specs.declared.asks.Ask.TheVariants as ask
 use Rattle.amqp_core.specs.declared.heard.Cause.{Cause}
@@ -41,7 +41,8 @@ word_text word.Other = codes "other"
 
 -- a channel, and what was done there
 abbrev pub note_text : Note → List ℕ
-note_text note = decimal note.channel ++ (codes " " ++ (direction_text note.direction ++ (codes " " ++ word_text note.word)))
+note_text note =
+    decimal note.channel ++ (codes " " ++ (direction_text note.direction ++ (codes " " ++ word_text note.word)))
 
 -- a code and a quoted text
 abbrev pub closing_text : (code : ℕ) → (text : List ℕ) → List ℕ
@@ -49,9 +50,11 @@ closing_text code text = decimal code ++ (codes " " ++ quoted text)
 
 abbrev pub ask_text : Ask → List ℕ
 ask_text ask.Open = codes "open"
-ask_text (ask.Send channel message) = channel_text (codes "send") channel ++ (codes " " ++ text_of_message (message_view message))
+ask_text (ask.Send channel message) =
+    channel_text (codes "send") channel ++ (codes " " ++ text_of_message (message_view message))
 ask_text (ask.Flow channel active) = flow_text (codes "flow") channel active
-ask_text (ask.CloseChannel channel code text) = channel_text (codes "close-channel") channel ++ (codes " " ++ closing_text code text)
+ask_text (ask.CloseChannel channel code text) =
+    channel_text (codes "close-channel") channel ++ (codes " " ++ closing_text code text)
 ask_text (ask.Close code text) = codes "close " ++ closing_text code text
 ask_text (ask.Blocked reason) = codes "blocked " ++ quoted reason
 ask_text ask.Unblocked = codes "unblocked"

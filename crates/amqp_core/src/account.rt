@@ -1,7 +1,7 @@
 //! What came of a piece: its account, which is filled in where each part of it comes to be known.
 ghost use Rattle.std.specs.Prelude.{◌≡◌};
-ghost use Rattle.amqp_channel.specs.EventView.{event_there};
-ghost use Rattle.amqp_channel.specs.PartsView.{parts_there};
+ghost use Rattle.amqp_channel.specs.Events.EventView.{event_there};
+ghost use Rattle.amqp_channel.specs.Events.PartsView.{parts_there};
 
 use crate::faults::CoreFault;
 use crate::notes::Note;

@@ -131,6 +131,7 @@ impl Endpoint {
     }
 
     /// Takes octets up to the end of the next frame, or of the protocol header at a server that awaits it.
+    #[inline(always)]
     pub(crate) fn advance<'a>(
         &mut self,
         piece: &'a [u8],

@@ -1,5 +1,5 @@
-//! Whether an ask is refused, and where its frames go if it isn't. An end that is kept with its history wants to know this
-//! before anything is put, to make room for what the ask adds.
+//! Whether an ask is refused, and where its frames go if it isn't. An end that is kept with its history wants to know
+//! this before anything is put, to make room for what the ask adds.
 ghost use Rattle.std.specs.Prelude.{◌≡◌, Some, IfOk, IfErr, OnOk};
 ghost use Rattle.amqp_model.specs.End.Asks as asks;
 ghost use Rattle.amqp_model.specs.End.Asks.{lowest_free};

@@ -1,13 +1,16 @@
 //! What an application asks of an end: it is refused with the first refusal that applies, or its frames are put.
 //!
-//! The refusals come first, and change nothing. Then all is done that may want memory, the frames being staged; then the state
-//! changes, and the frames are put, which can't fail.
-ghost use Rattle.std.specs.Prelude.{◌≡◌, [], Some, IfOk, IfErr, OnOk};
+//! The refusals come first, and change nothing. Then all is done that may want memory, the frames being staged; then
+//! the state changes, and the frames are put, which can't fail.
+ghost use Rattle.std.specs.Prelude.{◌≡◌, [], Some, IfOk, IfErr, OnOk, true, OnErr};
+ghost use Rattle.amqp_method.specs.HeaderView.{properties_view};
+ghost use Rattle.amqp_method.specs.Kinds.{has_content};
+ghost use Rattle.amqp_method.specs.MethodView.{method_view};
 ghost use Rattle.amqp_model.specs.End.Asks as asks;
 ghost use Rattle.amqp_model.specs.End.Asks.{lowest_free};
-ghost use Rattle.amqp_channel.specs.Messages.{message_of};
+ghost use Rattle.amqp_channel.specs.Events.EventView.{message_of};
 ghost use Rattle.amqp_core.specs.Asks.View.{lent_view};
-ghost use Rattle.amqp_core.specs.Asks.Asked.{number_taken, IsAccepted, IsRefused};
+ghost use Rattle.amqp_core.specs.Asks.Asked.{content_asked, number_taken, IsAccepted, IsRefused};
 ghost use Rattle.amqp_core.specs.Heard.View.{cause_view};
 ghost use Rattle.amqp_core.specs.Asks.LentLetter.{lent_letter};
 
@@ -20,8 +23,8 @@ use crate::replies::bare;
 use crate::sending;
 use crate::stage::Stage;
 use amqp_channel::Channel;
-use amqp_method::Kind;
-use amqp_outbox::Outbox;
+use amqp_method::{Kind, Method, Properties};
+use amqp_outbox::{Chunks, Outbox};
 use amqp_value::ShortStr;
 
 impl Connection {
@@ -76,6 +79,42 @@ impl Connection {
         else {
             outbox.discard();
             return Err(AskFault::OutOfMemory);
+        };
+        outbox.put();
+        Ok(())
+    }
+
+    /// Sends a method and its content on a channel, and lets the chunks go in which the body lies.
+    pub(crate) fn send_chunks(
+        &mut self,
+        outbox: &mut Outbox,
+        number: u16,
+        method: &Method,
+        properties: &Properties,
+        chunks: &mut Chunks,
+    ) -> Result<(), AskFault>
+        requires staged { outbox.old.staged ≡ [] }
+        requires content { has_content (method_view method.now).kind ≡ true }
+        ensures accepted { OnOk result (IsAccepted self.old.settings
+            (content_asked number (method_view method.now) (properties_view properties.now) chunks.old)
+            (connection_end self.old) (connection_end self.new) outbox.old outbox.new) }
+        ensures refused { IfErr result (λ fault. IsRefused self.old.settings
+            (content_asked number (method_view method.now) (properties_view properties.now) chunks.old) fault
+            (connection_end self.old) (connection_end self.new) outbox.old outbox.new) }
+        ensures settings { self.new.settings ≡ self.old.settings }
+        ensures taken { OnOk result (chunks.new ≡ []) }
+        ensures kept { OnErr result (chunks.new ≡ chunks.old) }
+    {
+        let agreed = self.allow_content(number, method, properties)?;
+        let site = self.site(number, agreed.channel_max);
+        let frame_max = agreed.frame_max;
+        let staged = sending::stage_chunks(outbox, number, frame_max, method, properties, chunks);
+        let Ok(()) = staged else {
+            outbox.discard();
+            return Err(AskFault::OutOfMemory);
+        };
+        let Ok(()) = self.channels.put_message(self.alloc, site, method) else {
+            unreachable!()
         };
         outbox.put();
         Ok(())

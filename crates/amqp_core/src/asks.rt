@@ -1,6 +1,6 @@
 //! What an application asks of an end.
 ghost use Rattle.std.specs.Prelude.{◌≡◌, ◌<◌, IfOk};
-ghost use Rattle.amqp_channel.specs.Messages.{message_of};
+ghost use Rattle.amqp_channel.specs.Events.EventView.{message_of};
 ghost use Rattle.amqp_core.specs.Traced.AskNoting.{count_asked, frames_of_message};
 ghost use Rattle.amqp_core.specs.Asks.View.{ask_view, lent_view};
 ghost use Rattle.amqp_core.specs.Asks.LentLetter.{lent_letter};
@@ -16,8 +16,8 @@ use amqp_value::ShortStr;
 pub enum Ask {
     /// Opens the lowest channel that is free. Only a client opens channels.
     Open,
-    /// Sends a message on a channel: a method alone, or with its content. The methods of the classes connection and channel are
-    /// put by the other asks, and by the end itself.
+    /// Sends a message on a channel: a method alone, or with its content. The methods of the classes connection and
+    /// channel are put by the other asks, and by the end itself.
     Send(u16, Message),
     /// Asks the other end to send contents on a channel, or no more of them.
     Flow(u16, bool),

@@ -1,6 +1,7 @@
 //! What an application sets an end up with.
-ghost use Rattle.std.specs.Prelude.{◌≡◌, false, IfOk};
+ghost use Rattle.std.specs.Prelude.{◌≡◌, IfOk};
 ghost use Rattle.amqp_core.specs.Config.Configs.{set_up_as, settings_of};
+ghost use Rattle.amqp_core.specs.Config.Defaults.{HasDefaults};
 ghost use Rattle.amqp_core.specs.Config.Settings.{role_for};
 
 use crate::faults::OutOfMemory;
@@ -10,8 +11,8 @@ use crate::settings::Settings;
 /// What an end is set up with.
 #[derive(Drop)]
 pub struct Config<R: Role> {
-    /// The greatest frame that the end takes, in octets, all of the frame counted: from 4096 to 1048576. A server says it in
-    /// tune; a client settles on the smaller of its own and the server's.
+    /// The greatest frame that the end takes, in octets, all of the frame counted: from 4096 to 1048576. A server says
+    /// it in tune; a client settles on the smaller of its own and the server's.
     pub frame_max: u32,
     /// The greatest channel number, from 1 to 65535, agreed in the same way. So many channels can be open at once.
     pub channel_max: u16,
@@ -25,20 +26,15 @@ pub struct Config<R: Role> {
     /// client's what to answer to start. The end tells that it is asked, and puts nothing until the application
     /// answers. An end that is not gated answers at once.
     pub gated: bool,
-    /// What the end says of itself: a server in start, a client in start-ok and in open. The frame of start or of start-ok
-    /// has at most 4096 octets.
+    /// What the end says of itself: a server in start, a client in start-ok and in open. The frame of start or of
+    /// start-ok has at most 4096 octets.
     pub hello: R::Hello,
 }
 
 impl<R: Role> Config<R> {
     /// The defaults: frames of 131072 octets, 2047 channels, bodies of 16777216 octets, no heartbeat, not gated.
     pub fn new(hello: R::Hello) -> Config<R>
-        ensures frame { result.frame_max ≡ 131072 }
-        ensures channels { result.channel_max ≡ 2047 }
-        ensures body { result.max_body ≡ 16777216 }
-        ensures heartbeat { result.heartbeat ≡ 0 }
-        ensures gated { result.gated ≡ false }
-        ensures hello { result.hello ≡ hello }
+        ensures { HasDefaults hello result }
     {
         Config {
             frame_max: 131_072,

@@ -1,6 +1,6 @@
 //! What an end keeps of its connection.
 ghost use Rattle.amqp_core.specs.Connection.FreeBefore.{FreeBefore};
-ghost use Rattle.amqp_core.specs.Connection.Gathers.{Gathers};
+ghost use Rattle.amqp_core.specs.Connection.GathersWhole.{GathersWhole};
 
 mod blaming;
 mod handshake;
@@ -23,7 +23,7 @@ pub(crate) struct Connection {
     pub(crate) stage: Stage,
     pub(crate) channels: Channels,
     pub ghost free: { FreeBefore stage channels },
-    pub ghost gathers: { Gathers settings channels },
+    pub ghost gathers: { GathersWhole settings channels },
 }
 
 impl Connection {

@@ -8,7 +8,7 @@ ghost use Rattle.amqp_model.specs.End.Controls as controls;
 ghost use Rattle.amqp_model.specs.End.Controls.{Control};
 ghost use Rattle.amqp_model.specs.Wire.Notes.{is_client};
 ghost use Rattle.amqp_core.specs.Asks.ControlView.{control_view};
-ghost use Rattle.amqp_core.specs.Asks.Controlled.{IsAllowed, IsControlled, IsRefusedControl, RefusesFirst};
+ghost use Rattle.amqp_core.specs.Asks.Controlled.{IsAllowedControl, IsControlled, IsRefusedControl, RefusesFirst};
 ghost use Rattle.amqp_core.specs.Connection.Decisions.{Decides, HoldsNone, holds_client};
 ghost use Rattle.amqp_core.specs.Connection.Handshakes.{is_in_handshake};
 ghost use Rattle.amqp_core.specs.Config.Settings.{role_for};
@@ -71,8 +71,8 @@ impl Connection {
         response: &[u8],
         locale: &ShortStr,
     ) -> Result<(), AskFault>
-        ensures allowed { OnOk result (IsAllowed self.now.settings (controls.AnswerStart mechanism.now response.now
-            locale.now) (connection_end self.now)) }
+        ensures allowed { OnOk result (IsAllowedControl self.now.settings (controls.AnswerStart mechanism.now
+            response.now locale.now) (connection_end self.now)) }
         ensures refused { IfErr result (λ fault. RefusesFirst self.now.settings (controls.AnswerStart mechanism.now
             response.now locale.now) (connection_end self.now) fault) }
     {
@@ -96,7 +96,7 @@ impl Connection {
 
     /// Why a heartbeat, or what the application decides, is refused, if it is. It takes no memory.
     pub(crate) fn allow_control(&self, control: LentControl<'_>) -> Result<(), AskFault>
-        ensures allowed { OnOk result (IsAllowed self.now.settings (control_view control.entry)
+        ensures allowed { OnOk result (IsAllowedControl self.now.settings (control_view control.entry)
             (connection_end self.now)) }
         ensures refused { IfErr result (λ fault. RefusesFirst self.now.settings (control_view control.entry)
             (connection_end self.now) fault) }

@@ -3,9 +3,10 @@ ghost use Rattle.std.specs.Prelude.{◌++◌, codes, Some};
 ghost use Rattle.std.specs.Fmt.{WritesOnOk};
 ghost use Rattle.amqp_value.specs.Text.{quoted};
 ghost use Rattle.amqp_method.specs.MessageView.{message_view};
-ghost use Rattle.amqp_method.specs.Texts.{bit_text, text_of_message};
-ghost use Rattle.amqp_channel.specs.EventTexts.{channel_text, flow_text};
-ghost use Rattle.amqp_core.specs.Texts.{phase_text, direction_text, word_text, note_text, closing_text, ask_text, cause_text};
+ghost use Rattle.amqp_method.specs.Texts.{text_of_message};
+ghost use Rattle.amqp_channel.specs.Events.EventTexts.{channel_text, flow_text};
+ghost use Rattle.amqp_core.specs.Texts.{phase_text, direction_text, word_text, note_text, closing_text, ask_text};
+ghost use Rattle.amqp_core.specs.Texts.{cause_text};
 
 use crate::asks::Ask;
 use crate::heard::Cause;
@@ -150,8 +151,8 @@ fn write_blocked<W: fmt::Write>(f: &mut fmt::Formatter<W>, reason: &ShortStr) ->
     write_quoted(f, reason.as_bytes())
 }
 
-/// Prints the ask with its arguments: `flow 1 0`, `close 200 "bye"`. A message is printed as its own text, in three lines where
-/// a content follows.
+/// Prints the ask with its arguments: `flow 1 0`, `close 200 "bye"`. A message is printed as its own text, in three
+/// lines where a content follows.
 impl fmt::Display for Ask {
     ghost output = { λ ask. Some (ask_text ask) };
 

@@ -1,6 +1,7 @@
 //! One end of a connection, a client or a server.
 ghost use Rattle.std.specs.Option.{option_copied};
-ghost use Rattle.std.specs.Prelude.{ℕ, List, ◌≡◌, ◌≢◌, ◌<◌, ◌≤◌, true, false, [], length, IsOk, IfOk, IfErr, OnOk, MatchOption, Some, None, Err};
+ghost use Rattle.std.specs.Prelude.{ℕ, List, ◌≡◌, ◌≢◌, ◌<◌, ◌≤◌, true, false, [], length, IsOk, IfOk, IfErr, OnOk};
+ghost use Rattle.std.specs.Prelude.{MatchOption, Some, None, Err, OnErr};
 ghost use Rattle.amqp_method.specs.HeaderView.{properties_view};
 ghost use Rattle.amqp_method.specs.Kinds.{has_content};
 ghost use Rattle.amqp_method.specs.MessageView.{message_view};
@@ -9,12 +10,11 @@ ghost use Rattle.amqp_model.specs.Output.ArrangementRules.{FollowsRules};
 ghost use Rattle.amqp_model.specs.End.Answers.{channel_state, gathered, reply_due};
 ghost use Rattle.amqp_model.specs.End.Asks as asks;
 ghost use Rattle.amqp_model.specs.End.Closes.{cause_of, no_cause};
-ghost use Rattle.amqp_model.specs.End.Asks.{lowest_free, refusal};
+ghost use Rattle.amqp_model.specs.End.Asks.{refusal};
 ghost use Rattle.amqp_model.specs.End.Bounds.{OthersAreFree};
 ghost use Rattle.amqp_model.specs.End.Controls as controls;
 ghost use Rattle.amqp_model.specs.End.EndVerdict.{takes_octets};
-ghost use Rattle.amqp_model.specs.Stream.Endpoint.{after_feed, after_wrote, new_endpoint};
-ghost use Rattle.amqp_model.specs.End.Fitting.{config_fault};
+ghost use Rattle.amqp_model.specs.Stream.Endpoint.{after_feed};
 ghost use Rattle.amqp_model.specs.End.Heard.{nothing_heard};
 ghost use Rattle.amqp_model.specs.History.Histories.{History};
 ghost use Rattle.amqp_model.specs.History.Negotiation as negotiation;
@@ -26,30 +26,26 @@ ghost use Rattle.amqp_core.specs.Faults.Answering.{ran_out};
 ghost use Rattle.amqp_core.specs.Traced.AskNoting.{IsChannelOf, IsSizeOf};
 ghost use Rattle.amqp_core.specs.Asks.View.{ask_view, lent_view};
 ghost use Rattle.amqp_core.specs.Asks.Asked.{content_asked};
-ghost use Rattle.amqp_core.specs.Asks.Asking.{AcceptsAsk, RefusesAsk};
+ghost use Rattle.amqp_core.specs.Asks.Asking.{RefusesAsk};
 ghost use Rattle.amqp_core.specs.End.Bounded.{IsBounded};
 ghost use Rattle.amqp_core.specs.Config.Configs.{settings_of};
 ghost use Rattle.amqp_core.specs.Asks.ControlView.{control_view};
 ghost use Rattle.amqp_core.specs.Asks.Controlled.{refusal_by};
 ghost use Rattle.amqp_core.specs.Asks.Controlling.{RefusesControl, verdict_at};
 ghost use Rattle.amqp_core.specs.End.Counted.{heartbeat_in};
-ghost use Rattle.amqp_core.specs.End.Counters.{counted_with, counts_octets, nothing_counted};
+ghost use Rattle.amqp_core.specs.End.Counters.{counted_with};
 ghost use Rattle.amqp_core.specs.End.EndpointView.{role_at};
 ghost use Rattle.std.proofs.Props.{props};
-ghost use Rattle.amqp_channel.specs.EventView.{agreed_there};
-ghost use Rattle.amqp_channel.specs.PartsView.{parts_there};
-ghost use Rattle.amqp_channel.specs.Messages.{message_of};
+ghost use Rattle.amqp_channel.specs.Events.EventView.{agreed_there, message_of, state_view};
+ghost use Rattle.amqp_channel.specs.Events.PartsView.{parts_there};
 ghost use Rattle.amqp_channel.specs.Roles.{role_of};
-ghost use Rattle.amqp_channel.specs.StateView.{state_view};
 ghost use Rattle.amqp_core.specs.End.Kept.{IsKept, agreed_prop};
-ghost use Rattle.amqp_core.specs.Faults.Numbers.{config_fault_view};
 ghost use Rattle.amqp_core.specs.Connection.Dropping.{DropsInPlace};
 ghost use Rattle.amqp_core.specs.Heard.OfEnd.{IsLastHeard};
 ghost use Rattle.amqp_core.specs.Heard.Hearing.{Hears};
-ghost use Rattle.amqp_core.specs.Heard.View.{cause_there, cause_view, kept_of_kind, method_there, nothing_said};
-ghost use Rattle.amqp_core.specs.End.Feeding.{event_in, seen, IsFed, IsMessage, SameButChannels};
+ghost use Rattle.amqp_core.specs.Heard.View.{cause_there, cause_view, kept_of_kind, method_there};
+ghost use Rattle.amqp_core.specs.End.Feeding.{event_in, IsFed, IsMessage, SameButChannels};
 ghost use Rattle.amqp_core.specs.End.Following.{GoesOn};
-ghost use Rattle.amqp_core.specs.Config.Settings.{config_view, role_for};
 ghost use Rattle.amqp_core.specs.Connection.Stages.{phase_name};
 
 use crate::account::Account;
@@ -69,15 +65,16 @@ use crate::taken::Taken;
 use amqp_channel::{Agreed, ChannelState, Side};
 use amqp_method::{Kind, Message, Method, Properties};
 use amqp_model::{answers, arrangement, bounds, fitting, heard, octets, one_end, replies, traces};
+use amqp_outbox::Chunks;
 use amqp_value::ShortStr;
 use std::alloc::Global;
 use std::marker::PhantomData;
 
 /// One end of a connection.
 ///
-/// It touches no socket. Octets that came are handed to [`End::feed`], piece by piece, however they were cut; octets that
-/// are to be sent are read from [`End::output`], and [`End::wrote`] says how many of them were sent. What an application does
-/// with the octets that one read gave it, and with those that are to be sent:
+/// It touches no socket. Octets that came are handed to [`End::feed`], piece by piece, however they were cut; octets
+/// that are to be sent are read from [`End::output`], and [`End::wrote`] says how many of them were sent. What an
+/// application does with the octets that one read gave it, and with those that are to be sent:
 ///
 ///     let mut rest = &buffer[..read];
 ///     while !rest.is_empty() {
@@ -116,30 +113,23 @@ fn counted(before: u64, took: Option<Note>) -> u64
 
 impl<R: Role> End<R> {
     ghost use Rattle.amqp_core.specs.Traced.AccountView.{IsAccount, came_by, taken_by};
-    ghost use Rattle.amqp_core.specs.End.Beginning.{BeginsHistory};
+    ghost use Rattle.amqp_core.specs.End.Beginning.{IsFaultIn, IsNewEnd};
     ghost use Rattle.amqp_core.specs.Faults.Blamed.{blame_view, Blames};
-    ghost use Rattle.amqp_core.specs.End.Counters.{CountsFrame};
     ghost use Rattle.amqp_core.specs.End.Controls.{Controlled};
     ghost use Rattle.amqp_core.specs.End.Asks.{AnswersLowest, AnswersNumber, Asked};
     ghost use Rattle.amqp_core.specs.End.View.{config_at, counters_of, endpoint_of, heard_in, role_played, settings_at};
     ghost use Rattle.amqp_core.specs.End.Feeds.{Feeds, fed_to};
-    ghost use Rattle.amqp_core.specs.Faults.FeedFaults.{FeedFaults};
     ghost use Rattle.amqp_core.specs.End.Feeding.{SameEndpoint, ran_out_of};
     ghost use Rattle.amqp_core.specs.End.Growth.{GrowsLittle};
     ghost use Rattle.amqp_core.specs.Faults.Overs.{IsOver};
-    ghost use Rattle.amqp_core.specs.End.Queries.{AgreedOfHistory, DueOfHistory, GatheredOfHistory, HeartbeatOfHistory, OutputIsInOrder, PendingOfHistory, PhaseOfHistory, StateOfHistory, VerdictsOfHistory, WritesOn};
+    ghost use Rattle.amqp_core.specs.End.Queries.{AgreedOfHistory, DueOfHistory, GatheredOfHistory, HeartbeatOfHistory};
+    ghost use Rattle.amqp_core.specs.End.Queries.{OutputIsInOrder, PendingOfHistory, PhaseOfHistory, StateOfHistory};
+    ghost use Rattle.amqp_core.specs.End.Writes.{Wrote};
 
     /// An end as it begins. A client has the protocol header to write, a server nothing.
     pub fn new(alloc: Global, config: Config<R>) -> Result<End<R>, ConfigFault>
-        ensures begins { IfOk result (λ end. endpoint_of end ≡ new_endpoint (role_played end)) }
-        ensures settings { IfOk result (λ end. settings_at end ≡ settings_of R.hello_of config) }
-        ensures faultless { IfOk result (λ end. config_fault (role_played end) (config_at end) ≡ None) }
-        // It stands for the empty history, and what it writes of itself reads back.
-        ensures history { IfOk result (λ end. BeginsHistory end) }
-        ensures counters { IfOk result (λ end. counters_of end ≡ nothing_counted) }
-        ensures heard { IfOk result (λ end. heard_in end ≡ nothing_said) }
-        ensures fault { IfErr result (λ fault. config_fault_view fault
-            ≡ config_fault (role_for (settings_of R.hello_of config)) (config_view (settings_of R.hello_of config))) }
+        ensures new { IfOk result (λ end. IsNewEnd (settings_of R.hello_of config) end) }
+        ensures fault { IfErr result (λ fault. IsFaultIn (settings_of R.hello_of config) fault) }
     {
         octets::octets_follow();
         fitting::owed_read_back();
@@ -158,20 +148,14 @@ impl<R: Role> End<R> {
         })
     }
 
-    /// Takes octets of a piece: up to the end of the next frame, or of the protocol header at a server that awaits it. Where
-    /// the piece ends before that, all of it is taken. A piece that has octets loses at least one, unless the end is closed or
-    /// has failed.
+    /// Takes octets of a piece: up to the end of the next frame, or of the protocol header at a server that awaits it.
+    /// Where the piece ends before that, all of it is taken. A piece that has octets loses at least one, unless the end
+    /// is closed or has failed.
     ///
-    /// Replies wait in the output, which has no limit: do not feed while [`End::output`] is longer than a bound of your own.
+    /// Replies wait in the output, which has no limit: do not feed while [`End::output`] is longer than a bound of your
+    /// own.
     pub fn feed(&mut self, piece: &[u8]) -> Result<Taken, CoreFault>
-        ensures feeds { Feeds self.old piece.now result self.new }
-        ensures within { IfOk result (λ taken. taken.octets ≤ length piece.now) }
-        ensures progress { IfOk result (λ taken. piece.now ≢ [] → 0 < taken.octets) }
-        // A frame that is taken is counted, and no octets are.
-        ensures frames { takes_octets (endpoint_of self.old).end.phase ≡ true → ran_out result ≡ false
-            → CountsFrame (role_played self.old) (config_at self.old) (endpoint_of self.old) piece.now
-            (fed_to self.old piece.now) (counters_of self.old) (counters_of self.new) }
-        ensures octets { (counters_of self.new).octets ≡ (counters_of self.old).octets }
+        ensures { Feeds self.old piece.now result self.new }
     {
         octets::cut_changes_nothing();
         one_end::record_reads();
@@ -288,11 +272,7 @@ impl<R: Role> End<R> {
     /// So many octets of the output were sent.
     pub fn wrote(&mut self, octets: usize)
         requires { octets ≤ length (output_octets (endpoint_of self.old).output) }
-        ensures written { endpoint_of self.new ≡ after_wrote octets (endpoint_of self.old) }
-        ensures history { WritesOn self.old octets self.new }
-        ensures counters { counters_of self.new ≡ counts_octets octets (counters_of self.old) }
-        ensures heard { heard_in self.new ≡ heard_in self.old }
-        ensures settings { settings_at self.new ≡ settings_at self.old }
+        ensures { Wrote self.old octets self.new }
     {
         octets::octets_follow();
         arrangement::write_keeps_arranged();
@@ -402,7 +382,8 @@ impl<R: Role> End<R> {
         self.inner.connection.channel_state(channel)
     }
 
-    /// How many octets were taken of a frame that isn't whole yet, or of the protocol header: fewer than a frame may have.
+    /// How many octets were taken of a frame that isn't whole yet, or of the protocol header: fewer than a frame may
+    /// have.
     pub fn pending(&self) -> usize
         ensures count { result ≡ length (endpoint_of self.now).unfinished }
         ensures below { result < frame_limit (endpoint_of self.now).end.agreed }
@@ -426,8 +407,8 @@ impl<R: Role> End<R> {
         self.inner.connection.gathered(channel)
     }
 
-    /// The request that is to be answered next on a channel: at a client the one that waits for its reply, at a server the
-    /// oldest that it took.
+    /// The request that is to be answered next on a channel: at a client the one that waits for its reply, at a server
+    /// the oldest that it took.
     pub fn reply_due(&self, channel: u16) -> Option<Kind>
         ensures request { result ≡ reply_due (endpoint_of self.now).end channel }
         // Of each channel at most 1,024 requests are kept, and one at a client.
@@ -441,8 +422,8 @@ impl<R: Role> End<R> {
         self.inner.connection.reply_due(channel)
     }
 
-    /// Asks something of the end: it is refused with the first refusal that applies, which changes nothing, or its frames are
-    /// put. The answer is the channel that an open takes.
+    /// Asks something of the end: it is refused with the first refusal that applies, which changes nothing, or its
+    /// frames are put. The answer is the channel that an open takes.
     pub fn ask(&mut self, ask: &Ask) -> Result<Option<u16>, AskFault>
         ensures asked { Asked self.old (ask_view ask.now) result self.new }
         ensures number { AnswersNumber self.old (ask_view ask.now) result }
@@ -491,16 +472,16 @@ impl<R: Role> End<R> {
 
     /// Puts a heartbeat, on a connection that is Running (section 4.2.7).
     ///
-    /// When to beat is the application's: an end knows no clock. It owes one each [`Agreed::heartbeat`] seconds in which it
-    /// writes nothing else, and where that is 0 none.
+    /// When to beat is the application's: an end knows no clock. It owes one each [`Agreed::heartbeat`] seconds in
+    /// which it writes nothing else, and where that is 0 none.
     pub fn beat(&mut self) -> Result<(), AskFault>
         ensures { Controlled self.old controls.Beat result self.new }
     {
         self.control(LentControl::Beat)
     }
 
-    /// Admits what a gated server holds: a login, to which it then puts tune, or an open, to which it puts open-ok. With the
-    /// latter the connection is Running.
+    /// Admits what a gated server holds: a login, to which it then puts tune, or an open, to which it puts open-ok.
+    /// With the latter the connection is Running.
     ///
     /// It is refused as [`AskFault::NotAwaited`] where no [`Event::LoginAsked`](crate::Event::LoginAsked) or
     /// [`Event::OpenAsked`](crate::Event::OpenAsked) waits for it, and always at a client.
@@ -518,11 +499,11 @@ impl<R: Role> End<R> {
         self.control(LentControl::Refuse(code, text))
     }
 
-    /// Answers the start that a gated client holds: it puts start-ok with its own properties, and with the mechanism, the
-    /// response and the locale that its application chose of those that the server offers.
+    /// Answers the start that a gated client holds: it puts start-ok with its own properties, and with the mechanism,
+    /// the response and the locale that its application chose of those that the server offers.
     ///
-    /// It is refused as [`AskFault::NotAwaited`] where no [`Event::AnswerAsked`](crate::Event::AnswerAsked) waits for it, and
-    /// always at a server; and as [`AskFault::TooLarge`] where the frame would be longer than 4096 octets.
+    /// It is refused as [`AskFault::NotAwaited`] where no [`Event::AnswerAsked`](crate::Event::AnswerAsked) waits for
+    /// it, and always at a server; and as [`AskFault::TooLarge`] where the frame would be longer than 4096 octets.
     pub fn answer_start(
         &mut self,
         mechanism: &ShortStr,
@@ -554,8 +535,8 @@ impl<R: Role> End<R> {
         Ok(())
     }
 
-    /// Sends a method and its content on a channel, as [`End::send`] sends the message that these make. The body is copied
-    /// once, into the output, and nothing else is.
+    /// Sends a method and its content on a channel, as [`End::send`] sends the message that these make. The body is
+    /// copied once, into the output, and nothing else is.
     ///
     /// A method that no content follows makes no such message: it is [`AskFault::NotSendable`], whatever else is so.
     pub fn send_content(
@@ -577,6 +558,30 @@ impl<R: Role> End<R> {
         let message = LentMessage::content(method, properties, body);
         self.inner.ask(LentAsk::Send(channel, message))?;
         Ok(())
+    }
+
+    /// Sends a method and its content on a channel, as [`End::send_content`] does, the body out of chunks. Each chunk
+    /// is let go once its octets stand in the output, so that a large body is not in memory twice. An error leaves the
+    /// body as it was.
+    pub fn send_chunks(
+        &mut self,
+        channel: u16,
+        method: &Method,
+        properties: &Properties,
+        body: &mut Chunks,
+    ) -> Result<(), AskFault>
+        ensures asked { has_content (method_view method.now).kind ≡ true
+            → Asked self.old (content_asked channel (method_view method.now) (properties_view properties.now)
+            body.old) result self.new }
+        ensures alone { has_content (method_view method.now).kind ≡ false → (result ≡ Err AskFault.NotSendable)
+            × (self.new ≡ self.old) }
+        ensures taken { OnOk result (body.new ≡ []) }
+        ensures kept { OnErr result (body.new ≡ body.old) }
+    {
+        if !method.has_content() {
+            return Err(AskFault::NotSendable);
+        }
+        self.inner.send_chunks(channel, method, properties, body)
     }
 
     /// Asks the other end to send contents on a channel, or no more of them.

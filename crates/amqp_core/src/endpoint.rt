@@ -2,7 +2,11 @@
 //!
 //! A server compares the first octets with the protocol header. All others go to the splitter, which lends each frame
 //! from the piece where it lies whole in it; the frame is taken while it is lent, so a body is copied once.
-ghost use Rattle.std.specs.Prelude.{◌≡◌, ◌≢◌, ◌+◌, ◌<◌, ◌≤◌, length, true, false, [], Some, None, Ok, IsOk, IfOk, IfErr, OnOk};
+ghost use Rattle.std.specs.Prelude.{◌≡◌, ◌≢◌, ◌+◌, ◌<◌, ◌≤◌, length, true, false, [], Some, None, Ok, IsOk, IfOk};
+ghost use Rattle.std.specs.Prelude.{IfErr, OnOk, OnErr};
+ghost use Rattle.amqp_method.specs.HeaderView.{properties_view};
+ghost use Rattle.amqp_method.specs.Kinds.{has_content};
+ghost use Rattle.amqp_method.specs.MethodView.{method_view};
 ghost use Rattle.amqp_model.specs.Stream.Endpoint.{after_feed, after_wrote, awaits_opening, new_endpoint};
 ghost use Rattle.amqp_model.specs.End.EndVerdict.{takes_octets};
 ghost use Rattle.amqp_model.specs.End.Asks.{refusal};
@@ -18,7 +22,7 @@ ghost use Rattle.amqp_core.specs.Traced.AccountView.{IsFresh};
 ghost use Rattle.amqp_core.specs.Faults.Blamed.{Blames};
 ghost use Rattle.amqp_core.specs.Traced.AskNoting.{IsChannelOf, IsSizeOf};
 ghost use Rattle.amqp_core.specs.Asks.View.{lent_view};
-ghost use Rattle.amqp_core.specs.Asks.Asked.{number_taken};
+ghost use Rattle.amqp_core.specs.Asks.Asked.{content_asked, number_taken};
 ghost use Rattle.amqp_core.specs.Asks.Asking.{AcceptsAsk, RefusesAsk};
 ghost use Rattle.amqp_core.specs.Faults.Answering.{ran_out};
 ghost use Rattle.amqp_core.specs.Asks.ControlView.{control_view};
@@ -27,7 +31,7 @@ ghost use Rattle.amqp_core.specs.Asks.Controlling.{AcceptsControl, RefusesContro
 ghost use Rattle.amqp_core.specs.Connection.Dropping.{DropsInPlace};
 ghost use Rattle.amqp_core.specs.Heard.Hearing.{Hears};
 ghost use Rattle.amqp_core.specs.Heard.View.{heard_view};
-ghost use Rattle.amqp_channel.specs.PartsView.{parts_there};
+ghost use Rattle.amqp_channel.specs.Events.PartsView.{parts_there};
 ghost use Rattle.amqp_core.specs.End.Feeding.{event_in, ran_out_of, IsFed, IsMessage, SameButChannels, SameEndpoint};
 ghost use Rattle.amqp_core.specs.Config.Settings.{config_view, role_for};
 ghost use Rattle.amqp_core.specs.Connection.Stages.{agreed_at, phase_at};
@@ -47,8 +51,9 @@ use crate::stage::Stage;
 use crate::tally::Tally;
 use amqp_channel::{EventParts, Side};
 use amqp_frame::{PROTOCOL_HEADER, Splitter, faults_are_judged, one_frame_at_start};
+use amqp_method::{Method, Properties};
 use amqp_model::{bounds, controls, fitting, octets, one_end, pieces};
-use amqp_outbox::Outbox;
+use amqp_outbox::{Chunks, Outbox};
 use std::alloc::Global;
 
 /// What an end keeps.
@@ -432,6 +437,44 @@ impl Endpoint {
         one_end::ask_is_of_history();
         match self.connection.ask(&mut self.outbox, ask) {
             Ok(number) => Ok(number),
+            Err(fault) => Err(fault),
+        }
+    }
+    /// A method and its content that an application sends: it is refused, or its frames are put, and the chunks are
+    /// let go in which the body lies.
+    pub(crate) fn send_chunks(
+        &mut self,
+        number: u16,
+        method: &Method,
+        properties: &Properties,
+        chunks: &mut Chunks,
+    ) -> Result<(), AskFault>
+        requires sound { IsSound self.old }
+        requires content { has_content (method_view method.now).kind ≡ true }
+        ensures accepted { OnOk result (AcceptsAsk (role_at self.old) (config_view self.old.connection.settings)
+            (content_asked number (method_view method.now) (properties_view properties.now) chunks.old)
+            (endpoint_view self.old) (endpoint_view self.new)) }
+        ensures refused { IfErr result (λ fault. RefusesAsk (role_at self.old)
+            (content_asked number (method_view method.now) (properties_view properties.now) chunks.old) fault
+            (endpoint_view self.old) (endpoint_view self.new)) }
+        ensures taken { OnOk result (chunks.new ≡ []) }
+        ensures kept { OnErr result (chunks.new ≡ chunks.old) }
+        ensures sound { IsSound self.new }
+        ensures settings { self.new.connection.settings ≡ self.old.connection.settings }
+        ensures tally { tally_view self.new.tally ≡ tally_view self.old.tally }
+    {
+        pieces::unfinished_is_held();
+        fitting::agreed_is_within();
+        fitting::frames_fit();
+        bounds::ends_are_bounded();
+        octets::octets_follow();
+        one_end::ask_is_of_history();
+        let outbox = &mut self.outbox;
+        match self
+            .connection
+            .send_chunks(outbox, number, method, properties, chunks)
+        {
+            Ok(()) => Ok(()),
             Err(fault) => Err(fault),
         }
     }

@@ -3,8 +3,9 @@ ghost use Rattle.std.specs.Prelude.{◌≡◌, IsTrue, Some};
 ghost use Rattle.amqp_method.specs.MethodRefView.{lent_call};
 ghost use Rattle.amqp_model.specs.End.Events.{reason_in};
 ghost use Rattle.amqp_model.specs.Wire.Methods.{octets_at};
-ghost use Rattle.amqp_channel.specs.Reasons.{IsClose};
-ghost use Rattle.amqp_core.specs.Stream.EventRefView.{blocked_lent, channel_close_lent, close_lent, event_ref_there, is_close_kind, method_lent, reason_ref_view};
+ghost use Rattle.amqp_channel.specs.Events.Closes.{IsClose};
+ghost use Rattle.amqp_core.specs.Stream.EventRefView.{blocked_lent, channel_close_lent, close_lent, event_ref_there};
+ghost use Rattle.amqp_core.specs.Stream.EventRefView.{is_close_kind, method_lent, reason_ref_view};
 ghost use Rattle.amqp_model.specs.Lent.Alike.{part_lent};
 ghost use Rattle.amqp_channel.specs.ReadingView.{reading_view};
 
@@ -101,7 +102,7 @@ pub(crate) fn lend_method<'a>(number: u16, reading: Reading<'a>) -> Option<Event
         Reading::Header(_) => None,
         Reading::MalformedHeader => None,
         Reading::Body(_) => None,
-        Reading::Heartbeat { .. } => None,
+        Reading::Heartbeat(_) => None,
     }
 }
 
@@ -116,7 +117,7 @@ pub(crate) fn lend_part<'a>(number: u16, reading: Reading<'a>, whole: bool) -> O
         Reading::Header(header) => Some(EventRef::Heads(number, header, whole)),
         Reading::MalformedHeader => None,
         Reading::Body(octets) => Some(EventRef::Part(number, octets, whole)),
-        Reading::Heartbeat { .. } => None,
+        Reading::Heartbeat(_) => None,
     }
 }
 
@@ -146,7 +147,7 @@ pub(crate) fn lend_channel_close<'a>(number: u16, reading: Reading<'a>) -> Optio
         Reading::Header(_) => None,
         Reading::MalformedHeader => None,
         Reading::Body(_) => None,
-        Reading::Heartbeat { .. } => None,
+        Reading::Heartbeat(_) => None,
     }
 }
 
@@ -166,7 +167,7 @@ pub(crate) fn lend_close<'a>(reading: Reading<'a>) -> Option<EventRef<'a>>
         Reading::Header(_) => None,
         Reading::MalformedHeader => None,
         Reading::Body(_) => None,
-        Reading::Heartbeat { .. } => None,
+        Reading::Heartbeat(_) => None,
     }
 }
 
@@ -187,6 +188,6 @@ pub(crate) fn lend_blocked<'a>(reading: Reading<'a>) -> Option<EventRef<'a>>
         Reading::Header(_) => None,
         Reading::MalformedHeader => None,
         Reading::Body(_) => None,
-        Reading::Heartbeat { .. } => None,
+        Reading::Heartbeat(_) => None,
     }
 }

@@ -5,7 +5,7 @@ ghost use Rattle.amqp_value.specs.Text.{hexadecimal, quoted};
 ghost use Rattle.amqp_method.specs.HeaderRefView.{lent_header};
 ghost use Rattle.amqp_method.specs.MethodRefView.{lent_call};
 ghost use Rattle.amqp_method.specs.Texts.{bit_text, text_of_header, text_of_method};
-ghost use Rattle.amqp_channel.specs.EventTexts.{channel_text, flow_text};
+ghost use Rattle.amqp_channel.specs.Events.EventTexts.{channel_text, flow_text};
 ghost use Rattle.amqp_core.specs.Stream.EventRefTexts.{event_ref_text, lent_closer_text, lent_reason_text, whole_text};
 
 use crate::event_ref::{EventRef, ReasonRef};

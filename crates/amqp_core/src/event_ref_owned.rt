@@ -1,7 +1,6 @@
 //! Events of one's own, made of events that lend.
 ghost use Rattle.std.specs.Prelude.{◌≡◌, IfOk};
-ghost use Rattle.amqp_channel.specs.EventView.{event_there};
-ghost use Rattle.amqp_channel.specs.Messages.{message_of};
+ghost use Rattle.amqp_channel.specs.Events.EventView.{event_there, message_of};
 ghost use Rattle.amqp_method.specs.MessageView.{message_view};
 ghost use Rattle.amqp_method.specs.MethodRefView.{lent_call};
 ghost use Rattle.amqp_core.specs.Stream.EventRefOwned.{IsOwned, IsOwnedMessage, IsOwnedReason, IsOwnedText};

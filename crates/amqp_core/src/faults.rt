@@ -61,11 +61,12 @@ impl From<OutOfMemory> for StageFault {
 /// After each of these but [`Closed`](CoreFault::Closed) the end has failed. What it put before can still be written.
 #[derive(Clone, Copy, PartialEq, Eq, Debug, Error)]
 pub enum CoreFault {
-    /// 1: the other end broke the protocol. One connection.close with this code was put, unless this end had put one before.
+    /// 1: the other end broke the protocol. One connection.close with this code was put, unless this end had put one
+    /// before.
     #[error("the other end broke the protocol: {0}")]
     Peer(CloseCode),
-    /// 2: there is no answer to what came: another protocol header, an unknown type of frame, a wrong end octet, or a tune-ok
-    /// out of range. A server to which another protocol header came puts its own; nothing else is put.
+    /// 2: there is no answer to what came: another protocol header, an unknown type of frame, a wrong end octet, or a
+    /// tune-ok out of range. A server to which another protocol header came puts its own; nothing else is put.
     #[error("the other end can't be answered")]
     Fatal,
     /// 3: memory was refused. The output is as it was before the call.
@@ -119,8 +120,8 @@ impl ConfigFault {
     }
 }
 
-/// Why what was asked is refused, in the order in which the reasons are looked at; out of memory comes last. A refusal changes
-/// nothing.
+/// Why what was asked is refused, in the order in which the reasons are looked at; out of memory comes last. A refusal
+/// changes nothing.
 #[derive(Clone, Copy, PartialEq, Eq, Debug, Error)]
 pub enum AskFault {
     /// The handshake isn't over, or the connection is closing, closed or failed.

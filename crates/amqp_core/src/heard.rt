@@ -5,7 +5,7 @@ ghost use Rattle.amqp_method.specs.Kinds.{kind_with};
 ghost use Rattle.amqp_method.specs.MethodRefView.{lent_call};
 ghost use Rattle.amqp_method.specs.MethodView.{method_view};
 ghost use Rattle.amqp_model.specs.End.Heard.{heard_after, nothing_heard};
-ghost use Rattle.amqp_channel.specs.Reasons.{IsClose};
+ghost use Rattle.amqp_channel.specs.Events.Closes.{IsClose};
 ghost use Rattle.amqp_core.specs.Heard.Causes.{cause_in};
 ghost use Rattle.amqp_core.specs.Connection.Handshakes.{awaits_at};
 

@@ -63,11 +63,12 @@ impl<R: Role> End<R> {
     ghost use Rattle.amqp_core.specs.End.View.{endpoint_of};
     ghost use Rattle.amqp_core.specs.End.KeptOctets.{KeptIsWithin};
 
-    /// How many octets the end keeps for its peer: of each channel the header of the content under way and what has come of
-    /// its body, and what has come of a frame that isn't whole, or of the protocol header. It looks at no channel.
+    /// How many octets the end keeps for its peer: of each channel the header of the content under way and what has
+    /// come of its body, and what has come of a frame that isn't whole, or of the protocol header. It looks at no
+    /// channel.
     ///
-    /// A closed or failed end keeps what its channels had until it is dropped. The method of a content isn't counted. The
-    /// greatest number of 64 bits stands for every number above it.
+    /// A closed or failed end keeps what its channels had until it is dropped. The method of a content isn't counted.
+    /// The greatest number of 64 bits stands for every number above it.
     pub fn kept(&self) -> usize
         ensures octets { KeepsOctets (endpoint_of self.now) result }
         // At most a body and a frame for each channel that was agreed, and one frame more.
@@ -78,8 +79,8 @@ impl<R: Role> End<R> {
         self.inner.kept()
     }
 
-    /// How many octets are kept of the bodies of contents that aren't whole yet, on all channels, in phase Running: the sum
-    /// of what [`End::gathered`] answers of each. It looks at no channel.
+    /// How many octets are kept of the bodies of contents that aren't whole yet, on all channels, in phase Running: the
+    /// sum of what [`End::gathered`] answers of each. It looks at no channel.
     pub fn gathered_in_all(&self) -> usize
         ensures { GathersOctets (endpoint_of self.now).end result }
     {
@@ -90,9 +91,9 @@ impl<R: Role> End<R> {
 impl<R: Role> StreamEnd<R> {
     ghost use Rattle.amqp_core.specs.End.KeptOctets.{KeepsLent};
 
-    /// How many octets the end keeps for its peer: what has come of a frame that isn't whole, or of the protocol header. A
-    /// content that is lent counts nothing. What was gathered of a content before [`End::into_stream`] counts up to that
-    /// content's next frame.
+    /// How many octets the end keeps for its peer: what has come of a frame that isn't whole, or of the protocol
+    /// header. A content that is lent counts nothing. What was gathered of a content before [`End::into_stream`] counts
+    /// up to that content's next frame.
     pub fn kept(&self) -> usize
         ensures { KeepsLent self.now result }
     {

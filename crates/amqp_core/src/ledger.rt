@@ -1,7 +1,9 @@
-//! What an end that is kept with its history has noted, told and said, the octets that it was fed, and those that it wrote.
+//! What an end that is kept with its history has noted, told and said, the octets that it was fed, and those that it
+//! wrote.
 //!
 //! Room for all that a call adds is made before the call, so what is added takes no memory.
-ghost use Rattle.std.specs.Prelude.{◌≡◌, ◌+◌, ◌<◌, ◌≤◌, [], ◌∷◌, ◌++◌, ℕ, length, map, replicate, vec_len, vec_capacity, option_to_list, Some, OnOk};
+ghost use Rattle.std.specs.Prelude.{◌≡◌, ◌+◌, ◌<◌, ◌≤◌, [], ◌∷◌, ◌++◌, ℕ, length, map, replicate, vec_len};
+ghost use Rattle.std.specs.Prelude.{vec_capacity, option_to_list, Some, OnOk};
 ghost use Rattle.std.specs.HashMap.{spare};
 ghost use Rattle.std.proofs.Props.{props};
 ghost use Rattle.amqp_model.specs.Wire.Items.{FlowOkItem};
@@ -13,7 +15,8 @@ ghost use Rattle.amqp_core.specs.Traced.AskNoting.{count_asked, notes_asked};
 ghost use Rattle.amqp_core.specs.Asks.View.{lent_view};
 ghost use Rattle.amqp_core.specs.Traced.CountsLives.{CountsLives};
 ghost use Rattle.amqp_core.specs.Traced.Notes.{item_there, note_view, noted_as, word_view};
-ghost use Rattle.amqp_core.specs.Traced.Noting.{lives_in, notes_owed, said_by_owed, told_by, word_of_reply as reply_word};
+ghost use Rattle.amqp_core.specs.Traced.Noting.{lives_in, notes_owed, said_by_owed, told_by};
+ghost use Rattle.amqp_core.specs.Traced.Noting.{word_of_reply as reply_word};
 
 use crate::account::Account;
 use crate::allowing::Place;
@@ -116,8 +119,8 @@ impl Ledger {
         }
     }
 
-    /// Makes room for so many notes, an item told and one said, and so many octets that are fed; and for so many octets to
-    /// write.
+    /// Makes room for so many notes, an item told and one said, and so many octets that are fed; and for so many octets
+    /// to write.
     pub(crate) fn reserve(
         &mut self,
         notes: usize,
@@ -143,8 +146,8 @@ impl Ledger {
         Ok(())
     }
 
-    /// Gives back room that isn't used, but for so many octets to write. Where much was written nothing is given back, so that
-    /// what is kept grows by doubling.
+    /// Gives back room that isn't used, but for so many octets to write. Where much was written nothing is given back,
+    /// so that what is kept grows by doubling.
     pub(crate) fn give_back(&mut self, to_write: usize)
         requires { vec_len self.old.written + to_write ≤ vec_capacity self.old.written }
         ensures { GivesBack to_write self.old self.new }

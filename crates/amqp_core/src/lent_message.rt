@@ -26,7 +26,7 @@ impl<'a> LentMessage<'a> {
     ghost use Rattle.amqp_method.specs.Messages.{letter_with};
     ghost use Rattle.amqp_method.specs.MessageView.{message_view};
     ghost use Rattle.amqp_method.specs.MethodView.{method_view};
-    ghost use Rattle.amqp_channel.specs.Messages.{message_of};
+    ghost use Rattle.amqp_channel.specs.Events.EventView.{message_of};
     ghost use Rattle.amqp_core.specs.Asks.LentLetter.{lent_letter};
 
     /// A message, lent.

@@ -1,9 +1,9 @@
 //! The cores of AMQP 0-9-1: what a client and a server do with the octets that they take, and with what their
 //! applications ask. No socket is touched and no thread started.
 //!
-//! [`End`] is one end of a connection, [`Traced`] one that is kept with its history. What each call does is stated by its contract,
-//! with the definitions of `amqp_model`; the laws of these can be named from [`laws`]. What is kept of the channels, and what comes of
-//! the frames there, is `amqp_channel`; the output is `amqp_outbox`.
+//! [`End`] is one end of a connection, [`Traced`] one that is kept with its history. What each call does is stated by
+//! its contract, with the definitions of `amqp_model`; the laws of these can be named from [`laws`]. What is kept of
+//! the channels, and what comes of the frames there, is `amqp_channel`; the output is `amqp_outbox`.
 #![tactic(auto)]
 
 mod account;
@@ -69,4 +69,4 @@ pub use crate::taken::{Taken, TakenRef};
 pub use crate::tellings::{Item, Telling};
 pub use crate::traced::Traced;
 pub use amqp_channel::{Agreed, ChannelState, CloseCode, Event, Reason, Side};
-pub use amqp_outbox::{HandOverFault, Pieces, SendQueue};
+pub use amqp_outbox::{Chunks, HandOverFault, Pieces, SendQueue};

@@ -4,7 +4,7 @@
 ghost use Rattle.std.specs.Prelude.{◌≡◌, ◌<◌, ◌≤◌, ◌+◌, ◌^◌, ℕ, suc, OnOk, OnErr};
 ghost use Rattle.std.specs.HashMap.{spare};
 ghost use Rattle.amqp_channel.specs.Roles.{role_of};
-ghost use Rattle.amqp_core.specs.Traced.LifeCounts.{after_word, counted_with, nothing_counted};
+ghost use Rattle.amqp_core.specs.Traced.LifeCounts.{after_word, count_with, no_lives};
 ghost use Rattle.amqp_core.specs.Traced.Notes.{note_view};
 
 use crate::faults::OutOfMemory;
@@ -32,7 +32,7 @@ impl Count {
     ghost use Rattle.amqp_core.specs.Traced.CountView.{count_view};
 
     fn new() -> Count
-        ensures { count_view result ≡ nothing_counted }
+        ensures { count_view result ≡ no_lives }
     {
         Count {
             lives: 0,
@@ -66,7 +66,7 @@ impl Lives {
     ghost use Rattle.amqp_core.specs.Traced.CountView.{count_view, lives_view};
 
     pub(crate) fn new(alloc: Global) -> Lives
-        ensures { (channel : ℕ) → lives_view result channel ≡ nothing_counted }
+        ensures { (channel : ℕ) → lives_view result channel ≡ no_lives }
     {
         Lives {
             counts: HashMap::new(alloc),
@@ -102,7 +102,7 @@ impl Lives {
     pub(crate) fn note(&mut self, side: Side, note: Note)
         requires room { 0 < spare self.old.counts }
         requires least { (lives_view self.old note.channel).lives + 1 < 2 ^ 64 }
-        ensures counts { (channel : ℕ) → lives_view self.new channel ≡ counted_with (role_of side) channel
+        ensures counts { (channel : ℕ) → lives_view self.new channel ≡ count_with (role_of side) channel
             (note_view note) (lives_view self.old channel) }
         ensures spare { spare self.old.counts ≤ spare self.new.counts + 1 }
     {

@@ -63,7 +63,7 @@ fn word_of_reading(reading: Reading<'_>) -> Word
         Reading::Header(_) => Word::Other,
         Reading::MalformedHeader => Word::Other,
         Reading::Body(_) => Word::Other,
-        Reading::Heartbeat { .. } => Word::Other,
+        Reading::Heartbeat(_) => Word::Other,
     }
 }
 

@@ -1,5 +1,6 @@
 //! The protocol header, which a server reads before any frame: "AMQP", then 0, 0, 9, 1.
-ghost use Rattle.std.specs.Prelude.{◌≡◌, ◌≢◌, ◌+◌, ◌<◌, ◌≤◌, ◌++◌, true, [], length, map, take, slice_index, OnOk, OnErr};
+ghost use Rattle.std.specs.Prelude.{◌≡◌, ◌≢◌, ◌+◌, ◌<◌, ◌≤◌, ◌++◌, true, [], length, map, take, slice_index, OnOk};
+ghost use Rattle.std.specs.Prelude.{OnErr};
 ghost use Rattle.amqp_model.specs.End.Closes.{frame_of};
 ghost use Rattle.amqp_model.specs.Stream.Endpoint.{awaits_opening, greeting};
 ghost use Rattle.amqp_model.specs.End.Machine.{as_failed, end_after_owed};

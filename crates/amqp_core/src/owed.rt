@@ -3,9 +3,9 @@ ghost use Rattle.std.specs.Prelude.{◌≡◌, [], ◌∷◌, map, Some, OnOk, O
 ghost use Rattle.amqp_model.specs.End.Closes.{frame_of, reply_to, channel_close, connection_close};
 ghost use Rattle.amqp_model.specs.End.FrameVerdict.{on_channel};
 ghost use Rattle.amqp_outbox.specs.OutboxView.{with_staged};
-ghost use Rattle.amqp_channel.specs.Closes.{code_view};
-ghost use Rattle.amqp_channel.specs.EventView.{agreed_view};
-ghost use Rattle.amqp_channel.specs.VerdictView.{reply_kind};
+ghost use Rattle.amqp_channel.specs.Events.Closes.{code_view};
+ghost use Rattle.amqp_channel.specs.Events.EventView.{agreed_view};
+ghost use Rattle.amqp_channel.specs.Verdict.VerdictView.{reply_kind};
 ghost use Rattle.amqp_core.specs.Connection.Owed.{owed_view, starts, answers_start, tunes, answers_tune};
 ghost use Rattle.amqp_core.specs.Config.Settings.{role_for, config_view};
 

@@ -2,7 +2,7 @@
 ghost use Rattle.std.specs.Prelude.{◌≡◌};
 ghost use Rattle.amqp_model.specs.End.Answers.{channel_state, gathered, reply_due};
 ghost use Rattle.amqp_model.specs.End.Asks.{channel_max};
-ghost use Rattle.amqp_channel.specs.StateView.{state_view};
+ghost use Rattle.amqp_channel.specs.Events.EventView.{state_view};
 ghost use Rattle.amqp_core.specs.Connection.View.{connection_end};
 
 use crate::connection::Connection;

@@ -1,20 +1,23 @@
-//! Why what is asked is refused: the reasons in their order, of which the first that applies is answered. Nothing here takes
-//! memory, and nothing that is seen changes.
-ghost use Rattle.std.specs.Prelude.{◌≡◌, ◌<◌, ◌+◌, ◌&&◌, true, false, Bool, ℕ, List, Option, length, nat_lt, Some, None, IfOk, IfErr, OnErr, OnOk};
+//! Why what is asked is refused: the reasons in their order, of which the first that applies is answered. Nothing here
+//! takes memory, and nothing that is seen changes.
+ghost use Rattle.std.specs.Prelude.{◌≡◌, ◌<◌, ◌+◌, ◌&&◌, true, false, Bool, ℕ, List, Option, length, nat_lt, Some};
+ghost use Rattle.std.specs.Prelude.{None, IfOk, IfErr, OnErr, OnOk};
 ghost use Rattle.amqp_method.specs.HeaderView.{properties_view};
+ghost use Rattle.amqp_method.specs.Kinds.{has_content};
 ghost use Rattle.amqp_method.specs.MethodView.{method_view};
 ghost use Rattle.amqp_method.specs.Properties.{header};
 ghost use Rattle.amqp_model.specs.End.Asks.{is_pausable as is_paused_with, is_sendable as is_sent_as_message, Refusal};
 ghost use Rattle.amqp_model.specs.Wire.Methods.{plain_method, plain_header};
 ghost use Rattle.amqp_value.specs.Lengths.{capped};
 ghost use Rattle.amqp_model.specs.Wire.Gathering.{Gathering};
-ghost use Rattle.amqp_channel.specs.LentView.{content_on};
-ghost use Rattle.amqp_channel.specs.LifeView.{life_on, IsOther};
-ghost use Rattle.amqp_channel.specs.Messages.{message_of};
+ghost use Rattle.amqp_channel.specs.Channel.ChannelView.{content_on};
+ghost use Rattle.amqp_channel.specs.Channel.LifeView.{life_on, IsOther};
+ghost use Rattle.amqp_channel.specs.Events.EventView.{message_of};
 ghost use Rattle.amqp_channel.specs.Roles.{role_of};
 ghost use Rattle.amqp_core.specs.Asks.LentLetter.{lent_letter};
-ghost use Rattle.amqp_channel.specs.StandingView.{paused_in, requests_in};
-ghost use Rattle.amqp_core.specs.Asks.Refusals.{refusal_there, refusal_in, reply_refusal, passes as is_passed, is_too_large as is_longer};
+ghost use Rattle.amqp_channel.specs.Channel.StandingView.{paused_in, requests_in};
+ghost use Rattle.amqp_core.specs.Asks.Refusals.{refusal_there, refusal_in, reply_refusal, passes as is_passed};
+ghost use Rattle.amqp_core.specs.Asks.Refusals.{is_too_large as is_longer};
 
 use crate::connection::Connection;
 use crate::faults::AskFault;
@@ -131,9 +134,9 @@ impl Connection {
     ghost use Rattle.amqp_model.specs.End.Closes.{Cause};
     ghost use Rattle.amqp_model.specs.Wire.Notes.{Client, Role, Server};
     ghost use Rattle.amqp_model.specs.Wire.Readings.{Calls, kind_of};
-    ghost use Rattle.amqp_channel.specs.ChannelsView.{channels_view};
-    ghost use Rattle.amqp_channel.specs.Used.{is_open_at};
-    ghost use Rattle.amqp_core.specs.Asks.Asked.{IsAllowed, IsRefusal};
+    ghost use Rattle.amqp_channel.specs.Channels.ChannelsView.{channels_view};
+    ghost use Rattle.amqp_channel.specs.Channels.Used.{is_open_at};
+    ghost use Rattle.amqp_core.specs.Asks.Asked.{content_asked, IsAllowed, IsRefusal};
     ghost use Rattle.amqp_core.specs.Connection.View.{connection_end};
     ghost use Rattle.amqp_core.specs.Faults.Numbers.{refusal_view};
     ghost use Rattle.amqp_core.specs.Asks.Refusals.{refused_on, IsOpenIn};
@@ -233,6 +236,32 @@ impl Connection {
         match refusal_of_message(side, agreed.frame_max, standing, message) {
             Some(fault) => Err(fault),
             None => Ok(agreed),
+        }
+    }
+
+    /// What was agreed, where a method isn't refused with its content, whatever the body is.
+    pub(crate) fn allow_content(
+        &self,
+        number: u16,
+        method: &Method,
+        properties: &Properties,
+    ) -> Result<Agreed, AskFault>
+        requires { has_content (method_view method.now).kind ≡ true }
+        ensures allowed { OnOk result ((body : List ℕ) → IsAllowed self.now.settings (connection_end self.now)
+            (content_asked number (method_view method.now) (properties_view properties.now) body)) }
+        ensures refused { IfErr result (λ fault. (body : List ℕ) → IsRefusal self.now.settings
+            (connection_end self.now)
+            (content_asked number (method_view method.now) (properties_view properties.now) body) fault) }
+        ensures running { IfOk result (λ agreed. self.now.stage ≡ Running agreed) }
+        ensures above { OnOk result (0 < number) }
+        ensures open { OnOk result (is_open_at (channels_view self.now.channels number) ≡ true) }
+        ensures other { OnOk result (IsOther (kind_of (Calls (method_view method.now)))) }
+        ensures room { IfOk result (λ agreed. 8 < agreed.frame_max) }
+    {
+        let message = LentMessage::content(method, properties, &[]);
+        match self.allow_send(number, message) {
+            Ok(agreed) => Ok(agreed),
+            Err(fault) => Err(fault),
         }
     }
 

@@ -4,8 +4,8 @@ ghost use Rattle.amqp_method.specs.Arguments.{call, Fits};
 ghost use Rattle.amqp_method.specs.MethodView.{method_view};
 ghost use Rattle.amqp_model.specs.End.Closes.{close_as, flow_as, number_of, text_of, without_arguments};
 ghost use Rattle.amqp_model.specs.History.Negotiation as negotiation;
-ghost use Rattle.amqp_channel.specs.Closes.{code_view};
-ghost use Rattle.amqp_channel.specs.EventView.{agreed_view};
+ghost use Rattle.amqp_channel.specs.Events.Closes.{code_view};
+ghost use Rattle.amqp_channel.specs.Events.EventView.{agreed_view};
 
 use crate::faults::OutOfMemory;
 use amqp_channel::{Agreed, CloseCode};

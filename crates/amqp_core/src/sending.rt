@@ -7,6 +7,7 @@ ghost use Rattle.std.specs.Prelude.{◌≡◌, ◌<◌, [], ◌∷◌, length, m
 ghost use Rattle.amqp_method.specs.Arguments.{call, short_string};
 ghost use Rattle.amqp_method.specs.Fitting.{AreOctets, FitsShort};
 ghost use Rattle.amqp_method.specs.HeaderView.{properties_view};
+ghost use Rattle.amqp_method.specs.Messages.{letter_with};
 ghost use Rattle.amqp_method.specs.MethodView.{method_view};
 ghost use Rattle.amqp_method.specs.Properties.{header};
 ghost use Rattle.amqp_model.specs.End.Asks.{payload_frame, message_payloads, Send};
@@ -17,17 +18,18 @@ ghost use Rattle.amqp_model.specs.Wire.Methods.{ReadsBack};
 ghost use Rattle.amqp_model.specs.End.ReadingBack.{AskReadsBack};
 ghost use Rattle.amqp_outbox.specs.OutboxFrames.{header_frame, body_frame, HeaderReadsBack};
 ghost use Rattle.amqp_outbox.specs.OutboxView.{with_staged};
-ghost use Rattle.amqp_channel.specs.Messages.{message_of};
-ghost use Rattle.amqp_channel.specs.Reasons.{IsClose};
+ghost use Rattle.amqp_channel.specs.Events.EventView.{message_of};
+ghost use Rattle.amqp_channel.specs.Events.Closes.{IsClose};
 ghost use Rattle.amqp_core.specs.Faults.Numbers.{refusal_view};
 ghost use Rattle.amqp_core.specs.Heard.View.{cause_view};
+ghost use Rattle.amqp_core.specs.Asks.Asked.{content_asked};
 ghost use Rattle.amqp_core.specs.Asks.LentLetter.{lent_letter};
 
 use crate::faults::AskFault;
 use crate::heard::Cause;
 use crate::lent_message::LentMessage;
 use amqp_method::{Arg, Kind, Method, Properties};
-use amqp_outbox::Outbox;
+use amqp_outbox::{Chunks, Outbox};
 use amqp_value::ShortStr;
 use std::alloc::Global;
 
@@ -207,4 +209,36 @@ pub(crate) fn stage_message(
         }
         None => Ok(()),
     }
+}
+
+/// Stages the frames of a method and its content, cut to the agreed frame size, and lets the chunks go in which the body
+/// lies. They are staged last, so that out of memory they are as they were.
+pub(crate) fn stage_chunks(
+    outbox: &mut Outbox,
+    channel: u16,
+    frame_max: u32,
+    method: &Method,
+    properties: &Properties,
+    chunks: &mut Chunks,
+) -> Result<(), AskFault>
+    requires { 8 < frame_max }
+    ensures ok { OnOk result (outbox.new ≡ with_staged outbox.old (map (payload_frame channel)
+        (message_payloads frame_max (message_of (letter_with (method_view method.now) (properties_view properties.now)
+        chunks.old))))) }
+    ensures reads_back { OnOk result (AskReadsBack (content_asked channel (method_view method.now)
+        (properties_view properties.now) chunks.old)) }
+    ensures taken { OnOk result (chunks.new ≡ []) }
+    ensures err { IfErr result (λ fault. refusal_view fault ≡ None) }
+    ensures output { outbox.new.output ≡ outbox.old.output }
+    ensures kept { OnErr result (chunks.new ≡ chunks.old) }
+{
+    stage_method(outbox, channel, method)?;
+    let Ok(()) = outbox.stage_header(channel, chunks.len() as u64, properties) else {
+        return Err(AskFault::OutOfMemory);
+    };
+    let room = frame_max - AROUND_PAYLOAD as u32;
+    let Ok(()) = outbox.stage_chunks(channel, room, chunks) else {
+        return Err(AskFault::OutOfMemory);
+    };
+    Ok(())
 }

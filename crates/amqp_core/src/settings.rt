@@ -31,12 +31,12 @@ pub(crate) const FRAME_MIN: u64 = 4096;
 /// The greatest frame that an end may be set up to take.
 const FRAME_MOST: u64 = 1_048_576;
 
-/// What stands in the frame of a start beside its table and its strings: the frame's own 8 octets, the two ids, the version,
-/// and the lengths of two strings.
+/// What stands in the frame of a start beside its table and its strings: the frame's own 8 octets, the two ids, the
+/// version, and the lengths of two strings.
 const START_LENGTH: u64 = 8 + 4 + 2 + 4 + 4;
 
-/// What stands in the frame of a start-ok beside its table and its strings: the frame's own 8 octets, the two ids, and the
-/// lengths of a short string, a long one, and a short one.
+/// What stands in the frame of a start-ok beside its table and its strings: the frame's own 8 octets, the two ids, and
+/// the lengths of a short string, a long one, and a short one.
 const START_OK_LENGTH: u64 = 8 + 4 + 1 + 4 + 1;
 
 /// What a client says of itself, in start-ok and in open.
@@ -120,8 +120,8 @@ impl ClientHello {
         Ok(())
     }
 
-    /// The start-ok with what the client says of itself, and with a mechanism, a response and a locale that were chosen.
-    /// Its frame has at most 4096 octets.
+    /// The start-ok with what the client says of itself, and with a mechanism, a response and a locale that were
+    /// chosen. Its frame has at most 4096 octets.
     fn answer(
         &self,
         alloc: Global,

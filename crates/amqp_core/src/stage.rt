@@ -12,7 +12,7 @@ ghost use Rattle.amqp_model.specs.End.Channels as model;
 ghost use Rattle.amqp_model.specs.End.EndVerdict.{takes_octets};
 ghost use Rattle.amqp_model.specs.End.Machine.{new_end};
 ghost use Rattle.amqp_channel.specs.Roles.{role_of};
-ghost use Rattle.amqp_channel.specs.EventView.{agreed_there};
+ghost use Rattle.amqp_channel.specs.Events.EventView.{agreed_there};
 ghost use Rattle.amqp_core.specs.End.Counted.{heartbeat_in};
 ghost use Rattle.amqp_core.specs.Connection.Decisions.{holds_client};
 ghost use Rattle.amqp_core.specs.Connection.Stages.{agreed_at, phase_at, phase_name, leaves};

@@ -4,7 +4,7 @@
 //! written before the event is taken.
 ghost use Rattle.std.specs.Prelude.{◌≡◌, IsOk, Option};
 ghost use Rattle.amqp_frame.specs.Frame.{Frame};
-ghost use Rattle.amqp_channel.specs.PartsView.{parts_there};
+ghost use Rattle.amqp_channel.specs.Events.PartsView.{parts_there};
 ghost use Rattle.amqp_channel.specs.ReadingView.{reading_view};
 ghost use Rattle.amqp_core.specs.Faults.Answering.{ran_out};
 ghost use Rattle.amqp_core.specs.Faults.Blamed.{code_found};
@@ -51,6 +51,7 @@ pub struct Step<'a> {
 }
 
 /// The event of a frame of a channel.
+#[inline(always)]
 fn lend_told<'a>(number: u16, reading: Reading<'a>, told: Told) -> Option<EventRef<'a>>
     ensures { event_ref_there result ≡ channel_lent number (reading_view reading.entry) told }
 {
@@ -89,6 +90,7 @@ fn lend_notice<'a>(number: u16, reading: Reading<'a>, notice: Notice) -> Option<
 }
 
 /// The event of a frame that says this.
+#[inline(always)]
 pub(crate) fn lend_report<'a>(
     number: u16,
     reading: Reading<'a>,
@@ -141,7 +143,7 @@ fn quiet_step<'a>(octets: usize, parts: Option<EventParts>) -> Step<'a>
         octets,
         came: Some(Came {
             number: 0,
-            lying: Lying::Piece(Reading::Heartbeat { empty: true }),
+            lying: Lying::Piece(Reading::Heartbeat(&[])),
             report: Report::OfConnection(Notice::Quiet),
         }),
     }

@@ -1,28 +1,13 @@
 //! One end of a connection whose events lend: each frame of a content is told as it comes, and no octet of it is kept.
-ghost use Rattle.std.specs.Prelude.{ℕ, List, ◌≡◌, ◌≢◌, ◌<◌, ◌≤◌, true, false, [], length, IfOk, IfErr, OnOk};
+ghost use Rattle.std.specs.Prelude.{◌≡◌, ◌≢◌, ◌<◌, ◌≤◌, true, [], length, IfOk};
 ghost use Rattle.std.specs.Borrow.{sem};
 ghost use Rattle.std.specs.Io.BufRead.{Rests};
 ghost use Rattle.std.proofs.Props.{props};
-ghost use Rattle.amqp_method.specs.MessageView.{message_view};
-ghost use Rattle.amqp_model.specs.Output.ArrangementRules.{FollowsRules};
-ghost use Rattle.amqp_model.specs.End.Answers.{channel_state, gathered, reply_due};
 ghost use Rattle.amqp_model.specs.End.Asks as asks;
-ghost use Rattle.amqp_model.specs.End.Bounds.{OthersAreFree};
-ghost use Rattle.amqp_model.specs.End.EndVerdict.{takes_octets};
-ghost use Rattle.amqp_model.specs.History.Histories.{History};
-ghost use Rattle.amqp_model.specs.History.Negotiation.{frame_limit};
-ghost use Rattle.amqp_model.specs.Output.Outputs.{output_octets};
-ghost use Rattle.amqp_model.specs.Stream.Endpoint.{after_wrote};
-ghost use Rattle.amqp_channel.specs.EventView.{agreed_there};
-ghost use Rattle.amqp_channel.specs.Messages.{message_of};
-ghost use Rattle.amqp_channel.specs.StateView.{state_view};
-ghost use Rattle.amqp_core.specs.Asks.View.{ask_view, lent_view};
-ghost use Rattle.amqp_core.specs.End.Bounded.{IsBounded};
 ghost use Rattle.amqp_core.specs.End.Counters.{counted_in};
 ghost use Rattle.amqp_core.specs.End.EndpointView.{role_at};
 ghost use Rattle.amqp_core.specs.Stream.EventRefView.{event_ref_there};
 ghost use Rattle.amqp_core.specs.End.Kept.{IsKept, agreed_prop};
-ghost use Rattle.amqp_core.specs.Connection.Stages.{phase_name};
 ghost use Rattle.amqp_core.specs.Stream.StepView.{came_lent, step_seen};
 
 use crate::asks::{Ask, LentAsk};
@@ -86,13 +71,12 @@ fn counted(before: u64, answer: &Result<Step<'_>, CoreFault>) -> u64
 
 impl<R: Role> StreamEnd<R> {
     ghost use Rattle.amqp_core.specs.Stream.Lends.{Lends};
-    ghost use Rattle.amqp_core.specs.Stream.Asks.{StreamAnswersLowest, StreamAnswersNumber, StreamAsked};
-    ghost use Rattle.amqp_core.specs.Stream.Queries.{AgreedOfHistory, CameOfHistory, DueOfHistory, OutputIsInOrder, PendingOfHistory, PhaseOfHistory, StateOfHistory, WritesOn};
-    ghost use Rattle.amqp_core.specs.Stream.View.{config_at, counters_of, endpoint_of, given_in, role_played, settings_at, taken_seen};
+    ghost use Rattle.amqp_core.specs.Stream.View.{counters_of, given_in, taken_seen};
     ghost use Rattle.amqp_core.specs.contracts.stream.StreamEnd.{the_row};
 
     /// Takes octets of a piece, as [`End::feed`](crate::End::feed) does, and lends what they tell: from the piece
     /// where the frame lies whole in it, and from the end otherwise.
+    #[inline(always)]
     pub fn feed_ref<'a>(&'a mut self, piece: &'a [u8]) -> Result<TakenRef<'a>, CoreFault>
         ensures within { IfOk result (λ taken. taken.octets ≤ length piece.now) }
         ensures progress { IfOk result (λ taken. piece.now ≢ [] → 0 < taken.octets) }
@@ -108,13 +92,11 @@ impl<R: Role> StreamEnd<R> {
     }
 
     /// Takes octets as [`StreamEnd::feed_ref`] does. What came of them borrows the piece alone.
+    #[inline(always)]
     pub fn advance<'a>(&mut self, piece: &'a [u8]) -> Result<Step<'a>, CoreFault>
         ensures lends { Lends self.old piece.now (step_seen result (given_in self.new)) self.new }
-        ensures within { IfOk result (λ step. step.octets ≤ length piece.now) }
-        ensures progress { IfOk result (λ step. piece.now ≢ [] → 0 < step.octets) }
-        // A frame that is taken is counted, and no octets are.
+        // A frame that is taken is counted.
         ensures frames { (counters_of self.new).frames ≡ counted_in result (counters_of self.old).frames }
-        ensures octets { (counters_of self.new).octets ≡ (counters_of self.old).octets }
     {
         octets::octets_follow();
         octets::cut_changes_nothing();
@@ -128,6 +110,7 @@ impl<R: Role> StreamEnd<R> {
     }
 
     /// The event of the last step, until the next piece is taken.
+    #[inline(always)]
     pub fn event<'a>(&'a self, step: Step<'a>) -> Option<EventRef<'a>>
         ensures { event_ref_there result ≡ came_lent step.entry.came (given_in self.now) }
     {

@@ -1,6 +1,6 @@
 //! What an application asks of an end whose events lend, and what such an end answers of itself: as
 //! [`End`](crate::End) does.
-ghost use Rattle.std.specs.Prelude.{◌≡◌, ◌≢◌, ◌≤◌, ◌<◌, true, false, [], length, None, Some, Err, IfOk, MatchOption, OnOk, OnErr};
+ghost use Rattle.std.specs.Prelude.{[], OnOk, OnErr, ◌≡◌, ◌≤◌, ◌<◌, true, false, length, None, Some, Err, MatchOption};
 ghost use Rattle.std.specs.Option.{option_copied};
 ghost use Rattle.amqp_method.specs.HeaderView.{properties_view};
 ghost use Rattle.amqp_method.specs.Kinds.{has_content};
@@ -14,18 +14,13 @@ ghost use Rattle.amqp_model.specs.End.Bounds.{OthersAreFree};
 ghost use Rattle.amqp_model.specs.End.EndVerdict.{takes_octets};
 ghost use Rattle.amqp_model.specs.End.Heard.{nothing_heard};
 ghost use Rattle.amqp_model.specs.History.Negotiation.{frame_limit};
-ghost use Rattle.amqp_model.specs.Output.Outputs.{output_octets, waiting_on, after_puts};
-ghost use Rattle.amqp_model.specs.Stream.Endpoint.{after_wrote};
+ghost use Rattle.amqp_model.specs.Output.Outputs.{output_octets, waiting_on};
+ghost use Rattle.amqp_channel.specs.Events.EventView.{agreed_there, message_of, state_view};
 ghost use Rattle.amqp_outbox.specs.OutboxFaults.{begun};
-ghost use Rattle.amqp_outbox.specs.OutboxView.{only};
-ghost use Rattle.amqp_channel.specs.EventView.{agreed_there};
-ghost use Rattle.amqp_channel.specs.Messages.{message_of};
-ghost use Rattle.amqp_channel.specs.StateView.{state_view};
 ghost use Rattle.amqp_core.specs.Asks.Asked.{content_asked};
 ghost use Rattle.amqp_core.specs.Asks.View.{ask_view, lent_view};
 ghost use Rattle.amqp_core.specs.End.Bounded.{IsBounded};
 ghost use Rattle.amqp_core.specs.End.Counted.{heartbeat_in};
-ghost use Rattle.amqp_core.specs.End.Counters.{counts_octets};
 ghost use Rattle.amqp_core.specs.Heard.OfEnd.{IsLastHeard};
 ghost use Rattle.amqp_core.specs.Heard.View.{cause_there, cause_view, kept_of_kind, method_there};
 ghost use Rattle.amqp_core.specs.Asks.LentLetter.{lent_letter};
@@ -42,14 +37,17 @@ use crate::stream::StreamEnd;
 use amqp_channel::{Agreed, ChannelState};
 use amqp_method::{Kind, Message, Method, Properties};
 use amqp_model::{answers, arrangement, bounds, fitting, octets, one_end, replies, streaming};
-use amqp_outbox::{HandOverFault, SendQueue};
+use amqp_outbox::{Chunks, HandOverFault, SendQueue};
 use amqp_value::ShortStr;
 
 impl<R: Role> StreamEnd<R> {
     ghost use Rattle.amqp_core.specs.Faults.Blamed.{blame_view};
     ghost use Rattle.amqp_core.specs.Stream.Asks.{StreamAnswersLowest, StreamAnswersNumber, StreamAsked};
-    ghost use Rattle.amqp_core.specs.Stream.Queries.{AgreedOfHistory, CameOfHistory, DueOfHistory, OutputIsInOrder, PendingOfHistory, PhaseOfHistory, StateOfHistory, WritesOn};
-    ghost use Rattle.amqp_core.specs.Stream.View.{config_at, counters_of, endpoint_of, heard_in, role_played, settings_at};
+    ghost use Rattle.amqp_core.specs.Stream.Queries.{AgreedOfHistory, CameOfHistory, DueOfHistory, OutputIsInOrder};
+    ghost use Rattle.amqp_core.specs.Stream.Queries.{PendingOfHistory, PhaseOfHistory, StateOfHistory};
+    ghost use Rattle.amqp_core.specs.Stream.Writes.{HandsOver, StreamWrote};
+    ghost use Rattle.amqp_core.specs.Stream.View.{config_at, counters_of, endpoint_of, heard_in, role_played};
+    ghost use Rattle.amqp_core.specs.Stream.View.{settings_at};
 
     /// The octets to send next. They stay until [`StreamEnd::wrote`] says that they were sent.
     pub fn output(&self) -> &[u8]
@@ -82,11 +80,7 @@ impl<R: Role> StreamEnd<R> {
     /// So many octets of the output were sent.
     pub fn wrote(&mut self, octets: usize)
         requires { octets ≤ length (output_octets (endpoint_of self.old).output) }
-        ensures written { endpoint_of self.new ≡ after_wrote octets (endpoint_of self.old) }
-        ensures history { WritesOn self.old octets self.new }
-        ensures counters { counters_of self.new ≡ counts_octets octets (counters_of self.old) }
-        ensures heard { heard_in self.new ≡ heard_in self.old }
-        ensures settings { settings_at self.new ≡ settings_at self.old }
+        ensures { StreamWrote self.old octets self.new }
     {
         octets::octets_follow();
         streaming::alike_endpoints_stay_alike();
@@ -111,21 +105,7 @@ impl<R: Role> StreamEnd<R> {
     /// answer is `Begun`, send what the queue has and then [`StreamEnd::output`]: so it is with the protocol header of
     /// a client.
     pub fn hand_over(&mut self, queue: &mut SendQueue) -> Result<(), HandOverFault>
-        ensures added { OnOk result
-            (queue.new ≡ only (after_puts (endpoint_of self.old).output.row queue.old.output)) }
-        ensures none_begun { OnOk result ((endpoint_of self.old).output.ahead ≡ []) }
-        ensures begun { result ≡ Err begun → (endpoint_of self.old).output.ahead ≢ [] }
-        ensures queue { OnErr result (queue.new.output ≡ queue.old.output) }
-        ensures written { OnOk result (endpoint_of self.new
-            ≡ after_wrote (length (output_octets (endpoint_of self.old).output)) (endpoint_of self.old)) }
-        ensures history { OnOk result
-            (WritesOn self.old (length (output_octets (endpoint_of self.old).output)) self.new) }
-        ensures counters { OnOk result (counters_of self.new
-            ≡ counts_octets (length (output_octets (endpoint_of self.old).output)) (counters_of self.old)) }
-        ensures same { OnErr result (endpoint_of self.new ≡ endpoint_of self.old) }
-        ensures counters_same { OnErr result (counters_of self.new ≡ counters_of self.old) }
-        ensures heard { heard_in self.new ≡ heard_in self.old }
-        ensures settings { settings_at self.new ≡ settings_at self.old }
+        ensures { HandsOver self.old queue.old result self.new queue.new }
     {
         self.inner.outbox.copy_into(queue)?;
         let octets = self.waiting_in_all();
@@ -317,8 +297,8 @@ impl<R: Role> StreamEnd<R> {
         self.put_message(channel, LentMessage::of(message))
     }
 
-    /// Sends a method and its content on a channel, as [`StreamEnd::send`] sends the message that these make. The body is copied
-    /// once, into the output, and nothing else is.
+    /// Sends a method and its content on a channel, as [`StreamEnd::send`] sends the message that these make. The body
+    /// is copied once, into the output, and nothing else is.
     ///
     /// A method that no content follows makes no such message: it is [`AskFault::NotSendable`], whatever else is so.
     pub fn send_content(
@@ -339,6 +319,35 @@ impl<R: Role> StreamEnd<R> {
         }
         let message = LentMessage::content(method, properties, body);
         self.put_message(channel, message)
+    }
+
+    /// Sends a method and its content on a channel, as [`StreamEnd::send_content`] does, the body out of chunks. Each chunk
+    /// is let go once its octets stand in the output, so that a large body is not in memory twice. An error leaves the
+    /// body as it was.
+    pub fn send_chunks(
+        &mut self,
+        channel: u16,
+        method: &Method,
+        properties: &Properties,
+        body: &mut Chunks,
+    ) -> Result<(), AskFault>
+        ensures asked { has_content (method_view method.now).kind ≡ true
+            → StreamAsked self.old (content_asked channel (method_view method.now) (properties_view properties.now)
+            body.old) result self.new }
+        ensures alone { has_content (method_view method.now).kind ≡ false → (result ≡ Err AskFault.NotSendable)
+            × (self.new ≡ self.old) }
+        ensures taken { OnOk result (body.new ≡ []) }
+        ensures kept { OnErr result (body.new ≡ body.old) }
+    {
+        if !method.has_content() {
+            return Err(AskFault::NotSendable);
+        }
+        octets::octets_follow();
+        fitting::frames_fit();
+        one_end::ask_is_of_history();
+        streaming::alike_ends_ask_alike();
+        streaming::alike_endpoints_stay_alike();
+        self.inner.send_chunks(channel, method, properties, body)
     }
 
     /// Asks the other end to send contents on a channel, or no more of them.

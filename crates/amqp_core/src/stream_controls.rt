@@ -1,4 +1,5 @@
-//! What an application does with the connection of an end whose events lend, besides its asks: as [`End`](crate::End) does.
+//! What an application does with the connection of an end whose events lend, besides its asks: as [`End`](crate::End)
+//! does.
 ghost use Rattle.amqp_model.specs.End.Controls as controls;
 ghost use Rattle.amqp_core.specs.Asks.ControlView.{control_view};
 

@@ -3,8 +3,8 @@
 use crate::event_ref::EventRef;
 use amqp_channel::Event;
 
-/// How many octets of a piece were taken, and what came of them: no event where no frame was finished, or where the frame is a
-/// part of a content that isn't whole.
+/// How many octets of a piece were taken, and what came of them: no event where no frame was finished, or where the
+/// frame is a part of a content that isn't whole.
 #[derive(PartialEq, Eq, Debug, Drop)]
 pub struct Taken {
     pub octets: usize,

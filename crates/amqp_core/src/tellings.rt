@@ -1,7 +1,7 @@
 //! What an end told its application, and what it said to the other end: items, each in a life of its channel.
 ghost use Rattle.std.specs.Prelude.{◌≡◌, IfOk, OnErr};
 ghost use Rattle.amqp_model.specs.Stream.Traces.{item_in_event};
-ghost use Rattle.amqp_channel.specs.PartsView.{parts_there};
+ghost use Rattle.amqp_channel.specs.Events.PartsView.{parts_there};
 ghost use Rattle.amqp_core.specs.Traced.AskNoting.{item_asked};
 ghost use Rattle.amqp_core.specs.Asks.View.{lent_view};
 ghost use Rattle.amqp_core.specs.End.Feeding.{IsMessage};

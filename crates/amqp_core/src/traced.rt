@@ -1,5 +1,6 @@
 //! An end of a connection that is kept with its history.
-ghost use Rattle.std.specs.Prelude.{◌≡◌, ◌+◌, ◌<◌, ◌≤◌, true, false, ◌++◌, length, map, vec_len, vec_capacity, Err, IfOk, MatchOption, None, Some};
+ghost use Rattle.std.specs.Prelude.{◌≡◌, ◌+◌, ◌<◌, ◌≤◌, true, false, ◌++◌, length, map, vec_len, vec_capacity, Err};
+ghost use Rattle.std.specs.Prelude.{IfOk, MatchOption, None, Some};
 ghost use Rattle.std.specs.Option.{option_copied};
 ghost use Rattle.amqp_model.specs.Output.ArrangementRules.{FollowsRules};
 ghost use Rattle.amqp_model.specs.End.Amounts.{GathersOctets, KeepsOctets};
@@ -15,9 +16,8 @@ ghost use Rattle.amqp_model.specs.End.Heard.{nothing_heard};
 ghost use Rattle.amqp_model.specs.History.Histories.{History};
 ghost use Rattle.amqp_model.specs.History.Negotiation.{frame_limit};
 ghost use Rattle.amqp_model.specs.Output.Outputs.{output_octets, waiting_on};
-ghost use Rattle.amqp_channel.specs.EventView.{agreed_there};
+ghost use Rattle.amqp_channel.specs.Events.EventView.{agreed_there, state_view};
 ghost use Rattle.amqp_channel.specs.Roles.{role_of};
-ghost use Rattle.amqp_channel.specs.StateView.{state_view};
 ghost use Rattle.amqp_core.specs.Asks.View.{ask_view, lent_view};
 ghost use Rattle.amqp_core.specs.Asks.Asked.{content_asked};
 ghost use Rattle.amqp_core.specs.Faults.Blamed.{blame_view};
@@ -53,11 +53,11 @@ use amqp_model::{
 };
 use amqp_value::ShortStr;
 
-/// An end of a connection, kept with its history: a note of each frame that it put and took, the items that it told and said,
-/// and all octets that it was fed and that it wrote.
+/// An end of a connection, kept with its history: a note of each frame that it put and took, the items that it told and
+/// said, and all octets that it was fed and that it wrote.
 ///
-/// It is for records, for tests, and for whoever joins two ends in memory: nothing of what it keeps is ever let go. The room for
-/// what a call adds is made before the end does anything, so a call that runs out of memory adds nothing.
+/// It is for records, for tests, and for whoever joins two ends in memory: nothing of what it keeps is ever let go. The
+/// room for what a call adds is made before the end does anything, so a call that runs out of memory adds nothing.
 #[derive(Drop)]
 pub struct Traced<R: Role> {
     end: End<R>,
@@ -79,10 +79,12 @@ const MOST_CONTROLLED: usize = 4096;
 const MOST_NOTED: usize = 3;
 
 impl<R: Role> Traced<R> {
-    ghost use Rattle.amqp_core.specs.Traced.Asks.{Asked, AnswersNumber};
+    ghost use Rattle.amqp_core.specs.Traced.Asks.{AskedTrace, TraceAnswersNumber};
     ghost use Rattle.amqp_core.specs.Traced.Calls.{BeginsTrace, FeedsTrace, WritesTrace};
     ghost use Rattle.amqp_core.specs.Traced.Controls.{ControlledTrace};
-    ghost use Rattle.amqp_core.specs.Traced.Queries.{AgreedOfHistory, DueOfHistory, GatheredOfHistory, HeartbeatOfHistory, OutputOfHistory, PendingOfHistory, PhaseOfHistory, StateOfHistory};
+    ghost use Rattle.amqp_core.specs.Traced.Queries.{AgreedOfHistory, DueOfHistory, GatheredOfHistory};
+    ghost use Rattle.amqp_core.specs.Traced.Queries.{HeartbeatOfHistory, OutputOfHistory, PendingOfHistory};
+    ghost use Rattle.amqp_core.specs.Traced.Queries.{PhaseOfHistory, StateOfHistory};
     ghost use Rattle.amqp_core.specs.Traced.View.{config_at, heard_in, role_played, settings_at, traced_of};
 
     /// An end with its history, as it begins.
@@ -92,13 +94,12 @@ impl<R: Role> Traced<R> {
     {
         octets::octets_follow();
         let mut ledger = Ledger::new(end.allocator(), end.side());
-        let to_write = end.output().len();
-        ledger.reserve(0, 0, to_write)?;
-        ledger.give_back(to_write);
+        ledger.written.reserve_exact(end.output().len())?;
         Ok(Traced { end, ledger })
     }
 
-    /// Takes octets as [`End::feed`] does. Out of memory, the end has failed, and what is kept of its history is as it was.
+    /// Takes octets as [`End::feed`] does. Out of memory, the end has failed, and what is kept of its history is as it
+    /// was.
     pub fn feed(&mut self, piece: &[u8]) -> Result<Taken, CoreFault>
         ensures { FeedsTrace self.old piece.now result self.new }
     {
@@ -128,8 +129,8 @@ impl<R: Role> Traced<R> {
 
     /// Does what an application asks, as [`End::ask`] does. Out of memory, nothing has changed.
     pub fn ask(&mut self, ask: &Ask) -> Result<Option<u16>, AskFault>
-        ensures asked { Asked self.old (ask_view ask.now) result self.new }
-        ensures number { AnswersNumber self.old (ask_view ask.now) result }
+        ensures asked { AskedTrace self.old (ask_view ask.now) result self.new }
+        ensures number { TraceAnswersNumber self.old (ask_view ask.now) result }
     {
         self.ask_lent(ask.lent())
     }
@@ -143,7 +144,7 @@ impl<R: Role> Traced<R> {
         body: &[u8],
     ) -> Result<(), AskFault>
         ensures asked { has_content (method_view method.now).kind ≡ true
-            → Asked self.old (content_asked channel (method_view method.now) (properties_view properties.now)
+            → AskedTrace self.old (content_asked channel (method_view method.now) (properties_view properties.now)
             body.now) result self.new }
         ensures alone { has_content (method_view method.now).kind ≡ false → (result ≡ Err AskFault.NotSendable)
             × (self.new ≡ self.old) }
@@ -158,8 +159,8 @@ impl<R: Role> Traced<R> {
 
     /// Does what an ask that is lent says.
     fn ask_lent(&mut self, ask: LentAsk<'_>) -> Result<Option<u16>, AskFault>
-        ensures asked { Asked self.old (lent_view ask.entry) result self.new }
-        ensures number { AnswersNumber self.old (lent_view ask.entry) result }
+        ensures asked { AskedTrace self.old (lent_view ask.entry) result self.new }
+        ensures number { TraceAnswersNumber self.old (lent_view ask.entry) result }
     {
         let place = self.end.allow(ask)?;
         let Ok(item) = room_for_ask(&self.end, &mut self.ledger, ask, place) else {

@@ -1,5 +1,6 @@
 //! What an end does, and what is kept of it beside the end: both, or, out of memory, neither.
-ghost use Rattle.std.specs.Prelude.{◌≡◌, ◌≢◌, ◌+◌, ◌*◌, ◌<◌, ◌≤◌, ℕ, true, false, [], length, vec_len, vec_capacity, IsOk, IfOk, IfErr, OnOk, OnErr};
+ghost use Rattle.std.specs.Prelude.{◌≡◌, ◌≢◌, ◌+◌, ◌*◌, ◌<◌, ◌≤◌, ℕ, true, false, [], length, vec_len, vec_capacity};
+ghost use Rattle.std.specs.Prelude.{IsOk, IfOk, IfErr, OnOk, OnErr};
 ghost use Rattle.amqp_model.specs.End.Asks.{frames_asked};
 ghost use Rattle.amqp_model.specs.Stream.Endpoint.{after_feed};
 ghost use Rattle.amqp_model.specs.End.EndVerdict.{takes_octets};
@@ -7,7 +8,7 @@ ghost use Rattle.amqp_model.specs.History.Histories.{History};
 ghost use Rattle.amqp_model.specs.End.LawfulHistories.{then_put};
 ghost use Rattle.amqp_model.specs.Output.Outputs.{output_octets};
 ghost use Rattle.amqp_model.specs.Stream.Traces.{item_in_event};
-ghost use Rattle.amqp_channel.specs.PartsView.{parts_there};
+ghost use Rattle.amqp_channel.specs.Events.PartsView.{parts_there};
 ghost use Rattle.amqp_channel.specs.Roles.{role_of};
 ghost use Rattle.amqp_core.specs.Faults.Answering.{ran_out};
 ghost use Rattle.amqp_core.specs.Traced.AskNoting.{GrowsByFrames, IsChannelOf, IsSizeOf, count_asked, item_asked};
@@ -40,7 +41,8 @@ use crate::tellings::Item;
 use amqp_channel::EventParts;
 use amqp_model::{controls, fitting, octets, one_end, traces};
 
-/// Makes room for so many frames, so many octets that are fed, and as many that are written as the output has and may get.
+/// Makes room for so many frames, so many octets that are fed, and as many that are written as the output has and may
+/// get.
 pub(crate) fn make_room<R: Role>(
     end: &End<R>,
     ledger: &mut Ledger,

@@ -14,7 +14,7 @@ use crate::stream::StreamEnd;
 
 impl Endpoint {
     ghost use Rattle.std.specs.Prelude.{cond};
-    ghost use Rattle.amqp_channel.specs.ChannelsView.{NoneUnderWay};
+    ghost use Rattle.amqp_channel.specs.Channels.ChannelsView.{NoneUnderWay};
     ghost use Rattle.amqp_core.specs.Faults.Blamed.{tally_view};
     ghost use Rattle.amqp_core.specs.End.EndpointView.{endpoint_view, IsSound};
 

@@ -9,12 +9,12 @@ use std::test::Fail;
 /// A server has taken the protocol header.
 const HEARD: &str = "client carries 8";
 
-/// A server has taken 101 octets: the protocol header, start-ok in 44, tune-ok in 20, the connection's open in 16 and the
-/// channel's in 13.
+/// A server has taken 101 octets: the protocol header, start-ok in 44, tune-ok in 20, the connection's open in 16 and
+/// the channel's in 13.
 const OPEN: &str = "both open 1";
 
-/// Octets that break a rule at a server: what was done before, the pieces that are fed then, how many octets the end took in
-/// all, and what is said. A publish has 18 octets, a header 22, and basic.ack 21.
+/// Octets that break a rule at a server: what was done before, the pieces that are fed then, how many octets the end
+/// took in all, and what is said. A publish has 18 octets, a header 22, and basic.ack 21.
 static SERVER_ROWS: [(&str, &str, u64, &str); 26] = [
     (
         "",

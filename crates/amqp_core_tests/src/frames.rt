@@ -1,6 +1,7 @@
 //! Methods, frames and parts of them by name, octet by octet, as the profile has them.
 
-/// A name begins its line, and its octets follow: in hexadecimal, or as a text after `'`. A name with a channel at its end, as
+/// A name begins its line, and its octets follow: in hexadecimal, or as a text after `'`. A name with a channel at its
+/// end, as
 /// `tx.select/1`, is that of a whole frame: type, channel, size, payload, end.
 pub(crate) static NAMED: &str = "
     nothing '

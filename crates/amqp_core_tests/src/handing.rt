@@ -78,8 +78,8 @@ fn hand_over_two(
     send(alloc, client, 2, "tx.select", queue)
 }
 
-/// Five octets of the frame of publish are written before tx.select is put: the frame stays first, and the header of its
-/// content comes after the other channel's turn.
+/// Five octets of the frame of publish are written before tx.select is put: the frame stays first, and the header of
+/// its content comes after the other channel's turn.
 #[test]
 fn frames_in_a_queue_take_turns(rt: HostRuntime) -> Result<(), Fail> {
     let alloc = rt.alloc();

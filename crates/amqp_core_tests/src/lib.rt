@@ -1,8 +1,9 @@
-//! Tests of `amqp_core`'s public calls: a client and a server in memory, whose octets are carried from one to the other. The octets,
-//! the counts and the answers are written from the profile (`docs/PROTOCOL.md`), and not from what the crate answers.
+//! Tests of `amqp_core`'s public calls: a client and a server in memory, whose octets are carried from one to the
+//! other. The octets, the counts and the answers are written from the profile (`docs/PROTOCOL.md`), and not from what
+//! the crate answers.
 //!
-//! Most tests are scripts (`scripts`): texts that say, line by line, what is done with the two ends, and what is to come of it. What
-//! the events say is tested with the program, line by line.
+//! Most tests are scripts (`scripts`): texts that say, line by line, what is done with the two ends, and what is to
+//! come of it. What the events say is tested with the program, line by line.
 #![tactic(auto)]
 
 #[cfg(test)]

@@ -61,7 +61,8 @@ static SCRIPTS: [&str; 5] = [
      client carries all
      server pending -> 0
      server kept -> 0",
-    // The header has 14 octets, besides those of its frame. It is kept until its content is whole, or its channel closed.
+    // The header has 14 octets, besides those of its frame. It is kept until its content is whole, or its channel
+    // closed.
     "what is kept goes with its channel
      both open 2
      server takes basic.publish/1 header-of-3/1 body-of-2/1 -> events 0

@@ -1,6 +1,6 @@
 //! What ends answer where memory is refused. With ample memory none is; where each request is refused in turn
-//! (`checks/memory/refused_calls.py`), each run ends in its own answer, or in out of memory. And what a call asks of the
-//! allocator, where requests are counted between the marks (`checks/memory/count.c`, preloaded).
+//! (`checks/memory/refused_calls.py`), each run ends in its own answer, or in out of memory. And what a call asks of
+//! the allocator, where requests are counted between the marks (`checks/memory/count.c`, preloaded).
 use crate::marking::mark;
 use crate::messages::message;
 use crate::octets::octets_of;
@@ -81,7 +81,8 @@ fn are_frames(octets: &[u8], lengths: &[usize]) -> bool {
     rest.is_empty()
 }
 
-/// Sends a message whose frames have these lengths: whether it was put. Where memory is refused, there is nothing to write.
+/// Sends a message whose frames have these lengths: whether it was put. Where memory is refused, there is nothing to
+/// write.
 fn send(client: &mut End<Client>, message: &Message, lengths: &[usize]) -> Result<bool, AskFault> {
     match client.send(1, message) {
         Ok(()) => Ok(are_frames(client.output(), lengths)),

@@ -6,8 +6,8 @@ use amqp_core::{End, Event, EventRef, Server, StreamEnd};
 use std::alloc::Global;
 use std::test::Fail;
 
-/// Frames that a server takes with channel 1 open, none of them of a content: a heartbeat, tx.select, a flow, a close of
-/// the channel with the code 320 and the text `bye`, and a close of the connection without a text.
+/// Frames that a server takes with channel 1 open, none of them of a content: a heartbeat, tx.select, a flow, a close
+/// of the channel with the code 320 and the text `bye`, and a close of the connection without a text.
 static FRAMES: [&str; 5] = [
     "08000000000000ce",
     "tx.select/1",

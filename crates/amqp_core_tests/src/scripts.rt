@@ -1,10 +1,11 @@
 //! Scripts: texts that say, line by line, what is done with a client and a server, and what is to come of it.
 //!
-//! The first line is the script's name. Then come lines of these forms, where END is `client` or `server`, and OCTETS are words of
-//! [`octets_of`]:
+//! The first line is the script's name. Then come lines of these forms, where END is `client` or `server`, and OCTETS
+//! are words of [`octets_of`]:
 //!
 //!     both open COUNT                     the handshake, and the opening of the channels up to this one
-//!     END asks ASK -> put                 its application asks something of it (the words are those of `Asked`), which is put;
+//!     END asks ASK -> put                 its application asks something of it (the words are those of `Asked`), which
+//! is put;
 //!     END asks open -> channel NUMBER     or takes a channel; or is refused: the refusal's number and name
 //!     END beats -> put                    it puts a heartbeat,
 //!     END admits -> put                   admits a login or an open,
@@ -23,7 +24,8 @@
 //!     END channel NUMBER -> STATE
 //!     END due NUMBER -> METHOD            the request that is to be answered next on a channel, or none
 //!     END pending -> COUNT                so many octets were taken of a frame that isn't whole
-//!     END gathered NUMBER -> COUNT        so many octets are kept of the body that comes on a channel, or, for `all`, on all
+//!     END gathered NUMBER -> COUNT        so many octets are kept of the body that comes on a channel, or, for `all`,
+//! on all
 //!     END kept -> COUNT                   so many octets are kept of contents and of a frame that isn't whole
 //!     END took -> COUNT                   so many frames were taken
 //!     END wrote -> COUNT                  so many octets of the output were written

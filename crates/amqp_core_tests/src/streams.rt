@@ -376,8 +376,8 @@ fn tell_words(
     tell_all(alloc, end, &octets, octets.len(), lines)
 }
 
-/// How many octets of the content under way have come: after its first part, where the end was asked to turn back within the
-/// content, and after its last part; and whether the end turned back then.
+/// How many octets of the content under way have come: after its first part, where the end was asked to turn back
+/// within the content, and after its last part; and whether the end turned back then.
 #[derive(Clone, Copy, PartialEq, Eq, Debug)]
 struct Turned {
     came: usize,

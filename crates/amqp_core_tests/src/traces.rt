@@ -1,4 +1,5 @@
-//! Ends that are kept with their histories: what they note, tell and say, and the octets that they were fed and have put.
+//! Ends that are kept with their histories: what they note, tell and say, and the octets that they were fed and have
+//! put.
 use crate::asks::ask_in;
 use crate::octets::octets_of;
 use crate::pairs::{client_hello, server_hello};
@@ -267,7 +268,8 @@ fn a_connection_is_traced(rt: HostRuntime) -> Result<(), Fail> {
     traced
 }
 
-/// The protocol header, and a frame that would have 4097 octets: its seventh octet shows so. Two octets more come after it.
+/// The protocol header, and a frame that would have 4097 octets: its seventh octet shows so. Two octets more come after
+/// it.
 static TOO_LONG: &str = "414d515000000901 01000000000ff9 0000";
 
 fn trace_fault(rt: &impl Abort, alloc: Global, server: &mut Traced<Server>) -> Result<(), Fail> {

@@ -1,11 +1,12 @@
-//! What comes of every kind of frame in every state of an end, written from the rules of the profile (`docs/PROTOCOL.md`).
+//! What comes of every kind of frame in every state of an end, written from the rules of the profile
+//! (`docs/PROTOCOL.md`).
 
 /// How many words a row has: name, channel, octets, and one for each state.
 pub(crate) const WORDS: usize = 18;
 
-/// A row has the frame's name, its channel and its octets: a method whose fields are all 0 or empty, a header of a body of two
-/// octets, that body, or a heartbeat. On its second line stands what comes of it at a server, on its third what comes of it at a
-/// client, state by state: the code of a fault, the first word of an event, or `-`.
+/// A row has the frame's name, its channel and its octets: a method whose fields are all 0 or empty, a header of a body
+/// of two octets, that body, or a heartbeat. On its second line stands what comes of it at a server, on its third what
+/// comes of it at a client, state by state: the code of a fault, the first word of an event, or `-`.
 pub(crate) static ROWS: &str = "
     connection.start 0 01000000000012000a000a0000000000000000000000000000ce
         503 503 503 503 503 503 discarded

@@ -7,8 +7,8 @@ use amqp_core::{CoreFault, End, Event, Role, Side, Taken};
 use std::alloc::Global;
 use std::test::Fail;
 
-/// The ways to the states of a server: in the handshake, where it awaits start-ok; its channel 1 Free, Open, with a header or a
-/// body due, and Closing; and the connection Closing.
+/// The ways to the states of a server: in the handshake, where it awaits start-ok; its channel 1 Free, Open, with a
+/// header or a body due, and Closing; and the connection Closing.
 static SERVER_STATES: [&str; 7] = [
     "client carries 8",
     "both open 0",
@@ -24,8 +24,8 @@ static SERVER_STATES: [&str; 7] = [
      server asks close -> put",
 ];
 
-/// The ways to the states of a client: in the handshake, where it awaits start; its channel 1 Free, Opening, Open, with a header
-/// or a body due, and Closing; and the connection Closing.
+/// The ways to the states of a client: in the handshake, where it awaits start; its channel 1 Free, Opening, Open, with
+/// a header or a body due, and Closing; and the connection Closing.
 static CLIENT_STATES: [&str; 8] = [
     "",
     "both open 0",

@@ -7,7 +7,7 @@ use Rattle.amqp_model.specs.End.Channels.{End}
 use Rattle.amqp_model.specs.End.Machine.{end_after_put}
 use Rattle.amqp_model.specs.Output.Outputs.{after_puts}
 use Rattle.amqp_model.specs.End.ReadingBack.{AskReadsBack}
-use Rattle.amqp_channel.specs.Messages.{message_of}
+use Rattle.amqp_channel.specs.Events.EventView.{message_of}
 use Rattle.amqp_outbox.specs.OutboxView.{Outgoing, only}
 use Rattle.amqp_core.specs.Faults.Numbers.{refusal_view}
 use Rattle.amqp_core.specs.Config.Settings.{config_view, role_for}
@@ -35,7 +35,8 @@ pub record IsAccepted (settings : Settings) (ask : Ask) (before after : End) (ol
   pub made : is_made ask ≡ true
 
 -- The ask is refused, and nothing changes.
-pub record IsRefused (settings : Settings) (ask : Ask) (fault : AskFault) (before after : End) (old new : Outgoing) : Type 0 where
+pub record IsRefused (settings : Settings) (ask : Ask) (fault : AskFault) (before after : End)
+    (old new : Outgoing) : Type 0 where
   pub refused : IsRefusal settings before ask fault
   pub end_same : after ≡ before
   pub output_same : new ≡ old

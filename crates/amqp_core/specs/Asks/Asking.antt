@@ -1,6 +1,7 @@
 -- What an ask makes of an end.
 use Rattle.std.specs.Prelude.{◌≡◌, true, ℕ, List, Some, None}
-use Rattle.amqp_model.specs.End.Asks.{Ask, AskVerdict, Puts, Refusal, Refused, ask_verdict, frames_asked, is_made, refusal}
+use Rattle.amqp_model.specs.End.Asks.{Ask, AskVerdict, Puts, Refusal, Refused, ask_verdict, frames_asked, is_made}
+use Rattle.amqp_model.specs.End.Asks.{refusal}
 use Rattle.amqp_model.specs.Stream.Endpoint.{Endpoint, after_ask}
 use Rattle.amqp_model.specs.History.Histories.{History}
 use Rattle.amqp_model.specs.End.LawfulHistories.{end_of, then_put}
@@ -12,7 +13,7 @@ use Rattle.amqp_core.specs.Faults.Numbers.{refusal_view}
 use Rattle.amqp_core.specs.declared.faults.AskFault.{AskFault}
 
 -- what the end stands for goes on with the frames that are put
-abbrev pub AskGoesOn : (role : Role) → Config role → Ask → (old new : Endpoint) → Type 0
+abbrev AskGoesOn : (role : Role) → Config role → Ask → (old new : Endpoint) → Type 0
 AskGoesOn role config ask old new =
     (history : History) (fed written : List ℕ)
     → EndpointStandsFor role config old history fed written

@@ -29,7 +29,8 @@ verdict_for settings end control = control_verdict (role_for settings) (config_v
 
 -- These frames are put, and the end is what they leave: no channel changes, nor what was agreed. What is written reads
 -- back.
-pub record PutsFrames (settings : Settings) (control : Control) (frames : List Frame) (before after : End) (old new : Outgoing) : Type 0 where
+pub record PutsFrames (settings : Settings) (control : Control) (frames : List Frame) (before after : End)
+    (old new : Outgoing) : Type 0 where
   pub puts : verdict_for settings before control ≡ Puts frames
   pub end_is : after ≡ end_after_put (role_for settings) (config_view settings) frames before
   pub agreed_same : after.agreed ≡ before.agreed
@@ -47,11 +48,12 @@ abbrev pub RefusesFirst : Settings → Control → End → AskFault → Type 0
 RefusesFirst settings control end fault = refusal_view fault ≡ refusal_by (verdict_for settings end control)
 
 -- no refusal applies
-abbrev pub IsAllowed : Settings → Control → End → Type 0
-IsAllowed settings control end = refusal_by (verdict_for settings end control) ≡ None
+abbrev pub IsAllowedControl : Settings → Control → End → Type 0
+IsAllowedControl settings control end = refusal_by (verdict_for settings end control) ≡ None
 
 -- The control is refused, and nothing changes.
-pub record IsRefusedControl (settings : Settings) (control : Control) (fault : AskFault) (before after : End) (old new : Outgoing) : Type 0 where
+pub record IsRefusedControl (settings : Settings) (control : Control) (fault : AskFault) (before after : End)
+    (old new : Outgoing) : Type 0 where
   pub refused : RefusesFirst settings control before fault
   pub end_same : after ≡ before
   pub output_same : new ≡ old

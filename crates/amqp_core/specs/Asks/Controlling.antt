@@ -18,14 +18,15 @@ abbrev pub verdict_at : (role : Role) → Config role → Control → Endpoint �
 verdict_at role config control endpoint = control_verdict role config endpoint.end control
 
 -- what the end stands for goes on with the frame that is put
-abbrev pub ControlGoesOn : (role : Role) → Config role → Control → (old new : Endpoint) → Type 0
+abbrev ControlGoesOn : (role : Role) → Config role → Control → (old new : Endpoint) → Type 0
 ControlGoesOn role config control old new =
     (history : History) (fed written : List ℕ)
     → EndpointStandsFor role config old history fed written
-    → ∥ EndpointStandsFor role config new (then_put (frames_by (verdict_at role config control old)) history) fed written ∥₁
+    → ∥ EndpointStandsFor role config new (then_put (frames_by (verdict_at role config control old)) history) fed
+    written ∥₁
 
 -- what comes of it is what every history gives that the end stands for
-abbrev pub ControlIsOfHistory : (role : Role) → Config role → Control → Endpoint → Type 0
+abbrev ControlIsOfHistory : (role : Role) → Config role → Control → Endpoint → Type 0
 ControlIsOfHistory role config control old =
     (history : History) (fed written : List ℕ)
     → EndpointStandsFor role config old history fed written
@@ -40,7 +41,8 @@ pub record AcceptsControl (role : Role) (config : Config role) (control : Contro
   pub of_history : ControlIsOfHistory role config control old
 
 -- It is refused, by the refusal that applies, or where memory is refused; nothing changes.
-pub record RefusesControl (role : Role) (config : Config role) (control : Control) (fault : AskFault) (old new : Endpoint) : Type 0 where
+pub record RefusesControl (role : Role) (config : Config role) (control : Control) (fault : AskFault)
+    (old new : Endpoint) : Type 0 where
   pub refused : refusal_view fault ≡ refusal_by (verdict_at role config control old)
   pub same : new ≡ old
   pub of_history : ControlIsOfHistory role config control old

@@ -9,7 +9,8 @@ use Rattle.amqp_core.specs.declared.lent_message.Form.TheVariants.{Plain, Conten
 
 abbrev pub form_letter : Form → Letter
 form_letter (Plain method) = letter_alone (method_view method.now)
-form_letter (Content method properties body) = letter_with (method_view method.now) (properties_view properties.now) body.now
+form_letter (Content method properties body) =
+    letter_with (method_view method.now) (properties_view properties.now) body.now
 
 abbrev pub is_content : Form → Bool
 is_content (Plain method) = false

@@ -1,6 +1,9 @@
 -- Why what is asked is refused, part by part, in the order of the refusals.
-use Rattle.std.specs.Prelude.{◌≡◌, ◌<◌, ◌≤◌, Bool, not, ◌&&◌, ◌||◌, ◌+◌, nat_lt, ℕ, List, [], ◌∷◌, length, Option, Some, None}
-use Rattle.amqp_model.specs.End.Asks.{Refusal, BadChannel, NotOpen, Paused, NotSendable, TooLarge, ReplyPending, NoSuchRequest, when, first_refusal, not_running, bad_number, is_not_open, is_pausable, is_sendable, channel_max}
+use Rattle.std.specs.Prelude.{◌≡◌, ◌<◌, ◌≤◌, Bool, not, ◌&&◌, ◌||◌, ◌+◌, nat_lt, ℕ, List, [], ◌∷◌, length, Option, Some}
+use Rattle.std.specs.Prelude.{None}
+use Rattle.amqp_model.specs.End.Asks.{Refusal, BadChannel, NotOpen, Paused, NotSendable, TooLarge, ReplyPending}
+use Rattle.amqp_model.specs.End.Asks.{NoSuchRequest, when, first_refusal, not_running, bad_number, is_not_open}
+use Rattle.amqp_model.specs.End.Asks.{is_pausable, is_sendable, channel_max}
 use Rattle.amqp_model.specs.End.Channels.{Life, End, Open, Running}
 use Rattle.amqp_model.specs.End.Events.{Message, Plain, Whole, method_of}
 use Rattle.amqp_model.specs.End.FrameVerdict.{answers_first}
@@ -17,7 +20,8 @@ refusal_there (Some fault) = refusal_view fault
 -- the refusals of an ask that speaks of a channel: the first three, and then others
 abbrev pub refused_on : End → (number : ℕ) → (later : List (Option Refusal)) → Option Refusal
 refused_on end number later =
-    first_refusal (not_running end ∷ when (bad_number end (Some number)) BadChannel ∷ when (is_not_open end (Some number)) NotOpen ∷ later)
+    first_refusal (not_running end ∷ when (bad_number end (Some number)) BadChannel
+    ∷ when (is_not_open end (Some number)) NotOpen ∷ later)
 
 -- the channel is Open, and there is such a channel on a connection that is Running
 pub record IsOpenIn (end : End) (number : ℕ) (life : Life) : Type 0 where
@@ -32,12 +36,14 @@ passes frame_max payload = nat_lt frame_max (length payload + 8)
 
 abbrev pub is_too_large : (frame_max : ℕ) → Message → Bool
 is_too_large frame_max (Plain method) = passes frame_max (plain_method method)
-is_too_large frame_max (Whole content) = passes frame_max (plain_method content.method) || passes frame_max (plain_header (header_of content))
+is_too_large frame_max (Whole content) =
+    passes frame_max (plain_method content.method) || passes frame_max (plain_header (header_of content))
 
 -- a client's request while one waits, and a server's reply that doesn't answer the oldest request
 abbrev pub reply_refusal : Role → List MethodKind → Method → Option Refusal
 reply_refusal Client requests method = when (is_request method && nat_lt 0 (length requests)) ReplyPending
-reply_refusal Server requests method = when (is_reply method.kind && not (answers_first method.kind requests)) NoSuchRequest
+reply_refusal Server requests method =
+    when (is_reply method.kind && not (answers_first method.kind requests)) NoSuchRequest
 
 -- why a message is refused on a channel that is Open, reason by reason, and the first of these reasons
 abbrev pub by_pause : Life → Message → Option Refusal

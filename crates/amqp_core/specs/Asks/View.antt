@@ -2,7 +2,7 @@
 use Rattle.amqp_method.specs.MessageView.{message_view}
 use Rattle.amqp_model.specs.End.Asks as model
 use Rattle.amqp_model.specs.End.Closes.{no_cause}
-use Rattle.amqp_channel.specs.Messages.{message_of}
+use Rattle.amqp_channel.specs.Events.EventView.{message_of}
 use Rattle.amqp_core.specs.Heard.View.{cause_view}
 use Rattle.amqp_core.specs.Asks.LentLetter.{lent_letter}
 use Rattle.amqp_core.specs.declared.asks.Ask.{Ask}

@@ -12,7 +12,8 @@ use Rattle.amqp_core.specs.declared.settings.Hello.TheVariants as code
 use Rattle.amqp_core.specs.declared.settings.Settings.{Settings}
 
 abbrev pub client_hello_view : ClientHello → model.Hello Role.Client
-client_hello_view hello = model.OfClient (table_view hello.properties) hello.mechanism hello.response.items hello.locale hello.virtual_host
+client_hello_view hello =
+    model.OfClient (table_view hello.properties) hello.mechanism hello.response.items hello.locale hello.virtual_host
 
 abbrev pub server_hello_view : ServerHello → model.Hello Role.Server
 server_hello_view hello = model.OfServer (table_view hello.properties) hello.mechanisms.items hello.locales.items

@@ -34,7 +34,8 @@ HoldsNone role phase = (is_client role ≡ true) ⊎ (holds_client phase ≡ fal
 
 -- This method is put of the control at a stage, and leaves the connection at another. No channel changes, nor what was
 -- agreed. Where it reads back, so does what is written for the control.
-pub record DecidesIn (role : Role) (config : Config role) (control : Control) (stage then : Stage) (method : Method) : Type 0 where
+pub record DecidesIn (role : Role) (config : Config role) (control : Control) (stage then : Stage)
+    (method : Method) : Type 0 where
   pub puts : control_in role config (phase_at stage) control ≡ Puts (method_frame 0 method ∷ [])
   pub leaves :
       (channels : ℕ → Channel) (frame : Frame)
@@ -45,4 +46,5 @@ pub record DecidesIn (role : Role) (config : Config role) (control : Control) (s
   pub reads_back : ReadsBack method → ControlReadsBack role config control
 
 abbrev pub Decides : Settings → Control → (stage then : Stage) → Method → Type 0
-Decides settings control stage then method = DecidesIn (role_for settings) (config_view settings) control stage then method
+Decides settings control stage then method =
+    DecidesIn (role_for settings) (config_view settings) control stage then method

@@ -1,4 +1,5 @@
--- Frames that are taken without memory: a header, a body or a heartbeat that is dropped, and a heartbeat that changes nothing.
+-- Frames that are taken without memory: a header, a body or a heartbeat that is dropped, and a heartbeat that changes
+-- nothing.
 use Rattle.std.specs.Prelude.{◌≡◌, ◌≤◌, ◌⊎◌, true, ℕ, List, [], ◌++◌}
 use Rattle.amqp_frame.specs.Frame.{Fits, frame_length, octets}
 use Rattle.amqp_frame.specs.declared.frames.FrameKind.{FrameKind}
@@ -10,7 +11,7 @@ use Rattle.amqp_model.specs.History.Negotiation.{frame_limit}
 use Rattle.amqp_model.specs.Wire.Notes.{Role}
 use Rattle.amqp_model.specs.Stream.Pieces.{reads_frames}
 use Rattle.amqp_model.specs.Wire.Readings.{Reading, HeaderOf, MalformedHeader, BodyOf, Beat}
-use Rattle.amqp_channel.specs.Used.{is_closing_at}
+use Rattle.amqp_channel.specs.Channels.Used.{is_closing_at}
 use Rattle.amqp_core.specs.Connection.Stages.{leaves}
 
 -- The end has put connection.close; or it has closed the channel; or the heartbeat is as it is to be.
@@ -37,4 +38,5 @@ pub record DropsInPlace (role : Role) (endpoint : Endpoint) (piece : List ℕ) :
   pub fits : Fits frame
   pub within : frame_length frame ≤ frame_limit endpoint.end.agreed
   pub at_start : piece ≡ octets frame ++ later
-  pub dropped : IsDropped endpoint.end.phase (endpoint.end.channels frame.channel) frame.channel frame.kind frame.payload
+  pub dropped :
+      IsDropped endpoint.end.phase (endpoint.end.channels frame.channel) frame.channel frame.kind frame.payload

@@ -18,7 +18,8 @@ use Rattle.amqp_core.specs.declared.settings.ServerHello.{ServerHello}
 
 -- the start of a server with this hello
 abbrev pub IsStart : ServerHello → Method → Type 0
-IsStart hello method = (config : Config Server) → config.hello ≡ server_hello_view hello → method ≡ negotiation.start config
+IsStart hello method =
+    (config : Config Server) → config.hello ≡ server_hello_view hello → method ≡ negotiation.start config
 
 -- the start-ok that says this
 abbrev pub start_ok_saying : (properties : Pairs) (mechanism response locale : List ℕ) → Method
@@ -34,12 +35,14 @@ said_by hello mechanism response locale = start_ok_saying (table_view hello.prop
 
 -- the open of a client with this hello
 abbrev pub IsOpen : ClientHello → Method → Type 0
-IsOpen hello method = (config : Config Client) → config.hello ≡ client_hello_view hello → method ≡ negotiation.connection_open config
+IsOpen hello method =
+    (config : Config Client) → config.hello ≡ client_hello_view hello → method ≡ negotiation.connection_open config
 
 -- the tune of a server with these limits and this heartbeat
 abbrev pub IsTune : (channel_max frame_max heartbeat : ℕ) → Method → Type 0
 IsTune channel_max frame_max heartbeat method =
-    (config : Config Server) → config.channel_max ≡ channel_max → config.frame_max ≡ frame_max → config.heartbeat ≡ heartbeat
+    (config : Config Server) → config.channel_max ≡ channel_max → config.frame_max ≡ frame_max
+    → config.heartbeat ≡ heartbeat
     → method ≡ negotiation.tune config
 
 -- how long the frame of the method is that says what an end is: the client's start-ok, the server's start
@@ -48,7 +51,8 @@ greeting_length role config = frame_length (method_frame 0 (greeting role config
 
 -- how long it is for this hello, as a number of 64 bits
 abbrev pub IsStartLength : ServerHello → ℕ → Type 0
-IsStartLength hello octets = (config : Config Server) → config.hello ≡ server_hello_view hello → octets ≡ capped (greeting_length Server config)
+IsStartLength hello octets =
+    (config : Config Server) → config.hello ≡ server_hello_view hello → octets ≡ capped (greeting_length Server config)
 
 -- how long the frame of a start-ok is
 abbrev pub start_ok_octets : (properties : Pairs) (mechanism response locale : List ℕ) → ℕ

@@ -1,7 +1,8 @@
 -- What a stage of the handshake awaits, in the words of the model.
 use Rattle.std.specs.Prelude.{Bool, true, false, ◌&&◌, nat_lt, nat_le, ℕ}
 use Rattle.amqp_method.specs.declared.kinds.Kind.TheVariants as kinds
-use Rattle.amqp_model.specs.End.Channels.{Phase, Handshake, HandshakeStep, AwaitsStart, AwaitsStartOk, AwaitsTune, AwaitsTuneOk, AwaitsOpen, AwaitsOpenOk}
+use Rattle.amqp_model.specs.End.Channels.{Phase, Handshake, HandshakeStep, AwaitsStart, AwaitsStartOk, AwaitsTune}
+use Rattle.amqp_model.specs.End.Channels.{AwaitsTuneOk, AwaitsOpen, AwaitsOpenOk}
 use Rattle.amqp_model.specs.Wire.Notes.{Role, Client, Server}
 use Rattle.amqp_model.specs.End.FrameVerdict.{is_awaited}
 use Rattle.amqp_model.specs.Wire.Methods.{MethodKind}

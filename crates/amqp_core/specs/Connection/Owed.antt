@@ -4,11 +4,12 @@ use Rattle.amqp_model.specs.End.Channels as channels
 use Rattle.amqp_model.specs.End.Closes as closes
 use Rattle.amqp_model.specs.End.Closes.{connection_close, connection_close_ok, channel_close, reply_to}
 use Rattle.amqp_model.specs.End.FrameVerdict.{on_zero, on_channel}
-use Rattle.amqp_model.specs.History.Negotiation.{Config, start, start_ok, tune, tune_ok, connection_open, connection_open_ok}
+use Rattle.amqp_model.specs.History.Negotiation.{Config, start, start_ok, tune, tune_ok, connection_open}
+use Rattle.amqp_model.specs.History.Negotiation.{connection_open_ok}
 use Rattle.amqp_model.specs.Wire.Notes.{Role, Client, Server}
-use Rattle.amqp_channel.specs.Closes.{code_view}
-use Rattle.amqp_channel.specs.EventView.{agreed_view}
-use Rattle.amqp_channel.specs.VerdictView.{reply_kind}
+use Rattle.amqp_channel.specs.Events.Closes.{code_view}
+use Rattle.amqp_channel.specs.Events.EventView.{agreed_view}
+use Rattle.amqp_channel.specs.Verdict.VerdictView.{reply_kind}
 use Rattle.amqp_core.specs.Config.Settings.{role_for, config_view}
 use Rattle.amqp_core.specs.declared.owed.Owed.{Owed}
 use Rattle.amqp_core.specs.declared.owed.Owed.TheVariants as code
@@ -37,7 +38,8 @@ owed_view settings code.Nothing = []
 owed_view settings code.Start = starts (role_for settings) (config_view settings)
 owed_view settings code.StartOk = answers_start (role_for settings) (config_view settings)
 owed_view settings code.Tune = tunes (role_for settings) (config_view settings)
-owed_view settings (code.TuneOkAndOpen agreed) = answers_tune (role_for settings) (config_view settings) (agreed_view agreed)
+owed_view settings (code.TuneOkAndOpen agreed) =
+    answers_tune (role_for settings) (config_view settings) (agreed_view agreed)
 owed_view settings code.OpenOk = on_zero connection_open_ok ∷ []
 owed_view settings (code.Close reason) = connection_close (code_view reason) ∷ []
 owed_view settings code.CloseOk = connection_close_ok ∷ []

@@ -1,7 +1,7 @@
 -- Where a connection stands, in the words of the model.
 use Rattle.std.specs.Prelude.{Bool, true, false, Option, Some, None}
 use Rattle.amqp_model.specs.End.Channels as model
-use Rattle.amqp_channel.specs.EventView.{agreed_view, agreed_there}
+use Rattle.amqp_channel.specs.Events.EventView.{agreed_view, agreed_there}
 use Rattle.amqp_core.specs.declared.stage.Phase.{Phase}
 use Rattle.amqp_core.specs.declared.stage.Phase.TheVariants as name
 use Rattle.amqp_core.specs.declared.stage.Stage.{Stage}

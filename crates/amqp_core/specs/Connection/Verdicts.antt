@@ -11,10 +11,11 @@ use Rattle.amqp_model.specs.End.Machine.{as_failed, set_channel, taken_verdict}
 use Rattle.amqp_model.specs.Wire.Methods.{octets_at}
 use Rattle.amqp_model.specs.Wire.Notes.{Role}
 use Rattle.amqp_model.specs.Wire.Readings.{Reading, Calls}
-use Rattle.amqp_channel.specs.ChannelsView.{channels_view}
-use Rattle.amqp_channel.specs.EventView.{agreed_view}
-use Rattle.amqp_channel.specs.VerdictView.{Drops, Fits, FitsEvent, IsUnanswered, handed_out, left_by, reason_read, verdict_view as channel_verdict, whole_now}
-use Rattle.amqp_channel.specs.Used.{is_closing_at}
+use Rattle.amqp_channel.specs.Channels.ChannelsView.{channels_view}
+use Rattle.amqp_channel.specs.Events.EventView.{agreed_view}
+use Rattle.amqp_channel.specs.Verdict.VerdictView.{Drops, Fits, FitsEvent, IsUnanswered, handed_out, left_by}
+use Rattle.amqp_channel.specs.Verdict.VerdictView.{reason_read, verdict_view as channel_verdict, whole_now}
+use Rattle.amqp_channel.specs.Channels.Used.{is_closing_at}
 use Rattle.amqp_channel.specs.declared.channels.Channels.{Channels}
 use Rattle.amqp_channel.specs.declared.verdict.Verdict.TheVariants as ruled
 use Rattle.amqp_core.specs.Connection.View.{fault_of, EndLeft}
@@ -102,7 +103,7 @@ FitsNotice reading notice.Blocked = IsBlockedRead reading
 FitsNotice reading told = Unit {0}
 
 -- a stage of the handshake comes of one
-abbrev pub ComesOfHandshake : End → Stage → Type 0
+abbrev ComesOfHandshake : End → Stage → Type 0
 ComesOfHandshake end stage = is_in_handshake (phase_at stage) ≡ true → is_in_handshake end.phase ≡ true
 
 -- the same of the stage that a frame of the connection leads to

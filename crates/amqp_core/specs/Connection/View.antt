@@ -11,8 +11,8 @@ use Rattle.amqp_model.specs.End.Machine.{end_after, end_after_owed}
 use Rattle.amqp_model.specs.History.Negotiation.{Config}
 use Rattle.amqp_model.specs.Wire.Notes.{Role}
 use Rattle.amqp_model.specs.Wire.Readings.{Reading}
-use Rattle.amqp_channel.specs.ChannelsView.{channels_view}
-use Rattle.amqp_channel.specs.Closes.{code_view}
+use Rattle.amqp_channel.specs.Channels.ChannelsView.{channels_view}
+use Rattle.amqp_channel.specs.Events.Closes.{code_view}
 use Rattle.amqp_channel.specs.declared.site.Site.{Site}
 use Rattle.amqp_core.specs.Config.Settings.{side_in}
 use Rattle.amqp_core.specs.Connection.Stages.{phase_at, agreed_at}
@@ -22,7 +22,12 @@ use Rattle.amqp_core.specs.declared.verdict.Fault.TheVariants.{Peer, Fatal}
 use Rattle.amqp_core.specs.declared.settings.Settings.{Settings}
 
 abbrev pub connection_end : Connection → End
-connection_end connection = record { phase = phase_at connection.stage; agreed = agreed_at connection.stage; channels = channels_view connection.channels }
+connection_end connection =
+    record {
+      phase = phase_at connection.stage;
+      agreed = agreed_at connection.stage;
+      channels = channels_view connection.channels;
+    }
 
 abbrev pub fault_of : Fault → events.Fault
 fault_of (Peer code) = events.Peer (code_view code)
@@ -30,21 +35,28 @@ fault_of Fatal = events.Fatal
 
 -- the channel of a frame, where so many channels were agreed
 abbrev pub site_at : Settings → (number channel_max : ℕ) → Site
-site_at settings number channel_max = record { side = side_in settings.hello; number = number; channel_max = channel_max; max_body = settings.max_body }
+site_at settings number channel_max =
+    record { side = side_in settings.hello; number = number; channel_max = channel_max; max_body = settings.max_body }
 
 abbrev pub frame_at : (number : ℕ) → FrameKind → List ℕ → Frame
 frame_at number kind payload = record { kind = kind; channel = number; payload = payload }
 
 -- what the frame leaves of the end, before what is owed is put
 abbrev pub taken_here : {role : Role} → Config role → (number : ℕ) → Reading → FrameKind → List ℕ → (before : End) → End
-taken_here {role} config number reading kind payload before = end_after role config number (TookHere reading (frame_at number kind payload)) before
+taken_here {role} config number reading kind payload before =
+    end_after role config number (TookHere reading (frame_at number kind payload)) before
 
--- Where the end goes on, it is left as the frame taken and the methods owed leave it. Of an end that has found fault only
--- what was agreed and channel 0 are looked at any more.
+-- Where the end goes on, it is left as the frame taken and the methods owed leave it. Of an end that has found fault
+-- only what was agreed and channel 0 are looked at any more.
 abbrev pub EndLeft : {role : Role} → Config role → (number : ℕ) → Reading → FrameVerdict → (before after : End) → Type 0
 EndLeft {role} config number reading (Proceeds event owed) before after =
-    (kind : FrameKind) (payload : List ℕ) → after ≡ end_after_owed role config owed (taken_here config number reading kind payload before)
+    (kind : FrameKind) (payload : List ℕ)
+    → after ≡ end_after_owed role config owed (taken_here config number reading kind payload before)
 EndLeft {role} config number reading RefusesContent before after =
-    (kind : FrameKind) (payload : List ℕ) → after ≡ end_after_owed role config (channel_close number ContentTooLarge ∷ []) (taken_here config number reading kind payload before)
+    (kind : FrameKind) (payload : List ℕ)
+    → after ≡ end_after_owed role config (channel_close number ContentTooLarge ∷ [])
+    (taken_here config number reading kind payload before)
 EndLeft config number reading (Faults fault) before after =
-    ((kind : FrameKind) (payload : List ℕ) → after.agreed ≡ (taken_here config number reading kind payload before).agreed) × (after.channels 0 ≡ before.channels 0)
+    ((kind : FrameKind) (payload : List ℕ)
+    → after.agreed ≡ (taken_here config number reading kind payload before).agreed)
+    × (after.channels 0 ≡ before.channels 0)

@@ -1,7 +1,7 @@
 -- What an end counts since it began, so that an application can tell whether anything came or went between two of its
--- looks: the frames that it took, the octets of its output that were written, and the octets that it took, with what was
--- wrong with them. AMQP 0-9-1 specification, section
--- 4.2.7. That it counts, and up to which number, is this profile's.
+-- looks: the frames that it took, the octets of its output that were written, and the octets that it took, with what
+-- was wrong with them. AMQP 0-9-1 specification, section 4.2.7. That it counts, and up to which number, is this
+-- profile's.
 use Rattle.std.specs.Prelude.{◌≡◌, true, ℕ, List, Option, Some, None, Result, Ok, Err}
 use Rattle.amqp_frame.specs.declared.faults.FrameFaultKind.{FrameFaultKind}
 use Rattle.amqp_model.specs.End.EndVerdict.{takes_frames}
@@ -32,7 +32,7 @@ counted_with (Some note) before = counted before 1
 counted_with None before = before
 
 -- one more where a frame came of a step of a lending end
-abbrev pub counted_came : Option Came → (before : ℕ) → ℕ
+abbrev counted_came : Option Came → (before : ℕ) → ℕ
 counted_came (Some came) before = counted before 1
 counted_came None before = before
 
@@ -41,16 +41,23 @@ counted_in (Ok step) before = counted_came step.came before
 counted_in (Err fault) before = before
 
 -- Frames alone are counted, each that a piece makes whole, whether the end goes on with it or finds fault.
-pub record CountsFrame (role : Role) (config : Config role) (old : Endpoint) (piece : List ℕ) (fed : Feeding) (before after : Counters) : Type 0 where
+pub record CountsFrame (role : Role) (config : Config role) (old : Endpoint) (piece : List ℕ) (fed : Feeding)
+    (before after : Counters) : Type 0 where
   -- A frame is whole and taken.
-  pub whole : (frame : Frame) → takes_frames old.end.phase ≡ true → CompletesFrame old piece fed frame → after.frames ≡ counted before.frames 1
+  pub whole :
+      (frame : Frame) → takes_frames old.end.phase ≡ true → CompletesFrame old piece fed frame
+      → after.frames ≡ counted before.frames 1
   -- None is whole yet.
   pub waits : fed.outcome ≡ Unfinished → after.frames ≡ before.frames
   -- The octets are those of the protocol header, or an octet differs from it.
-  pub greets : awaits_opening role old.end.phase ≡ true → fed.outcome ≡ Finished (Some Quiet) → after.frames ≡ before.frames
-  pub differs : awaits_opening role old.end.phase ≡ true → fed.outcome ≡ Found WrongProtocolHeader → after.frames ≡ before.frames
+  pub greets :
+      awaits_opening role old.end.phase ≡ true → fed.outcome ≡ Finished (Some Quiet) → after.frames ≡ before.frames
+  pub differs :
+      awaits_opening role old.end.phase ≡ true → fed.outcome ≡ Found WrongProtocolHeader → after.frames ≡ before.frames
   -- The octets that are no whole frame show a fault.
-  pub tells : (kind : FrameFaultKind) → takes_frames old.end.phase ≡ true → ShowsFault old piece fed kind → after.frames ≡ before.frames
+  pub tells :
+      (kind : FrameFaultKind) → takes_frames old.end.phase ≡ true → ShowsFault old piece fed kind
+      → after.frames ≡ before.frames
 
 -- so many octets of the output were written
 abbrev pub counts_octets : (octets : ℕ) → Counters → Counters

@@ -14,12 +14,18 @@ use Rattle.amqp_core.specs.Connection.View.{connection_end}
 use Rattle.amqp_core.specs.Config.Settings.{config_view, role_for}
 use Rattle.amqp_core.specs.declared.endpoint.Endpoint.{Endpoint}
 
--- so many octets of the protocol header were heard, and these octets are pending in the splitter: of one of the two there are none
+-- so many octets of the protocol header were heard, and these octets are pending in the splitter: of one of the two
+-- there are none
 abbrev pub unfinished_of : (heard : ℕ) (pending : List ℕ) → List ℕ
 unfinished_of heard pending = take heard PROTOCOL_HEADER ++ pending
 
 abbrev pub endpoint_view : Endpoint → endpoint.Endpoint
-endpoint_view end = record { end = connection_end end.connection; unfinished = unfinished_of end.heard end.splitter.pending; output = end.outbox.output }
+endpoint_view end =
+    record {
+      end = connection_end end.connection;
+      unfinished = unfinished_of end.heard end.splitter.pending;
+      output = end.outbox.output;
+    }
 
 -- the role that an end plays
 abbrev pub role_at : Endpoint → Role

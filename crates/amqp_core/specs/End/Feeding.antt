@@ -4,8 +4,8 @@ use Rattle.amqp_model.specs.Stream.Endpoint as model
 use Rattle.amqp_model.specs.Stream.Endpoint.{Outcome, Feeding}
 use Rattle.amqp_model.specs.End.Events as events
 use Rattle.amqp_model.specs.End.Machine.{as_failed}
-use Rattle.amqp_channel.specs.EventView.{event_there}
-use Rattle.amqp_core.specs.Faults.Answering.{Tells, Reports, ran_out}
+use Rattle.amqp_channel.specs.Events.EventView.{event_there}
+use Rattle.amqp_core.specs.Faults.Answering.{AnswersEvent, Reports, ran_out}
 use Rattle.amqp_core.specs.Connection.Outcomes.{SameEnd}
 use Rattle.amqp_core.specs.declared.taken.Taken.{Taken}
 use Rattle.amqp_core.specs.declared.faults.CoreFault.{CoreFault}
@@ -20,11 +20,11 @@ seen (Ok taken) = Ok (record { octets = taken.octets; event = event_there taken.
 seen (Err fault) = Err fault
 
 abbrev pub AnswersPiece : Result Seen CoreFault → Outcome → Type 0
-AnswersPiece (Ok taken) outcome = Tells taken.event outcome
+AnswersPiece (Ok taken) outcome = AnswersEvent taken.event outcome
 AnswersPiece (Err fault) outcome = Reports fault outcome
 
 -- so many octets were taken, where that is answered
-abbrev pub CountsTaken : Result Seen CoreFault → ℕ → Type 0
+abbrev CountsTaken : Result Seen CoreFault → ℕ → Type 0
 CountsTaken (Ok taken) count = taken.octets ≡ count
 CountsTaken (Err fault) count = Unit {0}
 
@@ -39,7 +39,8 @@ abbrev pub ran_out_of : model.Endpoint → model.Endpoint
 ran_out_of old = record { end = as_failed old.end; unfinished = []; output = old.output }
 
 -- The answer, the octets taken and what is left are those of the definitions. Out of memory, nothing was done.
-pub record IsFed (result : Result Seen CoreFault) (old : model.Endpoint) (fed : Feeding) (new : model.Endpoint) : Type 0 where
+pub record IsFed (result : Result Seen CoreFault) (old : model.Endpoint) (fed : Feeding)
+    (new : model.Endpoint) : Type 0 where
   pub answer : AnswersPiece result fed.outcome
   pub taken : CountsTaken result fed.taken
   pub left : SameEndpoint (cond (ran_out result) (ran_out_of old) fed.endpoint) new

@@ -16,7 +16,9 @@ pub record IsKept (end : Endpoint) : Type 0 where
   pub staged : length end.outbox.staged ≡ 0
   pub fields : FieldsFit (role_at end) (connection_end end.connection) end.heard end.splitter
   -- the pending octets are those of one frame that is begun
-  pub begun : reads_frames (role_at end) (connection_end end.connection).phase ≡ true → AreBegun (frame_limit (connection_end end.connection).agreed) end.splitter.pending
+  pub begun :
+      reads_frames (role_at end) (connection_end end.connection).phase ≡ true
+      → AreBegun (frame_limit (connection_end end.connection).agreed) end.splitter.pending
   pub bounded : IsBounded (role_at end) (config_view end.connection.settings) (connection_end end.connection)
 
 -- what was agreed fits its limits in one way only

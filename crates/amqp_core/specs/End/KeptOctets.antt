@@ -5,7 +5,7 @@ use Rattle.amqp_model.specs.End.Channels as model
 use Rattle.amqp_model.specs.History.Negotiation.{frame_limit}
 use Rattle.amqp_model.specs.Laws.AmountLaws.{most_contents}
 use Rattle.amqp_model.specs.Stream.Endpoint as endpoint
-use Rattle.amqp_channel.specs.ChannelsView.{channels_gathered}
+use Rattle.amqp_channel.specs.Channels.ChannelsView.{channels_gathered}
 use Rattle.amqp_core.specs.End.View as ends
 use Rattle.amqp_core.specs.End.EndpointView.{endpoint_view}
 use Rattle.amqp_core.specs.End.Queries.{OfEachHistory}
@@ -17,14 +17,23 @@ use Rattle.amqp_core.specs.declared.roles.Role.{Ghosts}
 use Rattle.amqp_core.specs.declared.stream.StreamEnd.{StreamEnd}
 
 -- the connection, of whose contents only what is gathered counts
-abbrev pub gathered_end : Connection → model.End
+abbrev gathered_end : Connection → model.End
 gathered_end connection =
-    record { phase = phase_at connection.stage; agreed = agreed_at connection.stage; channels = channels_gathered connection.channels }
+    record {
+      phase = phase_at connection.stage;
+      agreed = agreed_at connection.stage;
+      channels = channels_gathered connection.channels;
+    }
 
--- an endpoint that lends keeps no octet of a content that it takes: what it keeps is the frame that isn't whole, and what it
--- gathered of a content before it turned, up to that content's next frame
+-- an endpoint that lends keeps no octet of a content that it takes: what it keeps is the frame that isn't whole, and
+-- what it gathered of a content before it turned, up to that content's next frame
 abbrev pub kept_by : Endpoint → endpoint.Endpoint
-kept_by end = record { end = gathered_end end.connection; unfinished = (endpoint_view end).unfinished; output = (endpoint_view end).output }
+kept_by end =
+    record {
+      end = gathered_end end.connection;
+      unfinished = (endpoint_view end).unfinished;
+      output = (endpoint_view end).output;
+    }
 
 abbrev pub KeepsLent : {R H : Type 0} {G : Ghosts R H} → StreamEnd R H G → (count : ℕ) → Type 0
 KeepsLent end count = KeepsOctets (kept_by end.inner) count
@@ -33,4 +42,5 @@ KeepsLent end count = KeepsOctets (kept_by end.inner) count
 abbrev pub KeptIsWithin : {R H : Type 0} {G : Ghosts R H} → End R H G → (count : ℕ) → Type 0
 KeptIsWithin end count =
     OfEachHistory end (λ history fed.
-    count ≤ most_contents (ends.config_at end) (ends.endpoint_of end).end + frame_limit (ends.endpoint_of end).end.agreed)
+    count ≤ most_contents (ends.config_at end) (ends.endpoint_of end).end
+    + frame_limit (ends.endpoint_of end).end.agreed)

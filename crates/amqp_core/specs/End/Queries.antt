@@ -8,7 +8,7 @@ use Rattle.amqp_model.specs.History.States.{State}
 use Rattle.amqp_core.specs.End.Counted.{AgreedIs, DueIs, GatheredIs, HeartbeatIs, PendingIs, PhaseIs, StateIs}
 use Rattle.amqp_core.specs.End.View.{config_at, endpoint_of, role_played}
 use Rattle.amqp_core.specs.End.OfHistory.{VerdictsAreOf}
-use Rattle.amqp_core.specs.End.OutputOrder.{OutputInOrder, WroteGoesOn}
+use Rattle.amqp_core.specs.End.OutputOrder.{OutputInOrder}
 use Rattle.amqp_core.specs.declared.end.End.{End}
 use Rattle.amqp_core.specs.declared.roles.Role.{Ghosts}
 use Rattle.amqp_core.specs.declared.stage.Phase.{Phase}
@@ -55,7 +55,3 @@ VerdictsOfHistory end =
 -- the frames stand in its output, and leave, in order
 abbrev pub OutputIsInOrder : {R H : Type 0} {G : Ghosts R H} → End R H G → Type 0
 OutputIsInOrder end = OutputInOrder (role_played end) (config_at end) (endpoint_of end).output
-
--- so many octets of its output were written
-abbrev pub WritesOn : {R H : Type 0} {G : Ghosts R H} → (old : End R H G) → (octets : ℕ) → (new : End R H G) → Type 0
-WritesOn old octets new = WroteGoesOn (role_played old) (config_at old) octets (endpoint_of old) (endpoint_of new)

@@ -9,16 +9,16 @@ use Rattle.amqp_model.specs.History.Negotiation.{Config}
 use Rattle.amqp_model.specs.Wire.Notes.{Role}
 use Rattle.amqp_model.specs.Output.Outputs.{Output}
 use Rattle.amqp_outbox.specs.OutboxView.{Outgoing, only}
-use Rattle.amqp_channel.specs.Closes.{code_view}
+use Rattle.amqp_channel.specs.Events.Closes.{code_view}
 use Rattle.amqp_core.specs.Connection.Outcomes.{SameEnd}
 use Rattle.amqp_core.specs.declared.faults.CoreFault.{CoreFault}
 use Rattle.amqp_core.specs.declared.faults.CoreFault.TheVariants as core
 
 -- an event or none comes of something that is whole, and none of octets that are not whole yet
-abbrev pub Tells : Option events.Event → Outcome → Type 0
-Tells event Unfinished = event ≡ None
-Tells event (Finished told) = told ≡ event
-Tells event (Found fault) = ⊥
+abbrev pub AnswersEvent : Option events.Event → Outcome → Type 0
+AnswersEvent event Unfinished = event ≡ None
+AnswersEvent event (Finished told) = told ≡ event
+AnswersEvent event (Found fault) = ⊥
 
 -- A fault is the one that is found; another protocol header is one to which there is no answer. Out of memory is no
 -- matter of the definitions.
@@ -31,11 +31,12 @@ Reports core.Closed outcome = outcome ≡ Found events.AlreadyClosed
 
 -- what is answered to a frame
 abbrev pub AnswersFrame : Result (Option events.Event) CoreFault → Outcome → Type 0
-AnswersFrame (Ok event) outcome = Tells event outcome
+AnswersFrame (Ok event) outcome = AnswersEvent event outcome
 AnswersFrame (Err fault) outcome = Reports fault outcome
 
 -- the answer to a frame that tells this event
-abbrev pub answer_with : {A : Type 0} → Result A CoreFault → Option events.Event → Result (Option events.Event) CoreFault
+abbrev pub answer_with : {A : Type 0} → Result A CoreFault → Option events.Event
+    → Result (Option events.Event) CoreFault
 answer_with (Ok done) event = Ok event
 answer_with (Err fault) event = Err fault
 
@@ -58,4 +59,5 @@ PutsAs result old next new = new ≡ only (cond (ran_out result) old next)
 
 -- an end that has found this fault in octets: what it puts is put, and it has failed
 abbrev pub stopped : (role : Role) → Config role → End → FrameFaultKind → End
-stopped role config end kind = failed_by (events.Faults (fault_told kind)) (end_after_owed role config (owed_at_fault config end kind) end)
+stopped role config end kind =
+    failed_by (events.Faults (fault_told kind)) (end_after_owed role config (owed_at_fault config end kind) end)

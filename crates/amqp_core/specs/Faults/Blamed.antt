@@ -1,6 +1,7 @@
 -- What was wrong with the octets with which an end found fault: where the frame begins, what it is, and the code of the
 -- close that is put. AMQP 0-9-1 specification, sections 1.2, "Reply Codes", and 4.2.3, "General Frame Format".
-use Rattle.std.specs.Prelude.{◌≡◌, ◌+◌, ◌-◌, ◌^◌, length, min, true, false, ℕ, List, Option, Some, None, Result, Ok, Err}
+use Rattle.std.specs.Prelude.{◌≡◌, ◌+◌, ◌-◌, ◌^◌, length, min, true, false, ℕ, List, Option, Some, None, Result, Ok}
+use Rattle.std.specs.Prelude.{Err}
 use Rattle.amqp_frame.specs.declared.faults.FrameFaultKind.{FrameFaultKind}
 use Rattle.amqp_frame.specs.declared.faults.FrameFaultKind.TheVariants.{TooLarge}
 use Rattle.amqp_frame.specs.declared.frames.FrameKind.{FrameKind}
@@ -15,7 +16,7 @@ use Rattle.amqp_model.specs.Laws.OctetLaws.{CompletesFrame, ShowsFault}
 use Rattle.amqp_model.specs.Stream.Endpoint.{Endpoint, Feeding, awaits_opening}
 use Rattle.amqp_model.specs.Wire.Frame.{Frame}
 use Rattle.amqp_model.specs.Wire.Notes.{Role}
-use Rattle.amqp_channel.specs.Closes.{code_view}
+use Rattle.amqp_channel.specs.Events.Closes.{code_view}
 use Rattle.amqp_channel.specs.declared.codes.CloseCode.{CloseCode}
 use Rattle.amqp_core.specs.Faults.Answering.{ran_out}
 use Rattle.amqp_core.specs.declared.blame.Blame as declared
@@ -68,9 +69,15 @@ rule_code rules.ContentSize = Some closes.ContentTooLarge
 
 abbrev pub blame_view : declared.Blame → Blamed
 blame_view blame =
-    record { octet = blame.octet; channel = blame.channel; frame = blame.frame; method = blame.method; code = rule_code blame.rule }
+    record {
+      octet = blame.octet;
+      channel = blame.channel;
+      frame = blame.frame;
+      method = blame.method;
+      code = rule_code blame.rule;
+    }
 
-abbrev pub blame_there : Option declared.Blame → Option Blamed
+abbrev blame_there : Option declared.Blame → Option Blamed
 blame_there (Some blame) = Some (blame_view blame)
 blame_there None = None
 
@@ -95,7 +102,13 @@ method_named kind payload = None
 -- a whole frame that begins there
 abbrev pub frame_blamed : (octet : ℕ) → Frame → Option closes.CloseCode → Blamed
 frame_blamed octet frame code =
-    record { octet = octet; channel = Some frame.channel; frame = Some frame.kind; method = method_named frame.kind frame.payload; code = code }
+    record {
+      octet = octet;
+      channel = Some frame.channel;
+      frame = Some frame.kind;
+      method = method_named frame.kind frame.payload;
+      code = code;
+    }
 
 -- octets from there on that are no frame
 abbrev pub octets_blamed : (octet : ℕ) → Option closes.CloseCode → Blamed
@@ -127,7 +140,8 @@ code_by (Some fault) = Some (code_of fault)
 code_by None = None
 
 -- this is blamed where fault is found, and else what was
-abbrev pub blamed_if : Option (Option closes.CloseCode) → (Option closes.CloseCode → Blamed) → Option Blamed → Option Blamed
+abbrev pub blamed_if : Option (Option closes.CloseCode) → (Option closes.CloseCode → Blamed) → Option Blamed
+    → Option Blamed
 blamed_if (Some code) blamed before = Some (blamed code)
 blamed_if None blamed before = before
 
@@ -142,7 +156,10 @@ counted before more = min (before + more) (2 ^ 64 - 1)
 -- a frame was taken, and fault is found with this code, if it is
 abbrev pub blames_frame : Option (Option closes.CloseCode) → Frame → Tally → Tally
 blames_frame code frame before =
-    record { taken = before.taken; blame = blamed_if code (frame_blamed (begins_at before.taken frame) frame) before.blame }
+    record {
+      taken = before.taken;
+      blame = blamed_if code (frame_blamed (begins_at before.taken frame) frame) before.blame;
+    }
 
 -- so many octets are taken that are no frame with so many before, and fault is found with this code, if it is
 abbrev pub blames_octets : Option (Option closes.CloseCode) → (pending octets : ℕ) → Tally → Tally
@@ -152,7 +169,8 @@ blames_octets code pending octets before = record {
 }
 
 -- What becomes of it by a piece that is fed.
-pub record Blames {A : Type 0} (role : Role) (result : Result A CoreFault) (old : Endpoint) (piece : List ℕ) (fed : Feeding)
+pub record Blames {A : Type 0} (role : Role) (result : Result A CoreFault) (old : Endpoint) (piece : List ℕ)
+    (fed : Feeding)
     (before after : Tally) : Type 0 where
   -- All octets that are taken count, also those that show a fault.
   pub taken : takes_octets old.end.phase ≡ true → ran_out result ≡ false → after.taken ≡ counted before.taken fed.taken

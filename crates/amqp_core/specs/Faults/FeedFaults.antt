@@ -12,7 +12,8 @@ FailsAfter core.Closed phase = Unit {0}
 FailsAfter fault phase = phase ≡ channels.Failed
 
 -- this is answered, no octet is taken, and the end stays as it is
-pub record IsRefused {A : Type 0} (fault : CoreFault) (result : Result A CoreFault) (old new : Endpoint) : Type 0 where
+pub record TakesNothing {A : Type 0} (fault : CoreFault) (result : Result A CoreFault)
+    (old new : Endpoint) : Type 0 where
   pub answer : result ≡ Err fault
   pub same : SameEndpoint old new
 
@@ -20,5 +21,5 @@ pub record FeedFaults {A : Type 0} (result : Result A CoreFault) (old new : Endp
   -- after a fault the end has failed, unless it is closed
   pub fails : IfErr result (λ fault. FailsAfter fault new.end.phase)
   -- an end that is closed, or has failed, takes nothing
-  pub closed : old.end.phase ≡ channels.Closed → IsRefused core.Closed result old new
-  pub failed : old.end.phase ≡ channels.Failed → IsRefused core.Failed result old new
+  pub closed : old.end.phase ≡ channels.Closed → TakesNothing core.Closed result old new
+  pub failed : old.end.phase ≡ channels.Failed → TakesNothing core.Failed result old new

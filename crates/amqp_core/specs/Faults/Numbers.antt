@@ -2,9 +2,7 @@
 use Rattle.std.specs.Prelude.{ℕ, Option, Some, None}
 use Rattle.amqp_model.specs.End.Asks as asks
 use Rattle.amqp_model.specs.End.Asks.{Refusal, refusal_number}
-use Rattle.amqp_model.specs.End.Events as events
 use Rattle.amqp_model.specs.End.Fitting as fitting
-use Rattle.amqp_channel.specs.Closes.{code_view}
 use Rattle.amqp_core.specs.declared.faults.CoreFault.{CoreFault}
 use Rattle.amqp_core.specs.declared.faults.CoreFault.TheVariants as core
 use Rattle.amqp_core.specs.declared.faults.ConfigFault.{ConfigFault}
@@ -53,11 +51,3 @@ number_by None = 9
 
 abbrev pub ask_fault_number : AskFault → ℕ
 ask_fault_number fault = number_by (refusal_view fault)
-
--- the faults that the model has; being out of memory is none
-abbrev pub fault_view : CoreFault → Option events.Fault
-fault_view (core.Peer code) = Some (events.Peer (code_view code))
-fault_view core.Fatal = Some events.Fatal
-fault_view core.OutOfMemory = None
-fault_view core.Failed = Some events.AlreadyFailed
-fault_view core.Closed = Some events.AlreadyClosed

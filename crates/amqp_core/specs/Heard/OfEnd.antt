@@ -38,8 +38,10 @@ pub record HearsOn (role : Role) (config : Config role) (old : Endpoint) (fed wr
 
 -- so of each history that the end stood for and of which it kept what was heard
 abbrev pub HearingGoesOn :
-    (role : Role) → Config role → (old : Endpoint) → (piece : List ℕ) → (new : Endpoint) → (before after : Heard) → Type 0
+    (role : Role) → Config role → (old : Endpoint) → (piece : List ℕ) → (new : Endpoint) → (before after : Heard)
+    → Type 0
 HearingGoesOn role config old piece new before after =
     (history : History) (fed written : List ℕ)
     → EndpointStandsFor role config old history fed written → KeepsHeard role config before history
-    → ∥ HearsOn role config old fed written piece (record (after_feed role config old piece) { endpoint = new }) after ∥₁
+    → ∥ HearsOn role config old fed written piece
+    (record (after_feed role config old piece) { endpoint = new }) after ∥₁

@@ -27,7 +27,8 @@ pub record StreamHearsOn (role : Role) (config : Config role) (old : Endpoint) (
 
 -- so of each history that the end stood for and of which it kept what was heard
 abbrev pub StreamHearingGoesOn :
-    (role : Role) → Config role → (old : Endpoint) → (piece : List ℕ) → (new : Endpoint) → (before after : Heard) → Type 0
+    (role : Role) → Config role → (old : Endpoint) → (piece : List ℕ) → (new : Endpoint) → (before after : Heard)
+    → Type 0
 StreamHearingGoesOn role config old piece new before after =
     (history : History) (fed written : List ℕ)
     → StreamStandsFor role config old history fed written → KeepsHeard role config before history

@@ -1,5 +1,5 @@
--- What an end keeps of what the other end said, in the words of the model: the last method of each kind that it heard in
--- the handshake, and what the last close was about that it told of.
+-- What an end keeps of what the other end said, in the words of the model: the last method of each kind that it heard
+-- in the handshake, and what the last close was about that it told of.
 use Rattle.std.specs.Prelude.{◌&&◌, ◌==◌, Bool, true, false, cond, ℕ, Option, Some, None}
 use Rattle.amqp_method.specs.MethodView.{method_view}
 use Rattle.amqp_method.specs.declared.kinds.Kind.TheVariants as kinds

@@ -21,9 +21,11 @@ pub record StreamAsked {A R H : Type 0} {G : Ghosts R H} (old : StreamEnd R H G)
   pub history : OnOk result (StreamAskGoesOn (role_played old) (config_at old) ask (endpoint_of old) (endpoint_of new))
   -- What comes of the ask is what each of these histories gives, memory aside.
   pub of_history : StreamAskIsOfHistory (role_played old) (config_at old) ask (endpoint_of old)
-  -- Its settings stay, and so does what it counts and what it heard.
+  -- Its settings stay.
   pub settings : settings_at new ≡ settings_at old
+  -- What it counts stays.
   pub counters : counters_of new ≡ counters_of old
+  -- What it heard stays.
   pub heard : heard_in new ≡ heard_in old
 
 -- The channel that is answered is the one that an open takes.

@@ -24,7 +24,9 @@ pub record StreamControlled {A R H : Type 0} {G : Ghosts R H} (old : StreamEnd R
       OnOk result (StreamControlGoesOn (role_played old) (config_at old) control (endpoint_of old) (endpoint_of new))
   -- What comes of it is what each of these histories gives, memory aside.
   pub of_history : StreamControlIsOfHistory (role_played old) (config_at old) control (endpoint_of old)
-  -- Its settings stay, and so does what it counts and what it heard.
+  -- Its settings stay.
   pub settings : settings_at new ≡ settings_at old
+  -- What it counts stays.
   pub counters : counters_of new ≡ counters_of old
+  -- What it heard stays.
   pub heard : heard_in new ≡ heard_in old

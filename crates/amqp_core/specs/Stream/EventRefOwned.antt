@@ -6,12 +6,12 @@ use Rattle.amqp_model.specs.Lent.Alike.{LentEvent, WithoutContent, Other}
 use Rattle.amqp_model.specs.Wire.Methods.{Method, carries_content}
 use Rattle.amqp_method.specs.MessageView.{message_view}
 use Rattle.amqp_method.specs.declared.messages.Message.{Message}
-use Rattle.amqp_channel.specs.Messages.{message_of}
-use Rattle.amqp_channel.specs.Reasons.{reason_view}
+use Rattle.amqp_channel.specs.Events.EventView.{message_of}
+use Rattle.amqp_channel.specs.Events.Closes.{reason_view}
 use Rattle.amqp_channel.specs.declared.events.Reason.{Reason}
 
 -- a method without content is told, a content's frame is not, and the others are told as they are
-abbrev pub owned_event : LentEvent → Option Event
+abbrev owned_event : LentEvent → Option Event
 owned_event (WithoutContent number method) =
     cond (carries_content method) None (Some (events.Told number (Plain method)))
 owned_event (Other event) = Some event
@@ -25,7 +25,7 @@ text_in (events.Blocked reason) = reason
 text_in event = []
 
 -- it is longer than a short string
-abbrev pub HasLongText : LentEvent → Type 0
+abbrev HasLongText : LentEvent → Type 0
 HasLongText (Other event) = 255 < length (text_in event)
 HasLongText event = ⊥
 
@@ -45,5 +45,6 @@ IsOwnedReason lent (Some reason) = reason_view reason ≡ lent
 IsOwnedReason lent None = 255 < length lent.text
 
 abbrev pub IsOwnedMessage : Method → Option Message → Type 0
-IsOwnedMessage method (Some message) = (message_of (message_view message) ≡ Plain method) × (carries_content method ≡ false)
+IsOwnedMessage method (Some message) =
+    (message_of (message_view message) ≡ Plain method) × (carries_content method ≡ false)
 IsOwnedMessage method None = carries_content method ≡ true

@@ -6,7 +6,7 @@ use Rattle.amqp_value.specs.Text.{hexadecimal, quoted}
 use Rattle.amqp_method.specs.HeaderRefView.{lent_header}
 use Rattle.amqp_method.specs.MethodRefView.{lent_call}
 use Rattle.amqp_method.specs.Texts.{text_of_header, text_of_method}
-use Rattle.amqp_channel.specs.EventTexts.{channel_text, flow_text}
+use Rattle.amqp_channel.specs.Events.EventTexts.{channel_text, flow_text}
 use Rattle.amqp_core.specs.declared.event_ref.EventRef.{EventRef}
 use Rattle.amqp_core.specs.declared.event_ref.EventRef.TheVariants as code
 use Rattle.amqp_core.specs.declared.event_ref.ReasonRef.{ReasonRef}

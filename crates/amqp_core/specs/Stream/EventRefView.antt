@@ -4,11 +4,11 @@ use Rattle.amqp_method.specs.HeaderRefView.{lent_header}
 use Rattle.amqp_method.specs.MethodRefView.{lent_call}
 use Rattle.amqp_method.specs.declared.kinds.Kind.TheVariants as kinds
 use Rattle.amqp_model.specs.End.Events as events
-use Rattle.amqp_model.specs.End.Events.{Event, reason_in}
+use Rattle.amqp_model.specs.End.Events.{reason_in}
 use Rattle.amqp_model.specs.Lent.Alike.{LentEvent, WithoutContent, Begins, Heads, Part, Other, part_lent}
 use Rattle.amqp_model.specs.Wire.Methods.{Method, octets_at, same_kind}
 use Rattle.amqp_model.specs.Wire.Readings.{Reading, Calls}
-use Rattle.amqp_channel.specs.EventView.{agreed_view}
+use Rattle.amqp_channel.specs.Events.EventView.{agreed_view}
 use Rattle.amqp_channel.specs.declared.verdict.Told.{Told}
 use Rattle.amqp_channel.specs.declared.verdict.Told.TheVariants as told
 use Rattle.amqp_core.specs.declared.event_ref.EventRef.{EventRef}
@@ -22,7 +22,7 @@ use Rattle.amqp_core.specs.declared.verdict.Notice.TheVariants as notice
 abbrev pub reason_ref_view : ReasonRef → events.Reason
 reason_ref_view reason = record { code = reason.code; text = reason.text.now }
 
-abbrev pub reason_ref_there : Option ReasonRef → Option events.Reason
+abbrev reason_ref_there : Option ReasonRef → Option events.Reason
 reason_ref_there None = None
 reason_ref_there (Some reason) = Some (reason_ref_view reason)
 

@@ -57,7 +57,8 @@ abbrev pub StreamControlGoesOn : (role : Role) → Config role → Control → (
 StreamControlGoesOn role config control old new =
     (history : History) (fed written : List ℕ)
     → StreamStandsFor role config old history fed written
-    → ∥ StreamStandsFor role config new (then_put (frames_by (verdict_at role config control old)) history) fed written ∥₁
+    → ∥ StreamStandsFor role config new (then_put (frames_by (verdict_at role config control old)) history) fed
+    written ∥₁
 
 -- what comes of it is what each history gives
 abbrev pub StreamControlIsOfHistory : (role : Role) → Config role → Control → Endpoint → Type 0

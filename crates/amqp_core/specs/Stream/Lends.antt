@@ -1,6 +1,6 @@
 -- What a feed of an end does whose events lend. Read before: what a piece comes to (`Lending`), and what such an end
 -- stands for (`History`).
-use Rattle.std.specs.Prelude.{◌≡◌, true, false, ℕ, List, Result, IsOk}
+use Rattle.std.specs.Prelude.{◌≡◌, ◌≢◌, ◌<◌, ◌≤◌, true, false, ℕ, List, [], length, Result, IsOk, IfOk}
 use Rattle.amqp_model.specs.End.EndVerdict.{takes_octets}
 use Rattle.amqp_model.specs.History.Histories.{History}
 use Rattle.amqp_model.specs.Laws.StreamingLaws.{StreamStandsFor}
@@ -20,11 +20,11 @@ use Rattle.amqp_core.specs.declared.roles.Role.{Ghosts}
 use Rattle.amqp_core.specs.declared.stream.StreamEnd.{StreamEnd}
 
 -- what the definitions make of a piece that the end is fed
-abbrev pub lent_to : {R H : Type 0} {G : Ghosts R H} → StreamEnd R H G → (piece : List ℕ) → model.Feeding
+abbrev lent_to : {R H : Type 0} {G : Ghosts R H} → StreamEnd R H G → (piece : List ℕ) → model.Feeding
 lent_to end piece = after_feed (role_played end) (config_at end) (endpoint_of end) piece
 
 -- each history that the end stands for goes on with what comes of the piece
-abbrev pub StreamHistoriesGoOn : {R H : Type 0} {G : Ghosts R H} → (old : StreamEnd R H G) → (piece : List ℕ)
+abbrev StreamHistoriesGoOn : {R H : Type 0} {G : Ghosts R H} → (old : StreamEnd R H G) → (piece : List ℕ)
     → Result LentSeen CoreFault → (new : StreamEnd R H G) → Type 0
 StreamHistoriesGoOn old piece result new =
     (history : History) (fed written : List ℕ)
@@ -38,6 +38,10 @@ pub record Lends {R H : Type 0} {G : Ghosts R H} (old : StreamEnd R H G) (piece 
   -- what is left is alike; out of memory, the end has failed.
   pub lent :
       IsLent (role_played old) (config_at old) result (endpoint_of old) piece (lent_to old piece) (endpoint_of new)
+  -- No more is taken than the piece has.
+  pub within : IfOk result (λ seen. seen.octets ≤ length piece)
+  -- Of a piece that has octets at least one is taken.
+  pub progress : IfOk result (λ seen. piece ≢ [] → 0 < seen.octets)
   -- A header, a body or a heartbeat that is dropped takes no memory, where it lies whole in the piece.
   pub in_place : DropsInPlace (role_played old) (endpoint_of old) piece → IsOk result
   -- Every history that the end stood for goes on with what came of the piece.
@@ -46,6 +50,8 @@ pub record Lends {R H : Type 0} {G : Ghosts R H} (old : StreamEnd R H G) (piece 
   pub memory : ran_out result ≡ true → takes_octets (endpoint_of old).end.phase ≡ true
   -- After a fault the end has failed. One that is closed, or had failed before, takes nothing and stays as it is.
   pub faults : FeedFaults result (endpoint_of old) (endpoint_of new)
+  -- No octets count as written.
+  pub octets : (counters_of new).octets ≡ (counters_of old).octets
   -- The octets taken are counted, and a fault of theirs is blamed.
   pub blames : Blames (role_played old) result (endpoint_of old) piece (lent_to old piece) (counters_of old).tally
       (counters_of new).tally

@@ -7,7 +7,6 @@ use Rattle.amqp_model.specs.Laws.StreamingLaws.{StreamStandsFor}
 use Rattle.amqp_model.specs.Wire.Methods.{MethodKind}
 use Rattle.amqp_core.specs.End.Counted.{AgreedIs, DueIs, GatheredIs, PendingIs, PhaseIs, StateIs}
 use Rattle.amqp_core.specs.End.OutputOrder.{OutputInOrder}
-use Rattle.amqp_core.specs.Stream.History.{StreamWroteGoesOn}
 use Rattle.amqp_core.specs.Stream.View.{config_at, endpoint_of, role_played}
 use Rattle.amqp_core.specs.declared.roles.Role.{Ghosts}
 use Rattle.amqp_core.specs.declared.stage.Phase.{Phase}
@@ -48,8 +47,3 @@ DueOfHistory end number request =
 -- the frames stand in its output, and leave, in order
 abbrev pub OutputIsInOrder : {R H : Type 0} {G : Ghosts R H} → StreamEnd R H G → Type 0
 OutputIsInOrder end = OutputInOrder (role_played end) (config_at end) (endpoint_of end).output
-
--- so many octets of its output were written
-abbrev pub WritesOn : {R H : Type 0} {G : Ghosts R H} → (old : StreamEnd R H G) → (octets : ℕ) →
-    (new : StreamEnd R H G) → Type 0
-WritesOn old octets new = StreamWroteGoesOn (role_played old) (config_at old) octets (endpoint_of old) (endpoint_of new)

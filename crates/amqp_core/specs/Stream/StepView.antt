@@ -34,7 +34,7 @@ came_lent None given = None
 came_lent (Some came) given = told_of came.number (read_at came.lying given) came.report
 
 -- what a step tells, with this frame in the buffer
-abbrev pub step_lent : Step → (given : Option frames.Frame) → LentSeen
+abbrev step_lent : Step → (given : Option frames.Frame) → LentSeen
 step_lent step given = record { octets = step.octets; event = came_lent step.came given }
 
 -- what is answered to a frame that says this: its event, where no fault is found

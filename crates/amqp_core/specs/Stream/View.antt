@@ -45,7 +45,7 @@ abbrev pub given_in : {R H : Type 0} {G : Ghosts R H} → StreamEnd R H G → Op
 given_in end = end.inner.splitter.given
 
 -- what is answered to a piece
-abbrev pub taken_lent : TakenRef → LentSeen
+abbrev taken_lent : TakenRef → LentSeen
 taken_lent taken = record { octets = taken.octets; event = event_ref_there taken.event }
 
 abbrev pub taken_seen : Result TakenRef CoreFault → Result LentSeen CoreFault

@@ -4,7 +4,8 @@ use Rattle.amqp_frame.specs.declared.faults.FrameFaultKind.{FrameFaultKind}
 use Rattle.amqp_model.specs.End.Channels.{End}
 use Rattle.amqp_model.specs.End.Closes.{Owed}
 use Rattle.amqp_model.specs.End.EndVerdict.{end_verdict, facts_at, takes_frames}
-use Rattle.amqp_model.specs.Stream.Endpoint.{Endpoint, Feeding, Outcome, Unfinished, Finished, Found, awaits_opening, greeting, outcome_of, owed_at_fault}
+use Rattle.amqp_model.specs.Stream.Endpoint.{Endpoint, Feeding, Outcome, Unfinished, Finished, Found, awaits_opening}
+use Rattle.amqp_model.specs.Stream.Endpoint.{greeting, outcome_of, owed_at_fault}
 use Rattle.amqp_model.specs.End.Events.{Quiet, WrongProtocolHeader}
 use Rattle.amqp_model.specs.Wire.Frame.{Frame}
 use Rattle.amqp_model.specs.End.FrameVerdict.{methods_put}
@@ -14,7 +15,7 @@ use Rattle.amqp_model.specs.Wire.Notes.{Role}
 use Rattle.amqp_model.specs.Laws.OctetLaws.{CompletesFrame, ShowsFault}
 use Rattle.amqp_model.specs.Stream.Traces.{Noted, IsTaken, noted, item_in_event}
 use Rattle.amqp_model.specs.End.Events as events
-use Rattle.amqp_channel.specs.PartsView.{parts_there}
+use Rattle.amqp_channel.specs.Events.PartsView.{parts_there}
 use Rattle.amqp_core.specs.End.Feeding.{Seen, taken_with}
 use Rattle.amqp_core.specs.Traced.Notes.{note_view}
 use Rattle.amqp_core.specs.Connection.Owed.{owed_view}
@@ -64,13 +65,21 @@ came_of_frame config end frame = record {
 }
 
 -- The account of a piece: how many octets were taken, and what they came to.
-pub record IsAccount (role : Role) (config : Config role) (old : Endpoint) (piece : List ℕ) (fed : Feeding) (octets : ℕ) (came : Came) : Type 0 where
+pub record IsAccount (role : Role) (config : Config role) (old : Endpoint) (piece : List ℕ) (fed : Feeding) (octets : ℕ)
+    (came : Came) : Type 0 where
   pub octets_are : octets ≡ fed.taken
   pub waits : fed.outcome ≡ Unfinished → came ≡ puts_alone []
-  pub greets : awaits_opening role old.end.phase ≡ true → fed.outcome ≡ Finished (Some Quiet) → came ≡ puts_alone (greeting role config)
-  pub takes : (frame : Frame) → takes_frames old.end.phase ≡ true → CompletesFrame old piece fed frame → came ≡ came_of_frame config old.end frame
-  pub tells : (kind : FrameFaultKind) → takes_frames old.end.phase ≡ true → ShowsFault old piece fed kind → came ≡ puts_alone (owed_at_fault config old.end kind)
-  pub differs : awaits_opening role old.end.phase ≡ true → fed.outcome ≡ Found WrongProtocolHeader → came ≡ puts_alone []
+  pub greets :
+      awaits_opening role old.end.phase ≡ true → fed.outcome ≡ Finished (Some Quiet)
+      → came ≡ puts_alone (greeting role config)
+  pub takes :
+      (frame : Frame) → takes_frames old.end.phase ≡ true → CompletesFrame old piece fed frame
+      → came ≡ came_of_frame config old.end frame
+  pub tells :
+      (kind : FrameFaultKind) → takes_frames old.end.phase ≡ true → ShowsFault old piece fed kind
+      → came ≡ puts_alone (owed_at_fault config old.end kind)
+  pub differs :
+      awaits_opening role old.end.phase ≡ true → fed.outcome ≡ Found WrongProtocolHeader → came ≡ puts_alone []
 
 -- what is answered to a piece that came to this
 abbrev pub taken_by : {A : Type 0} → Result A CoreFault → Account → Result Seen CoreFault

@@ -28,13 +28,17 @@ use Rattle.amqp_core.specs.declared.traced.Traced.{Traced}
 
 -- An end that has done nothing yet is kept with the empty history.
 pub record BeginsTrace {R H : Type 0} {G : Ghosts R H} (end : End R H G) (traced : Traced R H G) : Type 0 where
-  -- It is that end, set up as it is.
+  -- It is that end.
   pub endpoint : (traced_of traced).endpoint ≡ ends.endpoint_of end
+  -- It is set up as the end is.
   pub settings : settings_at traced ≡ ends.settings_at end
+  -- It has heard what the end heard.
   pub heard : heard_in traced ≡ ends.heard_in end
-  -- Its history is empty, and nothing was fed or written.
+  -- Its history is empty.
   pub trace : IsTraceOf (role_played traced) (config_at traced) (traced_of traced) []
+  -- Nothing was fed.
   pub fed : (traced_of traced).fed ≡ []
+  -- Nothing was written.
   pub written : (traced_of traced).written ≡ []
   -- What it is set up with can be written.
   pub writes : ∥ ConfigWrites (config_at traced) ∥₁
@@ -46,7 +50,7 @@ pub record TraceHearsOn (role : Role) (config : Config role) (old : Kept) (piece
   pub keeps : KeepsHeard role config heard grows.after
 
 -- so of each history that the end was a trace of and of which it kept what was heard
-abbrev pub TraceHearingGoesOn :
+abbrev TraceHearingGoesOn :
     (role : Role) → Config role → (old : Kept) → (piece : List ℕ) → (new : Kept) → (before after : Heard) → Type 0
 TraceHearingGoesOn role config old piece new before after =
     (history : History) → IsTraceOf role config old history → KeepsHeard role config before history
@@ -57,16 +61,21 @@ abbrev pub fed_to : {R H : Type 0} {G : Ghosts R H} → Traced R H G → (piece 
 fed_to traced piece = after_feed (role_played traced) (config_at traced) (traced_of traced).endpoint piece
 
 -- each history that it is kept with goes on with what comes of the piece
-abbrev pub TracesGoOn : {R H : Type 0} {G : Ghosts R H} → (old : Traced R H G) → (piece : List ℕ) → Result Taken CoreFault → (new : Traced R H G) → Type 0
+abbrev TracesGoOn : {R H : Type 0} {G : Ghosts R H} → (old : Traced R H G) → (piece : List ℕ)
+    → Result Taken CoreFault → (new : Traced R H G) → Type 0
 TracesGoOn old piece result new =
     (history : History) → IsTraceOf (role_played old) (config_at old) (traced_of old) history
-    → ∥ TraceGoesOn (role_played old) (config_at old) (ran_out result) (traced_of old).endpoint piece (fed_to old piece) history (traced_of new) ∥₁
+    → ∥ TraceGoesOn (role_played old) (config_at old) (ran_out result) (traced_of old).endpoint piece
+    (fed_to old piece) history (traced_of new) ∥₁
 
-pub record FeedsTrace {R H : Type 0} {G : Ghosts R H} (old : Traced R H G) (piece : List ℕ) (result : Result Taken CoreFault) (new : Traced R H G) : Type 0 where
-  -- The answer, the octets taken and the end that is left are those of the definitions; out of memory, the end has failed.
+pub record FeedsTrace {R H : Type 0} {G : Ghosts R H} (old : Traced R H G) (piece : List ℕ)
+    (result : Result Taken CoreFault) (new : Traced R H G) : Type 0 where
+  -- The answer, the octets taken and the end that is left are those of the definitions; out of memory, the end has
+  -- failed.
   pub fed : IsFed (seen result) (traced_of old).endpoint (fed_to old piece) (traced_of new).endpoint
-  -- No more is taken than the piece has, and of one that isn't empty at least an octet.
+  -- No more is taken than the piece has.
   pub within : IfOk result (λ taken. taken.octets ≤ length piece)
+  -- Of a piece that has octets at least one is taken.
   pub progress : IfOk result (λ taken. piece ≢ [] → 0 < taken.octets)
   -- The octets taken are kept; out of memory, all lists stay as they are.
   pub octets : FedGrows (ran_out result) piece (fed_to old piece) (traced_of old) (traced_of new)
@@ -85,19 +94,27 @@ pub record FeedsTrace {R H : Type 0} {G : Ghosts R H} (old : Traced R H G) (piec
   -- Of each history of which it kept what was heard in the handshake, it does so still.
   pub hearing :
       takes_octets (traced_of old).endpoint.end.phase ≡ true → ran_out result ≡ false
-      → TraceHearingGoesOn (role_played old) (config_at old) (traced_of old) piece (traced_of new) (heard_in old).methods
+      → TraceHearingGoesOn (role_played old) (config_at old) (traced_of old) piece (traced_of new)
+      (heard_in old).methods
       (heard_in new).methods
   -- Its settings stay.
   pub settings : settings_at new ≡ settings_at old
 
 -- So many octets of the output were sent: they go from the output to what was written.
-pub record WritesTrace {R H : Type 0} {G : Ghosts R H} (old : Traced R H G) (octets : ℕ) (new : Traced R H G) : Type 0 where
+pub record WritesTrace {R H : Type 0} {G : Ghosts R H} (old : Traced R H G) (octets : ℕ)
+    (new : Traced R H G) : Type 0 where
+  -- They leave the output, and nothing else changes of what the end keeps.
   pub endpoint : (traced_of new).endpoint ≡ after_wrote octets (traced_of old).endpoint
-  pub written : (traced_of new).written ≡ (traced_of old).written ++ take octets (output_octets (traced_of old).endpoint.output)
-  -- Each history that it is kept with stays, and so do the octets fed, its settings and what it heard.
+  -- They stand after those written before.
+  pub written :
+      (traced_of new).written ≡ (traced_of old).written ++ take octets (output_octets (traced_of old).endpoint.output)
+  -- Each history that it is kept with stays.
   pub history :
       (history : History) → IsTraceOf (role_played old) (config_at old) (traced_of old) history
       → IsTraceOf (role_played new) (config_at new) (traced_of new) history
+  -- The octets fed stay.
   pub fed : (traced_of new).fed ≡ (traced_of old).fed
+  -- Its settings stay.
   pub settings : settings_at new ≡ settings_at old
+  -- What it heard stays.
   pub heard : heard_in new ≡ heard_in old

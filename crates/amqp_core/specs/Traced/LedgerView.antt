@@ -15,8 +15,8 @@ told_in ledger = map telling_view ledger.told.items
 abbrev pub said_in : Ledger → List Telling
 said_in ledger = map telling_view ledger.said.items
 
--- room for so many notes more, of three channels at most, for an item that is told and one that is said, and for so many octets
--- that are fed
+-- room for so many notes more, of three channels at most, for an item that is told and one that is said, and for so
+-- many octets that are fed
 pub record HasRoom (ledger : Ledger) (notes octets : ℕ) : Type 0 where
   pub notes_fit : vec_len ledger.notes + notes ≤ vec_capacity ledger.notes
   pub counts_fit : 3 ≤ spare ledger.lives.counts

@@ -5,7 +5,7 @@ use Rattle.amqp_model.specs.Wire.Items as items
 use Rattle.amqp_model.specs.Pair.Sent as sent
 use Rattle.amqp_model.specs.Stream.Traces as traces
 use Rattle.amqp_model.specs.Stream.Traces.{Noted, item_of_message}
-use Rattle.amqp_channel.specs.Messages.{message_of}
+use Rattle.amqp_channel.specs.Events.EventView.{message_of}
 use Rattle.amqp_core.specs.declared.notes.Direction.{Direction}
 use Rattle.amqp_core.specs.declared.notes.Direction.TheVariants as directions
 use Rattle.amqp_core.specs.declared.notes.Note.{Note}
@@ -24,16 +24,18 @@ word_view words.Flow = traces.Flow
 word_view words.FlowOk = traces.FlowOk
 word_view words.Other = traces.Other
 
-abbrev pub direction_view : Direction → traces.Direction
+abbrev direction_view : Direction → traces.Direction
 direction_view directions.Put = traces.IsPut
 direction_view directions.Took = traces.IsTaken
 
 abbrev pub note_view : Note → Noted
-note_view note = record { channel = note.channel; direction = direction_view note.direction; word = word_view note.word }
+note_view note =
+    record { channel = note.channel; direction = direction_view note.direction; word = word_view note.word }
 
 -- the note of a frame that is this to a channel above 0
 abbrev pub noted_as : traces.Direction → (channel : ℕ) → traces.Word → Noted
-noted_as direction channel word = record { channel = channel; direction = direction; word = cond (channel == 0) traces.Other word }
+noted_as direction channel word =
+    record { channel = channel; direction = direction; word = cond (channel == 0) traces.Other word }
 
 abbrev pub item_view : Item → items.Item
 item_view (code.Message message) = item_of_message (message_of (message_view message))

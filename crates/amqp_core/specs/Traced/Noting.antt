@@ -6,10 +6,11 @@ use Rattle.amqp_model.specs.Wire.Methods.{sort_of}
 use Rattle.amqp_model.specs.Wire.Notes.{Role, Client, Server}
 use Rattle.amqp_model.specs.Wire.Readings.{Calls, kind_of}
 use Rattle.amqp_model.specs.Pair.Sent.{Telling}
-use Rattle.amqp_model.specs.Stream.Traces.{Close, CloseOk, FlowOk, IsPut, Noted, OpenOk, Other, Word, telling_above, telling_at, word_of}
+use Rattle.amqp_model.specs.Stream.Traces.{Close, CloseOk, FlowOk, IsPut, Noted, OpenOk, Other, Word, telling_above}
+use Rattle.amqp_model.specs.Stream.Traces.{telling_at, word_of}
 use Rattle.amqp_channel.specs.declared.verdict.Reply.{Reply}
 use Rattle.amqp_channel.specs.declared.verdict.Reply.TheVariants as reply
-use Rattle.amqp_core.specs.Traced.LifeCounts.{counted}
+use Rattle.amqp_core.specs.Traced.LifeCounts.{counted_lives}
 use Rattle.amqp_core.specs.Traced.Notes.{noted_as}
 use Rattle.amqp_core.specs.declared.owed.Owed.{Owed}
 use Rattle.amqp_core.specs.declared.owed.Owed.TheVariants as owed
@@ -30,10 +31,10 @@ said_by_owed lives other = []
 
 -- how many lives of a channel began, by the notes
 abbrev pub lives_in : Role → List Noted → (channel : ℕ) → ℕ
-lives_in role notes channel = (counted role channel notes).lives
+lives_in role notes channel = (counted_lives role channel notes).lives
 
 -- the note of a method on channel 0
-abbrev pub noted_zero : Noted
+abbrev noted_zero : Noted
 noted_zero = record { channel = 0; direction = IsPut; word = Other }
 
 abbrev pub by_role : {A : Type 0} → Role → (client server : A) → A
@@ -64,6 +65,7 @@ told_by lives None item = []
 told_by lives (Some note) item = telling_at note.channel (lives note.channel) item
 
 -- what is said by methods that are put, in the lives that their channels have then
-abbrev pub said_of : (lives : ℕ → ℕ) → List closes.Owed → List Telling
+abbrev said_of : (lives : ℕ → ℕ) → List closes.Owed → List Telling
 said_of lives [] = []
-said_of lives (owed ∷ later) = telling_above owed.channel (lives owed.channel) (item_of owed.method (sort_of owed.method)) ++ said_of lives later
+said_of lives (owed ∷ later) =
+    telling_above owed.channel (lives owed.channel) (item_of owed.method (sort_of owed.method)) ++ said_of lives later

@@ -4,7 +4,8 @@ use Rattle.amqp_model.specs.End.Channels.{Agreed}
 use Rattle.amqp_model.specs.History.Histories.{History}
 use Rattle.amqp_model.specs.Wire.Methods.{MethodKind}
 use Rattle.amqp_model.specs.History.States.{State}
-use Rattle.amqp_core.specs.End.Counted.{AgreedIs, DueIs, GatheredIs, HeartbeatIs, PendingIs, PhaseIs, StateIs, is_failed}
+use Rattle.amqp_core.specs.End.Counted.{AgreedIs, DueIs, GatheredIs, HeartbeatIs, PendingIs, PhaseIs, StateIs}
+use Rattle.amqp_core.specs.End.Counted.{is_failed}
 use Rattle.amqp_core.specs.End.OfHistory.{VerdictsAreOf}
 use Rattle.amqp_core.specs.Traced.Tracing.{IsTraceOf, IsWrittenInOrder}
 use Rattle.amqp_core.specs.Traced.View.{config_at, role_played, traced_of}
@@ -17,7 +18,7 @@ abbrev pub has_failed : {R H : Type 0} {G : Ghosts R H} → Traced R H G → Boo
 has_failed traced = is_failed (traced_of traced).endpoint.end.phase
 
 -- the end is the trace of the history
-abbrev pub IsKeptWith : {R H : Type 0} {G : Ghosts R H} → Traced R H G → History → Type 0
+abbrev IsKeptWith : {R H : Type 0} {G : Ghosts R H} → Traced R H G → History → Type 0
 IsKeptWith traced history = IsTraceOf (role_played traced) (config_at traced) (traced_of traced) history
 
 pub record OfItsHistory {R H : Type 0} {G : Ghosts R H} (traced : Traced R H G) (says : History → Type 0) : Type 0 where
@@ -71,4 +72,5 @@ VerdictsOfHistory traced =
 abbrev pub OutputOfHistory : {R H : Type 0} {G : Ghosts R H} → Traced R H G → Type 0
 OutputOfHistory traced =
     OfItsHistory traced
-    (λ history. ∥ IsWrittenInOrder (role_played traced) history (traced_of traced).written (traced_of traced).endpoint.output ∥₁)
+    (λ history. ∥ IsWrittenInOrder (role_played traced) history (traced_of traced).written
+    (traced_of traced).endpoint.output ∥₁)

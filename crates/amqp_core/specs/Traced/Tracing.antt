@@ -12,7 +12,7 @@ use Rattle.amqp_model.specs.Stream.RunningOut.{RanOut}
 use Rattle.amqp_model.specs.Pair.Sent.{Telling, told, said}
 use Rattle.amqp_model.specs.Output.Outputs.{Output}
 use Rattle.amqp_model.specs.Stream.Traces.{Noted, trace}
-use Rattle.amqp_core.specs.Faults.FaultShown.{ShowsFault}
+use Rattle.amqp_core.specs.Faults.FaultShown.{EndsInFault}
 use Rattle.amqp_core.specs.End.OutputOrder.{IsInOrder}
 
 -- An end with what was noted, told and said, the octets that it was fed, and those of its output that were written.
@@ -36,12 +36,17 @@ OpensWith role history opening = (opening ≡ opening_written role) ⊎ ((openin
 -- what it makes the end put; or it ran out of memory.
 pub data Stands (role : Role) (config : Config role) (kept : Kept) (history : History) : Type 0 where
   stands : EndpointStandsFor role config kept.endpoint history kept.fed kept.written → Stands role config kept history
-  failed : (limit : ℕ) (opening : List ℕ) → OpensWith role history opening → HasFailed role config limit opening history kept.fed kept.written kept.endpoint
-      → ShowsFault role config limit history kept.fed → Stands role config kept history
-  ran_out : (unfinished : List ℕ) → RanOut role config (with_unfinished kept.endpoint unfinished) history kept.fed kept.written → Stands role config kept history
+  failed :
+      (limit : ℕ) (opening : List ℕ) → OpensWith role history opening
+      → HasFailed role config limit opening history kept.fed kept.written kept.endpoint
+      → EndsInFault role config limit history kept.fed → Stands role config kept history
+  ran_out :
+      (unfinished : List ℕ)
+      → RanOut role config (with_unfinished kept.endpoint unfinished) history kept.fed kept.written
+      → Stands role config kept history
 
--- It is a trace of the history: its notes are those of the history's frames, its items those that the history tells and says,
--- and the end is what the history, the octets fed and those written make of it.
+-- It is a trace of the history: its notes are those of the history's frames, its items those that the history tells and
+-- says, and the end is what the history, the octets fed and those written make of it.
 pub record IsTraceOf (role : Role) (config : Config role) (kept : Kept) (history : History) : Type 0 where
   pub noted : kept.notes ≡ trace history
   pub told : kept.told ≡ told role config history
@@ -63,13 +68,15 @@ pub record SameLists (one other : Kept) : Type 0 where
   pub written : one.written ≡ other.written
 
 -- the history that follows, and of which the end is a trace then
-pub record TraceGrows (role : Role) (config : Config role) (old : Endpoint) (piece : List ℕ) (fed : Feeding) (history : History) (new : Kept) : Type 0 where
+pub record TraceGrows (role : Role) (config : Config role) (old : Endpoint) (piece : List ℕ) (fed : Feeding)
+    (history : History) (new : Kept) : Type 0 where
   pub after : History
   pub grows : Grows role config old piece fed history after
   pub trace : IsTraceOf role config new after
 
 -- After a piece: out of memory, the history that was; otherwise the one that follows.
-abbrev pub TraceGoesOn : (role : Role) → Config role → (out_of_memory : Bool) → (old : Endpoint) → (piece : List ℕ) → Feeding → History → (new : Kept) → Type 0
+abbrev pub TraceGoesOn : (role : Role) → Config role → (out_of_memory : Bool) → (old : Endpoint) → (piece : List ℕ)
+    → Feeding → History → (new : Kept) → Type 0
 TraceGoesOn role config true old piece fed history new = IsTraceOf role config new history
 TraceGoesOn role config false old piece fed history new = TraceGrows role config old piece fed history new
 
@@ -81,4 +88,11 @@ FedGrows false piece fed old new = (new.fed ≡ old.fed ++ take fed.taken piece)
 -- an end that hasn't failed stands for each history that it is the trace of
 abbrev pub StandsUnlessFailed : (role : Role) → Config role → Kept → History → Type 0
 StandsUnlessFailed role config kept history =
-    IsTraceOf role config kept history → kept.endpoint.end.phase ≢ Failed → EndpointStandsFor role config kept.endpoint history kept.fed kept.written
+    IsTraceOf role config kept history → kept.endpoint.end.phase ≢ Failed
+    → EndpointStandsFor role config kept.endpoint history kept.fed kept.written
+
+-- So it is of every end that is kept with a history.
+abbrev pub UnfailedTracesStand : Type 0
+UnfailedTracesStand =
+    (role : Role) (config : Config role) (kept : Kept) (history : History)
+    → StandsUnlessFailed role config kept history

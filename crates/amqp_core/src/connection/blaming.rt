@@ -1,6 +1,6 @@
 //! What was wrong with a frame with which fault was found: the frame, the stage and its channel are looked at again.
 ghost use Rattle.std.specs.Prelude.{◌≡◌, Some, None};
-ghost use Rattle.amqp_channel.specs.Closes.{code_view};
+ghost use Rattle.amqp_channel.specs.Events.Closes.{code_view};
 ghost use Rattle.amqp_frame.specs.Frame.{lent};
 ghost use Rattle.amqp_model.specs.End.Closes as closes;
 ghost use Rattle.amqp_core.specs.Faults.Blamed.{blame_view, blames_frame, code_of, frame_blamed, method_named, rule_code, tally_view};
@@ -21,7 +21,7 @@ fn frame_error(number: u16, reading: Reading<'_>) -> Rule
     ensures { rule_code result ≡ Some closes.FrameError }
 {
     match reading {
-        Reading::Heartbeat { .. } => {
+        Reading::Heartbeat(_) => {
             if number == 0 {
                 Rule::HeartbeatIsEmpty
             } else {
@@ -48,7 +48,7 @@ fn not_implemented(reading: Reading<'_>) -> Rule
         | Reading::Header(_)
         | Reading::MalformedHeader
         | Reading::Body(_)
-        | Reading::Heartbeat { .. } => Rule::KnownMethod,
+        | Reading::Heartbeat(_) => Rule::KnownMethod,
     }
 }
 
@@ -133,7 +133,7 @@ impl Connection {
             | Reading::Header(_)
             | Reading::MalformedHeader
             | Reading::Body(_)
-            | Reading::Heartbeat { .. } => Rule::HandshakeOrder,
+            | Reading::Heartbeat(_) => Rule::HandshakeOrder,
         }
     }
 

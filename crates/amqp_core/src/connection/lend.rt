@@ -1,7 +1,7 @@
 //! A frame that is taken by an end whose events lend: the same rules decide, and of a content under way only how far
 //! it has come is kept.
 ghost use Rattle.std.specs.Prelude.{◌≡◌, true, false, ℕ, [], map, Option, IfOk, IsOk, OnErr, OnOk};
-ghost use Rattle.amqp_channel.specs.ChannelsView.{channels_view};
+ghost use Rattle.amqp_channel.specs.Channels.ChannelsView.{channels_view};
 ghost use Rattle.amqp_channel.specs.ReadingView.{reading_view};
 ghost use Rattle.amqp_model.specs.End.Channels.{Channel, End, Running};
 ghost use Rattle.amqp_model.specs.End.EndVerdict.{takes_frames};
@@ -92,7 +92,7 @@ impl Verdict {
 
 impl Connection {
     ghost use Rattle.std.specs.Prelude.{cond};
-    ghost use Rattle.amqp_channel.specs.ChannelsView.{NoneUnderWay};
+    ghost use Rattle.amqp_channel.specs.Channels.ChannelsView.{NoneUnderWay};
     ghost use Rattle.amqp_core.specs.Connection.View.{connection_end};
     ghost use Rattle.amqp_frame.specs.Frame.{lent};
     ghost use Rattle.amqp_model.specs.End.Closes.{frame_of};
@@ -157,6 +157,9 @@ impl Connection {
 
     /// Does what the rules say of a frame of a channel: the channel is left as it leaves it, what is owed is put, and
     /// what may be asked for later is kept. Out of memory, nothing is put.
+    ///
+    /// It stands apart, so that the code before it, which each frame passes, keeps its values in registers.
+    #[inline(never)]
     fn carry_out_on_lent(
         &mut self,
         outbox: &mut Outbox,
@@ -225,6 +228,7 @@ impl Connection {
 
     /// Takes a frame that says this. What the end owes is put, and what the frame tells is answered. Out of memory,
     /// the end fails, and nothing is put.
+    #[inline(always)]
     pub(crate) fn receive_lent(
         &mut self,
         outbox: &mut Outbox,

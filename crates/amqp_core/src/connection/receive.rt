@@ -11,12 +11,12 @@ ghost use Rattle.amqp_model.specs.Wire.Contents as contents;
 ghost use Rattle.amqp_model.specs.End.EndVerdict.{takes_frames};
 ghost use Rattle.amqp_model.specs.Wire.Notes.{Role};
 ghost use Rattle.amqp_model.specs.Wire.Readings as readings;
-ghost use Rattle.amqp_channel.specs.ChannelsView.{channels_view};
-ghost use Rattle.amqp_model.specs.Wire.Readings.{Beat, Calls};
-ghost use Rattle.amqp_channel.specs.ContentView.{content_there};
-ghost use Rattle.amqp_channel.specs.PartsView.{parts_there};
+ghost use Rattle.amqp_channel.specs.Channels.ChannelsView.{channels_view};
+ghost use Rattle.amqp_model.specs.Wire.Readings.{Beat, Calls, is_empty};
+ghost use Rattle.amqp_channel.specs.Contents.ContentView.{content_there};
+ghost use Rattle.amqp_channel.specs.Events.PartsView.{parts_there};
 ghost use Rattle.amqp_channel.specs.ReadingView.{reading_view};
-ghost use Rattle.amqp_channel.specs.VerdictView.{verdict_view as channel_verdict, Drops};
+ghost use Rattle.amqp_channel.specs.Verdict.VerdictView.{verdict_view as channel_verdict, Drops};
 ghost use Rattle.amqp_channel.specs.declared.channels.Channels.{Channels};
 ghost use Rattle.amqp_model.specs.End.Events as events;
 ghost use Rattle.amqp_core.specs.Faults.Answering.{answer_with, ran_out, AnswersFrame};
@@ -122,7 +122,7 @@ fn judge_leaving(agreed: Option<Agreed>, number: u16, reading: Reading<'_>) -> V
         Reading::Header(_) => drops(Stage::Closing(agreed)),
         Reading::MalformedHeader => drops(Stage::Closing(agreed)),
         Reading::Body(_) => drops(Stage::Closing(agreed)),
-        Reading::Heartbeat { .. } => drops(Stage::Closing(agreed)),
+        Reading::Heartbeat(_) => drops(Stage::Closing(agreed)),
     }
 }
 
@@ -331,15 +331,15 @@ fn judge_step(settings: &Settings, stage: Stage, method: MethodRef<'_>) -> Verdi
 
 /// A heartbeat, which is to be empty and to stand on channel 0.
 #[tactic(auto, using(crate::proofs::VerdictLemmas::beat_rules))]
-fn judge_beat(stage: Stage, number: u16, empty: bool) -> Verdict
+fn judge_beat(stage: Stage, number: u16, octets: &[u8]) -> Verdict
     requires stays { leaves (phase_at stage) ≡ false }
     requires going { takes_frames (phase_at stage) ≡ true }
     ensures rules { (settings : Settings) (channels : Channels)
-        → FrameRules settings (end_at stage channels) number (Beat empty) (OnConnection result) }
-    ensures light { (channel : Channel) → DropsReading (phase_at stage) channel number (Beat empty)
+        → FrameRules settings (end_at stage channels) number (Beat (is_empty octets.now)) (OnConnection result) }
+    ensures light { (channel : Channel) → DropsReading (phase_at stage) channel number (Beat (is_empty octets.now))
         → IsLight channel (OnConnection result) }
 {
-    if number == 0 && empty {
+    if number == 0 && octets.is_empty() {
         return Verdict::Proceeds {
             notice: Notice::Quiet,
             stage,
@@ -373,7 +373,7 @@ fn judge_handshake(settings: &Settings, stage: Stage, number: u16, reading: Read
         Reading::Header(_) => closes_with(CloseCode::CommandInvalid),
         Reading::MalformedHeader => closes_with(CloseCode::CommandInvalid),
         Reading::Body(_) => closes_with(CloseCode::CommandInvalid),
-        Reading::Heartbeat { empty } => judge_beat(stage, number, empty),
+        Reading::Heartbeat(octets) => judge_beat(stage, number, octets),
     }
 }
 
@@ -431,7 +431,7 @@ fn judge_zero(settings: &Settings, agreed: Agreed, reading: Reading<'_>) -> Verd
         Reading::Header(_) => closes_with(CloseCode::ChannelError),
         Reading::MalformedHeader => closes_with(CloseCode::ChannelError),
         Reading::Body(_) => closes_with(CloseCode::ChannelError),
-        Reading::Heartbeat { empty } => judge_beat(Stage::Running(agreed), 0, empty),
+        Reading::Heartbeat(octets) => judge_beat(Stage::Running(agreed), 0, octets),
     }
 }
 

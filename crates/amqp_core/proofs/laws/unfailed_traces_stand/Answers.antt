@@ -4,7 +4,7 @@ use Rattle.amqp_model.specs.History.Histories.{History}
 use Rattle.amqp_model.specs.History.Negotiation.{Config}
 use Rattle.amqp_model.specs.Wire.Notes.{Role}
 use Rattle.amqp_core.specs.Traced.Tracing as tracing
-use Rattle.amqp_core.specs.Traced.Tracing.{Kept, Stands, StandsUnlessFailed}
+use Rattle.amqp_core.specs.Traced.Tracing.{Kept, Stands}
 use Rattle.amqp_model.specs.End.Channels.{Failed}
 use Rattle.amqp_model.specs.Laws.OctetLaws.{EndpointStandsFor}
 use Rattle.amqp_core.proofs.laws.unfailed_traces_stand.Goals as goal

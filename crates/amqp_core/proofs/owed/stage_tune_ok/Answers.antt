@@ -1,5 +1,5 @@
 use Rattle.std.proofs.lemmas.Result.{on_ok_weaker}
-use Rattle.amqp_channel.specs.EventView.{agreed_view}
+use Rattle.amqp_channel.specs.Events.EventView.{agreed_view}
 use Rattle.amqp_core.proofs.OwedLemmas.{answers_tune-client, staged_both}
 use Rattle.amqp_core.proofs.owed.stage_tune_ok.Goals as goal
 

@@ -2,8 +2,8 @@ use Rattle.std.proofs.Common.{rules, ◌≡◌, ◌&&◌, true, false, ap, sym, 
 use Rattle.amqp_core.specs.Asks.LentLetter.{lent_letter}
 use Rattle.amqp_model.specs.End.Asks.{is_pausable, is_sendable}
 use Rattle.amqp_model.specs.End.Events.{method_of}
-use Rattle.amqp_channel.specs.LifeView.{life_on}
-use Rattle.amqp_channel.specs.Messages.{message_of}
+use Rattle.amqp_channel.specs.Channel.LifeView.{life_on}
+use Rattle.amqp_channel.specs.Events.EventView.{message_of}
 use Rattle.amqp_channel.specs.Roles.{role_of}
 use Rattle.amqp_core.specs.Asks.Refusals.{is_too_large, reply_refusal}
 use Rattle.amqp_core.proofs.RefusalLemmas.{method_is, by_turn_alone}

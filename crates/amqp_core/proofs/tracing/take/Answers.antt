@@ -6,7 +6,7 @@ use Rattle.amqp_model.specs.Stream.Endpoint.{after_feed}
 use Rattle.amqp_model.specs.End.EndVerdict.{takes_octets}
 use Rattle.amqp_model.specs.History.Histories.{entries_on}
 use Rattle.amqp_model.specs.Output.Outputs.{Output}
-use Rattle.amqp_channel.specs.PartsView.{parts_there}
+use Rattle.amqp_channel.specs.Events.PartsView.{parts_there}
 use Rattle.amqp_channel.specs.Roles.{role_of}
 use Rattle.amqp_core.specs.End.View.{config_at, endpoint_of, role_played, settings_at}
 use Rattle.amqp_core.specs.Traced.Fields.{kept_of}

@@ -6,11 +6,10 @@ use Rattle.amqp_model.specs.End.Asks.{refusal}
 use Rattle.amqp_model.specs.End.Channels.{Life}
 use Rattle.amqp_model.specs.End.Events.{Message}
 use Rattle.amqp_model.specs.Wire.Gathering.{Gathering}
-use Rattle.amqp_channel.specs.EventView.{agreed_view}
-use Rattle.amqp_channel.specs.ChannelsView.{channels_view}
-use Rattle.amqp_channel.specs.LentView.{content_on}
-use Rattle.amqp_channel.specs.LifeView.{life_on}
-use Rattle.amqp_channel.specs.Messages.{message_of}
+use Rattle.amqp_channel.specs.Events.EventView.{agreed_view, message_of}
+use Rattle.amqp_channel.specs.Channels.ChannelsView.{channels_view}
+use Rattle.amqp_channel.specs.Channel.ChannelView.{content_on}
+use Rattle.amqp_channel.specs.Channel.LifeView.{life_on}
 use Rattle.amqp_channel.specs.Roles.{role_of}
 use Rattle.amqp_channel.specs.declared.events.Agreed.{Agreed}
 use Rattle.amqp_channel.specs.declared.side.Side.{Side}

@@ -3,9 +3,9 @@ use Rattle.std.proofs.Common.{◌≡◌, List, OnOk, map, ap, ◌∙◌, subst}
 use Rattle.amqp_model.specs.End.Closes.{Owed, frame_of}
 use Rattle.amqp_model.specs.Output.Outputs.{after_puts}
 use Rattle.amqp_outbox.specs.OutboxView.{only}
-use Rattle.amqp_channel.specs.ChannelsView.{channels_view}
+use Rattle.amqp_channel.specs.Channels.ChannelsView.{channels_view}
 use Rattle.amqp_channel.specs.ReadingView.{reading_view}
-use Rattle.amqp_channel.specs.VerdictView.{whole_now}
+use Rattle.amqp_channel.specs.Verdict.VerdictView.{whole_now}
 use Rattle.amqp_core.specs.Connection.View.{connection_end}
 use Rattle.amqp_core.specs.Connection.Outcomes.{owed_by}
 use Rattle.amqp_core.specs.Connection.Owed.{owed_view}

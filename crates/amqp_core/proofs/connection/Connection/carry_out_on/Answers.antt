@@ -1,6 +1,6 @@
 use Rattle.std.proofs.Common.{ap, ◌∙◌}
 use Rattle.std.proofs.lemmas.Bool.{false≢true}
-use Rattle.amqp_channel.specs.ChannelsView.{channels_view}
+use Rattle.amqp_channel.specs.Channels.ChannelsView.{channels_view}
 use Rattle.amqp_channel.specs.ReadingView.{reading_view}
 use Rattle.amqp_core.specs.Connection.View.{connection_end}
 use Rattle.amqp_core.specs.Connection.Rulings.{OnChannel}

@@ -1,7 +1,7 @@
 use Rattle.std.proofs.Common.{refl}
 use Rattle.std.proofs.lemmas.Result.{err_from_is_err_and}
 use Rattle.amqp_model.specs.End.Asks as asks
-use Rattle.amqp_channel.specs.ChannelsView.{channels_view}
+use Rattle.amqp_channel.specs.Channels.ChannelsView.{channels_view}
 use Rattle.amqp_core.specs.Connection.View.{connection_end}
 use Rattle.amqp_core.specs.Heard.View.{cause_view}
 use Rattle.amqp_core.proofs.AskLemmas.{refused_first, refused_late, all_are_put, one_on_channel}

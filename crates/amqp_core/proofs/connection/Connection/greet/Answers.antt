@@ -1,6 +1,6 @@
 -- The end awaits start-ok.
 use Rattle.std.proofs.Common.{sym}
-use Rattle.amqp_channel.specs.ChannelsView.{channels_view}
+use Rattle.amqp_channel.specs.Channels.ChannelsView.{channels_view}
 use Rattle.amqp_core.specs.Config.Settings.{config_view, role_for}
 use Rattle.amqp_core.proofs.OpeningLemmas.{greets}
 use Rattle.amqp_core.proofs.connection.Connection.greet.Goals as goal

@@ -1,6 +1,6 @@
 use Rattle.std.proofs.Common.{rules, ◌≡◌, true, ℕ, sym, subst}
 use Rattle.amqp_model.specs.End.Channels.{Running}
-use Rattle.amqp_channel.specs.ChannelsView.{channels_view}
+use Rattle.amqp_channel.specs.Channels.ChannelsView.{channels_view}
 use Rattle.amqp_channel.specs.ReadingView.{reading_view}
 use Rattle.amqp_core.specs.Connection.Dropping.{DropsReading}
 use Rattle.amqp_core.specs.Connection.Handshakes.{is_in_handshake}

@@ -1,6 +1,6 @@
 use Rattle.std.proofs.Common.{ap, ◌∙◌}
 use Rattle.amqp_model.specs.End.Machine.{new_end}
-use Rattle.amqp_channel.specs.ChannelsView.{channels_view}
+use Rattle.amqp_channel.specs.Channels.ChannelsView.{channels_view}
 use Rattle.amqp_channel.specs.Roles.{role_of}
 use Rattle.amqp_core.specs.Config.Settings.{role_for}
 use Rattle.amqp_core.specs.Connection.Stages.{phase_at, agreed_at}

@@ -1,6 +1,6 @@
 use Rattle.std.proofs.lemmas.Result.{err_from_is_err_and}
 use Rattle.amqp_model.specs.End.Asks as asks
-use Rattle.amqp_channel.specs.ChannelsView.{channels_view}
+use Rattle.amqp_channel.specs.Channels.ChannelsView.{channels_view}
 use Rattle.amqp_core.specs.Connection.View.{connection_end}
 use Rattle.amqp_core.proofs.AskLemmas.{refused_changed, refused_late, same_end, all_are_put, open_put}
 use Rattle.amqp_core.proofs.connection.Connection.open_channel.Goals as goal

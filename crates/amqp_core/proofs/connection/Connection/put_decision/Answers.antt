@@ -1,7 +1,7 @@
 use Rattle.std.proofs.Common.{refl}
 use Rattle.std.proofs.lemmas.Result.{err_from_is_err_and}
 use Rattle.amqp_method.specs.MethodView.{method_view}
-use Rattle.amqp_channel.specs.ChannelsView.{channels_view}
+use Rattle.amqp_channel.specs.Channels.ChannelsView.{channels_view}
 use Rattle.amqp_core.proofs.AskLemmas.{all_are_put}
 use Rattle.amqp_core.proofs.DecisionLemmas.{decision_lost, decision_put}
 use Rattle.amqp_core.proofs.connection.Connection.put_decision.Goals as goal

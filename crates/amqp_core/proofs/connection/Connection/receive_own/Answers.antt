@@ -9,10 +9,10 @@ use Rattle.amqp_model.specs.End.Machine.{as_failed, end_after_taken}
 use Rattle.amqp_model.specs.Output.Outputs.{Output, after_puts}
 use Rattle.amqp_model.specs.Wire.Readings.{Reading, reading as says}
 use Rattle.amqp_outbox.specs.OutboxView.{only}
-use Rattle.amqp_channel.specs.ChannelsView.{channels_view}
-use Rattle.amqp_channel.specs.PartsView.{parts_there}
+use Rattle.amqp_channel.specs.Channels.ChannelsView.{channels_view}
+use Rattle.amqp_channel.specs.Events.PartsView.{parts_there}
 use Rattle.amqp_channel.specs.ReadingView.{reading_view}
-use Rattle.amqp_channel.specs.VerdictView.{whole_now}
+use Rattle.amqp_channel.specs.Verdict.VerdictView.{whole_now}
 use Rattle.amqp_core.specs.Faults.Answering.{answer_with, AnswersFrame}
 use Rattle.amqp_core.specs.Faults.Blamed.{blames_frame, tally_view}
 use Rattle.amqp_core.specs.Connection.View.{connection_end}

@@ -12,9 +12,9 @@ use Rattle.amqp_model.specs.Output.Outputs.{Output, after_puts}
 use Rattle.amqp_model.specs.Stream.Endpoint.{Outcome}
 use Rattle.amqp_model.specs.Wire.Readings.{Reading, reading as says}
 use Rattle.amqp_outbox.specs.OutboxView.{only}
-use Rattle.amqp_channel.specs.ChannelsView.{channels_view}
+use Rattle.amqp_channel.specs.Channels.ChannelsView.{channels_view}
 use Rattle.amqp_channel.specs.ReadingView.{reading_view}
-use Rattle.amqp_channel.specs.VerdictView.{whole_now}
+use Rattle.amqp_channel.specs.Verdict.VerdictView.{whole_now}
 use Rattle.amqp_core.specs.Faults.Answering.{answer_with, AnswersFrame}
 use Rattle.amqp_core.specs.Faults.Blamed.{blames_frame, code_by, code_found, tally_view}
 use Rattle.amqp_core.specs.Connection.View.{connection_end}

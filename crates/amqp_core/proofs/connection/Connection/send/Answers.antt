@@ -3,9 +3,9 @@ use Rattle.amqp_model.specs.End.Asks as asks
 use Rattle.amqp_model.specs.End.Channels.{Channel}
 use Rattle.amqp_model.specs.Wire.Methods.{Method}
 use Rattle.amqp_model.specs.Wire.Readings.{Calls, kind_of}
-use Rattle.amqp_channel.specs.ChannelsView.{channels_view}
-use Rattle.amqp_channel.specs.LifeView.{IsOther}
-use Rattle.amqp_channel.specs.Messages.{message_of}
+use Rattle.amqp_channel.specs.Channels.ChannelsView.{channels_view}
+use Rattle.amqp_channel.specs.Channel.LifeView.{IsOther}
+use Rattle.amqp_channel.specs.Events.EventView.{message_of}
 use Rattle.amqp_core.specs.Connection.View.{connection_end}
 use Rattle.amqp_core.specs.Asks.LentLetter.{lent_letter}
 use Rattle.amqp_core.proofs.AskLemmas.{all_are_put, dropped, message_put, message_made, refused_late}

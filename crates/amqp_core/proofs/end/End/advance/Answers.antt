@@ -1,7 +1,7 @@
 -- What holds of the end holds of its endpoint.
 use Rattle.std.proofs.Common.{◌≡◌, Bool, ap, sym, ◌∙◌, subst, arith}
 use Rattle.amqp_model.specs.Stream.Endpoint.{after_feed}
-use Rattle.amqp_channel.specs.PartsView.{parts_there}
+use Rattle.amqp_channel.specs.Events.PartsView.{parts_there}
 use Rattle.amqp_core.specs.Traced.AccountView.{taken_by}
 use Rattle.amqp_core.specs.Faults.Answering.{ran_out}
 use Rattle.amqp_core.specs.End.Following.{GoesOn}

@@ -1,6 +1,6 @@
 -- What was agreed is what every history counts.
 use Rattle.std.proofs.Common.{false}
-use Rattle.amqp_channel.specs.EventView.{agreed_there}
+use Rattle.amqp_channel.specs.Events.EventView.{agreed_there}
 use Rattle.amqp_core.specs.End.View.{config_at, endpoint_of, role_played}
 use Rattle.amqp_core.proofs.QueryLemmas.{agreed_is}
 use Rattle.amqp_core.proofs.end.End.agreed.Goals as goal

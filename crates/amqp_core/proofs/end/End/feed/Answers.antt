@@ -2,7 +2,7 @@
 use Rattle.std.proofs.Common.{◌≡◌, ◌≢◌, ◌<◌, ◌≤◌, Bool, [], length, suc, Result, IfOk, IsOk, ap, sym, ◌∙◌, subst}
 use Rattle.std.proofs.Math.Logic.{∥∥₁_map}
 use Rattle.amqp_model.specs.History.Histories.{entries_on}
-use Rattle.amqp_channel.specs.PartsView.{parts_there}
+use Rattle.amqp_channel.specs.Events.PartsView.{parts_there}
 use Rattle.amqp_core.specs.Faults.Answering.{ran_out}
 use Rattle.amqp_core.specs.End.View.{config_at, endpoint_of, heard_in, role_played}
 use Rattle.amqp_core.specs.End.Feeding.{IsFed, Seen, seen}
@@ -18,8 +18,8 @@ use Rattle.amqp_core.proofs.HearingLemmas.{by_taken, hears_on}
 use Rattle.amqp_core.proofs.OfHistoryLemmas.{verdicts_are}
 use Rattle.amqp_core.proofs.end.End.feed.Goals as goal
 
-pub returns-clause-feeds : goal.returns-clause-feeds
-returns-clause-feeds g c =
+pub returns : goal.returns
+returns g c =
     let old = c.args.self.now in
     let new = c.advance-answer.new.self in
     let role = role_played old in
@@ -34,6 +34,12 @@ returns-clause-feeds g c =
     let heard = taken_heard result c.advance-answer.result account.octets (parts_there account.parts) c.taken.ensures role config (endpoint_of old) piece (fed_to old piece) (heard_in old) (heard_in new) c.advance-answer.ensures.heard in
     record {
       fed = fed;
+      within = count_seen result (λ n. n ≤ length piece)
+          (subst (λ (r : Result Seen CoreFault). IfOk r (λ taken. taken.octets ≤ length piece)) (sym c.taken.ensures)
+          c.advance-answer.ensures.within);
+      progress = count_seen result (λ n. piece ≢ [] → 0 < n)
+          (subst (λ (r : Result Seen CoreFault). IfOk r (λ taken. piece ≢ [] → 0 < taken.octets)) (sym c.taken.ensures)
+          c.advance-answer.ensures.progress);
       in_place = λ drops. ok_seen result (subst (λ (r : Result Seen CoreFault). IsOk r) (sym c.taken.ensures)
           (ok_with c.advance-answer.result account.octets (parts_there account.parts) (c.advance-answer.ensures.in_place drops)));
       history = λ history octets written stands.
@@ -46,6 +52,10 @@ returns-clause-feeds g c =
       verdicts = λ history octets written stands.
           let kept = (endpoint_of old).end in
           verdicts_are role config kept history (λ n. c.record_reads.ensures.channel role (kept.channels (suc n)) (entries_on (suc n) history)) stands.stands;
+      frames = λ takes lasts.
+          frame_counted role config (endpoint_of old) piece (fed_to old piece) account.octets _ _ _
+          (c.advance-answer.ensures.account takes (sym ran ∙ lasts)) c.advance-answer.ensures.frames;
+      octets = c.advance-answer.ensures.octets;
       blames = blames_as role c.advance-answer.result result (endpoint_of old) piece _ _ _ (code_taken c.advance-answer.result result account.octets (parts_there account.parts) c.taken.ensures) ran c.advance-answer.ensures.tally;
       heard = heard;
       hearing = λ takes out history octets written stands kept.
@@ -56,21 +66,3 @@ returns-clause-feeds g c =
           (by_taken role config result (endpoint_of old) piece (fed_to old piece) (endpoint_of new) (heard_in old) (heard_in new) out fed.answer heard) follows);
       settings = c.advance-answer.ensures.settings;
     }
-
-pub returns-clause-within : goal.returns-clause-within
-returns-clause-within g c = count_seen c.taken.result (λ n. n ≤ length c.args.piece.now)
-    (subst (λ (r : Result Seen CoreFault). IfOk r (λ taken. taken.octets ≤ length c.args.piece.now)) (sym c.taken.ensures) c.advance-answer.ensures.within)
-
-pub returns-clause-progress : goal.returns-clause-progress
-returns-clause-progress g c = count_seen c.taken.result (λ n. c.args.piece.now ≢ [] → 0 < n)
-    (subst (λ (r : Result Seen CoreFault). IfOk r (λ taken. c.args.piece.now ≢ [] → 0 < taken.octets)) (sym c.taken.ensures) c.advance-answer.ensures.progress)
-
-pub returns-clause-frames : goal.returns-clause-frames
-returns-clause-frames g c = λ takes ran.
-    let old = c.args.self.now in
-    let account = c.advance-answer.new.account in
-    let result = c.taken.result in
-    let same : ran_out result ≡ ran_out c.advance-answer.result =
-    sym (ran_seen result) ∙ (ap ran_out c.taken.ensures ∙ ran_with c.advance-answer.result account.octets (parts_there account.parts)) in
-    frame_counted (role_played old) (config_at old) (endpoint_of old) c.args.piece.now (fed_to old c.args.piece.now) account.octets _ _ _
-    (c.advance-answer.ensures.account takes (sym same ∙ ran)) c.advance-answer.ensures.frames

@@ -1,5 +1,5 @@
 -- What holds of an endpoint holds of the end.
-use Rattle.std.proofs.Common.{[], sym, ap, ◌∙◌, subst}
+use Rattle.std.proofs.Common.{[], sym, ap, ◌∙◌, subst, rules}
 use Rattle.std.proofs.Math.Logic.{∥∥₁_map}
 use Rattle.amqp_model.specs.Stream.Endpoint.{Endpoint, new_endpoint}
 use Rattle.amqp_model.specs.Laws.OctetLaws.{EndpointStandsFor}
@@ -16,16 +16,23 @@ invariant_of-result g c = record {
   gathers = ap (λ (s : Settings). s.lends) (c.in_ok-inner.ensures.settings ∙ c.into_settings-settings.ensures.settings);
 }
 
-pub returns-clause-begins : goal.returns-clause-begins
-returns-clause-begins g c = c.in_ok-inner.ensures.view ∙ ap (λ (s : Settings). new_endpoint (role_for s)) (sym c.in_ok-inner.ensures.settings)
-
-pub returns-clause-history : goal.returns-clause-history
-returns-clause-history g c =
+pub returns-clause-new : goal.returns-clause-new
+returns-clause-new g c =
     let inner = c.in_ok-inner.inner in
     let role = role_at inner in
     let config = config_view inner.connection.settings in
+    let endpoint = c.in_ok-inner.ensures.view
+    ∙ ap (λ (s : Settings). new_endpoint (role_for s)) (sym c.in_ok-inner.ensures.settings) in
     record {
-      stands = subst (λ (e : Endpoint). EndpointStandsFor role config e [] [] []) (sym (returns-clause-begins g c)) (c.octets_follow.ensures.new role config);
-      writes = c.in_ok-inner.ensures.sound.writes;
-      reads_back = ∥∥₁_map c.in_ok-inner.ensures.sound.writes (c.owed_read_back.ensures.all role config);
+      endpoint = endpoint;
+      settings_are = search rules;
+      faultless = search rules;
+      history = record {
+        stands = subst (λ (e : Endpoint). EndpointStandsFor role config e [] [] []) (sym endpoint)
+            (c.octets_follow.ensures.new role config);
+        writes = c.in_ok-inner.ensures.sound.writes;
+        reads_back = ∥∥₁_map c.in_ok-inner.ensures.sound.writes (c.owed_read_back.ensures.all role config);
+      };
+      counters = search rules;
+      heard = search rules;
     }

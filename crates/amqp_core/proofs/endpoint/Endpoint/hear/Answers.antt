@@ -4,8 +4,8 @@ use Rattle.std.proofs.lemmas.Bool.{true≢false}
 use Rattle.amqp_model.specs.End.Channels.{End}
 use Rattle.amqp_model.specs.End.Fitting.{IfAgreedFits}
 use Rattle.amqp_outbox.specs.OutboxView.{Outgoing}
-use Rattle.amqp_channel.specs.ChannelsView.{channels_view}
-use Rattle.amqp_channel.specs.PartsView.{parts_there}
+use Rattle.amqp_channel.specs.Channels.ChannelsView.{channels_view}
+use Rattle.amqp_channel.specs.Events.PartsView.{parts_there}
 use Rattle.amqp_channel.specs.declared.parts.EventParts.{EventParts}
 use Rattle.amqp_core.specs.Faults.Blamed.{Tally, counted, octets_blamed}
 use Rattle.amqp_core.specs.Connection.View.{connection_end}

@@ -1,7 +1,7 @@
 -- Of the protocol header an end tells that it came, and nothing else.
 use Rattle.std.proofs.Common.{Result, sym, subst}
 use Rattle.amqp_model.specs.Stream.Endpoint.{after_feed}
-use Rattle.amqp_channel.specs.PartsView.{parts_there}
+use Rattle.amqp_channel.specs.Events.PartsView.{parts_there}
 use Rattle.amqp_core.specs.End.EndpointView.{endpoint_view, role_at}
 use Rattle.amqp_core.specs.Stream.Lending.{IsLent, LentSeen}
 use Rattle.amqp_core.specs.Config.Settings.{config_view}

@@ -9,7 +9,7 @@ use Rattle.amqp_model.specs.End.EndVerdict.{end_verdict, facts_at}
 use Rattle.amqp_model.specs.Stream.Endpoint.{outcome_of}
 use Rattle.amqp_model.specs.Wire.Readings.{reading}
 use Rattle.amqp_outbox.specs.OutboxView.{Outgoing}
-use Rattle.amqp_channel.specs.PartsView.{parts_there}
+use Rattle.amqp_channel.specs.Events.PartsView.{parts_there}
 use Rattle.amqp_channel.specs.declared.parts.EventParts.{EventParts}
 use Rattle.amqp_core.specs.Traced.AccountView.{note_there}
 use Rattle.amqp_core.specs.Faults.Answering.{is_out_of_memory, ran_out}

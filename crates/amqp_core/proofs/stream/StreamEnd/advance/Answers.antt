@@ -1,5 +1,5 @@
 -- What came of the piece is lent, and the histories go on by the end that gathers.
-use Rattle.std.proofs.Common.{◌≡◌, Bool, true, ℕ, List, ap, ◌∙◌, sym, subst, arith}
+use Rattle.std.proofs.Common.{◌≡◌, ◌≢◌, ◌<◌, ◌≤◌, Bool, true, ℕ, List, [], length, ap, ◌∙◌, sym, subst, refl, arith}
 use Rattle.std.proofs.Math.Logic.{∥∥₁_map}
 use Rattle.amqp_model.specs.History.Histories.{History}
 use Rattle.amqp_model.specs.Laws.StreamingLaws.{StreamStandsFor}
@@ -18,7 +18,7 @@ use Rattle.amqp_core.proofs.HeardLemmas.{lent_heard}
 use Rattle.amqp_core.proofs.HearingLemmas.{by_lent, stream_hears_on}
 use Rattle.amqp_core.proofs.KeptLemmas.{kept_sound, sound_kept}
 use Rattle.amqp_core.proofs.StreamHistoryLemmas.{stream_goes_on}
-use Rattle.amqp_core.proofs.StreamLemmas.{ok_step, ran_step}
+use Rattle.amqp_core.proofs.StreamLemmas.{count_step, ok_step, ran_step}
 use Rattle.amqp_core.proofs.stream.StreamEnd.advance.Goals as goal
 
 pub advance-answer-requires-clause-sound : goal.advance-answer-requires-clause-sound
@@ -49,12 +49,15 @@ returns-clause-lends g c =
     (λ i. omega (arith, c.type_inv.piece i)) old.kept.writes memory c.alike_endpoints_stay_alike.ensures.fed c.advance-answer.ensures.lent s in
     record {
       lent = c.advance-answer.ensures.lent;
+      within = count_step c.advance-answer.result given (λ n. n ≤ length piece) c.advance-answer.ensures.within;
+      progress = count_step c.advance-answer.result given (λ n. piece ≢ [] → 0 < n) c.advance-answer.ensures.progress;
       in_place = λ drops. ok_step c.advance-answer.result given (c.advance-answer.ensures.in_place drops);
       history = goes;
       memory = memory;
       faults = lent_faults role config seen (endpoint_of old) new piece c.advance-answer.ensures.lent
           (c.cut_changes_nothing.ensures.closed role config (endpoint_of old) piece) (c.cut_changes_nothing.ensures.failed role config (endpoint_of old) piece)
           memory c.advance-answer.ensures.over;
+      octets = refl;
       blames = blames_as role c.advance-answer.result seen (endpoint_of old) piece _ _ _ (code_step c.advance-answer.result given) (ran_step c.advance-answer.result given) c.advance-answer.ensures.tally;
       heard = heard;
       hearing = λ takes out history fed written s kept.

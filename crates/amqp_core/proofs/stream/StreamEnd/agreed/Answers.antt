@@ -1,6 +1,6 @@
 -- What was agreed is what every history counts.
 use Rattle.std.proofs.Common.{false, sym, ◌∙◌}
-use Rattle.amqp_channel.specs.EventView.{agreed_there}
+use Rattle.amqp_channel.specs.Events.EventView.{agreed_there}
 use Rattle.amqp_core.specs.Stream.View.{config_at, role_played}
 use Rattle.amqp_core.proofs.QueryLemmas.{agreed_is}
 use Rattle.amqp_core.proofs.stream.StreamEnd.agreed.Goals as goal

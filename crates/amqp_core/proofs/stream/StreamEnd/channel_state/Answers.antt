@@ -1,6 +1,6 @@
 -- The state of a channel is the one that every history counts.
 use Rattle.std.proofs.Common.{false, sym, ◌∙◌}
-use Rattle.amqp_channel.specs.StateView.{state_view}
+use Rattle.amqp_channel.specs.Events.EventView.{state_view}
 use Rattle.amqp_core.specs.Stream.View.{config_at, endpoint_of, role_played}
 use Rattle.amqp_core.proofs.QueryLemmas.{state_is}
 use Rattle.amqp_core.proofs.stream.StreamEnd.channel_state.Goals as goal

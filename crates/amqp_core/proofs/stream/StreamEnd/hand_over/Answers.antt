@@ -1,11 +1,20 @@
-use Rattle.std.proofs.Common.{ap, ◌∙◌, subst}
-use Rattle.amqp_model.specs.Stream.Endpoint.{after_wrote}
-use Rattle.amqp_core.specs.Stream.Queries.{WritesOn}
-use Rattle.amqp_core.specs.Stream.View.{endpoint_of}
+-- What waited is what the queue has more, and counts as written.
+use Rattle.std.proofs.Common.{subst, rules}
+use Rattle.amqp_core.specs.Stream.Writes.{StreamWrote}
 use Rattle.amqp_core.proofs.stream.StreamEnd.hand_over.Goals as goal
 
-pub returns-clause-written : goal.returns-clause-written
-returns-clause-written g c = c.wrote.ensures.written ∙ ap (λ n. after_wrote n (endpoint_of c.args.self.now)) c.waiting_in_all-octets.ensures
-
-pub returns-clause-history : goal.returns-clause-history
-returns-clause-history g c = subst (λ n. WritesOn c.args.self.now n c.wrote.new.self) c.waiting_in_all-octets.ensures c.wrote.ensures.history
+pub returns : goal.returns
+returns g c =
+    let wrote = subst (λ n. StreamWrote c.args.self.now n c.wrote.new.self) c.waiting_in_all-octets.ensures
+    c.wrote.ensures in
+    record {
+      added = search rules;
+      none_begun = search rules;
+      wrote = wrote;
+      begun = search rules;
+      queue_same = search rules;
+      same = search rules;
+      counters_same = search rules;
+      heard = wrote.heard;
+      settings = wrote.settings;
+    }

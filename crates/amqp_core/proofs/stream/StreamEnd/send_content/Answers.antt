@@ -2,7 +2,7 @@
 use Rattle.std.proofs.Common.{subst}
 use Rattle.amqp_method.specs.Messages.{Letter}
 use Rattle.amqp_model.specs.End.Asks.{Send}
-use Rattle.amqp_channel.specs.Messages.{message_of}
+use Rattle.amqp_channel.specs.Events.EventView.{message_of}
 use Rattle.amqp_core.specs.Stream.Asks.{StreamAsked}
 use Rattle.amqp_core.proofs.stream.StreamEnd.send_content.Goals as goal
 

@@ -1,5 +1,5 @@
 -- What was agreed is what its history counts.
-use Rattle.amqp_channel.specs.EventView.{agreed_there}
+use Rattle.amqp_channel.specs.Events.EventView.{agreed_there}
 use Rattle.amqp_core.specs.End.Counted.{is_failed}
 use Rattle.amqp_core.specs.Traced.View.{config_at, role_played, traced_of}
 use Rattle.amqp_core.proofs.QueryLemmas.{agreed_is, standing}

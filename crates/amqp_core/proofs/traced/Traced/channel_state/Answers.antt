@@ -1,5 +1,5 @@
 -- The state of a channel is the one that its history counts.
-use Rattle.amqp_channel.specs.StateView.{state_view}
+use Rattle.amqp_channel.specs.Events.EventView.{state_view}
 use Rattle.amqp_core.specs.End.Counted.{is_failed}
 use Rattle.amqp_core.specs.Traced.View.{config_at, role_played, traced_of}
 use Rattle.amqp_core.proofs.QueryLemmas.{standing, state_is}

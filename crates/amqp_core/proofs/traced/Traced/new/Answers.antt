@@ -9,35 +9,31 @@ use Rattle.amqp_core.proofs.traced.Traced.new.Goals as goal
 pub invariant_of-result : goal.invariant_of-result
 invariant_of-result g c =
     let end = c.args.end in
-    let ledger = c.give_back.new.self in
-    let back = c.give_back.ensures in
-    let written = ap length c.output-to_write.ensures.octets in
+    let begun = c.new-ledger.ensures in
+    let ledger = record (c.new-ledger.result) { written = c.reserve_exact.new.self } in
     record {
-      plays = ap role_of (back.side ∙ (c.reserve.ensures.side ∙ c.new-ledger.ensures.side)) ∙ c.side.ensures;
-      room = omega (arith, back.room, written);
+      plays = ap role_of begun.side ∙ c.side.ensures;
+      room = omega (arith, c.in_ok-reserve_exact.ensures.ok, ap length c.output.ensures.octets, c.reserve_exact.ensures.len, ap length begun.written);
       traces = ∣ (
         [],
         traced-new (role_played end) (config_at end) (kept_of end ledger) (c.octets_follow.ensures.new (role_played end) (config_at end)) c.requires
-            (back.notes ∙ (c.reserve.ensures.notes_same ∙ c.new-ledger.ensures.notes)) (back.told ∙ (c.reserve.ensures.told_same ∙ c.new-ledger.ensures.told))
-            (back.said ∙ (c.reserve.ensures.said_same ∙ c.new-ledger.ensures.said)) (back.fed ∙ (c.reserve.ensures.fed_same ∙ c.new-ledger.ensures.fed))
-            (back.written ∙ (c.reserve.ensures.written_same ∙ c.new-ledger.ensures.written)),
+            begun.notes begun.told begun.said begun.fed (c.reserve_exact.ensures.items ∙ begun.written),
       ) ∣₁;
     }
 
 pub returns : goal.returns
 returns g c =
     let end = c.args.end in
-    let back = c.give_back.ensures in
+    let begun = c.new-ledger.ensures in
+    let ledger = record (c.new-ledger.result) { written = c.reserve_exact.new.self } in
     record {
       endpoint = refl;
       settings = refl;
       heard = refl;
       trace =
-          traced-new (role_played end) (config_at end) (kept_of end c.give_back.new.self) (c.octets_follow.ensures.new (role_played end) (config_at end)) c.requires
-          (back.notes ∙ (c.reserve.ensures.notes_same ∙ c.new-ledger.ensures.notes)) (back.told ∙ (c.reserve.ensures.told_same ∙ c.new-ledger.ensures.told))
-          (back.said ∙ (c.reserve.ensures.said_same ∙ c.new-ledger.ensures.said)) (back.fed ∙ (c.reserve.ensures.fed_same ∙ c.new-ledger.ensures.fed))
-          (back.written ∙ (c.reserve.ensures.written_same ∙ c.new-ledger.ensures.written));
-      fed = back.fed ∙ (c.reserve.ensures.fed_same ∙ c.new-ledger.ensures.fed);
-      written = back.written ∙ (c.reserve.ensures.written_same ∙ c.new-ledger.ensures.written);
+          traced-new (role_played end) (config_at end) (kept_of end ledger) (c.octets_follow.ensures.new (role_played end) (config_at end)) c.requires
+          begun.notes begun.told begun.said begun.fed (c.reserve_exact.ensures.items ∙ begun.written);
+      fed = begun.fed;
+      written = c.reserve_exact.ensures.items ∙ begun.written;
       writes = end.kept.writes;
     }
