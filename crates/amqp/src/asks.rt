@@ -1,9 +1,14 @@
-//! What the program's clients ask of their ends, on the one channel that they open. What is asked is made, asked and let go here.
+//! What the program's clients ask of their ends, on the one channel that they open. What is asked is made, asked and
+//! let go here.
+ghost use Rattle.std.specs.Prelude.{◌≡◌, true, IfOk};
+ghost use Rattle.amqp_method.specs.Kinds.{has_content};
+ghost use Rattle.amqp_method.specs.MethodView.{method_view};
+
 use crate::printing::Stop;
 use crate::words::short;
 use amqp_core::{Ask, Role};
 use amqp_io::{Session, Stream};
-use amqp_method::{Arg, Kind, Message, Method, OutOfMemory, Properties};
+use amqp_method::{Arg, Kind, Message, Method, OutOfMemory};
 use amqp_value::ShortStr;
 use std::alloc::Global;
 
@@ -82,18 +87,17 @@ fn qos_method(alloc: Global) -> Result<Message, OutOfMemory> {
     Ok(Message::plain(Method::new(Kind::BasicQos, args)))
 }
 
-/// What publishes a content. One that is mandatory comes back where no queue takes it.
+/// The method that publishes a content. One that is mandatory comes back where no queue takes it.
 pub fn publish(
     alloc: Global,
     exchange: ShortStr,
     key: ShortStr,
     mandatory: bool,
-    properties: Properties,
-    body: Vec<u8>,
-) -> Result<Ask, OutOfMemory> {
+) -> Result<Method, OutOfMemory>
+    ensures { IfOk result (λ method. has_content (method_view method).kind ≡ true) }
+{
     let exchange = Arg::ShortStr(exchange);
     let key = Arg::ShortStr(key);
     let args = vec![in alloc; exchange, key, Arg::Bit(mandatory), Arg::Bit(false)]?;
-    let method = Method::new(Kind::BasicPublish, args);
-    Ok(Ask::Send(CHANNEL, Message::content(method, properties, body)))
+    Ok(Method::new(Kind::BasicPublish, args))
 }

@@ -11,9 +11,9 @@ use amqp_text::statuses::{DONE, FAULT};
 use std::alloc::Global;
 use std::io::{Read, Write};
 
-/// Reads hexadecimal to its end: the octets that the other end of a client or of a server writes. Feeds them to an end of that
-/// side, prints its events and what it has to write, and answers the exit status. What was wrong with octets at fault is
-/// said beside, in one line of `errors`.
+/// Reads hexadecimal to its end: the octets that the other end of a client or of a server writes. Feeds them to an end
+/// of that side, prints its events and what it has to write, and answers the exit status. What was wrong with octets at
+/// fault is said beside, in one line of `errors`.
 pub fn check_side<I: Read, W: Write, E: Write>(
     alloc: Global,
     side: Side,

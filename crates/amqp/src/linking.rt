@@ -10,8 +10,8 @@ use amqp_text::statuses::{DONE, FAULT};
 use std::alloc::Global;
 use std::io::{Read, Write};
 
-/// Reads a script to its end and does what its lines say, with ends of which these are gated. Prints the refusals, and then
-/// a line for each life and direction, and answers the exit status.
+/// Reads a script to its end and does what its lines say, with ends of which these are gated. Prints the refusals, and
+/// then a line for each life and direction, and answers the exit status.
 pub fn link<I: Read, W: Write>(
     alloc: Global,
     limits: Limits,

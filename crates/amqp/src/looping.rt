@@ -7,7 +7,7 @@ use crate::words::short;
 use amqp_command::Limits;
 use amqp_core::{Ask, ChannelState, Client, Phase, Role, Server};
 use amqp_io::{Session, Socket};
-use amqp_method::{OutOfMemory, Properties};
+use amqp_method::{Message, OutOfMemory, Properties};
 use amqp_text::{EXCHANGE, KEY, Load, Tally, pattern};
 use std::alloc::Global;
 use std::io::Write;
@@ -15,8 +15,8 @@ use std::io::Write;
 /// At most so many octets are in flight at once.
 const AT_ONCE: usize = 4096;
 
-/// Publishes contents from a client to a server, whose streams are the two ends of one connection. It answers whether the server
-/// was told exactly these.
+/// Publishes contents from a client to a server, whose streams are the two ends of one connection. It answers whether
+/// the server was told exactly these.
 pub fn run_loop<E: Write + Drop>(
     alloc: Global,
     limits: Limits,
@@ -97,7 +97,8 @@ fn turn_until_still<E: Write + Drop>(
     Ok(())
 }
 
-/// The client asks what it can and writes, the server takes that, and then the other way round. It answers whether any octet moved.
+/// The client asks what it can and writes, the server takes that, and then the other way round. It answers whether any
+/// octet moved.
 fn take_turns(
     client: &mut Session<Client, Socket>,
     server: &mut Session<Server, Socket>,
@@ -170,7 +171,11 @@ fn content_of(alloc: Global, load: Load) -> Result<Ask, OutOfMemory> {
     let exchange = short(alloc, EXCHANGE)?;
     let key = short(alloc, KEY)?;
     let body = pattern(alloc, load.size as usize)?;
-    publish(alloc, exchange, key, false, Properties::default(), body)
+    let method = publish(alloc, exchange, key, false)?;
+    Ok(Ask::Send(
+        CHANNEL,
+        Message::content(method, Properties::default(), body),
+    ))
 }
 
 impl Source {
@@ -201,7 +206,8 @@ impl Source {
         }
     }
 
-    /// Publishes the next content, or closes the channel, once it is open; or the connection, where the server closed the channel.
+    /// Publishes the next content, or closes the channel, once it is open; or the connection, where the server closed
+    /// the channel.
     fn publish(&mut self, client: &mut Session<Client, Socket>, left: u32) -> Result<(), Stop> {
         match client.end().channel_state(CHANNEL) {
             ChannelState::Open if left > 0 => {

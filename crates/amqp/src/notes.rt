@@ -1,10 +1,11 @@
-//! What is said on standard error beside the lines that are printed: with whom something went wrong, in which step, and why.
+//! What is said on standard error beside the lines that are printed: with whom something went wrong, in which step, and
+//! why.
 use crate::printing::Stop;
 use std::fmt::Display;
 use std::io::{self, Write};
 
-/// Where notes about a connection are written. A note that can't be written is dropped: the printed lines and the exit status
-/// say enough.
+/// Where notes about a connection are written. A note that can't be written is dropped: the printed lines and the exit
+/// status say enough.
 #[derive(Drop)]
 pub struct Notes<'a, E: Write + Drop> {
     address: &'a str,

@@ -23,8 +23,8 @@ impl<E: Write + Drop> Progress<E> {
         }
     }
 
-    /// Says how many contents came of so many, in place of what it said before, where that changes by a hundredth. A line that
-    /// can't be written is dropped.
+    /// Says how many contents came of so many, in place of what it said before, where that changes by a hundredth. A
+    /// line that can't be written is dropped.
     pub fn show(&mut self, done: u64, count: u32) {
         if !self.shown || count == 0 {
             return;

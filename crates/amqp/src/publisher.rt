@@ -1,11 +1,11 @@
 //! The steps of a client that publishes one content, and what it hears of the server.
 use crate::asks::{
-    CHANNEL, ask, ask_back, close_channel, close_connection, open_channel, select_confirms,
+    CHANNEL, ask_back, close_channel, close_connection, open_channel, select_confirms,
 };
 use crate::printing::Stop;
-use amqp_core::{Ask, AskFault, ChannelState, Client, End, Event, Phase};
+use amqp_core::{AskFault, ChannelState, Chunks, Client, End, Event, Phase};
 use amqp_io::{Session, Stream};
-use amqp_method::{Kind, Method};
+use amqp_method::{Kind, Method, Properties};
 use std::alloc::Global;
 
 /// What the client waits for between the content and the close of the channel.
@@ -36,12 +36,20 @@ enum Step {
 /// The most steps that are taken at once.
 const STEPS: u8 = 6;
 
+/// A content that is published once.
+#[derive(Drop)]
+pub struct Outgoing {
+    pub method: Method,
+    pub properties: Properties,
+    /// until the end has put it
+    pub body: Chunks,
+}
+
 /// A client that publishes one content.
 #[derive(Drop)]
 pub struct Publisher {
     alloc: Global,
-    /// the ask that publishes, until the end has taken it over
-    content: Option<Ask>,
+    content: Outgoing,
     awaited: Awaited,
     next: Step,
     /// the server answered that it will confirm
@@ -53,10 +61,10 @@ pub struct Publisher {
 }
 
 impl Publisher {
-    pub fn new(alloc: Global, content: Ask, awaited: Awaited) -> Publisher {
+    pub fn new(alloc: Global, content: Outgoing, awaited: Awaited) -> Publisher {
         Publisher {
             alloc,
-            content: Some(content),
+            content,
             awaited,
             next: Step::OpenChannel,
             selected: false,
@@ -176,13 +184,17 @@ impl Publisher {
         }
     }
 
-    /// Asks the end to send the content, and lets it go once the end has put it.
+    /// Asks the end to send the content. Its body is let go while the end puts it.
     fn publish<S: Stream>(&mut self, session: &mut Session<Client, S>) -> Result<(), Stop> {
-        if let Some(content) = &self.content {
-            ask(session, content)?;
+        let Outgoing {
+            method,
+            properties,
+            body,
+        } = &mut self.content;
+        match session.send_chunks(CHANNEL, method, properties, body) {
+            Ok(()) => Ok(()),
+            Err(fault) => Err(Stop::from(fault)),
         }
-        self.content = None;
-        Ok(())
     }
 
     fn following(&self) -> Step {

@@ -3,11 +3,11 @@ use crate::asks;
 use crate::hellos::Access;
 use crate::notes::Notes;
 use crate::printing::Stop;
-use crate::publisher::{Awaited, Publisher};
+use crate::publisher::{Awaited, Outgoing, Publisher};
 use crate::readiness::Readiness;
 use crate::sessions::{ANSWERS, client_end_of, pull_ready, settle, waiting};
 use amqp_command::{Destination, Limits};
-use amqp_core::{Client, Event, Reason};
+use amqp_core::{Chunks, Client, Event, Reason};
 use amqp_io::{Session, Socket};
 use amqp_method::{Kind, Method, OutOfMemory, Properties};
 use std::alloc::Global;
@@ -21,11 +21,11 @@ pub struct Content {
     pub access: Access,
     pub destination: Destination,
     pub properties: Properties,
-    pub body: Vec<u8>,
+    pub body: Chunks,
 }
 
-/// Publishes one content and closes the connection, with an end that wants this heartbeat. It answers whether nothing told
-/// that the server did not take the content.
+/// Publishes one content and closes the connection, with an end that wants this heartbeat. It answers whether nothing
+/// told that the server did not take the content.
 pub fn publish<N: Net + Clock, E: Write + Drop>(
     alloc: Global,
     limits: Limits,
@@ -61,7 +61,7 @@ fn publish_in<N: Net + Clock, E: Write + Drop>(
     session: &mut Session<Client, Socket>,
     destination: Destination,
     properties: Properties,
-    body: Vec<u8>,
+    body: Chunks,
     readiness: &mut Readiness<'_, N>,
     notes: &mut Notes<'_, E>,
 ) -> Result<bool, Stop> {
@@ -81,7 +81,7 @@ fn publisher_of(
     alloc: Global,
     destination: Destination,
     properties: Properties,
-    body: Vec<u8>,
+    body: Chunks,
 ) -> Result<Publisher, OutOfMemory> {
     let awaited = awaited_of(&destination);
     let Destination {
@@ -90,7 +90,12 @@ fn publisher_of(
         mandatory,
         confirm,
     } = destination;
-    let content = asks::publish(alloc, exchange, key, mandatory || confirm, properties, body)?;
+    let method = asks::publish(alloc, exchange, key, mandatory || confirm)?;
+    let content = Outgoing {
+        method,
+        properties,
+        body,
+    };
     Ok(Publisher::new(alloc, content, awaited))
 }
 

@@ -1,4 +1,5 @@
-//! What the subcommands over a stream do with a session: it is pulled, its events are dealt with, and then it is settled.
+//! What the subcommands over a stream do with a session: it is pulled, its events are dealt with, and then it is
+//! settled.
 //!
 //! A session over a socket whose calls don't wait reads and writes by turns, and waits only where it can do neither.
 //! So two ends that both write much don't wait for each other to read.

@@ -8,8 +8,8 @@ use amqp_text::{Ending, Listing, frame_line, list, payload_line};
 use std::alloc::Global;
 use std::io::{self, Read, Write};
 
-/// Reads hexadecimal to its end, prints a line for the protocol header if the octets start with it, a line for each frame, one
-/// below it for a method or a header, and one for what ends them otherwise, and answers the exit status.
+/// Reads hexadecimal to its end, prints a line for the protocol header if the octets start with it, a line for each
+/// frame, one below it for a method or a header, and one for what ends them otherwise, and answers the exit status.
 pub fn show<R: Read, W: Write>(alloc: Global, start: Start, input: &mut R, output: &mut W) -> u8 {
     let run = match read_octets(alloc, input) {
         Ok(octets) => print_owned(alloc, start, octets, output),

@@ -1,6 +1,6 @@
 //! The subcommands over TCP: the sockets are opened here, and all else is done over streams.
 use crate::access::access_of;
-use crate::input::read_all;
+use crate::input::read_chunks;
 use crate::looping::run_loop;
 use crate::notes::Notes;
 use crate::printing::{Stop, finish, flushed};
@@ -156,7 +156,8 @@ fn serve_client<R: Net + Clock, W: Write, E: Write + Drop>(
     }
 }
 
-/// Says where it listens, and takes one connection, with the address that it comes from. Nobody else is listened to after that.
+/// Says where it listens, and takes one connection, with the address that it comes from. Nobody else is listened to
+/// after that.
 fn take_connection<R: Net<Stream = TcpStream, Listener = TcpListener>, W: Write>(
     rt: &R,
     alloc: Global,
@@ -261,7 +262,7 @@ fn content_of<R: Files, I: Read>(
         properties,
     } = publication;
     let access = access_of(rt, alloc, login)?;
-    let body = read_all(alloc, input)?;
+    let body = read_chunks(alloc, input)?;
     Ok(Content {
         access,
         destination,

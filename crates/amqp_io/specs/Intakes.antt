@@ -20,28 +20,37 @@ pub record Intake : Type 0 where
 
 -- each history that the end stands for goes on, by what comes of these octets
 abbrev pub HistoriesGoOn :
-    (role : Role) → Config role → Result Taken CoreFault → (old : Endpoint) → (octets : List ℕ) → (new : Endpoint) → Type 0
+    (role : Role) → Config role → Result Taken CoreFault → (old : Endpoint) → (octets : List ℕ) → (new : Endpoint)
+    → Type 0
 HistoriesGoOn role config result old octets new =
     (history : History) (fed written : List ℕ)
     → EndpointStandsFor role config old history fed written
     → ∥ GoesOn role config (ran_out result) old history fed written octets (after_feed role config old octets) new ∥₁
 
 -- What one feed of these octets promises: its answer, and the end that is left, are those of the definitions.
-pub record Feeds (role : Role) (config : Config role) (result : Result Taken CoreFault) (old : Endpoint) (octets : List ℕ) (new : Endpoint) : Type 0 where
+pub record Feeds (role : Role) (config : Config role) (result : Result Taken CoreFault) (old : Endpoint)
+    (octets : List ℕ) (new : Endpoint) : Type 0 where
   pub answered : IsFed (seen result) old (after_feed role config old octets) new
   pub follows : HistoriesGoOn role config result old octets new
 
 -- after a feed: the octets taken are gone from the start, and the event, if there is one, comes last
 abbrev pub after_taking : Intake → Taken → Endpoint → Intake
 after_taking intake taken endpoint =
-    record { endpoint = endpoint; octets = drop taken.octets intake.octets; events = intake.events ++ option_to_list taken.event }
+    record {
+      endpoint = endpoint;
+      octets = drop taken.octets intake.octets;
+      events = intake.events
+          ++ option_to_list taken.event;
+    }
 
 -- Any number of feeds, each of all the octets that are left, and each answered Ok. So the octets are fed in order and
 -- once each, and no event is lost.
 pub data FeedsOn (role : Role) (config : Config role) (old : Intake) : Intake → Type 0 where
   not_yet : FeedsOn role config old old
-  once_more : (intake : Intake) (taken : Taken) (endpoint : Endpoint) → FeedsOn role config old intake → 0 < length intake.octets
-      → Feeds role config (Ok taken) intake.endpoint intake.octets endpoint → FeedsOn role config old (after_taking intake taken endpoint)
+  once_more : (intake : Intake) (taken : Taken) (endpoint : Endpoint) → FeedsOn role config old intake
+      → 0 < length intake.octets
+      → Feeds role config (Ok taken) intake.endpoint intake.octets endpoint
+      → FeedsOn role config old (after_taking intake taken endpoint)
 
 -- all octets were fed
 pub record FeedsAll (role : Role) (config : Config role) (old new : Intake) : Type 0 where

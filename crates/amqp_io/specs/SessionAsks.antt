@@ -9,7 +9,8 @@ use Rattle.amqp_core.specs.declared.roles.Role.{Ghosts}
 use Rattle.amqp_io.specs.SessionView.{end_of, events_in, room_in, stream_of, unfed_in}
 use Rattle.amqp_io.specs.declared.session.Session.{Session}
 
-pub record Asked {A R H S : Type 0} {G : Ghosts R H} (old : Session R S H G) (ask : Ask) (result : Result A AskFault) (new : Session R S H G) : Type 0 where
+pub record Asked {A R H S : Type 0} {G : Ghosts R H} (old : Session R S H G) (ask : Ask) (result : Result A AskFault)
+    (new : Session R S H G) : Type 0 where
   -- The end does it, or refuses.
   pub asked : ends.Asked (end_of old) ask result (end_of new)
   -- Nothing is read or written.
@@ -19,7 +20,8 @@ pub record Asked {A R H S : Type 0} {G : Ghosts R H} (old : Session R S H G) (as
   pub events : events_in new ≡ events_in old
   pub room : room_in new ≡ room_in old
 
-pub record Controlled {A R H S : Type 0} {G : Ghosts R H} (old : Session R S H G) (control : Control) (result : Result A AskFault) (new : Session R S H G) : Type 0 where
+pub record Controlled {A R H S : Type 0} {G : Ghosts R H} (old : Session R S H G) (control : Control)
+    (result : Result A AskFault) (new : Session R S H G) : Type 0 where
   -- The end does it, or refuses.
   pub controlled : controls.Controlled (end_of old) control result (end_of new)
   -- Nothing is read or written.

@@ -1,5 +1,5 @@
--- What each call of a session does that reads, writes or hands out an event: a record a call. Read before: what a pull, a
--- push and a turn make of octets and events (`Sessions`), and when a stream's marks change (`Streams`).
+-- What each call of a session does that reads, writes or hands out an event: a record a call. Read before: what a pull,
+-- a push and a turn make of octets and events (`Sessions`), and when a stream's marks change (`Streams`).
 use Rattle.std.specs.Prelude.{◌≡◌, ◌⊎◌, ℕ, ◌++◌, [], option_to_list, Option, None, Result, Err}
 use Rattle.amqp_core.specs.End.View.{endpoint_of}
 use Rattle.amqp_core.specs.Events.{Event}
@@ -14,7 +14,8 @@ use Rattle.amqp_io.specs.declared.session.Session.{Session}
 use Rattle.amqp_io.specs.declared.stream.Stream as stream
 
 -- As it begins.
-pub record Began {R H S : Type 0} {G : Ghosts R H} (room : ℕ) (end : End R H G) (over : S) (session : Session R S H G) : Type 0 where
+pub record Began {R H S : Type 0} {G : Ghosts R H} (room : ℕ) (end : End R H G) (over : S)
+    (session : Session R S H G) : Type 0 where
   pub end_is : end_of session ≡ end
   pub stream_is : stream_of session ≡ over
   -- Nothing is read, and no event waits.
@@ -24,7 +25,8 @@ pub record Began {R H S : Type 0} {G : Ghosts R H} (room : ℕ) (end : End R H G
   pub room_is : room_in session ≡ room
 
 -- An event is handed out.
-pub record Handed {R H S : Type 0} {G : Ghosts R H} (old : Session R S H G) (event : Option Event) (new : Session R S H G) : Type 0 where
+pub record Handed {R H S : Type 0} {G : Ghosts R H} (old : Session R S H G) (event : Option Event)
+    (new : Session R S H G) : Type 0 where
   -- It is the oldest, and the others stay.
   pub first : events_in old ≡ option_to_list event ++ events_in new
   -- None is handed out only where there is none.
@@ -36,9 +38,11 @@ pub record Handed {R H S : Type 0} {G : Ghosts R H} (old : Session R S H G) (eve
   pub room : room_in new ≡ room_in old
 
 -- Octets of the output are written.
-pub record Pushed {R H S : Type 0} {G : Ghosts R H} (of : stream.Ghosts S) (limit : ℕ) (old : Session R S H G) (result : Result ℕ IoFault) (new : Session R S H G) : Type 0 where
+pub record Pushed {R H S : Type 0} {G : Ghosts R H} (of : stream.Ghosts S) (limit : ℕ) (old : Session R S H G)
+    (result : Result ℕ IoFault) (new : Session R S H G) : Type 0 where
   -- The stream takes a prefix of the output, which counts as written: all that is due, or less where it fails.
-  pub pushed : Pushes limit result (endpoint_of (end_of old)) (endpoint_of (end_of new)) (of.taken (stream_of old)) (of.taken (stream_of new))
+  pub pushed : Pushes limit result (endpoint_of (end_of old)) (endpoint_of (end_of new)) (of.taken (stream_of old))
+      (of.taken (stream_of new))
   -- Where nothing is due the stream isn't touched.
   pub untouched : due limit (endpoint_of (end_of old)) ≡ 0 → stream_of new ≡ stream_of old
   -- Nothing is read.
@@ -53,9 +57,11 @@ pub record Pushed {R H S : Type 0} {G : Ghosts R H} (of : stream.Ghosts S) (limi
   pub room : room_in new ≡ room_in old
 
 -- Octets are read and fed.
-pub record Pulled {R H S : Type 0} {G : Ghosts R H} (of : stream.Ghosts S) (old : Session R S H G) (result : Result ℕ IoFault) (new : Session R S H G) : Type 0 where
+pub record Pulled {R H S : Type 0} {G : Ghosts R H} (of : stream.Ghosts S) (old : Session R S H G)
+    (result : Result ℕ IoFault) (new : Session R S H G) : Type 0 where
   -- What was kept is fed, and then what one read gives.
-  pub pulled : Pulls (room_in old) (role_in old) (config_in old) result (intake_of old) (intake_of new) (of.to_give (stream_of old)) (of.to_give (stream_of new))
+  pub pulled : Pulls (room_in old) (role_in old) (config_in old) result (intake_of old) (intake_of new)
+      (of.to_give (stream_of old)) (of.to_give (stream_of new))
   -- Nothing is written.
   pub taken : of.taken (stream_of new) ≡ of.taken (stream_of old)
   -- It answers that a read failed, or that the input ended, exactly when that is so.
@@ -66,10 +72,13 @@ pub record Pulled {R H S : Type 0} {G : Ghosts R H} (of : stream.Ghosts S) (old 
   pub room : room_in new ≡ room_in old
 
 -- A pull, and then a push of the whole output.
-pub record Turned {A R H S : Type 0} {G : Ghosts R H} (of : stream.Ghosts S) (old : Session R S H G) (result : Result A IoFault) (new : Session R S H G) : Type 0 where
-  pub turned : Turns (room_in old) (role_in old) (config_in old) result (intake_of old) (intake_of new) (of.to_give (stream_of old)) (of.to_give (stream_of new)) (of.taken (stream_of old)) (of.taken (stream_of new))
+pub record Turned {A R H S : Type 0} {G : Ghosts R H} (of : stream.Ghosts S) (old : Session R S H G)
+    (result : Result A IoFault) (new : Session R S H G) : Type 0 where
+  pub turned : Turns (room_in old) (role_in old) (config_in old) result (intake_of old) (intake_of new)
+      (of.to_give (stream_of old)) (of.to_give (stream_of new)) (of.taken (stream_of old)) (of.taken (stream_of new))
   -- It fails as the pull or the push does.
-  pub failure : Marks ((result ≡ Err io.Read) ⊎ (result ≡ Err io.Write)) (of.failures (stream_of old)) (of.failures (stream_of new))
+  pub failure : Marks ((result ≡ Err io.Read) ⊎ (result ≡ Err io.Write)) (of.failures (stream_of old))
+      (of.failures (stream_of new))
   pub end : Marks (result ≡ Err io.EndOfInput) (of.ends (stream_of old)) (of.ends (stream_of new))
   -- The end's settings stay.
   pub settings : settings_in new ≡ settings_in old

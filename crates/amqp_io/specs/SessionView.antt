@@ -29,7 +29,11 @@ abbrev pub events_in : {R H S : Type 0} {G : Ghosts R H} → Session R S H G →
 events_in session = session.events.items
 
 abbrev pub intake_of : {R H S : Type 0} {G : Ghosts R H} → Session R S H G → Intake
-intake_of session = record { endpoint = endpoint_of session.end; octets = session.unfed.octets; events = session.events.items }
+intake_of session = record {
+  endpoint = endpoint_of session.end;
+  octets = session.unfed.octets;
+  events = session.events.items;
+}
 
 -- what the end is set up with
 abbrev pub settings_in : {R H S : Type 0} {G : Ghosts R H} → Session R S H G → Settings

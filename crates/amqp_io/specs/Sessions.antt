@@ -33,7 +33,8 @@ with_octets octets intake = record { endpoint = intake.endpoint; octets = octets
 
 -- The octets that were kept are all fed. Then others are read, by one read into this room, and this comes of feeding
 -- them.
-pub record ReadsThen (room : ℕ) (role : Role) (config : Config role) (result : Result ℕ IoFault) (old new : Intake) (to_give left : Known) : Type 0 where
+pub record ReadsThen (room : ℕ) (role : Role) (config : Config role) (result : Result ℕ IoFault) (old new : Intake)
+    (to_give left : Known) : Type 0 where
   pub between : Intake
   pub octets : List ℕ
   pub kept_fed : FeedsAll role config old between
@@ -41,13 +42,17 @@ pub record ReadsThen (room : ℕ) (role : Role) (config : Config role) (result :
   pub then_fed : FeedsThose role config result (with_octets octets between) new
 
 -- A fault in feeding: either in feeding what was kept, and nothing is read, or in feeding what was read after.
-abbrev pub StopsPulling : (room : ℕ) → (role : Role) → Config role → IoFault → (old new : Intake) → (to_give left : Known) → Type 0
+abbrev pub StopsPulling : (room : ℕ) → (role : Role) → Config role → IoFault → (old new : Intake)
+    → (to_give left : Known) → Type 0
 StopsPulling room role config fault old new to_give left =
-    (StopsFeeding role config fault old new × (left ≡ to_give)) ⊎ ReadsThen room role config (Err fault) old new to_give left
+    (StopsFeeding role config fault old new × (left ≡ to_give))
+    ⊎ ReadsThen room role config (Err fault) old new to_give left
 
 -- One that answers Ok has fed all that was kept and all that it read. One that can't read has fed what was kept.
-abbrev pub Pulls : (room : ℕ) → (role : Role) → Config role → Result ℕ IoFault → (old new : Intake) → (to_give left : Known) → Type 0
-Pulls room role config (Ok n) old new to_give left = (reads : ReadsThen room role config (Ok n) old new to_give left) × (n ≡ length reads.octets)
+abbrev pub Pulls : (room : ℕ) → (role : Role) → Config role → Result ℕ IoFault → (old new : Intake)
+    → (to_give left : Known) → Type 0
+Pulls room role config (Ok n) old new to_give left = (reads : ReadsThen room role config (Ok n) old new to_give left)
+    × (n ≡ length reads.octets)
 Pulls room role config (Err io.Read) old new to_give left = FeedsAll role config old new × (left ≡ to_give)
 Pulls room role config (Err io.EndOfInput) old new to_give left = FeedsAll role config old new × (left ≡ to_give)
 Pulls room role config (Err io.Write) old new to_give left = ⊥
@@ -74,7 +79,8 @@ Pushes limit (Err fault) old new before after = ⊥
 -- Turns: a pull, and then a push of the whole output.
 
 -- the pull answers Ok, and the push answers this
-pub record PullThenPush (room : ℕ) (role : Role) (config : Config role) (result : Result ℕ IoFault) (old new : Intake) (to_give left before after : Known) : Type 0 where
+pub record PullThenPush (room : ℕ) (role : Role) (config : Config role) (result : Result ℕ IoFault) (old new : Intake)
+    (to_give left before after : Known) : Type 0 where
   pub count : ℕ
   pub between : Intake
   pub pulls : Pulls room role config (Ok count) old between to_give left
@@ -84,8 +90,10 @@ pub record PullThenPush (room : ℕ) (role : Role) (config : Config role) (resul
 
 -- The fault is that of the one that fails. Where the pull does, nothing is written.
 abbrev pub Turns :
-    {A : Type 0} → (room : ℕ) → (role : Role) → Config role → Result A IoFault → (old new : Intake) → (to_give left before after : Known) → Type 0
-Turns room role config (Ok done) old new to_give left before after = (n : ℕ) × PullThenPush room role config (Ok n) old new to_give left before after
+    {A : Type 0} → (room : ℕ) → (role : Role) → Config role → Result A IoFault → (old new : Intake)
+    → (to_give left before after : Known) → Type 0
+Turns room role config (Ok done) old new to_give left before after = (n : ℕ)
+    × PullThenPush room role config (Ok n) old new to_give left before after
 Turns room role config (Err fault) old new to_give left before after =
     (Pulls room role config (Err fault) old new to_give left × (after ≡ before))
     ⊎ PullThenPush room role config (Err fault) old new to_give left before after

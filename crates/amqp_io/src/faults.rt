@@ -42,11 +42,12 @@ pub enum IoFault {
     /// 3: the input has ended. What was kept before was fed, and nothing else.
     #[error("the input has ended")]
     EndOfInput,
-    /// 4: the end found a fault in what it was fed. The octets read after those are dropped. What the end has to write, the
-    /// close that says what was wrong among it, can still be pushed.
+    /// 4: the end found a fault in what it was fed. The octets read after those are dropped. What the end has to write,
+    /// the close that says what was wrong among it, can still be pushed.
     #[error("{0}")]
     Core(CoreFault),
-    /// 5: there is no room for an event. The octets that were read and not fed are kept, and the next pull feeds them first.
+    /// 5: there is no room for an event. The octets that were read and not fed are kept, and the next pull feeds them
+    /// first.
     #[error("out of memory")]
     OutOfMemory,
 }

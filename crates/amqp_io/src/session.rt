@@ -1,5 +1,5 @@
 //! One end of a connection, over a stream.
-ghost use Rattle.std.specs.Prelude.{◌≡◌, ◌<◌, true, false, ◌++◌, length, option_to_list, Err};
+ghost use Rattle.std.specs.Prelude.{◌≡◌, ◌<◌, true, false, [], ◌++◌, length, option_to_list, Err, OnOk, OnErr};
 ghost use Rattle.std.specs.VecDeque.{deque_len, deque_capacity};
 ghost use Rattle.amqp_method.specs.HeaderView.{properties_view};
 ghost use Rattle.amqp_method.specs.Kinds.{has_content};
@@ -9,7 +9,7 @@ ghost use Rattle.amqp_method.specs.MethodView.{method_view};
 ghost use Rattle.amqp_model.specs.End.Asks as asks;
 ghost use Rattle.amqp_model.specs.End.Closes.{cause_of, no_cause};
 ghost use Rattle.amqp_model.specs.End.Controls as controls;
-ghost use Rattle.amqp_channel.specs.Messages.{message_of};
+ghost use Rattle.amqp_channel.specs.Events.EventView.{message_of};
 ghost use Rattle.amqp_core.specs.Asks.View.{ask_view};
 ghost use Rattle.amqp_core.specs.End.Asks.{AnswersLowest, AnswersNumber};
 ghost use Rattle.amqp_io.specs.SessionAsks.{Asked, Controlled};
@@ -21,7 +21,7 @@ use crate::reading::Arrival;
 use crate::stream::Stream;
 use crate::unfed::Unfed;
 use crate::writing::write_prefix;
-use amqp_core::{Ask, AskFault, End, Event, Role, Taken};
+use amqp_core::{Ask, AskFault, Chunks, End, Event, Role, Taken};
 use amqp_method::{Kind, Message, Method, Properties};
 use amqp_value::ShortStr;
 use std::alloc::Global;
@@ -29,9 +29,11 @@ use std::collections::VecDeque;
 
 /// One end of a connection, over a stream.
 ///
-/// [`Session::pull`] reads from the stream and feeds the end, [`Session::push`] writes what the end has put, all of it by
+/// [`Session::pull`] reads from the stream and feeds the end, [`Session::push`] writes what the end has put, all of it
+/// by
 /// `push(usize::MAX)`, and [`Session::turn`] does the one and then the other. The end's events are kept until
-/// [`Session::next_event`] hands them out. After a fault the session may be used again: [`IoFault`] says what stands after each.
+/// [`Session::next_event`] hands them out. After a fault the session may be used again: [`IoFault`] says what stands
+/// after each.
 ///
 /// It has room for the 4096 octets of one read in itself, or the room that [`Session::with_room`] was given, so that
 /// reading takes no memory.
@@ -82,8 +84,9 @@ impl<R: Role, S: Stream> Session<R, S> {
         }
     }
 
-    /// An end over a stream, as [`Session::new`] makes it, that reads into this room: at most as many octets at once as it
-    /// is long, as `vec![in alloc; 0; 65_536]?`, whatever stands in it. Few large reads cost less than many small ones.
+    /// An end over a stream, as [`Session::new`] makes it, that reads into this room: at most as many octets at once as
+    /// it is long, as `vec![in alloc; 0; 65_536]?`, whatever stands in it. Few large reads cost less than many small
+    /// ones.
     pub fn with_room(alloc: Global, end: End<R>, stream: S, room: Vec<u8>) -> Session<R, S>
         requires { 0 < length room.items }
         ensures { Began (length room.items) end stream result }
@@ -110,8 +113,8 @@ impl<R: Role, S: Stream> Session<R, S> {
         &self.stream
     }
 
-    /// Gives the end and the stream back. Octets that were read and not fed are dropped, and so are the events that were not
-    /// handed out: [`Session::into_all`] gives these too.
+    /// Gives the end and the stream back. Octets that were read and not fed are dropped, and so are the events that
+    /// were not handed out: [`Session::into_all`] gives these too.
     pub fn into_parts(self) -> (End<R>, S)
         ensures end { result.0 ≡ end_of self }
         ensures stream { result.1 ≡ stream_of self }
@@ -186,6 +189,27 @@ impl<R: Role, S: Stream> Session<R, S> {
             × (self.new ≡ self.old) }
     {
         self.end.send_content(channel, method, properties, body)
+    }
+
+    /// Sends a method and its content on a channel, as [`End::send_chunks`]: each chunk of the body is let go once its
+    /// octets stand in the output.
+    pub fn send_chunks(
+        &mut self,
+        channel: u16,
+        method: &Method,
+        properties: &Properties,
+        body: &mut Chunks,
+    ) -> Result<(), AskFault>
+        ensures asked { has_content (method_view method.now).kind ≡ true
+            → Asked self.old (asks.Send channel
+            (message_of (letter_with (method_view method.now) (properties_view properties.now) body.old))) result
+            self.new }
+        ensures alone { has_content (method_view method.now).kind ≡ false → (result ≡ Err AskFault.NotSendable)
+            × (self.new ≡ self.old) }
+        ensures taken { OnOk result (body.new ≡ []) }
+        ensures kept { OnErr result (body.new ≡ body.old) }
+    {
+        self.end.send_chunks(channel, method, properties, body)
     }
 
     /// Asks the other end to send contents on a channel, or no more of them, as [`End::flow`].
@@ -288,8 +312,8 @@ impl<R: Role, S: Stream> Session<R, S> {
         self.events.pop_front()
     }
 
-    /// Writes octets of the output, at most so many, in as many writes as it takes. It answers how many: as many as the limit
-    /// allows and there are. Where there is nothing to write, no write is called.
+    /// Writes octets of the output, at most so many, in as many writes as it takes. It answers how many: as many as the
+    /// limit allows and there are. Where there is nothing to write, no write is called.
     pub fn push(&mut self, limit: usize) -> Result<usize, IoFault>
         ensures { Pushed S.Stream limit self.old result self.new }
     {
@@ -332,8 +356,8 @@ impl<R: Role, S: Stream> Session<R, S> {
     /// Feeds the end what was read before and not fed. Then it reads once, at most as many octets as there is room for,
     /// and feeds all of them. It answers how many it read: at least 1. Nothing is written.
     ///
-    /// Replies wait in the end's output, which has no limit: do not pull while `session.end().output()` is longer than a bound
-    /// of your own.
+    /// Replies wait in the end's output, which has no limit: do not pull while `session.end().output()` is longer than
+    /// a bound of your own.
     pub fn pull(&mut self) -> Result<usize, IoFault>
         ensures { Pulled S.Stream self.old result self.new }
     {
@@ -347,8 +371,8 @@ impl<R: Role, S: Stream> Session<R, S> {
         Ok(count)
     }
 
-    /// Pulls, and then, if that answers Ok, pushes the whole output. A client speaks first, so it pushes before its first
-    /// turn: else both sides wait.
+    /// Pulls, and then, if that answers Ok, pushes the whole output. A client speaks first, so it pushes before its
+    /// first turn: else both sides wait.
     pub fn turn(&mut self) -> Result<(), IoFault>
         ensures { Turned S.Stream self.old result self.new }
     {

@@ -9,7 +9,8 @@ use crate::faults::StreamFailed;
 ///
 /// A stream that tells its octets, as [`Script`](crate::Script) does, says which it will give and which it took. One
 /// that doesn't, as [`Socket`](crate::Socket), says only how many a call moved. Each has two marks that contracts see:
-/// one changes in each call that fails and in no other, one in each read that meets the end of the input and in no other.
+/// one changes in each call that fails and in no other, one in each read that meets the end of the input and in no
+/// other.
 pub trait Stream {
     // The octets that reads will give from here on, where the stream tells them.
     ghost to_give: { Self → Option (List ℕ) } = { λ _. None };

@@ -10,9 +10,9 @@ use amqp_core::{Role, StreamEnd};
 
 /// One end of a connection whose events lend, over a stream.
 ///
-/// [`StreamSession::pull`] reads into room of the caller, whose octets the caller then feeds to [`StreamSession::end`], and
-/// [`StreamSession::push`] writes what the end has put. So bodies of any length stream through the room for one read, and
-/// an event is lent from where it was read. What an application asks, it asks of the end.
+/// [`StreamSession::pull`] reads into room of the caller, whose octets the caller then feeds to [`StreamSession::end`],
+/// and [`StreamSession::push`] writes what the end has put. So bodies of any length stream through the room for one
+/// read, and an event is lent from where it was read. What an application asks, it asks of the end.
 ///
 ///     session.push(usize::MAX)?;
 ///     let mut rest = session.pull(&mut room)?;
@@ -32,11 +32,11 @@ pub struct StreamSession<R: Role, S: Stream> {
 }
 
 impl<R: Role, S: Stream> StreamSession<R, S> {
-    /// Reads once, at most as many octets as there is room for, and at least 1. They are the next that the end is to be fed.
-    /// Nothing is written.
+    /// Reads once, at most as many octets as there is room for, and at least 1. They are the next that the end is to be
+    /// fed. Nothing is written.
     ///
-    /// Replies wait in the end's output, which has no limit: do not pull while `session.end.waiting_in_all()` is above a
-    /// bound of your own.
+    /// Replies wait in the end's output, which has no limit: do not pull while `session.end.waiting_in_all()` is above
+    /// a bound of your own.
     pub fn pull<'a>(&mut self, room: &'a mut [u8]) -> Result<&'a [u8], IoFault>
         requires { 0 < length room.old }
         ensures { Pulled S.Stream (length room.old) self.old result self.new }
@@ -48,8 +48,8 @@ impl<R: Role, S: Stream> StreamSession<R, S> {
         }
     }
 
-    /// Writes octets of the output, at most so many, in as many writes as it takes. It answers how many: as many as the limit
-    /// allows and there are. Where there is nothing to write, no write is called.
+    /// Writes octets of the output, at most so many, in as many writes as it takes. It answers how many: as many as the
+    /// limit allows and there are. Where there is nothing to write, no write is called.
     pub fn push(&mut self, limit: usize) -> Result<usize, IoFault>
         ensures { Pushed S.Stream limit self.old result self.new }
     {

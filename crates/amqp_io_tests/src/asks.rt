@@ -2,7 +2,7 @@
 use crate::ends::client;
 use crate::scripts::script_of;
 use crate::turns::{assert_output, feed, qos};
-use amqp_core::{AskFault, Client};
+use amqp_core::{AskFault, Chunks, Client};
 use amqp_io::{Script, Session};
 use amqp_method::{Kind, Properties, read_method};
 use amqp_value::ShortStr;
@@ -11,9 +11,13 @@ use std::process::Abort;
 use std::test::Fail;
 
 /// The protocol header, start-ok, tune-ok and connection.open are written before; these are channel.open and what
-/// follows on it: basic.qos, basic.publish with a content of two octets, channel.flow with active false, channel.close with 200, and connection.close with 320.
+/// follows on it: basic.qos, basic.publish with a content of two octets, twice, channel.flow with active false,
+/// channel.close with 200, and connection.close with 320.
 const ASKED: &str = "01 0001 00000005 0014000a 00 ce
     01 0001 0000000b 003c000a 00000000 0001 00 ce
+    01 0001 00000009 003c0028 0000 00 00 00 ce
+    02 0001 0000000e 003c0000 0000000000000002 0000 ce
+    03 0001 00000002 6869 ce
     01 0001 00000009 003c0028 0000 00 00 00 ce
     02 0001 0000000e 003c0000 0000000000000002 0000 ce
     03 0001 00000002 6869 ce
@@ -39,6 +43,17 @@ fn send_by_parts(alloc: Global, session: &mut Session<Client, Script>) -> Result
     Ok(())
 }
 
+/// Sends the same with its body in two chunks.
+fn send_in_chunks(alloc: Global, session: &mut Session<Client, Script>) -> Result<(), Fail> {
+    let octets = hex::decode(alloc, "003c00280000000000")?;
+    let method = read_method(alloc, &octets)?;
+    let mut body = Chunks::new(alloc);
+    body.push(Vec::from_slice(alloc, b"h")?)?;
+    body.push(Vec::from_slice(alloc, b"i")?)?;
+    session.send_chunks(1, &method, &Properties::default(), &mut body)?;
+    Ok(())
+}
+
 fn ask_all(
     rt: &impl Abort,
     alloc: Global,
@@ -53,6 +68,7 @@ fn ask_all(
     drop(message);
     sent?;
     send_by_parts(alloc, session)?;
+    send_in_chunks(alloc, session)?;
     session.flow(1, false)?;
     session.close_channel(1, 200, text)?;
     session.close(320, text)?;

@@ -1,6 +1,6 @@
-//! Tests of `amqp_io`'s public calls: streams in memory and over TCP, sessions over streams that move octets in small parts, fail
-//! or end, two sessions that talk to each other, memory that is refused, and the texts of faults. The octets are written from the
-//! profile's tables (`docs/PROTOCOL.md`), and not from what the crates write.
+//! Tests of `amqp_io`'s public calls: streams in memory and over TCP, sessions over streams that move octets in small
+//! parts, fail or end, two sessions that talk to each other, memory that is refused, and the texts of faults. The
+//! octets are written from the profile's tables (`docs/PROTOCOL.md`), and not from what the crates write.
 //!
 //! Most tests are data: steps, a line each, with the answer that is wanted (`scripts`, `streams`, `sessions`).
 #![tactic(auto)]

@@ -1,5 +1,5 @@
-//! A session for whose events there is no room. With ample memory there is room; where each request for memory is refused in
-//! turn, it is seen that nothing is lost.
+//! A session for whose events there is no room. With ample memory there is room; where each request for memory is
+//! refused in turn, it is seen that nothing is lost.
 use crate::ends::server;
 use crate::octets::digits;
 use crate::scripts::script_of;

@@ -2,9 +2,10 @@
 use std::alloc::Global;
 use std::test::Fail;
 
-/// What the ends of `ends` write, by name: connection.start with the mechanism PLAIN and the locale en_US, start-ok of the guest, tune
-/// and tune-ok with 2047 channels and frames of 131072 octets, open of the host `/`, open-ok, channel.open and its answer on channel 1,
-/// and connection.close with the code 501 and the text `frame-error`. `-` is the name of no octets.
+/// What the ends of `ends` write, by name: connection.start with the mechanism PLAIN and the locale en_US, start-ok of
+/// the guest, tune and tune-ok with 2047 channels and frames of 131072 octets, open of the host `/`, open-ok,
+/// channel.open and its answer on channel 1, and connection.close with the code 501 and the text `frame-error`. `-` is
+/// the name of no octets.
 static NAMES: &str = "-
 header 414d515000000901
 start 0100000000001c000a000a00090000000000000005504c41494e00000005656e5f5553ce

@@ -9,8 +9,8 @@ use std::alloc::Global;
 use std::process::Abort;
 use std::test::Fail;
 
-/// What a client writes up to the open of its first channel, and then basic.publish with empty texts, a header that announces
-/// ten octets, and two body frames with `abcd` and `efghij`: 101, 17, 22, 12 and 14 octets.
+/// What a client writes up to the open of its first channel, and then basic.publish with empty texts, a header that
+/// announces ten octets, and two body frames with `abcd` and `efghij`: 101, 17, 22, 12 and 14 octets.
 const CONTENT: &str = "header start-ok tune-ok open open-channel
     01000100000009003c00280000000000ce
     0200010000000e003c0000000000000000000a0000ce

@@ -85,7 +85,8 @@ fn assert_left(
     Ok(())
 }
 
-/// The answers go on, whichever way the octets go, and through references too. Once they are used up, a read gives what fits.
+/// The answers go on, whichever way the octets go, and through references too. Once they are used up, a read gives what
+/// fits.
 fn assert_given_and_taken(rt: &impl Abort, alloc: Global, script: &mut Script) -> Result<(), Fail> {
     assert_steps(rt, alloc, script, "read 4 = 0102")?;
     assert_steps(

@@ -34,8 +34,10 @@ ConnectionAsked Server ask old result new = SideAsked ask old.server result new.
 
 -- one side beats or decides, and the other stays as it is
 abbrev pub ConnectionControlled : Role → Control → (old : Joint) → Answer → (new : Joint) → Type 0
-ConnectionControlled Client control old result new = SideControlled control old.client result new.client × (new.server ≡ old.server)
-ConnectionControlled Server control old result new = SideControlled control old.server result new.server × (new.client ≡ old.client)
+ConnectionControlled Client control old result new = SideControlled control old.client result new.client
+    × (new.server ≡ old.server)
+ConnectionControlled Server control old result new = SideControlled control old.server result new.server
+    × (new.client ≡ old.client)
 
 -- one side is dropped, and the other stays as it is
 abbrev pub ConnectionDrops : Role → (old : Joint) → Answer → (new : Joint) → Type 0
@@ -45,4 +47,5 @@ ConnectionDrops Server old result new = SideDropped old.server result new.server
 -- octets are carried from one side to the other
 abbrev pub ConnectionCarries : Direction → (octets : ℕ) → (old : Joint) → Answer → (new : Joint) → Type 0
 ConnectionCarries direction octets old result new =
-    SidesCarry octets (writer_in direction old) (reader_in direction old) result (writer_in direction new) (reader_in direction new)
+    SidesCarry octets (writer_in direction old) (reader_in direction old) result (writer_in direction new)
+    (reader_in direction new)

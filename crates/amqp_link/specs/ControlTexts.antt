@@ -12,7 +12,8 @@ response_text (octet ∷ octets) = hexadecimal (octet ∷ octets)
 
 abbrev pub answer_text : (mechanism response locale : List ℕ) → List ℕ
 answer_text mechanism response locale =
-    codes "answer-start " ++ (escaped mechanism ++ (codes " " ++ (response_text response ++ (codes " " ++ escaped locale))))
+    codes "answer-start " ++ (escaped mechanism ++ (codes " "
+    ++ (response_text response ++ (codes " " ++ escaped locale))))
 
 abbrev pub control_text : Control → List ℕ
 control_text control.Beat = codes "beat"

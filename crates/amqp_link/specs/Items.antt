@@ -23,11 +23,13 @@ told_at direction (Some joint) = (reader_in direction joint).kept.told
 
 -- the items sent in a life, in order
 abbrev pub sent_in : Linked → Life → Direction → List Item
-sent_in link life direction = items_of life.channel life.number (said_at direction (slice_get link.connections life.connection))
+sent_in link life direction = items_of life.channel life.number
+    (said_at direction (slice_get link.connections life.connection))
 
 -- the items acted on in it
 abbrev pub acted_in : Linked → Life → Direction → List Item
-acted_in link life direction = items_of life.channel life.number (told_at direction (slice_get link.connections life.connection))
+acted_in link life direction = items_of life.channel life.number
+    (told_at direction (slice_get link.connections life.connection))
 
 -- how many lives of a channel began, as the client noted; none where no such connection has begun
 abbrev pub begun_at : (channel : ℕ) → Option Joint → ℕ
@@ -50,7 +52,9 @@ waiting_in link connection direction = waiting_at direction (slice_get link.conn
 
 -- the tallies of a connection
 abbrev pub tallies_at : (index : ℕ) → Joint → List Tallied
-tallies_at index joint = tallies_of index joint.client.kept.notes joint.client.kept.said joint.server.kept.told joint.server.kept.said joint.client.kept.told
+tallies_at index joint =
+    tallies_of index joint.client.kept.notes joint.client.kept.said
+    joint.server.kept.told joint.server.kept.said joint.client.kept.told
 
 -- those of all connections, in the order in which they began
 abbrev pub tally_in : Linked → List Tallied
@@ -58,4 +62,5 @@ tally_in link = flat_map (λ entry. tallies_at entry.0 entry.1) (enumerate_from 
 
 -- the two counts of a life and a direction are the lengths of what was sent in it and of what was acted on
 abbrev pub CountsItems : Linked → Life × Direction × ℕ × ℕ → Type 0
-CountsItems link tally = (tally.2 ≡ length (sent_in link tally.0 tally.1)) × (tally.3 ≡ length (acted_in link tally.0 tally.1))
+CountsItems link tally = (tally.2 ≡ length (sent_in link tally.0 tally.1))
+    × (tally.3 ≡ length (acted_in link tally.0 tally.1))

@@ -18,22 +18,30 @@ use Rattle.amqp_core.specs.Traced.Tracing.{Kept, StandsUnlessFailed}
 
 -- for the reader in this role
 pub record JoinLaws (role : Role) (client_config : Config Client) (server_config : Config Server) : Type 0 where
-  pub none : (mine theirs : History) (endpoint : Endpoint) (fed written piece later : List ℕ) → FindsNoFaultWithOctets role client_config server_config mine theirs endpoint fed written piece later
-  pub feeds : (mine theirs : History) (endpoint : Endpoint) (fed written piece later : List ℕ) → FeedStaysPair role client_config server_config mine theirs endpoint fed written piece later
+  pub none : (mine theirs : History) (endpoint : Endpoint) (fed written piece later : List ℕ)
+      → FindsNoFaultWithOctets role client_config server_config mine theirs endpoint fed written piece later
+  pub feeds : (mine theirs : History) (endpoint : Endpoint) (fed written piece later : List ℕ)
+      → FeedStaysPair role client_config server_config mine theirs endpoint fed written piece later
   pub grown : (mine theirs : History) (endpoint : Endpoint) (fed written piece later : List ℕ) (after : History)
       → GrownStaysPair role client_config server_config mine theirs endpoint fed written piece later after
   pub put_as : (history : History) (opening written : List ℕ) (output : Output)
-      → OctetsArePutAs (other_end role) (config_of (other_end role) client_config server_config) false history opening written output
+      → OctetsArePutAs (other_end role) (config_of
+      (other_end role) client_config server_config) false history opening written output
   pub reads_back : AllReadsBack (other_end role) (config_of (other_end role) client_config server_config)
   pub openings : OpeningsMeet role
-  pub stand : (kept : Kept) (history : History) → StandsUnlessFailed role (config_of role client_config server_config) kept history
-  pub not_yet : (end : End) (history : History) → StandingHasNotFailed role (config_of role client_config server_config) end history
+  pub stand : (kept : Kept) (history : History) → StandsUnlessFailed role
+      (config_of role client_config server_config) kept history
+  pub not_yet : (end : End) (history : History) → StandingHasNotFailed role
+      (config_of role client_config server_config) end history
   pub wrote : (endpoint : Endpoint) (history : History) (fed written : List ℕ) (n : ℕ)
-      → WroteFollows (other_end role) (config_of (other_end role) client_config server_config) endpoint history fed written n
+      → WroteFollows (other_end role) (config_of
+      (other_end role) client_config server_config) endpoint history fed written n
   pub output : OutputAfterWrite
   pub leaves : WriteLeaves
-  pub within : (endpoint : Endpoint) (piece : List ℕ) → FeedTakesWithin role (config_of role client_config server_config) endpoint piece
+  pub within : (endpoint : Endpoint) (piece : List ℕ) → FeedTakesWithin role
+      (config_of role client_config server_config) endpoint piece
 
 -- for either
 abbrev pub Laws : Type 0
-Laws = (role : Role) (client_config : Config Client) (server_config : Config Server) → JoinLaws role client_config server_config
+Laws = (role : Role) (client_config : Config Client) (server_config : Config Server)
+    → JoinLaws role client_config server_config

@@ -12,21 +12,24 @@ use Rattle.amqp_model.specs.Pair.Pairs.{config_of}
 use Rattle.amqp_core.specs.Traced.Tracing.{IsTraceOf}
 use Rattle.amqp_link.specs.Seats.{Seated}
 
--- One side with its history, in which there is no fault: it is the trace of it, what it wrote and has to write are the octets of
--- the frames put in it, and, unless it was dropped, it stands for it.
+-- One side with its history, in which there is no fault: it is the trace of it, what it wrote and has to write are the
+-- octets of the frames put in it, and, unless it was dropped, it stands for it.
 pub record StandsAt (role : Role) (config : Config role) (seated : Seated) (history : History) : Type 0 where
   pub lawful : Lawful role config false history
   pub trace : IsTraceOf role config seated.kept history
   pub output : IsOutputOf (opening_written role) (frames_put history) seated.kept.written seated.kept.endpoint.output
-  pub stands : seated.dropped ≡ false → EndpointStandsFor role config seated.kept.endpoint history seated.kept.fed seated.kept.written
+  pub stands : seated.dropped ≡ false
+      → EndpointStandsFor role config seated.kept.endpoint history seated.kept.fed seated.kept.written
 
 -- Their histories are those of a pair, and each was fed what the other wrote.
-pub record AreJoined (role : Role) (client_config : Config Client) (server_config : Config Server) (mine theirs : Seated) : Type 0 where
+pub record AreJoined (role : Role) (client_config : Config Client) (server_config : Config Server)
+    (mine theirs : Seated) : Type 0 where
   pub my_history : History
   pub their_history : History
   pub pair : PairWrites role client_config server_config my_history their_history
   pub mine_stands : StandsAt role (config_of role client_config server_config) mine my_history
-  pub theirs_stands : StandsAt (other_end role) (config_of (other_end role) client_config server_config) theirs their_history
+  pub theirs_stands : StandsAt (other_end role) (config_of
+      (other_end role) client_config server_config) theirs their_history
   pub to_mine : mine.kept.fed ≡ theirs.kept.written
   pub to_theirs : theirs.kept.fed ≡ mine.kept.written
 

@@ -49,24 +49,31 @@ pub record DoesAt (does : Joint → Joint → Type 0) (index : ℕ) (old new : L
   pub others : new ≡ with_connections old (slice_set old.connections index there)
 
 -- It is done with this connection, or no connection with this number has begun.
-pub data DoneAt (does : Joint → Answer → Joint → Type 0) (index : ℕ) (old : Linked) (answer : Answer) (new : Linked) : Type 0 where
-  missing : length old.connections ≤ index → answer ≡ Err faults.NoSuchConnection → new ≡ old → DoneAt does index old answer new
+pub data DoneAt (does : Joint → Answer → Joint → Type 0) (index : ℕ) (old : Linked) (answer : Answer)
+    (new : Linked) : Type 0 where
+  missing : length old.connections ≤ index → answer ≡ Err faults.NoSuchConnection → new ≡ old
+      → DoneAt does index old answer new
   done : DoesAt (λ here there. does here answer there) index old new → DoneAt does index old answer new
 
 -- a step, with its answer
 abbrev pub Steps : (old : Linked) → Step → Answer → (new : Linked) → Type 0
 Steps old steps.Begin answer new = Begins old answer new
-Steps old (steps.Ask index side ask) answer new = DoneAt (ConnectionAsked (role_of side) (ask_view ask)) index old answer new
-Steps old (steps.Control index side control) answer new = DoneAt (ConnectionControlled (role_of side) (control_view control)) index old answer new
-Steps old (steps.Carry index direction octets) answer new = DoneAt (ConnectionCarries direction octets) index old answer new
+Steps old (steps.Ask index side ask) answer new = DoneAt
+    (ConnectionAsked (role_of side) (ask_view ask)) index old answer new
+Steps old (steps.Control index side control) answer new = DoneAt
+    (ConnectionControlled (role_of side) (control_view control)) index old answer new
+Steps old (steps.Carry index direction octets) answer new = DoneAt
+    (ConnectionCarries direction octets) index old answer new
 Steps old (steps.Drop index side) answer new = DoneAt (ConnectionDrops (role_of side)) index old answer new
 
 -- Steps one after another, of which so many were refused for another reason than being out of memory.
 pub data Runs (old : Linked) : List Step → (refused : ℕ) → (new : Linked) → Type 0 where
   nothing : Runs old [] 0 old
-  does : {before : List Step} {refused : ℕ} {then new : Linked} (step : Step) → Runs old before refused then → Steps then step (Ok (tt {0})) new
+  does : {before : List Step} {refused : ℕ} {then new : Linked} (step : Step) → Runs old before refused then → Steps
+      then step (Ok (tt {0})) new
       → Runs old (before ++ step ∷ []) refused new
-  refuses : {before : List Step} {refused : ℕ} {then new : Linked} (step : Step) (fault : LinkFault) → Runs old before refused then
+  refuses : {before : List Step} {refused : ℕ} {then new : Linked} (step : Step) (fault : LinkFault)
+      → Runs old before refused then
       → fault ≢ faults.OutOfMemory → Steps then step (Err fault) new → Runs old (before ++ step ∷ []) (suc refused) new
 
 -- Memory was refused at the step with this index, and the steps after it weren't done.

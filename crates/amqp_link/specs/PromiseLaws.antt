@@ -20,30 +20,40 @@ use Rattle.amqp_model.specs.Laws.SentLaws.{ActsOnPrefixOfItems, AllItemsActedOnA
 
 -- of every two ends
 pub record PromiseLaws (role : Role) (client_config : Config Client) (server_config : Config Server) : Type 0 where
-  pub prefix : (mine theirs : History) (n : ℕ) → PairAt role client_config server_config mine theirs → ActsOnPrefixOfItems role (suc n) mine theirs
+  pub prefix : (mine theirs : History) (n : ℕ) → PairAt role client_config server_config mine theirs
+      → ActsOnPrefixOfItems role (suc n) mine theirs
   pub lives : (mine theirs : History) (n : ℕ) → LivesAgree role client_config server_config mine theirs n
-  pub closed : (mine theirs : History) (n : ℕ) → PairAt role client_config server_config mine theirs → AllItemsActedOnAtClose role (suc n) mine theirs
-  pub ended : (mine theirs : History) (n : ℕ) → PairAt role client_config server_config mine theirs → AllItemsActedOnOfEnded role (suc n) mine theirs
-  pub frames : (limit : ℕ) (mine theirs : History) (put fed unfinished rest : List ℕ) → OctetsInFlightAreFrames role limit mine theirs put fed unfinished rest
-  pub items : (mine theirs : History) (unfinished rest : List ℕ) (n : ℕ) → ItemsSentAreActedOnOrWaiting role client_config server_config mine theirs unfinished rest n
+  pub closed : (mine theirs : History) (n : ℕ) → PairAt role client_config server_config mine theirs
+      → AllItemsActedOnAtClose role (suc n) mine theirs
+  pub ended : (mine theirs : History) (n : ℕ) → PairAt role client_config server_config mine theirs
+      → AllItemsActedOnOfEnded role (suc n) mine theirs
+  pub frames : (limit : ℕ) (mine theirs : History) (put fed unfinished rest : List ℕ)
+      → OctetsInFlightAreFrames role limit mine theirs put fed unfinished rest
+  pub items : (mine theirs : History) (unfinished rest : List ℕ) (n : ℕ)
+      → ItemsSentAreActedOnOrWaiting role client_config server_config mine theirs unfinished rest n
   pub pause : (mine theirs : History) (n : ℕ) → NoContentFromPaused role client_config server_config mine theirs n
-  pub waits : (mine theirs : History) (limit : ℕ) (put fed unfinished rest : List ℕ) → NothingWaitsForClosed role client_config server_config mine theirs limit put fed unfinished rest
+  pub waits : (mine theirs : History) (limit : ℕ) (put fed unfinished rest : List ℕ)
+      → NothingWaitsForClosed role client_config server_config mine theirs limit put fed unfinished rest
   pub openings : OpeningsMeet role
-  pub before_first : (mine theirs : History) (n : ℕ) → PairAt role client_config server_config mine theirs → NoItemsBeforeFirstLife role (suc n) mine
+  pub before_first : (mine theirs : History) (n : ℕ) → PairAt role client_config server_config mine theirs
+      → NoItemsBeforeFirstLife role (suc n) mine
 
 -- of every end
 pub record EndPromiseLaws (role : Role) (config : Config role) : Type 0 where
   pub told : (n : ℕ) (history : History) → TellsWhatIsActedOn role config (suc n) history
   pub said : (n : ℕ) (history : History) → SaysWhatIsSent role (suc n) history
   pub channel_0 : (history : History) → NothingOfChannel0 role config history
-  pub put_as : (history : History) (opening written : List ℕ) (output : Output) → OctetsArePutAs role config false history opening written output
+  pub put_as : (history : History) (opening written : List ℕ) (output : Output)
+      → OctetsArePutAs role config false history opening written output
   pub reads_back : AllReadsBack role config
   pub not_yet : (end : End) (history : History) → StandingHasNotFailed role config end history
 
 -- all of them
 pub record Laws : Type 0 where
   pub encoded : (taken : List Payload) (items : List Item) → ItemsAreEncoded taken items
-  pub pairs : (role : Role) (client_config : Config Client) (server_config : Config Server) → PromiseLaws role client_config server_config
+  pub pairs : (role : Role) (client_config : Config Client) (server_config : Config Server)
+      → PromiseLaws role client_config server_config
   pub ends : (role : Role) (config : Config role) → EndPromiseLaws role config
-  pub in_turn : (client_config : Config Client) (server_config : Config Server) (client server : History) (n life : ℕ) → PairAnswersInTurn client_config server_config client server n life
+  pub in_turn : (client_config : Config Client) (server_config : Config Server) (client server : History) (n life : ℕ)
+      → PairAnswersInTurn client_config server_config client server n life
   pub one_at_a_time : (config : Config Client) (history : History) (n life : ℕ) → AsksOneAtATime config history n life

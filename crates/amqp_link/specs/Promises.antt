@@ -1,5 +1,5 @@
--- What the two ends of a connection keep to each other, by the histories that they are the traces of: what was put and taken at
--- either, in which no fault was found.
+-- What the two ends of a connection keep to each other, by the histories that they are the traces of: what was put and
+-- taken at either, in which no fault was found.
 use Rattle.std.specs.Prelude.{◌≡◌, ◌≢◌, ◌≤◌, true, false, ℕ, suc, List, [], ◌∷◌, ◌++◌, length, map}
 use Rattle.amqp_model.specs.Output.Arrangement.{on}
 use Rattle.amqp_model.specs.Pair.Carried.{acted, message_frames, sent}
@@ -26,10 +26,11 @@ use Rattle.amqp_link.specs.Seats.{Seated}
 -- the frames acted on in the life that goes on, and then the messages among those that are in flight
 abbrev pub acted_and_waiting : Role → (mine : History) → (n : ℕ) → (waiting : List Frame) → List Frame
 acted_and_waiting role mine n waiting =
-    acted role (life_on role (suc n) mine) (notes_on (suc n) mine) ++ message_frames (map as_carried (on (suc n) waiting))
+    acted role (life_on role (suc n) mine) (notes_on (suc n) mine)
+    ++ message_frames (map as_carried (on (suc n) waiting))
 
--- The octets that the reader has taken of an unfinished frame, and those that wait for it, are those of whole frames; and what the
--- writer sent in the life is what the frames acted on, followed by these, encode.
+-- The octets that the reader has taken of an unfinished frame, and those that wait for it, are those of whole frames;
+-- and what the writer sent in the life is what the frames acted on, followed by these, encode.
 pub record OnItsWay (role : Role) (reader writer : Seated) (mine theirs : History) (n : ℕ) : Type 0 where
   pub flight : InFlight mine theirs reader.kept.endpoint.unfinished (to_write writer)
   pub sent : items_sent (other_end role) (suc n) (life_on role (suc n) mine) theirs
@@ -64,16 +65,19 @@ pub record KeepsOn (role : Role) (reader writer : Seated) (mine theirs : History
   pub closed : AllItemsActedOnAtClose role (suc n) mine theirs
   pub connection_closed : AllItemsActedOnOfEnded role (suc n) mine theirs
   -- and of one that goes on, the rest is in flight
-  pub on_its_way : reader.dropped ≡ false → has_opened role mine ≡ true → IsLive role (notes_on (suc n) mine) → OnItsWay role reader writer mine theirs n
+  pub on_its_way : reader.dropped ≡ false → has_opened role mine ≡ true → IsLive role (notes_on (suc n) mine)
+      → OnItsWay role reader writer mine theirs n
   pub paused : TakesNoneWhilePaused role mine n
 
 -- A reader that wasn't dropped has not failed; and where it is closed, nothing waits for it.
 pub record StaysWhole (reader writer : Seated) : Type 0 where
   pub not_failed : reader.dropped ≡ false → reader.kept.endpoint.end.phase ≢ Failed
-  pub nothing_waits : reader.dropped ≡ false → reader.kept.endpoint.end.phase ≡ Closed → (reader.kept.endpoint.unfinished ≡ []) × (to_write writer ≡ [])
+  pub nothing_waits : reader.dropped ≡ false → reader.kept.endpoint.end.phase ≡ Closed
+      → (reader.kept.endpoint.unfinished ≡ []) × (to_write writer ≡ [])
 
 -- Of both, in both directions.
-pub record Promises (client_config : Config Client) (server_config : Config Server) (client server : Seated) : Type 0 where
+pub record Promises (client_config : Config Client) (server_config : Config Server)
+    (client server : Seated) : Type 0 where
   pub client_history : History
   pub server_history : History
   -- the ends are the traces of these, and no fault was found in them
@@ -85,4 +89,5 @@ pub record Promises (client_config : Config Client) (server_config : Config Serv
   pub server_whole : StaysWhole server client
   -- the n-th reply answers the n-th request, and one request at most has no reply yet
   pub in_turn : (n life : ℕ) → AllInTurn (suc n) life client_history server_history
-  pub one_at_a_time : (n life : ℕ) → length (requests_at Client (suc n) life client_history) ≤ suc (length (replies_at Client (suc n) life client_history))
+  pub one_at_a_time : (n life : ℕ) → length (requests_at Client (suc n) life client_history) ≤ suc
+      (length (replies_at Client (suc n) life client_history))

@@ -42,9 +42,10 @@ pub record IsNew (set_up : (role : Role) × Config role) (seated : Seated) : Typ
 
 -- What an application does.
 
--- What comes of it, by the answer: the end accepts it; or the side was dropped, or its end has this refusal, or else memory
--- was refused, and nothing has changed.
-abbrev pub SideAnswers : (refused : Option Refusal) → (Accepts : Type 0) → (old : Seated) → Answer → (new : Seated) → Type 0
+-- What comes of it, by the answer: the end accepts it; or the side was dropped, or its end has this refusal, or else
+-- memory was refused, and nothing has changed.
+abbrev pub SideAnswers : (refused : Option Refusal) → (Accepts : Type 0) → (old : Seated) → Answer → (new : Seated)
+    → Type 0
 SideAnswers refused Accepts old (Ok done) new = Accepts
 SideAnswers refused Accepts old (Err faults.Dropped) new = (old.dropped ≡ true) × (new ≡ old)
 SideAnswers refused Accepts old (Err (faults.Ask fault)) new =
@@ -59,8 +60,8 @@ SideAnswers refused Accepts old (Err faults.NotSoMany) new = ⊥
 abbrev pub refusal_at : Seated → Ask → Option Refusal
 refusal_at seated ask = refusal seated.set_up.0 seated.kept.endpoint.end ask
 
--- An ask is accepted: the end is left as the definitions say, and each history that it was the trace of goes on with the frames
--- of the ask.
+-- An ask is accepted: the end is left as the definitions say, and each history that it was the trace of goes on with
+-- the frames of the ask.
 pub record AcceptsBy (set_up : (role : Role) × Config role) (ask : Ask) (old new : Seated) : Type 0 where
   pub was_there : old.dropped ≡ false
   pub is_there : new.dropped ≡ false
@@ -84,8 +85,8 @@ SideAsked ask old answer new = SideAnswers (refusal_at old ask) (SideAccepts ask
 abbrev pub verdict_by : (set_up : (role : Role) × Config role) → Seated → Control → AskVerdict
 verdict_by set_up seated control = verdict_at set_up.0 set_up.1 control seated.kept.endpoint
 
--- It is accepted: the end puts one frame and is left as the definitions say, and each history that it was the trace of goes on
--- with the frame.
+-- It is accepted: the end puts one frame and is left as the definitions say, and each history that it was the trace of
+-- goes on with the frame.
 pub record AcceptsControlBy (set_up : (role : Role) × Config role) (control : Control) (old new : Seated) : Type 0 where
   pub was_there : old.dropped ≡ false
   pub is_there : new.dropped ≡ false
@@ -128,14 +129,16 @@ piece_of octets writer = take octets (to_write writer)
 abbrev pub feeding_of : (set_up : (role : Role) × Config role) → (piece : List ℕ) → (reader : Seated) → Feeding
 feeding_of set_up piece reader = after_feed set_up.0 set_up.1 reader.kept.endpoint piece
 
--- What a reader makes of a piece, whatever it answers: what the definitions make of it, and what they make of each history that
--- it was the trace of.
-pub record FedBy (set_up : (role : Role) × Config role) (piece : List ℕ) (answer : Result Taken CoreFault) (reader after : Seated) : Type 0 where
+-- What a reader makes of a piece, whatever it answers: what the definitions make of it, and what they make of each
+-- history that it was the trace of.
+pub record FedBy (set_up : (role : Role) × Config role) (piece : List ℕ) (answer : Result Taken CoreFault)
+    (reader after : Seated) : Type 0 where
   pub set_up_same : after.set_up ≡ reader.set_up
   pub fed : IsFed (seen answer) reader.kept.endpoint (feeding_of set_up piece reader) after.kept.endpoint
   pub octets_are : FedGrows (ran_out answer) piece (feeding_of set_up piece reader) reader.kept after.kept
   pub history : (history : History) → IsTraceOf set_up.0 set_up.1 reader.kept history
-      → ∥ TraceGoesOn set_up.0 set_up.1 (ran_out answer) reader.kept.endpoint piece (feeding_of set_up piece reader) history after.kept ∥₁
+      → ∥ TraceGoesOn set_up.0 set_up.1 (ran_out answer) reader.kept.endpoint piece
+      (feeding_of set_up piece reader) history after.kept ∥₁
 
 abbrev pub SideFed : (octets : ℕ) → Result Taken CoreFault → (writer reader after : Seated) → Type 0
 SideFed octets answer writer reader after = FedBy reader.set_up (piece_of octets writer) answer reader after
@@ -146,14 +149,15 @@ pub record WroteBy (set_up : (role : Role) × Config role) (count : ℕ) (old ne
   pub endpoint : new.kept.endpoint ≡ after_wrote count old.kept.endpoint
   pub written : new.kept.written ≡ old.kept.written ++ take count (to_write old)
   pub fed : new.kept.fed ≡ old.kept.fed
-  pub history : (history : History) → IsTraceOf set_up.0 set_up.1 old.kept history → IsTraceOf set_up.0 set_up.1 new.kept history
+  pub history : (history : History) → IsTraceOf set_up.0 set_up.1 old.kept history
+      → IsTraceOf set_up.0 set_up.1 new.kept history
   pub dropped : new.dropped ≡ old.dropped
 
 abbrev pub SideWrote : (count : ℕ) → (old new : Seated) → Type 0
 SideWrote count old new = WroteBy old.set_up count old new
 
--- The first octets of what a writer has to write are fed to the reader, as far as the end of a frame, and the writer has written
--- them.
+-- The first octets of what a writer has to write are fed to the reader, as far as the end of a frame, and the writer
+-- has written them.
 pub record HandsOver (octets count : ℕ) (writer reader writer_after reader_after : Seated) : Type 0 where
   pub taken : Taken
   pub counted : taken.octets ≡ count
@@ -171,12 +175,16 @@ pub record RunsOut (octets : ℕ) (writer reader writer_after reader_after : Sea
   pub writer_same : writer_after ≡ writer
 
 -- so much is handed over, or memory was refused
-abbrev pub HandsOverOr : (octets : ℕ) → Result ℕ OutOfMemory → (writer reader writer_after reader_after : Seated) → Type 0
-HandsOverOr octets (Ok count) writer reader writer_after reader_after = HandsOver octets count writer reader writer_after reader_after
-HandsOverOr octets (Err out) writer reader writer_after reader_after = RunsOut octets writer reader writer_after reader_after
+abbrev pub HandsOverOr : (octets : ℕ) → Result ℕ OutOfMemory → (writer reader writer_after reader_after : Seated)
+    → Type 0
+HandsOverOr octets
+    (Ok count) writer reader writer_after reader_after = HandsOver octets count writer reader writer_after reader_after
+HandsOverOr octets
+    (Err out) writer reader writer_after reader_after = RunsOut octets writer reader writer_after reader_after
 
 -- Turn by turn, so many octets are carried: each turn hands over what is left to carry, as far as the end of a frame.
-pub data Carries (octets : ℕ) (writer reader : Seated) : (carried : ℕ) → (writer_after reader_after : Seated) → Type 0 where
+pub data Carries (octets : ℕ) (writer reader : Seated) : (carried : ℕ) → (writer_after reader_after : Seated)
+    → Type 0 where
   none : Carries octets writer reader 0 writer reader
   more : {carried count : ℕ} {writer_then reader_then writer_after reader_after : Seated}
       → Carries octets writer reader carried writer_then reader_then
@@ -196,16 +204,18 @@ pub record CarriesSome (octets : ℕ) (writer reader writer_after reader_after :
 abbrev pub BothSame : (writer reader writer_after reader_after : Seated) → Type 0
 BothSame writer reader writer_after reader_after = (writer_after ≡ writer) × (reader_after ≡ reader)
 
--- What carrying so many octets makes of both sides, by the answer. Where it is refused, the reader was dropped, or fewer octets
--- wait.
+-- What carrying so many octets makes of both sides, by the answer. Where it is refused, the reader was dropped, or
+-- fewer octets wait.
 abbrev pub SidesCarry : (octets : ℕ) → (writer reader : Seated) → Answer → (writer_after reader_after : Seated) → Type 0
 SidesCarry octets writer reader (Ok done) writer_after reader_after =
-    (reader.dropped ≡ false) × (octets ≤ length (to_write writer)) × Carries octets writer reader octets writer_after reader_after
+    (reader.dropped ≡ false) × (octets ≤ length (to_write writer))
+    × Carries octets writer reader octets writer_after reader_after
 SidesCarry octets writer reader (Err faults.Dropped) writer_after reader_after =
     (reader.dropped ≡ true) × BothSame writer reader writer_after reader_after
 SidesCarry octets writer reader (Err faults.NotSoMany) writer_after reader_after =
     (reader.dropped ≡ false) × (length (to_write writer) < octets) × BothSame writer reader writer_after reader_after
 SidesCarry octets writer reader (Err faults.OutOfMemory) writer_after reader_after =
-    (reader.dropped ≡ false) × (octets ≤ length (to_write writer)) × CarriesSome octets writer reader writer_after reader_after
+    (reader.dropped ≡ false) × (octets ≤ length (to_write writer))
+    × CarriesSome octets writer reader writer_after reader_after
 SidesCarry octets writer reader (Err (faults.Ask fault)) writer_after reader_after = ⊥
 SidesCarry octets writer reader (Err faults.NoSuchConnection) writer_after reader_after = ⊥

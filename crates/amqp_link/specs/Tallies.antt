@@ -1,8 +1,8 @@
 -- How much was sent and acted on in each life of each channel of a connection, one entry a life and a direction.
 --
--- A life of a channel begins where the client puts an open there, so a client's notes say how many lives began. The items of
--- a life are those that the ends wrote down with its channel and its number. What was written down with the number 0, or with
--- that of a life that did not begin, has no entry.
+-- A life of a channel begins where the client puts an open there, so a client's notes say how many lives began. The
+-- items of a life are those that the ends wrote down with its channel and its number. What was written down with the
+-- number 0, or with that of a life that did not begin, has no entry.
 use Rattle.std.specs.Prelude.{Bool, true, false, cond, ◌&&◌, ◌==◌, ℕ, max, List, [], ◌∷◌, length, flat_map, count_by}
 use Rattle.std.specs.List.{range_with_len}
 use Rattle.amqp_model.specs.Pair.Sent.{Telling, items_of}
@@ -51,33 +51,53 @@ pub record Tallied : Type 0 where
   pub acted : ℕ
 
 -- the two entries of a life, to the server first, with these counts
-abbrev pub two_entries : (connection channel life : ℕ) → (client_said server_told server_said client_told : ℕ) → List Tallied
+abbrev pub two_entries : (connection channel life : ℕ) → (client_said server_told server_said client_told : ℕ)
+    → List Tallied
 two_entries connection channel life client_said server_told server_said client_told =
-    record { connection = connection; channel = channel; life = life; to_server = true; sent = client_said; acted = server_told }
-    ∷ record { connection = connection; channel = channel; life = life; to_server = false; sent = server_said; acted = client_told }
+    record {
+      connection = connection;
+      channel = channel;
+      life = life;
+      to_server = true;
+      sent = client_said;
+      acted = server_told;
+    }
+    ∷ record {
+      connection = connection;
+      channel = channel;
+      life = life;
+      to_server = false;
+      sent = server_said;
+      acted = client_told;
+    }
     ∷ []
 
--- the entries of a life: to the server the client sent what it said, and the server acted on what it was told; to the client
--- it is the other way round
-abbrev pub tallies_in : (connection channel life : ℕ) → (client_said server_told server_said client_told : List Telling) → List Tallied
+-- the entries of a life: to the server the client sent what it said, and the server acted on what it was told; to the
+-- client it is the other way round
+abbrev pub tallies_in : (connection channel life : ℕ) →
+    (client_said server_told server_said client_told : List Telling) → List Tallied
 tallies_in connection channel life client_said server_told server_said client_told =
     two_entries connection channel life (count_in channel life client_said) (count_in channel life server_told)
     (count_in channel life server_said) (count_in channel life client_told)
 
 -- the entries of the first lives of a channel, in the order of the lives
-abbrev pub tallies_on : (connection channel lives : ℕ) → (client_said server_told server_said client_told : List Telling) → List Tallied
+abbrev pub tallies_on : (connection channel lives : ℕ)
+    → (client_said server_told server_said client_told : List Telling) → List Tallied
 tallies_on connection channel lives client_said server_told server_said client_told =
-    flat_map (λ life. tallies_in connection channel life client_said server_told server_said client_told) (numbers_to lives)
+    flat_map (λ life. tallies_in connection channel life client_said server_told server_said client_told)
+    (numbers_to lives)
 
 -- the entries of the channels from 1 to this one, in order: of each the lives that began, as the client noted
 abbrev pub tallies_to :
     (last connection : ℕ) → List Noted → (client_said server_told server_said client_told : List Telling) → List Tallied
 tallies_to last connection notes client_said server_told server_said client_told =
-    flat_map (λ channel. tallies_on connection channel (begun_on channel notes) client_said server_told server_said client_told)
+    flat_map (λ channel. tallies_on connection channel
+    (begun_on channel notes) client_said server_told server_said client_told)
     (numbers_to last)
 
--- The entries of a connection: each life that began stands there once in each direction, in the order of the channels and of
--- the lives, to the server first.
-abbrev pub tallies_of : (connection : ℕ) → List Noted → (client_said server_told server_said client_told : List Telling) → List Tallied
+-- The entries of a connection: each life that began stands there once in each direction, in the order of the channels
+-- and of the lives, to the server first.
+abbrev pub tallies_of : (connection : ℕ) → List Noted →
+    (client_said server_told server_said client_told : List Telling) → List Tallied
 tallies_of connection notes client_said server_told server_said client_told =
     tallies_to (last_begun notes) connection notes client_said server_told server_said client_told

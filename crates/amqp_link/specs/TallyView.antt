@@ -21,10 +21,12 @@ abbrev pub counts_of : (begun : List ℕ) → List Telling → List (List ℕ)
 counts_of begun tellings = map (λ entry. counts_in entry.0 entry.1 tellings) (enumerate_from 1 begun)
 
 -- the entries of the first lives of a channel with these counts, of which the first are those of life 1
-abbrev pub tallies_by : (connection channel lives : ℕ) → (client_said server_told server_said client_told : List ℕ) → List Tallied
+abbrev pub tallies_by : (connection channel lives : ℕ) → (client_said server_told server_said client_told : List ℕ)
+    → List Tallied
 tallies_by connection channel lives client_said server_told server_said client_told =
     flat_map
-    (λ life. two_entries connection channel life (slice_index client_said (life - 1)) (slice_index server_told (life - 1))
+    (λ life. two_entries connection channel life (slice_index client_said (life - 1))
+    (slice_index server_told (life - 1))
     (slice_index server_said (life - 1)) (slice_index client_told (life - 1)))
     (numbers_to lives)
 

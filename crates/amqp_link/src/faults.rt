@@ -43,8 +43,8 @@ pub enum LinkFault {
     /// 4: fewer octets wait.
     #[error("fewer octets wait")]
     NotSoMany,
-    /// 5: memory was refused. In a carry the end that reads counts as dropped from then on, after the octets of the frames
-    /// that it took; otherwise the link is as it was.
+    /// 5: memory was refused. In a carry the end that reads counts as dropped from then on, after the octets of the
+    /// frames that it took; otherwise the link is as it was.
     #[error("out of memory")]
     OutOfMemory,
 }

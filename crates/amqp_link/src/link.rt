@@ -79,8 +79,8 @@ impl Link {
     ghost use Rattle.amqp_link.specs.Headline.{Headline};
     ghost use Rattle.amqp_link.specs.LinkView.{link_view};
 
-    /// A link of no connection yet. Each connection that begins is of two ends that are set up with copies of these. The fault
-    /// is the client's, or else the server's; it is out of memory only where neither has one.
+    /// A link of no connection yet. Each connection that begins is of two ends that are set up with copies of these.
+    /// The fault is the client's, or else the server's; it is out of memory only where neither has one.
     pub fn new(
         alloc: Global,
         client: Config<Client>,
@@ -189,8 +189,8 @@ impl Link {
         }
     }
 
-    /// Does steps in order, also after refused ones, and answers how many were refused. Out of memory, it answers the index of
-    /// the step that met it, after which none was done.
+    /// Does steps in order, also after refused ones, and answers how many were refused. Out of memory, it answers the
+    /// index of the step that met it, after which none was done.
     #[tactic(auto, using(crate::proofs::Promising::headline))]
     pub fn run(&mut self, steps: &[Step]) -> Result<usize, usize>
         ensures runs { RunsTo (link_view self.old) steps.now result (link_view self.new) }
@@ -266,8 +266,8 @@ impl Link {
         items_of(self.alloc, told, life.channel, life.number)
     }
 
-    /// How many items were sent and acted on in each life that began: by connection, channel and number, each to the server
-    /// first.
+    /// How many items were sent and acted on in each life that began: by connection, channel and number, each to the
+    /// server first.
     #[tactic(auto, using(crate::proofs::Promising::headline))]
     pub fn tally(&self) -> Result<Vec<(Life, Direction, usize, usize)>, OutOfMemory>
         ensures tallies { IfOk result (λ tallies. map tally_view tallies.items ≡ tally_in (link_view self.now)) }

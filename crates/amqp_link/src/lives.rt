@@ -11,7 +11,8 @@ use crate::steps::Direction;
 use amqp_core::{Direction as Way, Item, Note, Telling, Word};
 use std::alloc::Global;
 
-/// A life of a channel of a connection: from the open that its client puts. The number counts the opens of that channel, from 1.
+/// A life of a channel of a connection: from the open that its client puts. The number counts the opens of that
+/// channel, from 1.
 #[derive(Clone, Copy, PartialEq, Eq, Debug)]
 pub struct Life {
     pub connection: usize,
@@ -170,8 +171,8 @@ fn add_lives(
     Ok(())
 }
 
-/// Adds the tallies of a connection: of each life that began, one in each direction, in the order of the channels and of the
-/// lives, to the server first.
+/// Adds the tallies of a connection: of each life that began, one in each direction, in the order of the channels and
+/// of the lives, to the server first.
 pub(crate) fn add_tallies(
     alloc: Global,
     tallies: &mut Vec<(Life, Direction, usize, usize)>,

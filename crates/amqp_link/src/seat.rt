@@ -48,8 +48,8 @@ fn are_octets(octets: &[u8])
     ensures { All IsOctet octets.now }
 {}
 
-/// Feeds a reader the first octets of what a writer has to write, as far as the end of a frame, and takes them off there. Out of
-/// memory, the reader is dropped.
+/// Feeds a reader the first octets of what a writer has to write, as far as the end of a frame, and takes them off
+/// there. Out of memory, the reader is dropped.
 fn hand_over<W: Role, R: Role>(
     writer: &mut Seat<W>,
     reader: &mut Seat<R>,
@@ -79,7 +79,8 @@ fn hand_over<W: Role, R: Role>(
     Ok(count)
 }
 
-/// Carries so many octets of what a writer has to write to a reader, frame by frame. Out of memory, the reader is dropped.
+/// Carries so many octets of what a writer has to write to a reader, frame by frame. Out of memory, the reader is
+/// dropped.
 pub(crate) fn carry<W: Role, R: Role>(
     writer: &mut Seat<W>,
     reader: &mut Seat<R>,

@@ -41,7 +41,8 @@ pub enum Step {
     Control(usize, Side, Control),
     /// So many of the octets that wait are fed to the end that reads them, in order.
     Carry(usize, Direction, usize),
-    /// One side of a connection is dropped: its end takes and asks nothing more. What it has written can still be carried.
+    /// One side of a connection is dropped: its end takes and asks nothing more. What it has written can still be
+    /// carried.
     Drop(usize, Side),
 }
 
@@ -83,9 +84,9 @@ fn write_asked<W: fmt::Write>(f: &mut fmt::Formatter<W>, ask: &Ask) -> fmt::Resu
     }
 }
 
-/// Prints the step as a line of a script that `amqp link` reads: `carry 1 to-server 30`, `ask 2 client close 200 bye`. Two kinds
-/// of asks print what a script doesn't say in these words: a message prints as its own text, as it does in an [`Ask`], and a
-/// text that isn't one word of printable ASCII prints with its other octets escaped.
+/// Prints the step as a line of a script that `amqp link` reads: `carry 1 to-server 30`, `ask 2 client close 200 bye`.
+/// Two kinds of asks print what a script doesn't say in these words: a message prints as its own text, as it does in an
+/// [`Ask`], and a text that isn't one word of printable ASCII prints with its other octets escaped.
 impl fmt::Display for Step {
     ghost output = { λ step. Some (step_text step) };
 

@@ -4,7 +4,8 @@ use amqp_core::ConfigFault;
 use std::alloc::Global;
 use std::test::Fail;
 
-/// The greatest frame and channel, the octets of the frame with the hello, and what is first found wrong with an end that has these.
+/// The greatest frame and channel, the octets of the frame with the hello, and what is first found wrong with an end
+/// that has these.
 type Row = (u32, u16, usize, Option<ConfigFault>);
 
 static ROWS: [Row; 7] = [

@@ -8,7 +8,8 @@ use amqp_core::{Ask, Item, Side};
 use amqp_link::{Control, Direction, Life, Link, LinkFault, Step};
 use std::alloc::Global;
 
-/// Two channels, and bodies that take several frames. The servers take small bodies, so some contents close their channels.
+/// Two channels, and bodies that take several frames. The servers take small bodies, so some contents close their
+/// channels.
 const SETTING: Setting = Setting {
     client: Limits {
         frame_max: 4096,
@@ -307,8 +308,8 @@ impl Game {
         Ok(())
     }
 
-    /// Asks something that says an item on a channel. What is put belongs to the last life that began there: while the channel of
-    /// a server is open, the client has not opened it anew.
+    /// Asks something that says an item on a channel. What is put belongs to the last life that began there: while the
+    /// channel of a server is open, the client has not opened it anew.
     pub(crate) fn say(
         &mut self,
         connection: usize,
@@ -341,8 +342,8 @@ impl Game {
         }
     }
 
-    /// Carries so many octets, if so many wait and the end that reads is there. They wait no more, and answers to them may wait the
-    /// other way.
+    /// Carries so many octets, if so many wait and the end that reads is there. They wait no more, and answers to them
+    /// may wait the other way.
     pub(crate) fn carry(
         &mut self,
         connection: usize,

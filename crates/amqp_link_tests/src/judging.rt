@@ -1,4 +1,5 @@
-//! What a link answers after a game: of each life, a prefix of what was sent was acted on, and what was sent is what was asked.
+//! What a link answers after a game: of each life, a prefix of what was sent was acted on, and what was sent is what
+//! was asked.
 use crate::games::{Game, Said, way_to};
 use crate::rules::{Rule, are_in_turn, check, is_prefix, keeps_pauses};
 use crate::tallies::Entry;
@@ -202,8 +203,8 @@ fn last_counts(
     counts
 }
 
-/// Nothing waits. Where a side still has the channel open, it has acted on all that the other side sent in the channel's life.
-/// Answers whether it has.
+/// Nothing waits. Where a side still has the channel open, it has acted on all that the other side sent in the
+/// channel's life. Answers whether it has.
 fn check_open(
     game: &mut Game,
     tally: &[Entry],
@@ -230,7 +231,8 @@ fn check_channel(game: &mut Game, connection: usize, channel: u16) -> Result<boo
     Ok(client)
 }
 
-/// Carries all that can be carried. Where both sides are there, nothing waits then: no answer has an answer, but in the handshake.
+/// Carries all that can be carried. Where both sides are there, nothing waits then: no answer has an answer, but in the
+/// handshake.
 fn settle(game: &mut Game) -> Result<(), Trouble> {
     for connection in 0..game.connections() {
         game.exchange(connection, 5)?;

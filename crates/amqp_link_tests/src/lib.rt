@@ -1,8 +1,9 @@
 //! Tests of `amqp_link`'s public calls. The octets, the counts and the answers are worked out from the profile
 //! (`docs/PROTOCOL.md`) and from what a link promises (`docs/HEADLINE.md`), and not from what the crate answers.
 //!
-//! Most tests are scripts ([`scripts`]): texts that say, line by line, what is done with a link, and what is to come of it. Beside
-//! them, games ([`games`]) do what dice say, and the answers of the link are looked at after each step and at the end.
+//! Most tests are scripts ([`scripts`]): texts that say, line by line, what is done with a link, and what is to come of
+//! it. Beside them, games ([`games`]) do what dice say, and the answers of the link are looked at after each step and
+//! at the end.
 #![tactic(auto)]
 
 #[cfg(test)]

@@ -1,7 +1,7 @@
 //! Messages and items, by words.
 //!
-//! A message is the name of its method, and of a content after it `:` and the body in hexadecimal, as in `publish:6869`. Contents
-//! have no properties.
+//! A message is the name of its method, and of a content after it `:` and the body in hexadecimal, as in
+//! `publish:6869`. Contents have no properties.
 use crate::trouble::Trouble;
 use amqp_core::Item;
 use amqp_method::{Message, Method, Properties, read_method};

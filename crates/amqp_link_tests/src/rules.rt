@@ -45,7 +45,8 @@ pub(crate) fn is_prefix(items: &[Item], of: &[Item]) -> bool {
     items.len() <= of.len() && of.iter().zip(items).all(|(one, other)| *one == *other)
 }
 
-/// From the answer to a flow that asks for no contents until the answer to one that asks for them, none is sent but get-ok.
+/// From the answer to a flow that asks for no contents until the answer to one that asks for them, none is sent but
+/// get-ok.
 pub(crate) fn keeps_pauses(items: &[Item]) -> bool {
     let mut is_paused = false;
     for item in items {

@@ -9,8 +9,8 @@
 //!     acted LIFE WAY ITEM ITEM ..    and the other end acted on these
 //!     tally -> TALLY                 the whole tally, by `CONNECTION.CHANNEL.LIFE WAY acted/sent`
 //!
-//! A step that is refused has after the arrow `refused` and the number of the fault, and that of the ask's after a point. Then the
-//! tally and what waits are to be as before.
+//! A step that is refused has after the arrow `refused` and the number of the fault, and that of the ask's after a
+//! point. Then the tally and what waits are to be as before.
 use crate::links::{Setting, new_link};
 use crate::messages::are_items;
 use crate::steps::{alone, connection, direction, life, pair, split_first, step};
@@ -251,8 +251,8 @@ fn answer_unchanged(
     Ok(format!(in alloc; "{came:?}; before {before}, after {after}")?)
 }
 
-/// Does what a line says. Where something else comes of it than is said after the arrow, or a refused step changes something, the
-/// line is named.
+/// Does what a line says. Where something else comes of it than is said after the arrow, or a refused step changes
+/// something, the line is named.
 fn follow_line(alloc: Global, link: &mut Link, name: &str, line: &str) -> Result<(), Fail> {
     let (words, wanted) = line.split_once(" -> ").unwrap_or((line, ""));
     let came = answer_unchanged(alloc, link, words, wanted)?;

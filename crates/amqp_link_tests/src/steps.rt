@@ -5,7 +5,8 @@
 //!     carry N WAY COUNT
 //!     drop N SIDE
 //!
-//! N is the number of a connection, here from 1. SIDE is `client` or `server`, WAY `to-server` or `to-client`, and ASK one of
+//! N is the number of a connection, here from 1. SIDE is `client` or `server`, WAY `to-server` or `to-client`, and ASK
+//! one of
 //!
 //!     open
 //!     send CHANNEL MESSAGE               the messages are those of [`message`](crate::messages::message)

@@ -3,7 +3,8 @@ use crate::links::DEFAULT;
 use crate::scripts::run;
 use std::test::Fail;
 
-/// The protocol header has 8 octets, the start 36 and its answer 44, the tune 20, its answer and the open 36, and the last answer 13.
+/// The protocol header has 8 octets, the start 36 and its answer 44, the tune 20, its answer and the open 36, and the
+/// last answer 13.
 static HANDSHAKE: &str = "the octets of the handshake
     waiting 1 to-server -> 0
     waiting 1 to-client -> 0
@@ -33,8 +34,8 @@ static HANDSHAKE: &str = "the octets of the handshake
     waiting 1 to-server -> 0
     waiting 1 to-client -> 0";
 
-/// The frame of an open has 13 octets and its answer 16, a close with the text `bye` 22 and its answer 12, a flow and its answer 13, a
-/// select 12, and an unblocked 12; a blocked has 13 beside its text.
+/// The frame of an open has 13 octets and its answer 16, a close with the text `bye` 22 and its answer 12, a flow and
+/// its answer 13, a select 12, and an unblocked 12; a blocked has 13 beside its text.
 static METHODS: &str = "the octets of methods
     begin
     shake 1

@@ -27,7 +27,8 @@ lines_after (Some text) = lines text
 abbrev pub EncodeOctets : List (List ℕ) → List ℕ → Type 0
 EncodeOctets [] octets = octets ≡ []
 EncodeOctets (line ∷ others) octets =
-    (prefix : List ℕ) × (rest : List ℕ) × (decode_of (bare line) ≡ Ok prefix) × EncodeOctets others rest × (octets ≡ prefix ++ rest)
+    (prefix : List ℕ) × (rest : List ℕ) × (decode_of (bare line) ≡ Ok prefix) × EncodeOctets others rest
+    × (octets ≡ prefix ++ rest)
 
 -- Line n, counted from 1, encodes no octets, and each line before it does.
 pub record IsFirstWrong (all : List (List ℕ)) (n : ℕ) : Type 0 where

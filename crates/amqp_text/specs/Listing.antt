@@ -26,9 +26,12 @@ AllWithin (f ∷ frames) = (frame_length f ≤ GREATEST_FRAME) × AllWithin fram
 
 -- a fault stands after so many octets
 abbrev pub FaultAfter : ℕ → List ℕ → FrameFaultKind → ℕ → Type 0
-FaultAfter taken rest UnknownType at = (place : ℕ) × TellsFirst GREATEST_FRAME rest UnknownType place × (at ≡ place_after taken place)
-FaultAfter taken rest TooLarge at = (place : ℕ) × TellsFirst GREATEST_FRAME rest TooLarge place × (at ≡ place_after taken place)
-FaultAfter taken rest BadEnd at = (place : ℕ) × TellsFirst GREATEST_FRAME rest BadEnd place × (at ≡ place_after taken place)
+FaultAfter taken rest UnknownType at = (place : ℕ) × TellsFirst GREATEST_FRAME rest UnknownType place
+    × (at ≡ place_after taken place)
+FaultAfter taken rest TooLarge at = (place : ℕ) × TellsFirst GREATEST_FRAME rest TooLarge place
+    × (at ≡ place_after taken place)
+FaultAfter taken rest BadEnd at = (place : ℕ) × TellsFirst GREATEST_FRAME rest BadEnd place
+    × (at ≡ place_after taken place)
 FaultAfter taken rest OutOfMemory at = at ≡ place_after taken 0
 FaultAfter taken rest Failed at = ⊥
 
@@ -53,4 +56,5 @@ hexadecimal (x ∷ octets) = encode_lower (x ∷ octets)
 
 -- the channel, the kind, the payload's size and the payload
 abbrev pub line_of : Frame → List ℕ
-line_of f = decimal f.channel ++ (32 ∷ (kind_name f.kind ++ (32 ∷ (decimal (length f.payload) ++ (32 ∷ hexadecimal f.payload)))))
+line_of f = decimal f.channel ++ (32 ∷ (kind_name f.kind
+    ++ (32 ∷ (decimal (length f.payload) ++ (32 ∷ hexadecimal f.payload)))))

@@ -41,7 +41,11 @@ fault_number_text faults.OutOfMemory = codes "6"
 -- two spaces, the number, and the place in the payload
 abbrev pub fault_line_of : MethodFault → Line
 fault_line_of fault =
-    record { text = codes "  fault " ++ (fault_number_text fault.kind ++ (codes " at " ++ decimal fault.at)); is_fault = true }
+    record {
+      text = codes "  fault " ++ (fault_number_text fault.kind
+          ++ (codes " at " ++ decimal fault.at));
+      is_fault = true;
+    }
 
 -- the line of what reading gives
 abbrev pub line_of_read : {X : Type 0} → (text_of : X → List ℕ) → Result X MethodFault → Line

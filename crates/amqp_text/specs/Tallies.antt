@@ -35,7 +35,8 @@ pub record Publishes (body : List ℕ) (letter : Letter) : Type 0 where
 -- of these events, newest first, exactly so many tell a content with this body, and none tells another message
 abbrev pub AreExactly : (body : List ℕ) → (count : ℕ) → List Event → Type 0
 AreExactly body count [] = count ≡ 0
-AreExactly body count (Told channel message ∷ events) = Publishes body (message_view message) × ((fewer : ℕ) × (count ≡ fewer + 1) × AreExactly body fewer events)
+AreExactly body count (Told channel message ∷ events) = Publishes body (message_view message)
+    × ((fewer : ℕ) × (count ≡ fewer + 1) × AreExactly body fewer events)
 AreExactly body count (AnswerAsked ∷ events) = AreExactly body count events
 AreExactly body count (LoginAsked ∷ events) = AreExactly body count events
 AreExactly body count (OpenAsked ∷ events) = AreExactly body count events

@@ -22,8 +22,8 @@ pub struct PayloadLine {
     pub is_fault: bool,
 }
 
-/// The line below a method or header frame: two spaces and its text, or `fault N at A` with the place in the payload. No line
-/// stands below any other frame.
+/// The line below a method or header frame: two spaces and its text, or `fault N at A` with the place in the payload.
+/// No line stands below any other frame.
 pub fn payload_line(alloc: Global, frame: &RawFrame) -> Result<Option<PayloadLine>, OutOfMemory>
     ensures { IfOk result (λ line. option_map line_view line ≡ payload_line_of (owned frame.now)) }
 {
@@ -81,7 +81,8 @@ fn line_with(alloc: Global, text: &str) -> Result<PayloadLine, OutOfMemory>
     })
 }
 
-/// The line `fault N at A` of a payload that can't be read, after two spaces. `N` is `2.K` for a field value with the fault `K`.
+/// The line `fault N at A` of a payload that can't be read, after two spaces. `N` is `2.K` for a field value with the
+/// fault `K`.
 fn fault_line(alloc: Global, fault: MethodFault) -> Result<PayloadLine, OutOfMemory>
     ensures line { IfOk result (λ line. line_view line ≡ fault_line_of fault) }
     ensures memory { fault.kind ≡ MethodFaultKind.OutOfMemory → IsErr result }

@@ -1,4 +1,5 @@
--- Messages of a channel that are sent in turn: what waits, what one sending after another makes of it, and why it stops.
+-- Messages of a channel that are sent in turn: what waits, what one sending after another makes of it, and why it
+-- stops.
 use Rattle.std.specs.Prelude.{◌≡◌, ◌≢◌, ◌⊎◌, ℕ, List, [], ◌∷◌, Option, Some}
 use Rattle.amqp_model.specs.End.Asks.{Send, Paused, ReplyPending, Refusal, refusal}
 use Rattle.amqp_model.specs.Stream.Endpoint.{Endpoint}
@@ -24,7 +25,8 @@ left_with before rest endpoint =
 -- the end accepts the message
 abbrev pub Accepts : Standing → Message → Endpoint → Type 0
 Accepts before message endpoint =
-    AcceptsAsk (role_for before.settings) (config_view before.settings) (Send before.channel message) before.endpoint endpoint
+    AcceptsAsk (role_for before.settings) (config_view before.settings)
+    (Send before.channel message) before.endpoint endpoint
 
 -- One message after another is sent, each the oldest of those that wait. So those that were sent, and then those that
 -- still wait, are those that waited.
@@ -32,11 +34,13 @@ pub data Advances (old : Standing) : Standing → Type 0 where
   none_sent : Advances old old
   sends_next :
       (between : Standing) (message : Message) (rest : List Message) (endpoint : Endpoint) → Advances old between
-      → between.waiting ≡ message ∷ rest → Accepts between message endpoint → Advances old (left_with between rest endpoint)
+      → between.waiting ≡ message ∷ rest → Accepts between message endpoint
+      → Advances old (left_with between rest endpoint)
 
 -- why the end refuses the message, if it does
 abbrev pub refused_first : Standing → Message → Option Refusal
-refused_first standing message = refusal (role_for standing.settings) standing.endpoint.end (Send standing.channel message)
+refused_first standing message = refusal (role_for standing.settings) standing.endpoint.end
+    (Send standing.channel message)
 
 -- the message may not go yet: a request is unanswered, or the peer has paused the channel
 abbrev pub HasToWait : Standing → List Message → Type 0

@@ -10,8 +10,8 @@ use std::collections::VecDeque;
 
 /// The messages of one channel that wait for their turn.
 ///
-/// Push what is to be sent, and advance after each push and after each event of the channel: a reply lets the next request
-/// go, and a flow that is lifted the next content.
+/// Push what is to be sent, and advance after each push and after each event of the channel: a reply lets the next
+/// request go, and a flow that is lifted the next content.
 ///
 ///     turns.push(message)?;
 ///     turns.advance(&mut end)?;
@@ -78,9 +78,9 @@ impl Turns {
 
     /// Sends the oldest messages, in order, until the next has to wait or none is left, and answers how many.
     ///
-    /// It waits while a request of this client is unanswered, or while the peer has paused the channel and it is a content.
-    /// A message that is refused for any other reason stays first: [`Turns::take_next`] takes it out. What was sent before
-    /// it has been sent.
+    /// It waits while a request of this client is unanswered, or while the peer has paused the channel and it is a
+    /// content. A message that is refused for any other reason stays first: [`Turns::take_next`] takes it out. What was
+    /// sent before it has been sent.
     pub fn advance<R: Role>(&mut self, end: &mut End<R>) -> Result<usize, AskFault>
         ensures advances { Advances (standing self.old end.old) (standing self.new end.new) }
         ensures count { IfOk result (λ count. count + length (waiting_in self.new) ≡ length (waiting_in self.old)) }

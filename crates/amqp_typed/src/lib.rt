@@ -23,6 +23,7 @@ mod args;
 mod bare;
 mod bare_kinds;
 pub mod basic;
+mod capabilities;
 pub mod channel;
 pub mod confirm;
 pub mod connection;

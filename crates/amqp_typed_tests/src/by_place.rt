@@ -1,4 +1,5 @@
-//! Ten operations with arguments by place, as [`Method::new`] wants them: the same as those of [`by_name`](crate::by_name).
+//! Ten operations with arguments by place, as [`Method::new`] wants them: the same as those of
+//! [`by_name`](crate::by_name).
 use crate::showing::text;
 use amqp_method::{Arg, Kind, Message, Method, Properties};
 use amqp_typed::delivery_mode;

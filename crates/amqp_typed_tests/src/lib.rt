@@ -1,5 +1,6 @@
 //! Tests of `amqp_typed`: each of the 62 methods read into its struct and written again, some made by their
-//! fields, and ten operations made by place and by name. The octets are written from the profile's table of methods (`docs/PROTOCOL.md`), and not from what the crates print.
+//! fields, and ten operations made by place and by name. The octets are written from the profile's table of methods
+//! (`docs/PROTOCOL.md`), and not from what the crates print.
 #![tactic(auto)]
 
 #[cfg(test)]

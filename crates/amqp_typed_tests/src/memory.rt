@@ -1,6 +1,6 @@
-//! What ten operations ask of the allocator, with arguments by place and by name. By themselves these tests compare what
-//! is made; where requests are counted between the marks (`checks/memory/count.c`, preloaded), they show how much each
-//! way takes. Part 40 is an operation by place, and part 41 the same by name.
+//! What ten operations ask of the allocator, with arguments by place and by name. By themselves these tests compare
+//! what is made; where requests are counted between the marks (`checks/memory/count.c`, preloaded), they show how much
+//! each way takes. Part 40 is an operation by place, and part 41 the same by name.
 use crate::marking::mark;
 use crate::showing::{assert_message, assert_method};
 use crate::{by_name, by_place};

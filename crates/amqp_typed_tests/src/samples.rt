@@ -1,7 +1,7 @@
 //! Each method: its octets, written from the table of methods, and its struct as `Debug` prints it, field by field.
 //!
-//! The numbers, strings and tables are those of the tests of `amqp_method`. A short string prints in quotes, a long one as its octets,
-//! and a method without arguments as its name.
+//! The numbers, strings and tables are those of the tests of `amqp_method`. A short string prints in quotes, a long one
+//! as its octets, and a method without arguments as its name.
 
 /// The octets in hexadecimal, and the text.
 pub type Sample = (&'static str, &'static str);

@@ -23,7 +23,7 @@ returns-in-Err-clause-fed g c =
     let new = endpoint_of c.feed.new.self in
     let some : 0 < length unfed = grind (arith, nat_tests) in
     let feeds_ill : Feeds end c.octets.result.now (Err c.in-Err.fault) c.feed.new.self =
-    subst (λ r. Feeds end c.octets.result.now r c.feed.new.self) c.in-Err.is c.feed.ensures.feeds in
+    subst (λ r. Feeds end c.octets.result.now r c.feed.new.self) c.in-Err.is c.feed.ensures in
     record {
       before = intake_of c.loop-self.self;
       fed = c.loop-self.invariant.fed;
@@ -51,13 +51,13 @@ loop-self-preserved g c =
     let new = endpoint_of c.feed.new.self in
     let some : 0 < length unfed = grind (arith, nat_tests) in
     let feeds_well : Feeds end c.octets.result.now (Ok c.in-Ok-feed.taken) c.feed.new.self =
-    subst (λ r. Feeds end c.octets.result.now r c.feed.new.self) c.in-Ok-feed.is c.feed.ensures.feeds in
+    subst (λ r. Feeds end c.octets.result.now r c.feed.new.self) c.in-Ok-feed.is c.feed.ensures in
     let feeds = feeds_as (settings_in c.args.self.now) (settings_at end) _ old new unfed c.octets.result.now c.loop-self.invariant.settings
     c.octets.ensures (record { answered = feeds_well.fed; follows = feeds_well.history }) in
     record {
       fed = fed_further _ _ _ (intake_of c.loop-self.self) _ c.in-Ok-feed.taken c.loop-self.invariant.fed some feeds (ap (λ unfed. unfed.octets) c.fed.ensures)
           (c.keep.ensures ∙ ap (λ events. events ++ option_to_list c.in-Ok-feed.taken.event) c.try_reserve.ensures.items);
-      settings = c.feed.ensures.feeds.settings ∙ c.loop-self.invariant.settings;
+      settings = c.feed.ensures.settings ∙ c.loop-self.invariant.settings;
       stream = c.loop-self.invariant.stream;
       room = ap (λ unfed. unfed.room) c.fed.ensures ∙ c.loop-self.invariant.room;
     }

@@ -11,5 +11,5 @@ use Rattle.amqp_link.proofs.seat.Seat.new.Goals as goal
 pub returns-clause-new : goal.returns-clause-new
 returns-clause-new g c =
     let new = c.in_ok-end.ensures in
-    new-side _ (seat_view record { end = c.in_ok-end.end; dropped = _ }) (ap set_up_as (new.settings ∙ c.in-Ok.ensures.settings) ∙ c.in_ok-config.ensures)
-    (new.endpoint ∙ (c.in-Ok.ensures.begins ∙ ap (λ (s : Settings). new_endpoint (role_for s)) (sym new.settings))) new.trace new.fed new.written refl
+    new-side _ (seat_view record { end = c.in_ok-end.end; dropped = _ }) (ap set_up_as (new.settings ∙ c.in-Ok.ensures.new.settings_are) ∙ c.in_ok-config.ensures)
+    (new.endpoint ∙ (c.in-Ok.ensures.new.endpoint ∙ ap (λ (s : Settings). new_endpoint (role_for s)) (sym new.settings))) new.trace new.fed new.written refl

@@ -1,7 +1,7 @@
 -- The oldest message is sent, has to wait, or is refused.
 use Rattle.std.proofs.Common.{drop, map, sym, ap, subst, refl, arith}
 use Rattle.amqp_method.specs.MessageView.{message_view}
-use Rattle.amqp_channel.specs.Messages.{message_of}
+use Rattle.amqp_channel.specs.Events.EventView.{message_of}
 use Rattle.amqp_core.specs.End.View.{endpoint_of, settings_at}
 use Rattle.amqp_turns.specs.Sends.{none_sent, Advances, IsRefusedFirst, Rests}
 use Rattle.amqp_turns.specs.TurnsView.{standing}
