@@ -23,6 +23,7 @@ typedef struct client_settings {
 	uint16_t channel_max;
 	uint16_t heartbeat;
 	bool gated;
+	bool lends;
 } client_settings;
 
 typedef struct server_settings {
@@ -34,6 +35,7 @@ typedef struct server_settings {
 	uint16_t channel_max;
 	uint16_t heartbeat;
 	bool gated;
+	bool lends;
 } server_settings;
 
 /* What a feed tells. */
@@ -80,20 +82,39 @@ typedef struct given_control {
 	uint8_t kind;
 } given_control;
 
+/* A close for a method. */
+typedef struct given_close {
+	mt_octets text;
+	uint32_t method;
+	uint16_t channel;
+	uint16_t code;
+	bool connection;
+} given_close;
+
 /* What an end answers of itself. */
 typedef struct end_look {
 	uint64_t frames_taken;
 	uint64_t octets_written;
+	uint64_t octets_taken;
 	size_t pending;
+	size_t kept;
+	size_t gathered;
 	mt_agreed agreed;
+	uint16_t heartbeat;
 	uint8_t phase;
 } end_look;
+
+typedef struct cause_told {
+	uint16_t class_id;
+	uint16_t method_id;
+} cause_told;
 
 uint32_t proved_client_open(slot *slot, const client_settings *settings);
 uint32_t proved_server_open(slot *slot, const server_settings *settings);
 uint32_t proved_end_close(slot *slot);
 uint32_t proved_end_make_place(slot *slot, size_t place);
 uint32_t proved_end_feed(slot *slot, size_t place, const uint8_t *piece, size_t length, fed_end *fed);
+uint32_t proved_end_feed_lent(slot *slot, const uint8_t *piece, size_t length, fed_end *fed, seen_event *seen);
 uint32_t proved_end_event(slot *slot, size_t place, seen_event *seen);
 uint32_t proved_end_output(slot *slot, mt_octets *output);
 uint32_t proved_end_wrote(slot *slot, size_t length);
@@ -104,6 +125,12 @@ uint32_t proved_end_control(slot *slot, const given_control *control);
 uint32_t proved_end_look(slot *slot, end_look *look);
 uint32_t proved_end_channel(slot *slot, uint16_t channel, mt_channel *told);
 uint32_t proved_end_waiting(slot *slot, uint16_t channel, size_t *octets);
+uint32_t proved_end_close_for(slot *slot, const given_close *close);
+uint32_t proved_end_heard(slot *slot, uint32_t kind, uint8_t *room, size_t capacity, mt_written *written);
+uint32_t proved_end_forget_heard(slot *slot);
+uint32_t proved_end_closed_for(slot *slot, cause_told *cause);
+uint32_t proved_end_blame(slot *slot, mt_blame *blame);
+uint32_t proved_end_blame_line(slot *slot, uint8_t *room, size_t capacity, mt_written *written);
 
 /* Memory, from where the library takes it (memory.c). */
 void *take_memory(size_t size);
@@ -142,14 +169,15 @@ void mt_client_defaults(mt_client_settings *settings)
 {
 	if (settings)
 		*settings = (mt_client_settings){mt_text("guest"), mt_text("guest"), mt_text("/"), mt_text("PLAIN"),
-						 {NULL, 0}, mt_text("en_US"), {NULL, 0}, 16777216, 131072, 2047, 0, false};
+						 {NULL, 0}, mt_text("en_US"), {NULL, 0}, 16777216, 131072, 2047, 0, false,
+						 false};
 }
 
 void mt_server_defaults(mt_server_settings *settings)
 {
 	if (settings)
 		*settings = (mt_server_settings){mt_text("PLAIN"), mt_text("en_US"), {NULL, 0}, 16777216, 131072, 2047, 0,
-						 false};
+						 false, false};
 }
 
 /* The response of PLAIN: a 0, the user, a 0, the password. */
@@ -196,6 +224,7 @@ uint32_t mt_end_open_client(mt_end *end, const mt_client_settings *given)
 	settings.channel_max = given->channel_max;
 	settings.heartbeat = given->heartbeat;
 	settings.gated = given->gated;
+	settings.lends = given->lends;
 	status = proved_client_open((slot *)end, &settings);
 	if (made.at)
 		give_memory((void *)(uintptr_t)made.at);
@@ -216,6 +245,7 @@ uint32_t mt_end_open_server(mt_end *end, const mt_server_settings *given)
 	settings.channel_max = given->channel_max;
 	settings.heartbeat = given->heartbeat;
 	settings.gated = given->gated;
+	settings.lends = given->lends;
 	return proved_server_open((slot *)end, &settings);
 }
 
@@ -229,25 +259,80 @@ uint32_t mt_end_close(mt_end *end)
 static const mt_event NO_EVENT = {{NOTHING, 0}, {NOTHING, 0}, {NOTHING, 0}, {NOTHING, 0}, 0, 0, 0, 0, 0,
 				  MT_EVENT_NONE, false, 0};
 
-/* Shows the event at a place. What was said of the piece stays. */
+/* The same, as the proved functions show it. */
+static const seen_event NONE_SEEN = {{NOTHING, 0}, {NOTHING, 0}, {NOTHING, 0}, {NOTHING, 0}, 0, 0, 0, 0, 0,
+				     MT_EVENT_NONE, false};
+
+/* What is shown, beside what was said of the piece. */
+static void copy_seen(const seen_event *seen, mt_event *event)
+{
+	event->method = seen->method;
+	event->header = seen->header;
+	event->body = seen->body;
+	event->text = seen->text;
+	event->frame_max = seen->frame_max;
+	event->channel = seen->channel;
+	event->channel_max = seen->channel_max;
+	event->heartbeat = seen->heartbeat;
+	event->code = seen->code;
+	event->kind = seen->kind;
+	event->holds = seen->holds;
+}
+
+/* Shows the event at a place. */
 static uint32_t show(mt_end *end, size_t place, mt_event *event)
 {
-	seen_event seen = {{NOTHING, 0}, {NOTHING, 0}, {NOTHING, 0}, {NOTHING, 0}, 0, 0, 0, 0, 0, MT_EVENT_NONE, false};
+	seen_event seen = NONE_SEEN;
 	uint32_t status = proved_end_event((slot *)end, place, &seen);
 
-	if (status != MT_OK)
-		return status;
-	event->method = seen.method;
-	event->header = seen.header;
-	event->body = seen.body;
-	event->text = seen.text;
-	event->frame_max = seen.frame_max;
-	event->channel = seen.channel;
-	event->channel_max = seen.channel_max;
-	event->heartbeat = seen.heartbeat;
-	event->code = seen.code;
-	event->kind = seen.kind;
-	event->holds = seen.holds;
+	if (status == MT_OK)
+		copy_seen(&seen, event);
+	return status;
+}
+
+/* Feeds an end whose events lend. */
+static uint32_t feed_lent(mt_end *end, const uint8_t *piece, size_t length, mt_event *event)
+{
+	fed_end fed = {0, 0, MT_EVENT_NONE};
+	seen_event seen = NONE_SEEN;
+	uint32_t status = proved_end_feed_lent((slot *)end, piece, length, &fed, &seen);
+
+	*event = NO_EVENT;
+	event->taken = fed.taken;
+	event->code = fed.code;
+	if (status == MT_OK && fed.kind != MT_EVENT_NONE)
+		copy_seen(&seen, event);
+	return status;
+}
+
+/* Whether octets lie in the piece, or there are none: the next feed leaves them as they are. */
+static bool lie_in(mt_octets octets, const uint8_t *piece, size_t length)
+{
+	return octets.length == 0 || ((uintptr_t)octets.at >= (uintptr_t)piece &&
+				      (uintptr_t)octets.at < (uintptr_t)piece + length);
+}
+
+/* Feeds it again and again, up to the end of what lies in the piece. */
+static uint32_t feed_lent_batch(mt_end *end, const uint8_t *piece, size_t length, mt_event *events, size_t capacity,
+				size_t *count, size_t *taken, uint16_t *code)
+{
+	while (*count < capacity && *taken < length) {
+		mt_event *event = &events[*count];
+		uint32_t status = feed_lent(end, piece + *taken, length - *taken, event);
+
+		*taken += event->taken;
+		if (code)
+			*code = event->code;
+		event->taken = *taken;
+		if (status != MT_OK)
+			return status;
+		if (event->kind == MT_EVENT_NONE)
+			break;
+		++*count;
+		if (!lie_in(event->method, piece, length) || !lie_in(event->header, piece, length) ||
+		    !lie_in(event->body, piece, length) || !lie_in(event->text, piece, length))
+			break;
+	}
 	return MT_OK;
 }
 
@@ -259,6 +344,8 @@ uint32_t mt_end_feed(mt_end *end, const uint8_t *piece, size_t length, mt_event 
 	WANTED(end && event && (piece || length == 0));
 	*event = NO_EVENT;
 	status = proved_end_make_place((slot *)end, 0);
+	if (status == MT_OTHER_KIND)
+		return feed_lent(end, piece ? piece : NOTHING, length, event);
 	if (status != MT_OK)
 		return status;
 	status = proved_end_feed((slot *)end, 0, piece ? piece : NOTHING, length, &fed);
@@ -287,8 +374,11 @@ uint32_t mt_end_feed_batch(mt_end *end, const uint8_t *piece, size_t length, mt_
 	*taken = 0;
 	if (code)
 		*code = 0;
+	status = proved_end_make_place((slot *)end, 0);
+	if (status == MT_OTHER_KIND)
+		return feed_lent_batch(end, piece ? piece : NOTHING, length, events, capacity, count, taken, code);
 	if (capacity == 0 || length == 0)
-		return proved_end_make_place((slot *)end, 0);
+		return status;
 	while (status == MT_OK && *count < capacity && *taken < length) {
 		fed_end fed = {0, 0, MT_EVENT_NONE};
 
@@ -390,6 +480,28 @@ uint32_t mt_end_close_connection(mt_end *end, uint16_t code, mt_octets text)
 	ask.text = taken_from(text);
 	ask.code = code;
 	return asked(end, &ask);
+}
+
+/* A close of a channel, or of the connection, for a method. */
+static uint32_t closed_for(mt_end *end, given_close *close, mt_octets text)
+{
+	WANTED(end && are_there(text));
+	close->text = taken_from(text);
+	return proved_end_close_for((slot *)end, close);
+}
+
+uint32_t mt_end_close_channel_for(mt_end *end, uint16_t channel, uint16_t code, mt_octets text, uint32_t kind)
+{
+	given_close close = {text, kind, channel, code, false};
+
+	return closed_for(end, &close, text);
+}
+
+uint32_t mt_end_close_connection_for(mt_end *end, uint16_t code, mt_octets text, uint32_t kind)
+{
+	given_close close = {text, kind, 0, code, true};
+
+	return closed_for(end, &close, text);
 }
 
 uint32_t mt_end_blocked(mt_end *end, mt_octets reason)
@@ -536,4 +648,102 @@ uint32_t mt_end_pending(mt_end *end, size_t *pending)
 	if (status == MT_OK)
 		*pending = look.pending;
 	return status;
+}
+
+uint32_t mt_end_octets_taken(mt_end *end, uint64_t *octets)
+{
+	end_look look;
+	uint32_t status;
+
+	WANTED(end && octets);
+	status = proved_end_look((slot *)end, &look);
+	if (status == MT_OK)
+		*octets = look.octets_taken;
+	return status;
+}
+
+uint32_t mt_end_kept(mt_end *end, size_t *octets)
+{
+	end_look look;
+	uint32_t status;
+
+	WANTED(end && octets);
+	status = proved_end_look((slot *)end, &look);
+	if (status == MT_OK)
+		*octets = look.kept;
+	return status;
+}
+
+uint32_t mt_end_gathered_in_all(mt_end *end, size_t *octets)
+{
+	end_look look;
+	uint32_t status;
+
+	WANTED(end && octets);
+	status = proved_end_look((slot *)end, &look);
+	if (status == MT_OK)
+		*octets = look.gathered;
+	return status;
+}
+
+uint32_t mt_end_heartbeat(mt_end *end, uint16_t *heartbeat)
+{
+	end_look look;
+	uint32_t status;
+
+	WANTED(end && heartbeat);
+	status = proved_end_look((slot *)end, &look);
+	if (status == MT_OK)
+		*heartbeat = look.heartbeat;
+	return status;
+}
+
+uint32_t mt_end_heard(mt_end *end, uint32_t kind, uint8_t *room, size_t capacity, mt_written *written)
+{
+	uint8_t none;
+
+	WANTED(end && written && (room || capacity == 0));
+	*written = (mt_written){0, 0, 0};
+	return proved_end_heard((slot *)end, kind, room ? room : &none, capacity, written);
+}
+
+uint32_t mt_end_forget_heard(mt_end *end)
+{
+	WANTED(end);
+	return proved_end_forget_heard((slot *)end);
+}
+
+uint32_t mt_end_closed_for(mt_end *end, uint16_t *class_id, uint16_t *method_id)
+{
+	cause_told cause = {0, 0};
+	uint32_t status;
+
+	WANTED(end && class_id && method_id);
+	status = proved_end_closed_for((slot *)end, &cause);
+	*class_id = cause.class_id;
+	*method_id = cause.method_id;
+	return status;
+}
+
+uint32_t mt_end_blame(mt_end *end, mt_blame *blame)
+{
+	WANTED(end && blame);
+	*blame = (mt_blame){0, 0, 0, 0, 0, 0, 0, 0};
+	return proved_end_blame((slot *)end, blame);
+}
+
+uint32_t mt_end_blame_line(mt_end *end, char *room, size_t capacity)
+{
+	mt_written written = {0, 0, 0};
+	uint8_t none;
+	uint32_t status;
+
+	WANTED(end && (room || capacity == 0));
+	status = proved_end_blame_line((slot *)end, capacity ? (uint8_t *)room : &none, capacity ? capacity - 1 : 0, &written);
+	if (status != MT_OK)
+		return status;
+	if (capacity == 0)
+		return MT_NO_ROOM;
+	room[written.length] = 0;
+	return MT_OK;
 }

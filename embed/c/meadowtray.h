@@ -482,6 +482,7 @@ typedef struct mt_client_settings {
 	uint16_t channel_max; /* the greatest channel number, from 1 */
 	uint16_t heartbeat;   /* the heartbeat that is wanted, in seconds; 0 is none */
 	bool gated;           /* whether the program answers the server's start itself: MT_EVENT_ANSWER_ASKED */
+	bool lends;           /* whether its events lend the frames of a content as they come: MT_EVENT_BEGINS */
 } mt_client_settings;
 
 /* What a server is set up with. */
@@ -494,6 +495,7 @@ typedef struct mt_server_settings {
 	uint16_t channel_max;
 	uint16_t heartbeat;
 	bool gated; /* whether the program admits logins itself: MT_EVENT_LOGIN_ASKED, MT_EVENT_OPEN_ASKED */
+	bool lends; /* whether its events lend, likewise */
 } mt_server_settings;
 
 /* The defaults: frames of 131072 octets, 2047 channels, bodies of 16777216 octets, no heartbeat, not gated; a client is guest with the
@@ -526,7 +528,13 @@ enum {
 	MT_EVENT_QUIET = 11,     /* a step of the handshake, a heartbeat, or a close that crosses this end's own */
 	MT_EVENT_ANSWER_ASKED = 12, /* a gated client took start: mt_end_answer_start */
 	MT_EVENT_LOGIN_ASKED = 13,  /* a gated server took start-ok: mt_end_admit or mt_end_refuse */
-	MT_EVENT_OPEN_ASKED = 14    /* a gated server took open: likewise */
+	MT_EVENT_OPEN_ASKED = 14,   /* a gated server took open: likewise */
+
+	/* An end that lends tells the frames of a content as they come, and keeps none of them. The content is whole with
+	 * the frame whose event `holds`. One that ends by MT_EVENT_DISCARDED, a close or a fault never was. */
+	MT_EVENT_BEGINS = 15, /* a method that begins a content: `method` */
+	MT_EVENT_HEADS = 16,  /* the content's header: `header`; it holds where the body has no octets */
+	MT_EVENT_PART = 17    /* a part of the body: `body` */
 };
 
 /* What a piece gave. With MT_OK, `taken` octets of it were taken, and `kind` says what came of them. Of a message that
@@ -534,7 +542,8 @@ enum {
  * `holds` says whether it has a content. `channel` is that of each event that concerns one.
  *
  * After MT_END_PEER `code` is that of the close which was put. All octets are lent by the end, until the next call
- * with it. */
+ * with it. Those of an end that lends lie in the piece where the frame lies whole in it: they are read while the piece
+ * stays, too. */
 typedef struct mt_event {
 	mt_octets method;
 	mt_octets header;
@@ -559,7 +568,7 @@ typedef struct mt_event {
  * null where `length` is 0. */
 uint32_t mt_end_feed(mt_end *end, const uint8_t *piece, size_t length, mt_event *event);
 
-/* Shows the event of the last mt_end_feed once more. */
+/* Shows the event of the last mt_end_feed once more. An end that lends keeps none: MT_NO_ROOM. */
 uint32_t mt_end_event(mt_end *end, mt_event *event);
 
 /* Feeds as mt_end_feed does, again and again, and puts the events into events[0] and so on: `count` says how many,
@@ -567,7 +576,9 @@ uint32_t mt_end_event(mt_end *end, mt_event *event);
  * fault; pieces of which no event comes take no place. All that the events lend is read until the next call.
  *
  * At a fault the status is the fault's, and the events before it are there all the same; `code`, which may be null, is
- * that of the close. The end keeps room for as many events as the greatest `capacity` that it was given. */
+ * that of the close. The end keeps room for as many events as the greatest `capacity` that it was given.
+ *
+ * An end that lends keeps none, and stops after a frame that began in an earlier piece too, since that frame is its own. */
 uint32_t mt_end_feed_batch(mt_end *end, const uint8_t *piece, size_t length, mt_event *events, size_t capacity,
 			   size_t *count, size_t *taken, uint16_t *code);
 
@@ -603,6 +614,11 @@ uint32_t mt_end_flow(mt_end *end, uint16_t channel, bool active);
 uint32_t mt_end_close_channel(mt_end *end, uint16_t channel, uint16_t code, mt_octets text);
 uint32_t mt_end_close_connection(mt_end *end, uint16_t code, mt_octets text);
 
+/* The same for a method: the close names its class and its method, and mt_end_closed_for of the other end answers them.
+ * MT_MISFIT too where no method is of this kind. */
+uint32_t mt_end_close_channel_for(mt_end *end, uint16_t channel, uint16_t code, mt_octets text, uint32_t kind);
+uint32_t mt_end_close_connection_for(mt_end *end, uint16_t code, mt_octets text, uint32_t kind);
+
 /* Says that the server takes no more contents, and why, or that it takes them again. Only a server says so. */
 uint32_t mt_end_blocked(mt_end *end, mt_octets reason);
 uint32_t mt_end_unblocked(mt_end *end);
@@ -631,6 +647,26 @@ typedef struct mt_agreed {
 
 uint32_t mt_end_agreed(mt_end *end, mt_agreed *agreed);
 
+/* The heartbeat of it, in seconds; 0 is none, and what stands before. */
+uint32_t mt_end_heartbeat(mt_end *end, uint16_t *heartbeat);
+
+/* What the other end said in the handshake: a client hears MT_CONNECTION_START and MT_CONNECTION_TUNE, a server
+ * MT_CONNECTION_START_OK, MT_CONNECTION_TUNE_OK and MT_CONNECTION_OPEN. Who logs in, to which virtual host, and what
+ * the other end can do stands there. The payload of the method of this kind is written into `room`, which is the
+ * caller's, and stays; mt_method_read reads it. As long as an end keeps it, it may be asked for again.
+ *
+ * MT_NOT_THERE where none of this kind was heard, of kinds that aren't kept, and once it is forgotten;
+ * MT_UNKNOWN_METHOD where no method is of this kind. With any status but MT_OK the room is as it was. */
+uint32_t mt_end_heard(mt_end *end, uint32_t kind, uint8_t *room, size_t capacity, mt_written *written);
+
+/* Forgets what the other end said in the handshake, its credentials among it. What was written into a caller's room is
+ * the caller's to forget. */
+uint32_t mt_end_forget_heard(mt_end *end);
+
+/* What the last close of the other end was about, of a channel or of the connection, of which an event told: the class
+ * and the method that it names, both 0 where it names none. MT_NOT_THERE where there was no close. */
+uint32_t mt_end_closed_for(mt_end *end, uint16_t *class_id, uint16_t *method_id);
+
 /* The state of a channel. */
 enum { MT_STATE_FREE = 1, MT_STATE_OPENING = 2, MT_STATE_OPEN = 3, MT_STATE_CLOSING = 4 };
 
@@ -656,8 +692,75 @@ uint32_t mt_end_waiting(mt_end *end, uint16_t channel, size_t *octets);
  * two looks, nothing came or went between them. They stay at the greatest number of 64 bits. */
 uint32_t mt_end_counters(mt_end *end, uint64_t *frames_taken, uint64_t *octets_written);
 
+/* How many octets the end took in all, also those with which it found fault. It stays at the greatest number of 64
+ * bits. */
+uint32_t mt_end_octets_taken(mt_end *end, uint64_t *octets);
+
 /* How many octets were taken of a frame that isn't whole yet, or of the protocol header. */
 uint32_t mt_end_pending(mt_end *end, size_t *pending);
+
+/* How many octets the end keeps for its peer: of each channel the header of the content under way and what has come of
+ * its body, and those that are pending. Neither this nor the next looks at the channels one by one. */
+uint32_t mt_end_kept(mt_end *end, size_t *octets);
+
+/* How many octets are kept of the bodies of contents that aren't whole yet, on all channels: the sum of `gathered`. */
+uint32_t mt_end_gathered_in_all(mt_end *end, size_t *octets);
+
+/* The rules that the other end can break, each with the code of the close that is put for it. Where there is no code, no
+ * close is put, since none could be read. */
+enum {
+	MT_RULE_PROTOCOL_HEADER = 1,    /* a server hears the protocol header first, of this version */
+	MT_RULE_FRAME_TYPE = 2,         /* a frame is of a type that there is */
+	MT_RULE_FRAME_SIZE = 3,         /* a frame is no longer than the limit: 501 */
+	MT_RULE_FRAME_END = 4,          /* a frame ends with its end octet */
+	MT_RULE_FRAME_MEMORY = 5,       /* never blamed: there is no memory for a frame */
+	MT_RULE_FRAME_FAILED = 6,       /* never blamed: octets after a fault */
+	MT_RULE_HEARTBEAT_EMPTY = 7,    /* a heartbeat is empty: 501 */
+	MT_RULE_HEARTBEAT_ON_ZERO = 8,  /* a heartbeat stands on channel 0: 501 */
+	MT_RULE_KNOWN_METHOD = 9,       /* a method is one that there is: 540 */
+	MT_RULE_NO_SECURE = 10,         /* connection.secure is not implemented: 540 */
+	MT_RULE_SYNTAX = 11,            /* a method or a header is read to its end: 502 */
+	MT_RULE_HANDSHAKE_ORDER = 12,   /* in the handshake comes its next method, or a close: 503 */
+	MT_RULE_TUNE_FRAME_SIZE = 13,   /* tune allows frames of 4096 octets: 501 */
+	MT_RULE_TUNE_OK_RANGE = 14,     /* tune-ok stays within the limits of tune */
+	MT_RULE_HANDSHAKE_IS_OVER = 15, /* after the handshake none of its methods comes: 503 */
+	MT_RULE_CONNECTION_ON_ZERO = 16, /* methods of the class connection stand on channel 0: 503 */
+	MT_RULE_SENT_BY_SIDE = 17,      /* the side may send the method: 503 */
+	MT_RULE_WAS_ASKED = 18,         /* what answers was asked for: 503 */
+	MT_RULE_NOT_ON_ZERO = 19,       /* channel 0 carries what is of the connection: 504 */
+	MT_RULE_CHANNEL_MAXIMUM = 20,   /* a channel's number is at most the agreed one: 504 */
+	MT_RULE_OPENED_ONCE = 21,       /* a channel that is open isn't opened again: 504 */
+	MT_RULE_CHANNEL_OPEN = 22,      /* the channel is open: 504 */
+	MT_RULE_HEADER_DUE = 23,        /* after the method of a content comes its header: 505 */
+	MT_RULE_BODY_DUE = 24,          /* after a header come parts of the body until it is whole: 505 */
+	MT_RULE_CONTENT_BEGUN = 25,     /* a header or a part of a body belongs to a content: 505 */
+	MT_RULE_BODY_SIZE = 26,         /* a body is no longer than its header said: 501 */
+	MT_RULE_WAITING_REQUESTS = 27,  /* at most 1,024 requests of a channel wait for their replies: 506 */
+	MT_RULE_CONTENT_SIZE = 28       /* never blamed: a content is no larger than the end takes */
+};
+
+/* What was wrong with the octets with which an end found fault. `octet` is the place in the stream, counted from 0,
+ * where the frame or the protocol header at fault begins. `frame` is the frame's type octet, or 0 where no frame is
+ * whole; the channel and the kind of the method, 0 where its first octets name none, are that frame's. Where a method or
+ * a header can't be read, `field` is the status of what is wrong with it, as MT_TRAILING, and `field_at` its place in
+ * the payload. `code` is that of the close which was put, or 0, and `rule` the rule that was broken. */
+typedef struct mt_blame {
+	uint64_t octet;
+	size_t field_at;
+	uint32_t field;
+	uint32_t method;
+	uint16_t channel;
+	uint16_t code;
+	uint8_t frame;
+	uint8_t rule;
+} mt_blame;
+
+/* MT_NOT_THERE where the end found no fault with octets, as where memory was refused. */
+uint32_t mt_end_blame(mt_end *end, mt_blame *blame);
+
+/* The same as a line for a log, which a 0 ends: "octet 1043, channel 3: basic.ack while a header is due (505)". 256
+ * octets are room for each. MT_NO_ROOM where `capacity` is less than the line wants; the room is then as it was. */
+uint32_t mt_end_blame_line(mt_end *end, char *room, size_t capacity);
 
 #ifdef __cplusplus
 }

@@ -86,6 +86,7 @@ _LIMITS = [
     ("channel_max", ctypes.c_uint16),
     ("heartbeat", ctypes.c_uint16),
     ("gated", ctypes.c_bool),
+    ("lends", ctypes.c_bool),
 ]
 
 
@@ -123,6 +124,19 @@ class _Message(ctypes.Structure):
 
 class _Agreed(ctypes.Structure):
     _fields_ = [("frame_max", ctypes.c_uint32), ("channel_max", ctypes.c_uint16), ("heartbeat", ctypes.c_uint16)]
+
+
+class _Blame(ctypes.Structure):
+    _fields_ = [
+        ("octet", ctypes.c_uint64),
+        ("field_at", ctypes.c_size_t),
+        ("field", ctypes.c_uint32),
+        ("method", ctypes.c_uint32),
+        ("channel", ctypes.c_uint16),
+        ("code", ctypes.c_uint16),
+        ("frame", ctypes.c_uint8),
+        ("rule", ctypes.c_uint8),
+    ]
 
 
 class _Channel(ctypes.Structure):
@@ -187,6 +201,17 @@ _end_refuse = _declare("mt_end_refuse", _HANDLE, _NUMBER, _Octets)
 _end_answer_start = _declare("mt_end_answer_start", _HANDLE, _Octets, _Octets, _Octets)
 _end_waiting = _declare("mt_end_waiting", _HANDLE, _NUMBER, _SIZE)
 _end_counters = _declare("mt_end_counters", _HANDLE, *[ctypes.POINTER(ctypes.c_uint64)] * 2)
+_end_octets_taken = _declare("mt_end_octets_taken", _HANDLE, ctypes.POINTER(ctypes.c_uint64))
+_end_kept = _declare("mt_end_kept", _HANDLE, _SIZE)
+_end_gathered_in_all = _declare("mt_end_gathered_in_all", _HANDLE, _SIZE)
+_end_heartbeat = _declare("mt_end_heartbeat", _HANDLE, ctypes.POINTER(_NUMBER))
+_end_heard = _declare("mt_end_heard", _HANDLE, ctypes.c_uint32, *_ROOM)
+_end_forget_heard = _declare("mt_end_forget_heard", _HANDLE)
+_end_closed_for = _declare("mt_end_closed_for", _HANDLE, *[ctypes.POINTER(_NUMBER)] * 2)
+_end_close_channel_for = _declare("mt_end_close_channel_for", _HANDLE, _NUMBER, _NUMBER, _Octets, ctypes.c_uint32)
+_end_close_connection_for = _declare("mt_end_close_connection_for", _HANDLE, _NUMBER, _Octets, ctypes.c_uint32)
+_end_blame = _declare("mt_end_blame", _HANDLE, ctypes.POINTER(_Blame))
+_end_blame_line = _declare("mt_end_blame_line", _HANDLE, ctypes.c_char_p, ctypes.c_size_t)
 
 
 class Fault(Exception):
@@ -312,6 +337,7 @@ _PROPERTIES = [_property_name(place).decode() for place in range(14)]
 _PROPERTY_KINDS = {"headers": MT_TABLE, "delivery_mode": MT_OCTET, "priority": MT_OCTET, "timestamp": MT_LONG_LONG}
 _SIGNED = "bsUIlL"
 _NO_ROOM = 7
+_NOT_THERE = 8
 
 
 def _lasting(octets):
@@ -494,6 +520,9 @@ class EventKind(enum.IntEnum):
     ANSWER_ASKED = 12
     LOGIN_ASKED = 13
     OPEN_ASKED = 14
+    BEGINS = 15
+    HEADS = 16
+    PART = 17
 
 
 @dataclass(frozen=True)
@@ -502,7 +531,8 @@ class Event:
 
     A message has a method, and a header and a body where there is a content. The other end's close has a code and a
     text, and blocked a text. A flow has whether contents may be sent. A handshake that is over has
-    both limits and the heartbeat.
+    both limits and the heartbeat. An end that lends tells the method that begins a content, its header and each part of
+    its body, the last two with whether the content is whole.
     """
 
     kind: EventKind
@@ -516,6 +546,7 @@ class Event:
     channel_max: int = None
     frame_max: int = None
     heartbeat: int = None
+    whole: bool = None
 
 
 class Phase(enum.IntEnum):
@@ -531,6 +562,64 @@ class ChannelState(enum.IntEnum):
     OPENING = 2
     OPEN = 3
     CLOSING = 4
+
+
+class Rule(enum.IntEnum):
+    """The rules that the other end can break."""
+
+    PROTOCOL_HEADER = 1
+    FRAME_TYPE = 2
+    FRAME_SIZE = 3
+    FRAME_END = 4
+    HEARTBEAT_EMPTY = 7
+    HEARTBEAT_ON_ZERO = 8
+    KNOWN_METHOD = 9
+    NO_SECURE = 10
+    SYNTAX = 11
+    HANDSHAKE_ORDER = 12
+    TUNE_FRAME_SIZE = 13
+    TUNE_OK_RANGE = 14
+    HANDSHAKE_IS_OVER = 15
+    CONNECTION_ON_ZERO = 16
+    SENT_BY_SIDE = 17
+    WAS_ASKED = 18
+    NOT_ON_ZERO = 19
+    CHANNEL_MAXIMUM = 20
+    OPENED_ONCE = 21
+    CHANNEL_OPEN = 22
+    HEADER_DUE = 23
+    BODY_DUE = 24
+    CONTENT_BEGUN = 25
+    BODY_SIZE = 26
+    WAITING_REQUESTS = 27
+
+
+@dataclass(frozen=True)
+class Blame:
+    """What was wrong: the place in the stream where the frame at fault begins, the rule that it breaks, the code of the
+    close, and the whole as a line. Of a whole frame also its kind and its channel, the name of its method, and, where
+    it can't be read, the status of what is wrong with it and the place of that in its payload."""
+
+    octet: int
+    rule: Rule
+    code: int
+    line: str
+    frame: FrameKind = None
+    channel: int = None
+    method: str = None
+    field: int = None
+    field_at: int = None
+
+
+def _blamed(blame, line):
+    fields = {}
+    if blame.frame:
+        fields.update(frame=FrameKind(blame.frame), channel=blame.channel)
+    if blame.method:
+        fields["method"] = _method_name(blame.method).decode()
+    if blame.field:
+        fields.update(field=blame.field, field_at=blame.field_at)
+    return Blame(blame.octet, Rule(blame.rule), blame.code or None, line, **fields)
 
 
 def _taken(octets):
@@ -554,6 +643,12 @@ def _told(event):
         fields.update(code=event.code, text=_taken(event.text))
     if kind == EventKind.BLOCKED:
         fields["text"] = _taken(event.text)
+    if kind == EventKind.BEGINS:
+        fields.update(channel=event.channel, method=read_method(_taken(event.method)))
+    if kind == EventKind.HEADS:
+        fields.update(channel=event.channel, header=read_header(_taken(event.header)), whole=event.holds)
+    if kind == EventKind.PART:
+        fields.update(channel=event.channel, body=_taken(event.body), whole=event.holds)
     if kind == EventKind.NEGOTIATED:
         fields.update(channel_max=event.channel_max, frame_max=event.frame_max, heartbeat=event.heartbeat)
     return Event(kind, **fields)
@@ -616,6 +711,18 @@ class _End(_Open):
         lent = _Lent()
         _check(_end_close_connection(self._handle, code, _Octets(*lent.octets(text))))
 
+    def close_channel_for(self, channel, code, text, method):
+        """Closes a channel for a method, which the close names: "queue.declare"."""
+        lent = _Lent()
+        kind = _method_kind(method.encode())
+        _check(_end_close_channel_for(self._handle, channel, code, _Octets(*lent.octets(text)), kind))
+
+    def close_connection_for(self, code, text, method):
+        """Closes the connection for a method, likewise."""
+        lent = _Lent()
+        kind = _method_kind(method.encode())
+        _check(_end_close_connection_for(self._handle, code, _Octets(*lent.octets(text)), kind))
+
     def beat(self):
         """Puts a heartbeat. When to beat is the program's."""
         _check(_end_beat(self._handle))
@@ -670,6 +777,68 @@ class _End(_Open):
         _check(_end_pending(self._handle, pending))
         return pending.value
 
+    @property
+    def octets_taken(self):
+        """How many octets were taken in all, also those with which fault was found."""
+        octets = ctypes.c_uint64()
+        _check(_end_octets_taken(self._handle, octets))
+        return octets.value
+
+    @property
+    def kept(self):
+        """How many octets the end keeps for its peer: of contents that aren't whole yet, and those that are pending."""
+        octets = ctypes.c_size_t()
+        _check(_end_kept(self._handle, octets))
+        return octets.value
+
+    @property
+    def gathered_in_all(self):
+        """How many octets of bodies are kept on all channels."""
+        octets = ctypes.c_size_t()
+        _check(_end_gathered_in_all(self._handle, octets))
+        return octets.value
+
+    @property
+    def heartbeat(self):
+        """The heartbeat that was agreed, in seconds; 0 is none, and what stands before."""
+        heartbeat = _NUMBER()
+        _check(_end_heartbeat(self._handle, heartbeat))
+        return heartbeat.value
+
+    def heard(self, method):
+        """The method with this name that the other end said in the handshake, or None where none is kept."""
+        try:
+            return read_method(_written(_end_heard, self._handle, _method_kind(method.encode())))
+        except Fault as fault:
+            if fault.status == _NOT_THERE:
+                return None
+            raise
+
+    def forget_heard(self):
+        """Forgets what the other end said in the handshake, its credentials among it."""
+        _check(_end_forget_heard(self._handle))
+
+    @property
+    def closed_for(self):
+        """What the last close of the other end was about, its class id and its method id; None where there was none."""
+        class_id, method_id = _NUMBER(), _NUMBER()
+        status = _end_closed_for(self._handle, class_id, method_id)
+        if status == _NOT_THERE:
+            return None
+        _check(status)
+        return class_id.value, method_id.value
+
+    @property
+    def blame(self):
+        """What was wrong with octets that the end took, or None where it found no fault with them."""
+        blame, line = _Blame(), ctypes.create_string_buffer(512)
+        status = _end_blame(self._handle, blame)
+        if status == _NOT_THERE:
+            return None
+        _check(status)
+        _check(_end_blame_line(self._handle, line, len(line)))
+        return _blamed(blame, line.value.decode())
+
 
 class EndFault(Fault):
     """Why an end takes no more octets. Where the other end broke the protocol, `code` is that of the close."""
@@ -681,8 +850,8 @@ class EndFault(Fault):
 
 class Client(_End):
     """The side that opens the connection and its channels. Settings by name: user, password, virtual_host, mechanism,
-    response, locale and properties, each as bytes; max_body, frame_max, channel_max, heartbeat and
-    gated."""
+    response, locale and properties, each as bytes; max_body, frame_max, channel_max, heartbeat,
+    gated and lends."""
 
     def __init__(self, **settings):
         super().__init__()
@@ -707,7 +876,7 @@ class Client(_End):
 
 class Server(_End):
     """The side that is connected to. Settings by name: mechanisms, locales and properties, each as bytes; max_body,
-    frame_max, channel_max, heartbeat and gated."""
+    frame_max, channel_max, heartbeat, gated and lends."""
 
     def __init__(self, **settings):
         super().__init__()

@@ -10,7 +10,9 @@ from meadowtray import (
     EndFault,
     EventKind,
     Fault,
+    FrameKind,
     Phase,
+    Rule,
     Server,
     write_header,
     write_method,
@@ -33,9 +35,9 @@ def settle(client, server, size=4096):
     return events
 
 
-def connected(size=4096):
+def connected(size=4096, lends=False):
     client = Client(user=b"ann", password=b"secret", virtual_host=b"shop")
-    server = Server(frame_max=4096)
+    server = Server(frame_max=4096, lends=lends)
     kinds = [event.kind for event in settle(client, server, size)]
     assert kinds == [EventKind.NEGOTIATED] * 2
     assert client.open_channel() == 1
@@ -63,6 +65,19 @@ class EndsTest(unittest.TestCase):
                 self.assertEqual(event.body, body)
                 client.close()
                 server.close()
+
+    def test_a_content_that_is_lent(self):
+        body = bytes(i * 7 % 256 for i in range(9000))
+        for size in (1, 7, 40, 4096, 20000):
+            with self.subTest(size=size):
+                client, server = connected(size, lends=True)
+                client.send(1, publish(b"orders"), write_header(len(body)), body)
+                begins, heads, *parts = carry(client, server, size)
+                self.assertEqual((begins.kind, begins.method.name), (EventKind.BEGINS, "basic.publish"))
+                self.assertEqual((heads.kind, heads.header.body_size, heads.whole), (EventKind.HEADS, 9000, False))
+                self.assertEqual(b"".join(part.body for part in parts), body)
+                self.assertEqual([part.whole for part in parts], [False, False, True])
+                self.assertEqual((server.kept, server.gathered_in_all), (0, 0))
 
     def test_answers(self):
         client, server = connected()
@@ -94,10 +109,37 @@ class EndsTest(unittest.TestCase):
             list(server.feed(b"\x08\0\3\0\0\0\0\xce"))
         self.assertEqual(raised.exception.status, 401)
         self.assertIsNotNone(raised.exception.code)
+        blame = server.blame
+        self.assertEqual((blame.rule, blame.code, blame.frame), (Rule.HEARTBEAT_ON_ZERO, 501, FrameKind.HEARTBEAT))
+        self.assertEqual((blame.octet, blame.channel), (server.octets_taken - 8, 3))
+        self.assertEqual(blame.line, f"octet {blame.octet}, channel 3: a heartbeat on a channel (501)")
+        self.assertIsNone(client.blame)
         self.assertEqual(server.phase, Phase.FAILED)
         with self.assertRaises(Fault) as raised:
             client.send(2, write_method("queue.purge", (MT_SHORT_STRING, b"q"), (MT_BIT, 0)))
         self.assertEqual(raised.exception.status, 603)
+
+    def test_what_was_heard(self):
+        client, server = connected()
+        self.assertEqual(server.heard("connection.open").fields["virtual-host"], b"shop")
+        self.assertEqual(client.heard("connection.start").fields["mechanisms"], b"PLAIN")
+        self.assertIsNone(server.heard("connection.start"))
+        server.forget_heard()
+        self.assertIsNone(server.heard("connection.open"))
+        self.assertEqual((client.heartbeat, client.kept, client.gathered_in_all), (0, 0, 0))
+
+    def test_closes_for_a_method(self):
+        client, server = connected()
+        self.assertIsNone(client.closed_for)
+        server.close_channel_for(1, 404, b"no queue", "queue.declare")
+        settle(client, server)
+        self.assertEqual(client.closed_for, (50, 10))
+        with self.assertRaises(Fault) as raised:
+            server.close_connection_for(320, b"no", "queue.undeclare")
+        self.assertEqual(raised.exception.status, 9)
+        server.close_connection_for(320, b"shut down", "basic.publish")
+        settle(client, server)
+        self.assertEqual(client.closed_for, (60, 40))
 
     def test_misuse(self):
         with self.assertRaises(Fault) as raised:

@@ -1,5 +1,5 @@
 //! An end behind a handle, with what it told.
-use amqp_core::{Client, End, Event, Role, Server};
+use amqp_core::{Client, End, Event, Server, StreamEnd};
 
 /// The place of an event that an end told.
 #[derive(Drop)]
@@ -12,16 +12,18 @@ pub struct Place {
     pub header: Vec<u8>,
 }
 
-/// An end, in a box of its own, and the places of what it told.
+/// An end, in a box of its own, and the places of what it told. One that lends its events has no places.
 #[derive(Drop)]
-pub struct Kept<R: Role> {
-    pub end: Box<End<R>>,
+pub struct Kept<E> {
+    pub end: Box<E>,
     pub places: Vec<Place>,
 }
 
 /// What an end's handle holds while it is open.
 #[derive(Drop)]
 pub enum HeldEnd {
-    Client(Kept<Client>),
-    Server(Kept<Server>),
+    Client(Kept<End<Client>>),
+    Server(Kept<End<Server>>),
+    LendingClient(Kept<StreamEnd<Client>>),
+    LendingServer(Kept<StreamEnd<Server>>),
 }

@@ -6,7 +6,8 @@ use Rattle.std.specs.Str.{bytes_eq}
 -- matches the key, as `here` says, and what follows `first`, as `after` says, and both match what follows, as
 -- `above` says
 abbrev pub word_match : List ℕ → List ℕ → Bool → Bool → Bool → Bool
-word_match word first here above after = if bytes_eq word (35 ∷ []) then here || above else after && (bytes_eq word (42 ∷ []) || bytes_eq word first)
+word_match word first here above after = if bytes_eq word (35 ∷ []) then here || above
+    else after && (bytes_eq word (42 ∷ []) || bytes_eq word first)
 
 -- whether a word, and then what `rest` matches, makes the key
 abbrev pub matches_word : List ℕ → (List (List ℕ) → Bool) → List (List ℕ) → Bool
@@ -20,4 +21,5 @@ is_match (p ∷ ps) ws = matches_word p (is_match ps) ws
 
 -- for each rest of the key, whether these words of a pattern match it
 abbrev pub IsRow : List (List ℕ) → List (List ℕ) → List Bool → Type 0
-IsRow ps key row = (length row ≡ length key + 1) × ((n : ℕ) → n ≤ length key → get_or row n false ≡ is_match ps (drop n key))
+IsRow ps key row = (length row ≡ length key + 1) × ((n : ℕ) → n ≤ length key
+    → get_or row n false ≡ is_match ps (drop n key))

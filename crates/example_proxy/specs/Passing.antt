@@ -44,8 +44,8 @@ after content event = content
 abbrev pub method_alone : (partner : ℕ) → Method → Option Ask
 method_alone partner method = Some (Send partner (Plain method))
 
--- What an event asks: a method is sent, a content once it is whole; a flow is asked for. A channel or connection that the
--- other end closed is closed with its code and its text, and so is a channel on which a content was refused.
+-- What an event asks: a method is sent, a content once it is whole; a flow is asked for. A channel or connection that
+-- the other end closed is closed with its code and its text, and so is a channel on which a content was refused.
 abbrev pub asked : (partner : ℕ) → Option Content → LentEvent → Option Ask
 asked partner content (WithoutContent number method) = method_alone partner method
 asked partner content (Heads number size properties whole) = sent partner whole (with_properties properties content)
@@ -53,7 +53,8 @@ asked partner content (Part number octets whole) = sent partner whole (with_part
 asked partner content (Other (events.Flow number active)) = Some (Flow partner active)
 asked partner content (Other (events.ChannelClosed number (Some reason))) =
     Some (CloseChannel partner reason.code reason.text no_cause)
-asked partner content (Other (events.Discarded number)) = Some (CloseChannel partner 311 (codes "CONTENT_TOO_LARGE") no_cause)
+asked partner content (Other (events.Discarded number)) = Some
+    (CloseChannel partner 311 (codes "CONTENT_TOO_LARGE") no_cause)
 asked partner content (Other (events.ConnectionClosed (Some reason))) = Some (Close reason.code reason.text no_cause)
 asked partner content (Other (events.Blocked reason)) = Some (Blocked reason)
 asked partner content (Other events.Unblocked) = Some Unblocked

@@ -66,8 +66,8 @@ impl<R: Role> Peer<R> {
         octets > FULL && !self.is_over()
     }
 
-    /// Reads once what is there, and passes it on to the other side. It answers whether anything came. Where it can't be
-    /// passed on, both sides are closed.
+    /// Reads once what is there, and passes it on to the other side. It answers whether anything came. Where it can't
+    /// be passed on, both sides are closed.
     pub fn pull<P: Role>(&mut self, rt: &impl Print, other: &mut Peer<P>, room: &mut [u8]) -> bool {
         if self.is_over() || other.is_full() {
             return false;

@@ -3,16 +3,17 @@ use Rattle.std.proofs.Common.{◌≡◌, false, ap, ◌∙◌}
 use Rattle.amqp_model.specs.End.Fitting.{config_fault}
 use Rattle.amqp_model.specs.History.Negotiation as model
 use Rattle.amqp_model.specs.Wire.Notes.{Role}
+use Rattle.amqp_core.specs.End.Beginning.{IsFaultIn, IsNewEnd}
 use Rattle.amqp_core.specs.Faults.Numbers.{config_fault_view}
 use Rattle.amqp_core.specs.Config.Settings.{client_hello_view, server_hello_view}
+use Rattle.amqp_core.specs.declared.end.End.{End}
 use Rattle.amqp_core.specs.declared.faults.ConfigFault.{ConfigFault}
 use Rattle.amqp_core.specs.declared.roles.Role.{Ghosts}
 use Rattle.amqp_core.specs.declared.settings.ClientHello.{ClientHello}
 use Rattle.amqp_core.specs.declared.settings.ServerHello.{ServerHello}
 use Rattle.amqp_core.specs.declared.settings.Hello.TheVariants as said
 use Rattle.amqp_core.specs.declared.settings.Settings.{Settings}
-use Rattle.amqp_handle.specs.declared.kept.Kept.{Kept}
-use Rattle.meadowtray.specs.EndOpening.{BeginsAs, BeginsKept, IsFaultOf, client_said, client_set_up, server_said, server_set_up}
+use Rattle.meadowtray.specs.EndOpening.{BeginsAs, client_said, client_set_up, server_said, server_set_up}
 use Rattle.meadowtray.specs.declared.ends.opening.ClientSettings.{ClientSettings}
 use Rattle.meadowtray.specs.declared.ends.opening.ServerSettings.{ServerSettings}
 
@@ -72,18 +73,18 @@ as_client given hello = (Role.Client, client_config given hello)
 abbrev as_server : ServerSettings → model.Hello Role.Server → SetUp
 as_server given hello = (Role.Server, server_config given hello)
 
-pub client_begins : {R H : Type 0} {G : Ghosts R H} (given : ClientSettings) (hello : ClientHello) (kept : Kept R H G)
-    → client_hello_view hello ≡ client_said given → BeginsKept (client_settings given hello) kept → BeginsAs (client_set_up given) kept
-client_begins given hello kept is begins =
+pub client_begins : {R H : Type 0} {G : Ghosts R H} (given : ClientSettings) (hello : ClientHello) (end : End R H G)
+    → client_hello_view hello ≡ client_said given → IsNewEnd (client_settings given hello) end → BeginsAs (client_set_up given) end
+client_begins given hello end is begins =
     record {
       settings = client_settings given hello;
       set_up_is = ap (λ (h : model.Hello Role.Client). as_client given h) is;
       begins = begins;
     }
 
-pub server_begins : {R H : Type 0} {G : Ghosts R H} (given : ServerSettings) (hello : ServerHello) (kept : Kept R H G)
-    → server_hello_view hello ≡ server_said given → BeginsKept (server_settings given hello) kept → BeginsAs (server_set_up given) kept
-server_begins given hello kept is begins =
+pub server_begins : {R H : Type 0} {G : Ghosts R H} (given : ServerSettings) (hello : ServerHello) (end : End R H G)
+    → server_hello_view hello ≡ server_said given → IsNewEnd (server_settings given hello) end → BeginsAs (server_set_up given) end
+server_begins given hello end is begins =
     record {
       settings = server_settings given hello;
       set_up_is = ap (λ (h : model.Hello Role.Server). as_server given h) is;
@@ -91,9 +92,9 @@ server_begins given hello kept is begins =
     }
 
 pub client_fault : (given : ClientSettings) (hello : ClientHello) (fault : ConfigFault) → client_hello_view hello ≡ client_said given
-    → IsFaultOf (client_settings given hello) fault → config_fault_view fault ≡ config_fault Role.Client (client_set_up given).1
+    → IsFaultIn (client_settings given hello) fault → config_fault_view fault ≡ config_fault Role.Client (client_set_up given).1
 client_fault given hello fault is applies = applies ∙ ap (λ (h : model.Hello Role.Client). config_fault Role.Client (client_config given h)) is
 
 pub server_fault : (given : ServerSettings) (hello : ServerHello) (fault : ConfigFault) → server_hello_view hello ≡ server_said given
-    → IsFaultOf (server_settings given hello) fault → config_fault_view fault ≡ config_fault Role.Server (server_set_up given).1
+    → IsFaultIn (server_settings given hello) fault → config_fault_view fault ≡ config_fault Role.Server (server_set_up given).1
 server_fault given hello fault is applies = applies ∙ ap (λ (h : model.Hello Role.Server). config_fault Role.Server (server_config given h)) is

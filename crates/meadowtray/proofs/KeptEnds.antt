@@ -1,5 +1,5 @@
 -- An end behind a handle: what a call of it gives, put together.
-use Rattle.std.proofs.Common.{◌≡◌, ℕ, zero, suc, ◌<◌, List, [], ◌∷◌, ◌++◌, length, Option, Some, None, Result, refl, inl, sym, ap, ◌∙◌, subst, slice_get, slice_set, get_or, arith}
+use Rattle.std.proofs.Common.{◌≡◌, ℕ, zero, suc, ◌<◌, List, [], ◌∷◌, ◌++◌, length, Option, Some, None, Result, refl, sym, ap, ◌∙◌, subst, slice_set, get_or, arith}
 use Rattle.std.proofs.lemmas.Option.{slice_get_read}
 use Rattle.amqp_method.specs.Arguments.{Argument}
 use Rattle.amqp_method.specs.Messages.{Letter}
@@ -8,7 +8,7 @@ use Rattle.amqp_method.specs.Properties.{header}
 use Rattle.amqp_channel.specs.declared.events.Event.{Event}
 use Rattle.amqp_handle.specs.EndSlots.{EndHandle}
 use Rattle.amqp_handle.specs.declared.kept.HeldEnd.{HeldEnd}
-use Rattle.amqp_handle.specs.declared.kept.HeldEnd.TheVariants.{Client, Server}
+use Rattle.amqp_handle.specs.declared.kept.HeldEnd.TheVariants.{Client, Server, LendingClient, LendingServer}
 use Rattle.amqp_handle.specs.declared.kept.Place.{Place}
 use Rattle.meadowtray.specs.Events.{AreOctetsOf, IsHeaderOf, ShowsAt, ShowsEnd, ShowsOf, ShowsPlace, ToldSeen}
 use Rattle.meadowtray.specs.Events.ShowsAt.{there}
@@ -61,6 +61,8 @@ pub shown_of : (held : Option HeldEnd) (place : ℕ) (answer : Result SeenEvent 
 shown_of None place answer status out shows told = absurd shows
 shown_of (Some (Client kept)) place answer status out shows told = (answer, shows, told)
 shown_of (Some (Server kept)) place answer status out shows told = (answer, shows, told)
+shown_of (Some (LendingClient kept)) place answer status out shows told = (answer, shows, told)
+shown_of (Some (LendingServer kept)) place answer status out shows told = (answer, shows, told)
 
 -- what holds of what a slot held holds of the slot
 pub of_held : (P : Option HeldEnd → Type 0) (slot now : EndHandle) (held found : HeldEnd) → now ≡ slot → Some held ≡ now.value → held ≡ found

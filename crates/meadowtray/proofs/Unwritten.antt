@@ -2,6 +2,7 @@
 use Rattle.std.proofs.Common.{take, Result, Ok, Err, IfOk, IfErr, ap, subst, ◌∙◌, ◌≡◌, ℕ, zero, suc, ◌<◌, List, [], ◌∷◌, length, get_or, drop, ◌+◌, refl, inl, arith, add-one, drop-cons}
 use Rattle.amqp_method.specs.Arguments.{Argument, Call}
 use Rattle.amqp_method.specs.Plain.{plain_method}
+use Rattle.meadowtray.specs.Hearing.{WritesCall}
 use Rattle.meadowtray.specs.Values.{all_there}
 use Rattle.meadowtray.specs.Writing.{fault_of, At, IsMethod, NotAllOwned, NotEncoded, NotMade, NotMethod, NotOwned, Writes, WritesMethod}
 use Rattle.meadowtray.specs.declared.codec.owned.ArgFault.{ArgFault}
@@ -84,3 +85,12 @@ not_made Encode Long Not old (Inside place e) not = absurd not
 not_made Encode Long Not old Room not = absurd not
 not_made Encode Long Not old TooLong not = (refl, not)
 not_made Encode Long Not old OutOfMemory not = refl
+
+-- a method whose octets aren't made isn't written
+pub not_encoded : (call : Call) (old : List ℕ) (fault : WriteFault) → NotEncoded call fault → WritesCall call old (Err fault) old
+not_encoded call old UnknownKind not = absurd not
+not_encoded call old (Misfit place) not = absurd not
+not_encoded call old (Inside place e) not = absurd not
+not_encoded call old Room not = absurd not
+not_encoded call old TooLong not = (refl, not)
+not_encoded call old OutOfMemory not = refl

@@ -1,22 +1,19 @@
 -- A handle opened with an end: what C says of it, what the end is then set up with, and why it isn't opened.
-use Rattle.std.specs.Prelude.{◌≡◌, ◌<◌, ℕ, List, [], ◌∷◌, ◌++◌, length, Option, Some, None, Result, Ok, Err, ◌⊎◌}
+use Rattle.std.specs.Prelude.{true, false, ◌≡◌, ◌<◌, ℕ, List, [], ◌∷◌, ◌++◌, length, Option, Some, None, ◌⊎◌}
 use Rattle.amqp_value.specs.Whole.{table_encoded}
 use Rattle.amqp_model.specs.End.Fitting.{config_fault}
 use Rattle.amqp_model.specs.History.Negotiation as model
-use Rattle.amqp_model.specs.Stream.Endpoint.{new_endpoint}
 use Rattle.amqp_model.specs.Wire.Notes.{Role}
-use Rattle.amqp_core.specs.End.Beginning.{BeginsHistory}
+use Rattle.amqp_core.specs.End.Beginning.{IsNewEnd}
 use Rattle.amqp_core.specs.Config.Configs.{set_up_as}
-use Rattle.amqp_core.specs.End.Counters.{nothing_counted}
-use Rattle.amqp_core.specs.End.View.{config_at, counters_of, endpoint_of, heard_in, role_played, settings_at}
 use Rattle.amqp_core.specs.Faults.Numbers.{config_fault_view}
-use Rattle.amqp_core.specs.Heard.View.{nothing_said}
-use Rattle.amqp_core.specs.Config.Settings.{config_view, role_for}
-use Rattle.amqp_core.specs.declared.faults.ConfigFault.{ConfigFault}
+use Rattle.amqp_core.specs.Stream.Turning.{TurnsLending}
+use Rattle.amqp_core.specs.declared.end.End.{End}
 use Rattle.amqp_core.specs.declared.roles.Role.{Ghosts}
 use Rattle.amqp_core.specs.declared.settings.Settings.{Settings}
+use Rattle.amqp_core.specs.declared.stream.StreamEnd.{StreamEnd}
 use Rattle.amqp_handle.specs.declared.kept.HeldEnd.{HeldEnd}
-use Rattle.amqp_handle.specs.declared.kept.HeldEnd.TheVariants.{Client, Server}
+use Rattle.amqp_handle.specs.declared.kept.HeldEnd.TheVariants.{Client, Server, LendingClient, LendingServer}
 use Rattle.amqp_handle.specs.declared.kept.Kept.{Kept}
 use Rattle.amqp_handle.specs.declared.kept.Place.{Place}
 use Rattle.meadowtray.specs.CodecStatuses.{value_status}
@@ -64,30 +61,25 @@ server_set_up given = (
   },
 )
 
--- an end as it begins, of these settings
-pub record BeginsKept {R H : Type 0} {G : Ghosts R H} (settings : Settings) (kept : Kept R H G) : Type 0 where
-  -- it is a new endpoint, with these settings, in which there is no fault
-  pub begins : endpoint_of kept.end.value ≡ new_endpoint (role_played kept.end.value)
-  pub settings_are : settings_at kept.end.value ≡ settings
-  pub faultless : config_fault (role_played kept.end.value) (config_at kept.end.value) ≡ None
-  -- it stands for the empty history, has counted nothing, and has heard nothing
-  pub history : BeginsHistory kept.end.value
-  pub counters : counters_of kept.end.value ≡ nothing_counted
-  pub heard : heard_in kept.end.value ≡ nothing_said
-  -- it has no place for an event
-  pub places : kept.places.items ≡ []
-
--- the same, in the words of the model
-pub record BeginsAs {R H : Type 0} {G : Ghosts R H} (set_up : (role : Role) × model.Config role) (kept : Kept R H G) : Type 0 where
+-- a new end, in the words of the model
+pub record BeginsAs {R H : Type 0} {G : Ghosts R H} (set_up : (role : Role) × model.Config role) (end : End R H G) : Type 0 where
   -- its settings are what it is set up with
   pub settings : Settings
   pub set_up_is : set_up_as settings ≡ set_up
   -- and it begins with them
-  pub begins : BeginsKept settings kept
+  pub begins : IsNewEnd settings end
 
--- the fault that applies; being out of memory, none does
-abbrev pub IsFaultOf : Settings → ConfigFault → Type 0
-IsFaultOf settings fault = config_fault_view fault ≡ config_fault (role_for settings) (config_view settings)
+-- an end that begins so, without a place for an event
+pub record Gathers {R H : Type 0} {G : Ghosts R H} (set_up : (role : Role) × model.Config role) (kept : Kept (End R H G)) : Type 0 where
+  pub begins : BeginsAs set_up kept.end.value
+  pub places : kept.places.items ≡ []
+
+-- one that such an end turns into, which lends
+pub record Lends {R H : Type 0} {G : Ghosts R H} (set_up : (role : Role) × model.Config role) (kept : Kept (StreamEnd R H G)) : Type 0 where
+  pub end : End R H G
+  pub begins : BeginsAs set_up end
+  pub turns : TurnsLending end kept.end.value
+  pub places : kept.places.items ≡ []
 
 -- why nothing is made of what is given: the properties aren't a table, or a text is longer than 255 octets
 abbrev pub NotClientHello : ClientSettings → ArgFault → Type 0
@@ -117,18 +109,30 @@ open_status (Config fault) = config_status fault
 abbrev pub StaysClosed : (OpenFault → Type 0) → ℕ → Type 0
 StaysClosed Not status = (status ≡ 4) ⊎ ((fault : OpenFault) × Not fault × (status ≡ open_status fault))
 
--- a closed handle is opened with a new client, or stays closed; an open one stays as it is
+-- what a client that is set up so is held as
+abbrev pub HoldsClient : ClientSettings → HeldEnd → Type 0
+HoldsClient given (Client kept) = (given.lends ≡ false) × Gathers (client_set_up given) kept
+HoldsClient given (LendingClient kept) = (given.lends ≡ true) × Lends (client_set_up given) kept
+HoldsClient given (Server kept) = ⊥
+HoldsClient given (LendingServer kept) = ⊥
+
+abbrev pub HoldsServer : ServerSettings → HeldEnd → Type 0
+HoldsServer given (Server kept) = (given.lends ≡ false) × Gathers (server_set_up given) kept
+HoldsServer given (LendingServer kept) = (given.lends ≡ true) × Lends (server_set_up given) kept
+HoldsServer given (Client kept) = ⊥
+HoldsServer given (LendingClient kept) = ⊥
+
+-- a closed handle is opened with this, or stays closed; an open one stays as it is
+abbrev pub Opens : (HeldEnd → Type 0) → (OpenFault → Type 0) → (old : Option HeldEnd) → ℕ → (new : Option HeldEnd) → Type 0
+Opens Holds Not None status (Some held) = (status ≡ 0) × Holds held
+Opens Holds Not None status None = StaysClosed Not status
+Opens Holds Not (Some held) status new = (status ≡ 2) × (new ≡ Some held)
+
 abbrev pub OpensClient : Option HeldEnd → ClientSettings → ℕ → Option HeldEnd → Type 0
-OpensClient None given status (Some (Client kept)) = (status ≡ 0) × BeginsAs (client_set_up given) kept
-OpensClient None given status None = StaysClosed (NotClient given) status
-OpensClient None given status (Some (Server kept)) = ⊥
-OpensClient (Some held) given status new = (status ≡ 2) × (new ≡ Some held)
+OpensClient old given status new = Opens (HoldsClient given) (NotClient given) old status new
 
 abbrev pub OpensServer : Option HeldEnd → ServerSettings → ℕ → Option HeldEnd → Type 0
-OpensServer None given status (Some (Server kept)) = (status ≡ 0) × BeginsAs (server_set_up given) kept
-OpensServer None given status None = StaysClosed (NotServer given) status
-OpensServer None given status (Some (Client kept)) = ⊥
-OpensServer (Some held) given status new = (status ≡ 2) × (new ≡ Some held)
+OpensServer old given status new = Opens (HoldsServer given) (NotServer given) old status new
 
 -- what comes of a place that is asked for
 pub data MakesPlace (old : List Place) (place status : ℕ) (new : List Place) : Type 0 where
@@ -142,12 +146,15 @@ pub data MakesPlace (old : List Place) (place status : ℕ) (new : List Place) :
   past : status ≡ 7 → length old < place → new ≡ old → MakesPlace old place status new
 
 -- the end stays as it is
-abbrev pub MakesOne : {R H : Type 0} {G : Ghosts R H} → (old : Kept R H G) → ℕ → ℕ → (new : Kept R H G) → Type 0
+abbrev pub MakesOne : {E : Type 0} → (old : Kept E) → ℕ → ℕ → (new : Kept E) → Type 0
 MakesOne old place status new = MakesPlace old.places.items place status new.places.items × (new.end ≡ old.end)
 
+-- one that lends has no places
 abbrev pub MakesPlaceAt : Option HeldEnd → ℕ → ℕ → Option HeldEnd → Type 0
 MakesPlaceAt None place status new = (status ≡ 1) × (new ≡ None)
 MakesPlaceAt (Some (Client kept)) place status (Some (Client now)) = MakesOne kept place status now
 MakesPlaceAt (Some (Client kept)) place status new = ⊥
 MakesPlaceAt (Some (Server kept)) place status (Some (Server now)) = MakesOne kept place status now
 MakesPlaceAt (Some (Server kept)) place status new = ⊥
+MakesPlaceAt (Some (LendingClient kept)) place status new = (status ≡ 3) × (new ≡ Some (LendingClient kept))
+MakesPlaceAt (Some (LendingServer kept)) place status new = (status ≡ 3) × (new ≡ Some (LendingServer kept))

@@ -10,7 +10,7 @@ use Rattle.amqp_channel.specs.declared.events.Event.{Event}
 use Rattle.amqp_channel.specs.declared.events.Event.TheVariants as events
 use Rattle.amqp_channel.specs.declared.events.Reason.{Reason}
 use Rattle.amqp_handle.specs.declared.kept.HeldEnd.{HeldEnd}
-use Rattle.amqp_handle.specs.declared.kept.HeldEnd.TheVariants.{Client, Server}
+use Rattle.amqp_handle.specs.declared.kept.HeldEnd.TheVariants.{Client, Server, LendingClient, LendingServer}
 use Rattle.amqp_handle.specs.declared.kept.Place.{Place}
 use Rattle.meadowtray.specs.CodecStatuses.{method_status}
 use Rattle.meadowtray.specs.EndNumbers.{event_number}
@@ -91,6 +91,8 @@ abbrev pub ShowsOf : Option HeldEnd → ℕ → Result SeenEvent ℕ → Type 0
 ShowsOf None place answer = ⊥
 ShowsOf (Some (Client kept)) place answer = ShowsAt kept.places.items place answer
 ShowsOf (Some (Server kept)) place answer = ShowsAt kept.places.items place answer
+ShowsOf (Some (LendingClient kept)) place answer = ShowsAt kept.places.items place answer
+ShowsOf (Some (LendingServer kept)) place answer = ShowsAt kept.places.items place answer
 
 -- an answer, as it is told
 abbrev pub ToldSeen : Result SeenEvent ℕ → ℕ → SeenEvent → Type 0
@@ -101,4 +103,6 @@ ToldSeen (Err fault) status out = status ≡ fault
 abbrev pub ShowsEnd : Option HeldEnd → ℕ → ℕ → SeenEvent → Type 0
 ShowsEnd None place status out = status ≡ 1
 ShowsEnd (Some (Client kept)) place status out = (answer : Result SeenEvent ℕ) × ShowsAt kept.places.items place answer × ToldSeen answer status out
+ShowsEnd (Some (LendingClient kept)) place status out = (answer : Result SeenEvent ℕ) × ShowsAt kept.places.items place answer × ToldSeen answer status out
+ShowsEnd (Some (LendingServer kept)) place status out = (answer : Result SeenEvent ℕ) × ShowsAt kept.places.items place answer × ToldSeen answer status out
 ShowsEnd (Some (Server kept)) place status out = (answer : Result SeenEvent ℕ) × ShowsAt kept.places.items place answer × ToldSeen answer status out

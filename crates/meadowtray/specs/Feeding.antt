@@ -1,20 +1,16 @@
 -- What a feed of an end behind a handle does. Read before: what a feed of an end does (`Feeds` of `amqp_core`).
-use Rattle.std.specs.Prelude.{◌≡◌, ◌≢◌, ◌<◌, ◌≤◌, ℕ, List, [], length, true, false, IfOk, Option, Some, None, Result, Ok, Err, ◌⊎◌, slice_get, slice_set}
+use Rattle.std.specs.Prelude.{◌≡◌, ◌≤◌, ℕ, List, length, Option, Some, None, Result, Ok, Err, ◌⊎◌, slice_get, slice_set}
 use Rattle.amqp_model.specs.End.Closes.{number_of}
-use Rattle.amqp_model.specs.End.EndVerdict.{takes_octets}
-use Rattle.amqp_channel.specs.Closes.{code_view}
+use Rattle.amqp_channel.specs.Events.Closes.{code_view}
 use Rattle.amqp_channel.specs.declared.events.Event.{Event}
-use Rattle.amqp_core.specs.Faults.Answering.{ran_out}
-use Rattle.amqp_core.specs.End.Counters.{CountsFrame}
-use Rattle.amqp_core.specs.End.View.{config_at, counters_of, endpoint_of, role_played}
-use Rattle.amqp_core.specs.End.Feeds.{Feeds, fed_to}
+use Rattle.amqp_core.specs.End.Feeds.{Feeds}
 use Rattle.amqp_core.specs.declared.end.End.{End}
 use Rattle.amqp_core.specs.declared.faults.CoreFault.{CoreFault}
 use Rattle.amqp_core.specs.declared.faults.CoreFault.TheVariants as faults
 use Rattle.amqp_core.specs.declared.roles.Role.{Ghosts}
 use Rattle.amqp_core.specs.declared.taken.Taken.{Taken}
 use Rattle.amqp_handle.specs.declared.kept.HeldEnd.{HeldEnd}
-use Rattle.amqp_handle.specs.declared.kept.HeldEnd.TheVariants.{Client, Server}
+use Rattle.amqp_handle.specs.declared.kept.HeldEnd.TheVariants.{Client, Server, LendingClient, LendingServer}
 use Rattle.amqp_handle.specs.declared.kept.Kept.{Kept}
 use Rattle.amqp_handle.specs.declared.kept.Place.{Place}
 use Rattle.meadowtray.specs.EndNumbers.{core_status, event_number}
@@ -37,33 +33,24 @@ ToldFed (Ok taken) status out old place new =
     (status ≡ 0) × (out.taken ≡ taken.octets) × (out.kind ≡ event_number taken.event) × KeepsAt old place taken.event new
 ToldFed (Err fault) status out old place new = (status ≡ core_status fault) × TellsCode fault out.code × (new ≡ old)
 
--- a frame that is taken is counted
-abbrev pub CountsTaken : {R H : Type 0} {G : Ghosts R H} → (old : End R H G) → List ℕ → Result Taken CoreFault → (new : End R H G) → Type 0
-CountsTaken old piece answer new =
-    takes_octets (endpoint_of old).end.phase ≡ true → ran_out answer ≡ false
-    → CountsFrame (role_played old) (config_at old) (endpoint_of old) piece (fed_to old piece) (counters_of old) (counters_of new)
-
-pub record FeedsKept {R H : Type 0} {G : Ghosts R H} (old : Kept R H G) (place : ℕ) (piece : List ℕ) (status : ℕ) (out : FedEnd)
-    (new : Kept R H G) : Type 0 where
+pub record FeedsKept {R H : Type 0} {G : Ghosts R H} (old : Kept (End R H G)) (place : ℕ) (piece : List ℕ) (status : ℕ) (out : FedEnd)
+    (new : Kept (End R H G)) : Type 0 where
   -- the end is fed the piece, and this is its answer
   pub answer : Result Taken CoreFault
   pub fed : Feeds old.end.value piece answer new.end.value
-  -- of a piece that has octets it takes one at least, and no more than there are
-  pub within : IfOk answer (λ taken. taken.octets ≤ length piece)
-  pub progress : IfOk answer (λ taken. piece ≢ [] → 0 < taken.octets)
-  -- a frame that is taken is counted, and no octets are
-  pub frames : CountsTaken old.end.value piece answer new.end.value
-  pub octets : (counters_of new.end.value).octets ≡ (counters_of old.end.value).octets
   -- the answer is told, and its event is kept
   pub told : ToldFed answer status out old.places.items place new.places.items
 
 -- an end that hasn't the place isn't fed
-abbrev pub FeedsOne : {R H : Type 0} {G : Ghosts R H} → (old : Kept R H G) → ℕ → List ℕ → ℕ → FedEnd → (new : Kept R H G) → Type 0
+abbrev pub FeedsOne : {R H : Type 0} {G : Ghosts R H} → (old : Kept (End R H G)) → ℕ → List ℕ → ℕ → FedEnd → (new : Kept (End R H G)) → Type 0
 FeedsOne old place piece status out new =
     ((status ≡ 7) × (length old.places.items ≤ place) × (new ≡ old)) ⊎ FeedsKept old place piece status out new
 
+-- one that lends is fed by another call
 abbrev pub FeedsEnd : Option HeldEnd → ℕ → List ℕ → ℕ → FedEnd → Option HeldEnd → Type 0
 FeedsEnd None place piece status out new = (status ≡ 1) × (new ≡ None)
+FeedsEnd (Some (LendingClient kept)) place piece status out new = (status ≡ 3) × (new ≡ Some (LendingClient kept))
+FeedsEnd (Some (LendingServer kept)) place piece status out new = (status ≡ 3) × (new ≡ Some (LendingServer kept))
 FeedsEnd (Some (Client kept)) place piece status out (Some (Client now)) = FeedsOne kept place piece status out now
 FeedsEnd (Some (Client kept)) place piece status out new = ⊥
 FeedsEnd (Some (Server kept)) place piece status out (Some (Server now)) = FeedsOne kept place piece status out now

@@ -1,3 +1,6 @@
+pub mod AnyEnds
+pub mod Blaming
+pub mod Closing
 pub mod CodecStatuses
 pub mod Decisions
 pub mod EndAnswers
@@ -9,7 +12,10 @@ pub mod Events
 pub mod Feeding
 pub mod Handles
 pub mod Headers
+pub mod HeldEnds
+pub mod Hearing
 pub mod Lending
+pub mod LentEvents
 pub mod Messages
 pub mod Methods
 pub mod Sending

@@ -1,62 +1,57 @@
 -- Messages that C sends through an end behind a handle. Read before: what an ask of an end does (`Asked` of `amqp_core`).
-use Rattle.std.specs.Prelude.{◌≡◌, ◌≢◌, ℕ, List, length, Option, Some, None, Result}
+use Rattle.std.specs.Prelude.{◌≡◌, ◌≢◌, ℕ, List, length, Option, Result}
 use Rattle.amqp_method.specs.Arguments.{Call}
 use Rattle.amqp_method.specs.Encoding.{EncodesMethod}
 use Rattle.amqp_method.specs.Messages.{Letter, letter_with}
 use Rattle.amqp_method.specs.Properties.{ContentHeader}
 use Rattle.amqp_model.specs.End.Asks.{Send}
-use Rattle.amqp_channel.specs.Messages.{message_of}
-use Rattle.amqp_core.specs.End.Asks.{Asked}
+use Rattle.amqp_channel.specs.Events.EventView.{message_of}
 use Rattle.amqp_core.specs.declared.faults.AskFault.{AskFault}
-use Rattle.amqp_core.specs.declared.roles.Role.{Ghosts}
 use Rattle.amqp_handle.specs.declared.kept.HeldEnd.{HeldEnd}
-use Rattle.amqp_handle.specs.declared.kept.HeldEnd.TheVariants.{Client, Server}
 use Rattle.amqp_handle.specs.declared.kept.Kept.{Kept}
 use Rattle.meadowtray.specs.EndNumbers.{asked_status}
+use Rattle.meadowtray.specs.HeldEnds.{Does}
 use Rattle.meadowtray.specs.Messages.{unmade_status, IsLetter, NotContent, NotLetter}
+use Rattle.meadowtray.specs.declared.ends.any_end.AnyEnd.{Ghosts}
 use Rattle.meadowtray.specs.declared.ends.messages.Unmade.{Unmade}
 
 -- an end is asked to send a message
-pub record SentKept {R H : Type 0} {G : Ghosts R H} (old : Kept R H G) (channel : ℕ) (letter : Letter) (status : ℕ) (new : Kept R H G) : Type 0 where
+pub record SentKept {E : Type 0} (of : Ghosts E) (old : Kept E) (channel : ℕ) (letter : Letter) (status : ℕ) (new : Kept E) : Type 0 where
   -- it answers this, and is left so
   pub answer : Result (Unit {0}) AskFault
-  pub asked : Asked old.end.value (Send channel (message_of letter)) answer new.end.value
+  pub asked : of.asked old.end.value (Send channel (message_of letter)) answer new.end.value
   -- the answer is told
   pub told : status ≡ asked_status answer
   -- the events stay
   pub places : new.places ≡ old.places
 
 -- a header that says another size than the body's is no such message's, and the end stays as it is; any other is sent
-pub data SizedOne {R H : Type 0} {G : Ghosts R H} (old : Kept R H G) (channel : ℕ) (call : Call) (h : ContentHeader) (body : List ℕ)
-    (status : ℕ) (new : Kept R H G) : Type 0 where
-  other : h.body_size ≢ length body → status ≡ 9 → new ≡ old → SizedOne old channel call h body status new
+pub data SizedOne {E : Type 0} (of : Ghosts E) (old : Kept E) (channel : ℕ) (call : Call) (h : ContentHeader) (body : List ℕ)
+    (status : ℕ) (new : Kept E) : Type 0 where
+  other : h.body_size ≢ length body → status ≡ 9 → new ≡ old → SizedOne of old channel call h body status new
   sized :
-      h.body_size ≡ length body → SentKept old channel (letter_with call h.properties body) status new
-      → SizedOne old channel call h body status new
+      h.body_size ≡ length body → SentKept of old channel (letter_with call h.properties body) status new
+      → SizedOne of old channel call h body status new
 
 -- the octets aren't a message, and the end stays as it is; or they are, and it is sent
-pub data SendsOne {R H : Type 0} {G : Ghosts R H} (IsCall : Call → Type 0) (Not : Unmade → Type 0) (old : Kept R H G) (channel : ℕ)
-    (header_octets body : List ℕ) (status : ℕ) (new : Kept R H G) : Type 0 where
+pub data SendsOne {E : Type 0} (of : Ghosts E) (IsCall : Call → Type 0) (Not : Unmade → Type 0) (old : Kept E) (channel : ℕ)
+    (header_octets body : List ℕ) (status : ℕ) (new : Kept E) : Type 0 where
   unmade :
       (fault : Unmade) → Not fault → status ≡ unmade_status fault → new ≡ old
-      → SendsOne IsCall Not old channel header_octets body status new
+      → SendsOne of IsCall Not old channel header_octets body status new
   sent :
-      (letter : Letter) → IsLetter IsCall header_octets body letter → SentKept old channel letter status new
-      → SendsOne IsCall Not old channel header_octets body status new
+      (letter : Letter) → IsLetter IsCall header_octets body letter → SentKept of old channel letter status new
+      → SendsOne of IsCall Not old channel header_octets body status new
 
 -- a message with this method
-abbrev pub SendsCall : {R H : Type 0} {G : Ghosts R H} → (old : Kept R H G) → ℕ → Call → (header_octets body : List ℕ) → ℕ → (new : Kept R H G) → Type 0
-SendsCall old channel call header_octets body status new =
-    SendsOne (λ (c : Call). c ≡ call) (NotContent header_octets body) old channel header_octets body status new
+abbrev pub SendsCall : {E : Type 0} → Ghosts E → (old : Kept E) → ℕ → Call → (header_octets body : List ℕ) → ℕ → (new : Kept E) → Type 0
+SendsCall of old channel call header_octets body status new =
+    SendsOne of (λ (c : Call). c ≡ call) (NotContent header_octets body) old channel header_octets body status new
 
 -- a message with the method of these octets
-abbrev pub SendsKept : {R H : Type 0} {G : Ghosts R H} → (old : Kept R H G) → ℕ → (method_octets header_octets body : List ℕ) → ℕ → (new : Kept R H G) → Type 0
-SendsKept old channel method_octets header_octets body status new =
-    SendsOne (λ (c : Call). EncodesMethod c method_octets) (NotLetter method_octets header_octets body) old channel header_octets body status new
+abbrev pub SendsKept : {E : Type 0} → Ghosts E → (old : Kept E) → ℕ → (method_octets header_octets body : List ℕ) → ℕ → (new : Kept E) → Type 0
+SendsKept of old channel method_octets header_octets body status new =
+    SendsOne of (λ (c : Call). EncodesMethod c method_octets) (NotLetter method_octets header_octets body) old channel header_octets body status new
 
 abbrev pub SendsEnd : Option HeldEnd → ℕ → (method_octets header_octets body : List ℕ) → ℕ → Option HeldEnd → Type 0
-SendsEnd None channel method header body status new = (status ≡ 1) × (new ≡ None)
-SendsEnd (Some (Client kept)) channel method header body status (Some (Client now)) = SendsKept kept channel method header body status now
-SendsEnd (Some (Client kept)) channel method header body status new = ⊥
-SendsEnd (Some (Server kept)) channel method header body status (Some (Server now)) = SendsKept kept channel method header body status now
-SendsEnd (Some (Server kept)) channel method header body status new = ⊥
+SendsEnd old channel method header body status new = Does status (λ E of kept now. SendsKept of kept channel method header body status now) old new

@@ -172,15 +172,189 @@ static void send_content(size_t most)
 	message = publish("orders", body);
 	CHECK(mt_end_send(&client, 1, &message) == MT_OK);
 	do {
+		size_t in_all, kept;
+
 		if (channel_of(&server, 1).gathered > gathered)
 			gathered = channel_of(&server, 1).gathered;
+		CHECK(mt_end_gathered_in_all(&server, &in_all) == MT_OK && in_all == channel_of(&server, 1).gathered);
+		CHECK(mt_end_pending(&server, &pending) == MT_OK && mt_end_kept(&server, &kept) == MT_OK);
+		CHECK(kept == pending + in_all || kept == pending + in_all + message.header.length);
 		CHECK(carry(&client, &server, most, &event, &carried) == MT_OK && carried > 0);
 		CHECK(mt_end_pending(&server, &pending) == MT_OK && pending < 8192);
 	} while (event.kind == MT_EVENT_NONE);
 	CHECK(gathered >= 8184);
+	CHECK(mt_end_gathered_in_all(&server, &gathered) == MT_OK && gathered == 0);
 	expect_publish(&event, "orders", body);
 	CHECK(mt_end_event(&server, &event) == MT_OK);
 	expect_publish(&event, "orders", body);
+	close_ends();
+}
+
+/* The server has found fault with a heartbeat on channel 3. */
+static void blame_heartbeat(void)
+{
+	mt_blame blame;
+	uint64_t octets;
+	char line[256], wanted[256];
+
+	CHECK(mt_end_octets_taken(&server, &octets) == MT_OK);
+	CHECK(mt_end_blame(&client, &blame) == MT_NOT_THERE && mt_end_blame_line(&client, line, sizeof line) == MT_NOT_THERE);
+	CHECK(mt_end_blame(&server, &blame) == MT_OK);
+	CHECK(blame.octet == octets - 8 && blame.frame == MT_HEARTBEAT && blame.channel == 3 && blame.method == 0);
+	CHECK(blame.rule == MT_RULE_HEARTBEAT_ON_ZERO && blame.code == 501 && blame.field == 0 && blame.field_at == 0);
+	snprintf(wanted, sizeof wanted, "octet %llu, channel 3: a heartbeat on a channel (501)",
+		 (unsigned long long)blame.octet);
+	CHECK(mt_end_blame_line(&server, line, sizeof line) == MT_OK && strcmp(line, wanted) == 0);
+	line[0] = 'x';
+	CHECK(mt_end_blame_line(&server, line, strlen(wanted)) == MT_NO_ROOM && line[0] == 'x');
+	CHECK(mt_end_blame_line(&server, line, strlen(wanted) + 1) == MT_OK && strcmp(line, wanted) == 0);
+	CHECK(mt_end_blame_line(&server, NULL, 0) == MT_NO_ROOM);
+}
+
+/* A method whose payload can't be read: its field, and where. */
+static void blame_method(void)
+{
+	static const uint8_t SHORT_QOS[] = {1, 0, 1, 0, 0, 0, 6, 0, 60, 0, 10, 0, 0, 0xce};
+	mt_blame blame;
+	mt_event event;
+	char line[256];
+
+	shake_hands(SIZE_MAX);
+	CHECK(mt_end_feed(&server, SHORT_QOS, sizeof SHORT_QOS, &event) == MT_END_PEER && event.code == 502);
+	CHECK(mt_end_blame(&server, &blame) == MT_OK && blame.rule == MT_RULE_SYNTAX && blame.code == 502);
+	CHECK(blame.frame == MT_METHOD && blame.channel == 1 && blame.method == MT_BASIC_QOS);
+	CHECK(blame.field == MT_VALUE_ENDS && blame.field_at == 4);
+	CHECK(mt_end_blame_line(&server, line, sizeof line) == MT_OK && strstr(line, "basic.qos that can't be read") != NULL);
+	close_ends();
+}
+
+/* What each end heard of the other in the handshake, until it forgets it. */
+static void hear(void)
+{
+	uint8_t room[1024];
+	mt_written written;
+	mt_method method;
+	mt_connection_open opened;
+	mt_connection_start_ok start_ok;
+	uint16_t class_id, method_id, heartbeat;
+
+	shake_hands(SIZE_MAX);
+	CHECK(mt_end_heard(&server, MT_CONNECTION_OPEN, room, sizeof room, &written) == MT_OK);
+	CHECK(mt_method_read(room, written.length, &method) == MT_OK && mt_as_connection_open(&method, &opened));
+	CHECK(is(opened.virtual_host, "shop"));
+	CHECK(mt_end_heard(&server, MT_CONNECTION_START_OK, room, sizeof room, &written) == MT_OK);
+	CHECK(mt_method_read(room, written.length, &method) == MT_OK && mt_as_connection_start_ok(&method, &start_ok));
+	CHECK(start_ok.response.length == 11 && memcmp(start_ok.response.at, "\0ann\0secret", 11) == 0);
+	memset(room, 7, sizeof room);
+	CHECK(mt_end_heard(&server, MT_CONNECTION_START_OK, room, written.length - 1, &written) == MT_NO_ROOM && room[0] == 7);
+	CHECK(mt_end_heard(&server, MT_CONNECTION_START_OK, NULL, 0, &written) == MT_NO_ROOM);
+	CHECK(mt_end_heard(&server, MT_CONNECTION_START, room, sizeof room, &written) == MT_NOT_THERE && room[0] == 7);
+	CHECK(mt_end_heard(&server, 1, room, sizeof room, &written) == MT_UNKNOWN_METHOD && room[0] == 7);
+	CHECK(mt_end_heard(&client, MT_CONNECTION_START, room, sizeof room, &written) == MT_OK);
+	CHECK(mt_end_forget_heard(&server) == MT_OK);
+	CHECK(mt_end_heard(&server, MT_CONNECTION_START_OK, room, sizeof room, &written) == MT_NOT_THERE);
+	CHECK(mt_end_heartbeat(&server, &heartbeat) == MT_OK && heartbeat == 0);
+	CHECK(mt_end_closed_for(&client, &class_id, &method_id) == MT_NOT_THERE);
+	close_ends();
+}
+
+/* A close of a channel and of the connection, each for a method. */
+static void close_for(void)
+{
+	unsigned events[16] = {0};
+	mt_event event;
+	size_t carried;
+	uint16_t class_id, method_id;
+
+	shake_hands(SIZE_MAX);
+	CHECK(mt_end_close_channel_for(&server, 1, 404, mt_text("no queue"), 1) == MT_MISFIT);
+	CHECK(mt_end_close_channel_for(&server, 2, 404, mt_text("no queue"), MT_QUEUE_DECLARE) == MT_ASK_NOT_OPEN);
+	CHECK(mt_end_close_channel_for(&server, 1, 404, mt_text("no queue"), MT_QUEUE_DECLARE) == MT_OK);
+	settle(SIZE_MAX, events);
+	CHECK(events[MT_EVENT_CHANNEL_CLOSED] == 2);
+	CHECK(mt_end_closed_for(&client, &class_id, &method_id) == MT_OK && class_id == 50 && method_id == 10);
+	CHECK(mt_end_close_connection_for(&client, 320, mt_text("shut down"), MT_BASIC_PUBLISH) == MT_OK);
+	CHECK(carry(&client, &server, SIZE_MAX, &event, &carried) == MT_OK && event.kind == MT_EVENT_CONNECTION_CLOSED);
+	CHECK(mt_end_closed_for(&server, &class_id, &method_id) == MT_OK && class_id == 60 && method_id == 40);
+	close_ends();
+}
+
+/* A server that lends: a content of three frames in pieces of at most so many octets, one by one and in batches. */
+static void lend_content(size_t most, size_t capacity)
+{
+	static uint8_t octets[20000];
+	mt_client_settings to_client;
+	mt_server_settings to_server;
+	mt_event events[8];
+	mt_message message;
+	mt_octets output;
+	mt_channel told;
+	unsigned seen[18] = {0};
+	uint8_t *stream;
+	size_t length, count, taken, came = 0, whole = 0, heads = 0, kept, pending;
+	uint16_t channel;
+
+	for (size_t i = 0; i < sizeof octets; ++i)
+		octets[i] = (uint8_t)(i * 11);
+	mt_client_defaults(&to_client);
+	mt_server_defaults(&to_server);
+	to_server.lends = true;
+	to_server.frame_max = 8192;
+	CHECK(mt_end_open_client(&client, &to_client) == MT_OK && mt_end_open_server(&server, &to_server) == MT_OK);
+	settle(most, seen);
+	CHECK(seen[MT_EVENT_NEGOTIATED] == 2);
+	CHECK(mt_end_open_channel(&client, &channel) == MT_OK && channel == 1);
+	settle(most, seen);
+	message = publish("orders", mt_octets_at(octets, sizeof octets));
+	CHECK(mt_end_send(&client, 1, &message) == MT_OK);
+	CHECK(mt_end_output(&client, &output) == MT_OK);
+	length = output.length;
+	stream = malloc(length);
+	CHECK(stream != NULL);
+	memcpy(stream, output.at, length);
+	CHECK(mt_end_wrote(&client, length) == MT_OK);
+	for (size_t at = 0; at < length; at += taken) {
+		size_t left = length - at < most ? length - at : most;
+		uint8_t *piece = malloc(left);
+
+		CHECK(piece != NULL);
+		memcpy(piece, stream + at, left);
+		if (capacity == 0) {
+			CHECK(mt_end_feed(&server, piece, left, &events[0]) == MT_OK);
+			taken = events[0].taken;
+			count = events[0].kind != MT_EVENT_NONE;
+		} else {
+			CHECK(mt_end_feed_batch(&server, piece, left, events, capacity, &count, &taken, NULL) == MT_OK);
+		}
+		CHECK(taken > 0 && count <= 8);
+		for (size_t i = 0; i < count; ++i) {
+			const mt_event *event = &events[i];
+
+			CHECK(event->channel == 1);
+			if (event->kind == MT_EVENT_BEGINS) {
+				CHECK(event->method.length == message.method.length);
+				CHECK(memcmp(event->method.at, message.method.at, message.method.length) == 0);
+			} else if (event->kind == MT_EVENT_HEADS) {
+				CHECK(event->header.length == message.header.length && !event->holds);
+				CHECK(memcmp(event->header.at, message.header.at, message.header.length) == 0);
+				++heads;
+			} else {
+				CHECK(event->kind == MT_EVENT_PART && heads == 1);
+				CHECK(memcmp(event->body.at, octets + came, event->body.length) == 0);
+				came += event->body.length;
+				whole += event->holds;
+			}
+		}
+		free(piece);
+		CHECK(mt_end_channel(&server, 1, &told) == MT_OK && told.gathered == came % sizeof octets);
+		CHECK(mt_end_kept(&server, &kept) == MT_OK && mt_end_pending(&server, &pending) == MT_OK && kept == pending);
+	}
+	CHECK(came == sizeof octets && whole == 1);
+	CHECK(mt_end_event(&server, &events[0]) == MT_NO_ROOM);
+	free(stream);
+	CHECK(mt_end_close_channel_for(&server, 1, 404, mt_text("no queue"), MT_BASIC_PUBLISH) == MT_OK);
+	settle(most, seen);
+	CHECK(seen[MT_EVENT_CHANNEL_CLOSED] == 2);
 	close_ends();
 }
 
@@ -240,6 +414,7 @@ static void take_batches(void)
 		CHECK(phase_of(&server) == MT_PHASE_FAILED);
 		CHECK(mt_end_feed(&server, HEARTBEAT, 8, &events[0]) == MT_END_FAILED);
 	}
+	blame_heartbeat();
 	close_ends();
 }
 
@@ -421,6 +596,10 @@ static uint32_t use_all(mt_end *end)
 	uint8_t phase;
 	uint64_t frames, written;
 	size_t count, taken;
+	uint16_t number_too;
+	mt_written made;
+	mt_blame blame;
+	char line[16];
 	uint32_t status = mt_end_feed(end, method_room, 1, &events[0]);
 
 	CHECK(mt_end_event(end, &events[0]) == status);
@@ -445,6 +624,17 @@ static uint32_t use_all(mt_end *end)
 	CHECK(mt_end_answer_start(end, mt_text(""), mt_text(""), mt_text("")) == status);
 	CHECK(mt_end_waiting(end, 1, &count) == status);
 	CHECK(mt_end_counters(end, &frames, &written) == status);
+	CHECK(mt_end_octets_taken(end, &frames) == status);
+	CHECK(mt_end_kept(end, &count) == status);
+	CHECK(mt_end_gathered_in_all(end, &count) == status);
+	CHECK(mt_end_heartbeat(end, &number) == status);
+	CHECK(mt_end_heard(end, MT_CONNECTION_OPEN, header_room, sizeof header_room, &made) == status);
+	CHECK(mt_end_forget_heard(end) == status);
+	CHECK(mt_end_closed_for(end, &number, &number_too) == status);
+	CHECK(mt_end_close_channel_for(end, 1, 1, mt_text(""), MT_BASIC_ACK) == status);
+	CHECK(mt_end_close_connection_for(end, 1, mt_text(""), MT_BASIC_ACK) == status);
+	CHECK(mt_end_blame(end, &blame) == status);
+	CHECK(mt_end_blame_line(end, line, sizeof line) == status);
 	return status;
 }
 
@@ -591,7 +781,11 @@ int main(void)
 		shake_hands(most);
 		close_ends();
 		send_content(most);
+		lend_content(most, most % 4);
 	}
+	lend_content(SIZE_MAX, 0);
+	lend_content(SIZE_MAX, 8);
+	lend_content(10000, 3);
 	shake_hands(SIZE_MAX);
 	close_ends();
 	send_content(SIZE_MAX);
@@ -600,6 +794,9 @@ int main(void)
 	refuse();
 	misuse();
 	greet_wrongly();
+	blame_method();
+	hear();
+	close_for();
 	decide(true);
 	decide(false);
 	run_short();

@@ -1,7 +1,10 @@
 //! Ends of a connection: clients and servers.
+use crate::blame::Blame;
+use crate::method::Kind;
 use crate::status::Status;
 use crate::sys;
 use crate::table::octets;
+use std::ffi::CStr;
 use std::fmt;
 
 /// What a client is set up with.
@@ -41,6 +44,9 @@ pub struct Limits {
     pub heartbeat: u16,
     /// Whether the program decides in the handshake: [`Event::AnswerAsked`], [`Event::LoginAsked`], [`Event::OpenAsked`].
     pub gated: bool,
+    /// Whether the frames of a content are told as they come, and none of them is kept: [`Event::Begins`],
+    /// [`Event::Heads`], [`Event::Part`].
+    pub lends: bool,
 }
 
 impl Default for Limits {
@@ -51,6 +57,7 @@ impl Default for Limits {
             max_body: 16_777_216,
             heartbeat: 0,
             gated: false,
+            lends: false,
         }
     }
 }
@@ -75,6 +82,20 @@ impl Default for ServerSettings<'_> {
             properties: &[],
             limits: Limits::default(),
         }
+    }
+}
+
+/// What a close of the other end was about: the class and the method that it names, both 0 where it names none.
+#[derive(Clone, Copy, PartialEq, Eq, Debug)]
+pub struct Cause {
+    pub class_id: u16,
+    pub method_id: u16,
+}
+
+impl Cause {
+    /// The method that these name, if there is one.
+    pub fn kind(self) -> Option<Kind> {
+        Kind::from_ids(self.class_id, self.method_id)
     }
 }
 
@@ -131,6 +152,12 @@ pub enum Event<'a> {
     Opened(u16),
     /// A method without content, or a content that is whole now.
     Told(u16, Message<'a>),
+    /// An end that lends: the payload of a method that begins a content.
+    Begins(u16, &'a [u8]),
+    /// An end that lends: the payload of the content's header, and whether the content is whole with it.
+    Heads(u16, &'a [u8], bool),
+    /// An end that lends: a part of the body, and whether the content is whole with it.
+    Part(u16, &'a [u8], bool),
     /// The other end asks that contents be sent, or no more of them.
     Flow(u16, bool),
     /// The other end answers a flow.
@@ -194,6 +221,9 @@ impl<'a> Event<'a> {
             12 => Event::AnswerAsked,
             13 => Event::LoginAsked,
             14 => Event::OpenAsked,
+            15 => Event::Begins(event.channel, lent(&event.method)),
+            16 => Event::Heads(event.channel, lent(&event.header), event.holds),
+            17 => Event::Part(event.channel, lent(&event.body), event.holds),
             _ => return None,
         })
     }
@@ -273,7 +303,7 @@ impl End {
 
     /// Takes octets up to the end of the next frame, or of the protocol header at a server that awaits it. Where the
     /// piece ends before that, all of it is taken.
-    pub fn feed<'a>(&'a mut self, piece: &[u8]) -> Result<Taken<'a>, EndFault> {
+    pub fn feed<'a>(&'a mut self, piece: &'a [u8]) -> Result<Taken<'a>, EndFault> {
         let mut event = sys::Event::NONE;
         // SAFETY: the piece has so many octets, and `event` lies apart from it.
         let status = unsafe { sys::mt_end_feed(&mut self.handle.0, piece.as_ptr(), piece.len(), &mut event) };
@@ -284,12 +314,12 @@ impl End {
         })?;
         Ok(Taken {
             octets: event.taken,
-            // SAFETY: the end lends it until it is used again.
+            // SAFETY: the end lends it until it is used again, and the piece as long as it is lent.
             event: unsafe { Event::told(&event) },
         })
     }
 
-    /// The event of the last [`End::feed`] once more.
+    /// The event of the last [`End::feed`] once more. An end that lends keeps none.
     pub fn event(&mut self) -> Result<Option<Event<'_>>, Status> {
         let mut event = sys::Event::NONE;
         // SAFETY: `event` lies in a place of its own.
@@ -379,6 +409,20 @@ impl End {
         Status::check(unsafe { sys::mt_end_close_connection(&mut self.handle.0, code, given(text)) })
     }
 
+    /// Closes a channel for a method, which the close names. The text has at most 255 octets.
+    pub fn close_channel_for(&mut self, channel: u16, code: u16, text: &[u8], kind: Kind) -> Result<(), Status> {
+        // SAFETY: the text is lent.
+        Status::check(unsafe {
+            sys::mt_end_close_channel_for(&mut self.handle.0, channel, code, given(text), kind.number())
+        })
+    }
+
+    /// Closes the connection for a method, likewise.
+    pub fn close_for(&mut self, code: u16, text: &[u8], kind: Kind) -> Result<(), Status> {
+        // SAFETY: the text is lent.
+        Status::check(unsafe { sys::mt_end_close_connection_for(&mut self.handle.0, code, given(text), kind.number()) })
+    }
+
     /// Puts a heartbeat. When to beat is the program's.
     pub fn beat(&mut self) -> Result<(), Status> {
         // SAFETY: the handle is open.
@@ -450,8 +494,8 @@ impl End {
     }
 
     /// The request that is to be answered next on a channel.
-    pub fn reply_due(&mut self, channel: u16) -> Option<crate::Kind> {
-        crate::Kind::numbered(self.channel(channel).reply_due)
+    pub fn reply_due(&mut self, channel: u16) -> Option<Kind> {
+        Kind::numbered(self.channel(channel).reply_due)
     }
 
     /// How many octets were taken of a frame that isn't whole yet, or of the protocol header.
@@ -460,6 +504,92 @@ impl End {
         // SAFETY: the handle is open.
         unsafe { sys::mt_end_pending(&mut self.handle.0, &mut pending) };
         pending
+    }
+
+    /// How many octets were taken in all, also those with which fault was found.
+    pub fn octets_taken(&mut self) -> u64 {
+        let mut octets = 0;
+        // SAFETY: the handle is open.
+        unsafe { sys::mt_end_octets_taken(&mut self.handle.0, &mut octets) };
+        octets
+    }
+
+    /// How many octets the end keeps for its peer: of contents that aren't whole yet, and those that are pending.
+    pub fn kept(&mut self) -> usize {
+        let mut octets = 0;
+        // SAFETY: the handle is open.
+        unsafe { sys::mt_end_kept(&mut self.handle.0, &mut octets) };
+        octets
+    }
+
+    /// How many octets of bodies are kept on all channels: the sum of [`End::gathered`].
+    pub fn gathered_in_all(&mut self) -> usize {
+        let mut octets = 0;
+        // SAFETY: the handle is open.
+        unsafe { sys::mt_end_gathered_in_all(&mut self.handle.0, &mut octets) };
+        octets
+    }
+
+    /// The heartbeat that was agreed, in seconds; 0 is none, and what stands before.
+    pub fn heartbeat(&mut self) -> u16 {
+        let mut heartbeat = 0;
+        // SAFETY: the handle is open.
+        unsafe { sys::mt_end_heartbeat(&mut self.handle.0, &mut heartbeat) };
+        heartbeat
+    }
+
+    /// The payload of the method of this kind that the other end said in the handshake, if it is kept.
+    pub fn heard(&mut self, kind: Kind) -> Result<Option<Vec<u8>>, Status> {
+        let mut room = vec![0; 1024];
+        let mut written = sys::Written::default();
+        loop {
+            // SAFETY: the room has so many octets, and lies apart from `written`.
+            let status = unsafe {
+                sys::mt_end_heard(&mut self.handle.0, kind.number(), room.as_mut_ptr(), room.len(), &mut written)
+            };
+            match Status::check(status) {
+                Ok(()) => {
+                    room.truncate(written.length);
+                    return Ok(Some(room));
+                }
+                Err(Status::NOT_THERE) => return Ok(None),
+                Err(Status::NO_ROOM) => room.resize(room.len() * 4, 0),
+                Err(status) => return Err(status),
+            }
+        }
+    }
+
+    /// Forgets what the other end said in the handshake, its credentials among it.
+    pub fn forget_heard(&mut self) {
+        // SAFETY: the handle is open.
+        unsafe { sys::mt_end_forget_heard(&mut self.handle.0) };
+    }
+
+    /// What the last close of the other end was about, if there was one.
+    pub fn closed_for(&mut self) -> Option<Cause> {
+        let (mut class_id, mut method_id) = (0, 0);
+        // SAFETY: the handle is open.
+        let status = unsafe { sys::mt_end_closed_for(&mut self.handle.0, &mut class_id, &mut method_id) };
+        Status::check(status).ok()?;
+        Some(Cause { class_id, method_id })
+    }
+
+    /// What was wrong with octets that the end took, if it found fault with them.
+    pub fn blame(&mut self) -> Option<Blame> {
+        let mut blame = sys::Blame::default();
+        // SAFETY: the handle is open, and `blame` lies in a place of its own.
+        Status::check(unsafe { sys::mt_end_blame(&mut self.handle.0, &mut blame) }).ok()?;
+        Some(Blame::told(&blame))
+    }
+
+    /// The same as a line for a log: `octet 1043, channel 3: basic.ack while a header is due (505)`.
+    pub fn blame_line(&mut self) -> Option<String> {
+        let mut room = [0; 512];
+        // SAFETY: the room has so many octets, and a line ends with a null octet.
+        unsafe {
+            Status::check(sys::mt_end_blame_line(&mut self.handle.0, room.as_mut_ptr(), room.len())).ok()?;
+            Some(CStr::from_ptr(room.as_ptr()).to_string_lossy().into_owned())
+        }
     }
 }
 
@@ -486,6 +616,7 @@ impl Client {
             given_settings.channel_max = settings.limits.channel_max;
             given_settings.heartbeat = settings.limits.heartbeat;
             given_settings.gated = settings.limits.gated;
+            given_settings.lends = settings.limits.lends;
             sys::mt_end_open_client(&mut end.handle.0, &given_settings)
         };
         Status::check(status)?;
@@ -536,6 +667,7 @@ impl Server {
             channel_max: settings.limits.channel_max,
             heartbeat: settings.limits.heartbeat,
             gated: settings.limits.gated,
+            lends: settings.limits.lends,
         };
         // SAFETY: the handle is closed, and the settings' octets are lent.
         Status::check(unsafe { sys::mt_end_open_server(&mut end.handle.0, &given_settings) })?;

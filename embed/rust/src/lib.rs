@@ -5,6 +5,7 @@
 //! octets are handed in as they came, and what they hold is lent.
 #![warn(missing_debug_implementations)]
 
+mod blame;
 mod end;
 mod fault;
 mod header;
@@ -14,8 +15,9 @@ mod status;
 pub mod sys;
 mod table;
 
+pub use blame::{Blame, FrameBlamed, Rule};
 pub use end::{
-    Agreed, ChannelState, Client, ClientSettings, End, EndFault, Event, Limits, Message, Phase, Reason, Server,
+    Agreed, Cause, ChannelState, Client, ClientSettings, End, EndFault, Event, Limits, Message, Phase, Reason, Server,
     ServerSettings, Taken,
 };
 pub use fault::{Fault, Unwritten};

@@ -24,6 +24,17 @@ impl Kind {
         (number != 0).then_some(Kind(number))
     }
 
+    /// The number, as C sees it.
+    pub(crate) fn number(self) -> u32 {
+        self.0
+    }
+
+    /// The kind that a class id and a method id name, if they name one.
+    pub fn from_ids(class_id: u16, method_id: u16) -> Option<Kind> {
+        let kind = Kind(u32::from(class_id) << 16 | u32::from(method_id));
+        (!kind.name().is_empty()).then_some(kind)
+    }
+
     pub fn class_id(self) -> u16 {
         (self.0 >> 16) as u16
     }

@@ -12,6 +12,19 @@ pub enum FrameKind {
     Heartbeat,
 }
 
+impl FrameKind {
+    /// The kind that a type octet stands for, if it stands for one.
+    pub(crate) fn of(octet: u8) -> Option<FrameKind> {
+        Some(match octet {
+            1 => FrameKind::Method,
+            2 => FrameKind::Header,
+            3 => FrameKind::Body,
+            8 => FrameKind::Heartbeat,
+            _ => return None,
+        })
+    }
+}
+
 /// A frame whose payload is lent, by the piece or by the splitter.
 #[derive(Clone, Copy, PartialEq, Eq, Debug)]
 pub struct Frame<'a> {
@@ -155,15 +168,8 @@ const NO_FRAME: sys::Frame = sys::Frame {
 /// # Safety
 /// The payload is lent for as long as `'a`.
 unsafe fn lent<'a>(frame: &sys::Frame) -> Option<Frame<'a>> {
-    let kind = match frame.kind {
-        1 => FrameKind::Method,
-        2 => FrameKind::Header,
-        3 => FrameKind::Body,
-        8 => FrameKind::Heartbeat,
-        _ => return None,
-    };
     Some(Frame {
-        kind,
+        kind: FrameKind::of(frame.kind)?,
         channel: frame.channel,
         payload: std::slice::from_raw_parts(frame.payload, frame.length),
     })

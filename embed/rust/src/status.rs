@@ -18,6 +18,8 @@ impl Status {
 
     /// There is less room than what is to be put into it.
     pub const NO_ROOM: Status = Status(7);
+    /// Nothing is there that was asked for.
+    pub const NOT_THERE: Status = Status(8);
     pub const MISFIT: Status = Status(9);
     pub const UNKNOWN_METHOD: Status = Status(201);
     pub const TRAILING: Status = Status(203);
@@ -51,6 +53,11 @@ impl Status {
     pub const ASK_REPLY_PENDING: Status = Status(610);
     pub const ASK_NO_SUCH_REQUEST: Status = Status(611);
     pub const ASK_NOT_AWAITED: Status = Status(612);
+
+    /// The status with this number, if something is wrong.
+    pub(crate) fn numbered(status: u32) -> Option<Status> {
+        (status != 0).then_some(Status(status))
+    }
 
     /// Nothing is wrong, or this is.
     pub(crate) fn check(status: u32) -> Result<(), Status> {

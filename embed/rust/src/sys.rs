@@ -156,6 +156,7 @@ pub struct ClientSettings {
     pub channel_max: u16,
     pub heartbeat: u16,
     pub gated: bool,
+    pub lends: bool,
 }
 
 /// `mt_server_settings`.
@@ -170,6 +171,7 @@ pub struct ServerSettings {
     pub channel_max: u16,
     pub heartbeat: u16,
     pub gated: bool,
+    pub lends: bool,
 }
 
 /// `mt_event`.
@@ -232,6 +234,20 @@ pub struct Channel {
     pub gathered: usize,
     pub reply_due: u32,
     pub state: u8,
+}
+
+/// `mt_blame`.
+#[repr(C)]
+#[derive(Clone, Copy, Default, Debug)]
+pub struct Blame {
+    pub octet: u64,
+    pub field_at: usize,
+    pub field: u32,
+    pub method: u32,
+    pub channel: u16,
+    pub code: u16,
+    pub frame: u8,
+    pub rule: u8,
 }
 
 extern "C" {
@@ -338,4 +354,15 @@ extern "C" {
     pub fn mt_end_channel(end: *mut Handle, channel: u16, told: *mut Channel) -> u32;
     pub fn mt_end_lowest_free(end: *mut Handle, channel: *mut u16) -> u32;
     pub fn mt_end_pending(end: *mut Handle, pending: *mut usize) -> u32;
+    pub fn mt_end_octets_taken(end: *mut Handle, octets: *mut u64) -> u32;
+    pub fn mt_end_kept(end: *mut Handle, octets: *mut usize) -> u32;
+    pub fn mt_end_gathered_in_all(end: *mut Handle, octets: *mut usize) -> u32;
+    pub fn mt_end_heartbeat(end: *mut Handle, heartbeat: *mut u16) -> u32;
+    pub fn mt_end_heard(end: *mut Handle, kind: u32, room: *mut u8, capacity: usize, written: *mut Written) -> u32;
+    pub fn mt_end_forget_heard(end: *mut Handle) -> u32;
+    pub fn mt_end_closed_for(end: *mut Handle, class_id: *mut u16, method_id: *mut u16) -> u32;
+    pub fn mt_end_close_channel_for(end: *mut Handle, channel: u16, code: u16, text: Octets, kind: u32) -> u32;
+    pub fn mt_end_close_connection_for(end: *mut Handle, code: u16, text: Octets, kind: u32) -> u32;
+    pub fn mt_end_blame(end: *mut Handle, blame: *mut Blame) -> u32;
+    pub fn mt_end_blame_line(end: *mut Handle, room: *mut core::ffi::c_char, capacity: usize) -> u32;
 }

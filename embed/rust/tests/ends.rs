@@ -1,7 +1,7 @@
 //! A client and a server in memory: the handshake however it is cut, a content, closes, and faults.
 use meadowtray::{
-    write_header, write_method, ChannelState, Client, ClientSettings, End, Event, Field, Header, Kind, Limits, Message,
-    Method, Phase, Server, ServerSettings, Status,
+    write_header, write_method, Cause, ChannelState, Client, ClientSettings, End, Event, Field, FrameKind, Header, Kind,
+    Limits, Message, Method, Phase, Rule, Server, ServerSettings, Status,
 };
 
 /// An event, without what it lends.
@@ -62,9 +62,15 @@ fn settle(client: &mut Client, server: &mut Server, size: usize) -> Vec<Seen> {
 }
 
 fn connected(size: usize) -> (Client, Server) {
+    connected_to(size, false)
+}
+
+/// A client, and a server that lends or gathers.
+fn connected_to(size: usize, lends: bool) -> (Client, Server) {
     let mut client = Client::new(&ClientSettings::default()).unwrap();
     let limits = Limits {
         frame_max: 4096,
+        lends,
         ..Limits::default()
     };
     let mut server = Server::new(&ServerSettings {
@@ -216,4 +222,109 @@ fn ends_close_the_connection() {
     let (mut client, mut server) = connected(64);
     client.close(200, b"bye").unwrap();
     assert_eq!(settle(&mut client, &mut server, 64).len(), 2);
+}
+
+#[test]
+fn blames() {
+    let (_client, mut server) = connected(4096);
+    assert_eq!((server.blame(), server.blame_line()), (None, None));
+    let before = server.octets_taken();
+    server.feed(&[8, 0, 3, 0, 0, 0, 0, 0xce]).unwrap_err();
+    let blame = server.blame().unwrap();
+    let frame = blame.frame.unwrap();
+    assert_eq!((blame.octet, blame.rule, blame.code), (before, Rule::HeartbeatOnZero, Some(501)));
+    assert_eq!((frame.kind, frame.channel, frame.method, frame.field), (FrameKind::Heartbeat, 3, None, None));
+    assert_eq!(server.octets_taken(), before + 8);
+    let line = format!("octet {before}, channel 3: a heartbeat on a channel (501)");
+    assert_eq!(server.blame_line(), Some(line));
+}
+
+#[test]
+fn what_was_heard() {
+    let (mut client, mut server) = connected(64);
+    let start = client.heard(Kind::named("connection.start").unwrap()).unwrap().unwrap();
+    let start = Method::read(&start).unwrap();
+    assert_eq!(start.field("mechanisms"), Some(Field::LongStr(b"PLAIN")));
+    let open = server.heard(Kind::named("connection.open").unwrap()).unwrap().unwrap();
+    assert_eq!(Method::read(&open).unwrap().field("virtual-host"), Some(Field::ShortStr(b"/")));
+    assert_eq!(server.heard(Kind::named("basic.ack").unwrap()), Ok(None));
+    server.forget_heard();
+    assert_eq!(server.heard(Kind::named("connection.open").unwrap()), Ok(None));
+    assert_eq!((client.heartbeat(), client.phase()), (0, Phase::Running));
+}
+
+#[test]
+fn closes_name_a_method() {
+    let (mut client, mut server) = connected(4096);
+    let declare = Kind::named("queue.declare").unwrap();
+    assert_eq!(client.closed_for(), None);
+    server.close_channel_for(1, 404, b"no queue", declare).unwrap();
+    assert_eq!(settle(&mut client, &mut server, 4096).len(), 2);
+    let cause = client.closed_for().unwrap();
+    assert_eq!((cause.class_id, cause.method_id, cause.kind()), (50, 10, Some(declare)));
+    client.close(200, b"bye").unwrap();
+    settle(&mut client, &mut server, 4096);
+    let none = Cause { class_id: 0, method_id: 0 };
+    assert_eq!((server.closed_for(), none.kind()), (Some(none), None));
+}
+
+#[test]
+fn what_is_kept() {
+    let (mut client, mut server) = connected(4096);
+    let body = [7; 9000];
+    let (method, header) = (publish(b"q"), header(body.len()));
+    let message = Message {
+        method: &method,
+        header: &header,
+        body: &body,
+    };
+    client.send(1, &message).unwrap();
+    let output = client.output().to_vec();
+    let mut rest = &output[..5000];
+    while !rest.is_empty() {
+        let octets = server.feed(rest).unwrap().octets;
+        rest = &rest[octets..];
+    }
+    assert_eq!((server.gathered(1), server.gathered_in_all()), (4088, 4088));
+    assert_eq!(server.kept(), server.pending() + header.len() + 4088);
+}
+
+#[test]
+fn a_content_that_is_lent() {
+    for size in [1, 7, 40, 4096, 20_000] {
+        let (mut client, mut server) = connected_to(size, true);
+        let body: Vec<u8> = (0..10_000).map(|i| (i * 7) as u8).collect();
+        let (method, header) = (publish(b"orders"), header(body.len()));
+        let message = Message {
+            method: &method,
+            header: &header,
+            body: &body,
+        };
+        client.send(1, &message).unwrap();
+        let output = client.output().to_vec();
+        let (mut came, mut whole) = (Vec::new(), 0);
+        for piece in output.chunks(size) {
+            let mut rest = piece;
+            while !rest.is_empty() {
+                let taken = server.feed(rest).unwrap();
+                match taken.event {
+                    Some(Event::Begins(1, octets)) => assert_eq!(octets, method),
+                    Some(Event::Heads(1, octets, false)) => assert_eq!(octets, header),
+                    Some(Event::Part(1, octets, ends)) => {
+                        came.extend_from_slice(octets);
+                        whole += usize::from(ends);
+                    }
+                    None => {}
+                    other => panic!("{other:?}"),
+                }
+                rest = &rest[taken.octets..];
+            }
+            assert_eq!(server.gathered_in_all(), 0);
+            assert_eq!(server.kept(), server.pending());
+        }
+        assert_eq!((came, whole), (body, 1));
+        server.close_channel(1, 200, b"enough").unwrap();
+        client.wrote(output.len()).unwrap();
+        assert_eq!(settle(&mut client, &mut server, size).len(), 2);
+    }
 }

@@ -17,7 +17,7 @@ use amqp_method::{Field, FieldKind, Kind, Method, MethodFaultKind, schema, write
 use std::alloc::Global;
 
 /// The kind with this number, if it is one.
-fn kind_of(number: u32) -> Option<Kind>
+pub(crate) fn kind_of(number: u32) -> Option<Kind>
     ensures { result ≡ kind_numbered number }
 {
     Kind::from_ids((number / 65536) as u16, (number % 65536) as u16)
@@ -92,7 +92,7 @@ fn own_method(alloc: Global, number: u32, values: &[Value<'_>]) -> Result<Method
 }
 
 /// The octets of a method.
-fn encoded(alloc: Global, method: &Method) -> Result<Vec<u8>, WriteFault>
+pub(crate) fn encoded(alloc: Global, method: &Method) -> Result<Vec<u8>, WriteFault>
     ensures ok { IfOk result (λ octets. octets.items ≡ plain_method (method_view method.now)) }
     ensures err { IfErr result (λ e. NotEncoded (method_view method.now) e) }
 {

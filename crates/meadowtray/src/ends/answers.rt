@@ -1,13 +1,12 @@
 //! What an end answers of itself.
 ghost use Rattle.std.specs.Prelude.{◌≡◌};
-ghost use Rattle.amqp_channel.specs.EventView.{agreed_there};
-ghost use Rattle.amqp_model.specs.Output.Outputs.{waiting_on};
-ghost use Rattle.amqp_core.specs.End.View.{counters_of, endpoint_of};
-ghost use Rattle.meadowtray.specs.EndAnswers.{LooksAt, OfEnd, ToldAgreed, ToldChannel};
+ghost use Rattle.amqp_channel.specs.Events.EventView.{agreed_there};
+ghost use Rattle.meadowtray.specs.EndAnswers.{ChannelOfEnd, LooksAt, LooksEnd, ToldAgreed, ToldChannel, WaitsOnEnd};
 
 use crate::codec::methods::number_of;
+use crate::ends::any_end::AnyEnd;
 use crate::ends::numbers::{phase_of, state_of};
-use amqp_core::{Agreed, Role};
+use amqp_core::Agreed;
 use amqp_handle::{EndSlot, HandleFault, HeldEnd, Kept};
 
 /// What tune-ok settled, as it crosses to C: all 0 before that.
@@ -21,21 +20,26 @@ pub struct AgreedLimits {
 
 /// What an end answers of itself, as it crosses to C.
 ///
-/// How many frames it took, how many octets of its output were written, how many octets it took of a frame that isn't
-/// whole yet, what was agreed, and the number of its phase.
+/// How many frames it took, how many octets of its output were written, and how many octets it took; how many of these
+/// are of a frame that isn't whole yet, how many it keeps for its peer, and how many of bodies on all channels; what was
+/// agreed, the heartbeat of that, and the number of its phase.
 #[repr(C)]
 #[derive(Clone, Copy)]
 pub struct EndLook {
     pub frames_taken: u64,
     pub octets_written: u64,
+    pub octets_taken: u64,
     pub pending: usize,
+    pub kept: usize,
+    pub gathered: usize,
     pub agreed: AgreedLimits,
+    pub heartbeat: u16,
     pub phase: u8,
 }
 
 /// What an end answers of a channel, as it crosses to C.
 ///
-/// How many octets are kept of the body of a content that isn't whole yet, the number of the method that is to be
+/// How many octets have come of the body of a content that isn't whole yet, the number of the method that is to be
 /// answered next, or 0, and the number of its state.
 #[repr(C)]
 #[derive(Clone, Copy)]
@@ -62,21 +66,25 @@ fn limits(agreed: Option<Agreed>) -> AgreedLimits
     }
 }
 
-fn look<R: Role>(kept: &Kept<R>) -> EndLook
-    ensures { LooksAt (endpoint_of kept.now.end.value) (counters_of kept.now.end.value) result }
+fn look<E: AnyEnd>(kept: &Kept<E>) -> EndLook
+    ensures { LooksAt E.AnyEnd kept.now.end.value result }
 {
     let end = &*kept.end;
     EndLook {
         frames_taken: end.frames_taken(),
         octets_written: end.octets_written(),
+        octets_taken: end.octets_taken(),
         pending: end.pending(),
+        kept: end.kept(),
+        gathered: end.gathered_in_all(),
         agreed: limits(end.agreed()),
+        heartbeat: end.heartbeat(),
         phase: phase_of(end.phase()),
     }
 }
 
-fn tell_channel<R: Role>(kept: &Kept<R>, channel: u16) -> ChannelTold
-    ensures { ToldChannel (endpoint_of kept.now.end.value).end channel result }
+fn tell_channel<E: AnyEnd>(kept: &Kept<E>, channel: u16) -> ChannelTold
+    ensures { ToldChannel (E.endpoint kept.now.end.value).end channel result }
 {
     let end = &*kept.end;
     let reply_due = match end.reply_due(channel) {
@@ -84,7 +92,7 @@ fn tell_channel<R: Role>(kept: &Kept<R>, channel: u16) -> ChannelTold
         None => 0,
     };
     ChannelTold {
-        gathered: end.gathered(channel),
+        gathered: end.came(channel),
         reply_due,
         state: state_of(end.channel_state(channel)),
     }
@@ -93,8 +101,7 @@ fn tell_channel<R: Role>(kept: &Kept<R>, channel: u16) -> ChannelTold
 /// What an end answers of itself.
 #[unsafe(no_mangle)]
 pub extern "C" fn proved_end_look(slot: &mut EndSlot, out: &mut EndLook) -> u32
-    ensures look { OfEnd slot.old.value (λ e counters. (result ≡ 0) × LooksAt e counters out.new) result }
-    ensures same { slot.new.value ≡ slot.old.value }
+    ensures { LooksEnd slot.old.value result out.new slot.new.value }
 {
     if !slot.is_open() {
         return HandleFault::NotOpen.number();
@@ -105,6 +112,14 @@ pub extern "C" fn proved_end_look(slot: &mut EndSlot, out: &mut EndLook) -> u32
             0
         }
         HeldEnd::Server(kept) => {
+            *out = look(kept);
+            0
+        }
+        HeldEnd::LendingClient(kept) => {
+            *out = look(kept);
+            0
+        }
+        HeldEnd::LendingServer(kept) => {
             *out = look(kept);
             0
         }
@@ -114,8 +129,7 @@ pub extern "C" fn proved_end_look(slot: &mut EndSlot, out: &mut EndLook) -> u32
 /// A channel's state, the octets gathered there, and the request that is due.
 #[unsafe(no_mangle)]
 pub extern "C" fn proved_end_channel(slot: &mut EndSlot, channel: u16, out: &mut ChannelTold) -> u32
-    ensures channel { OfEnd slot.old.value (λ e _. (result ≡ 0) × ToldChannel e.end channel out.new) result }
-    ensures same { slot.new.value ≡ slot.old.value }
+    ensures { ChannelOfEnd slot.old.value channel result out.new slot.new.value }
 {
     if !slot.is_open() {
         return HandleFault::NotOpen.number();
@@ -129,14 +143,21 @@ pub extern "C" fn proved_end_channel(slot: &mut EndSlot, channel: u16, out: &mut
             *out = tell_channel(kept, channel);
             0
         }
+        HeldEnd::LendingClient(kept) => {
+            *out = tell_channel(kept, channel);
+            0
+        }
+        HeldEnd::LendingServer(kept) => {
+            *out = tell_channel(kept, channel);
+            0
+        }
     }
 }
 
 /// How many octets wait of a channel, put and not sent.
 #[unsafe(no_mangle)]
 pub extern "C" fn proved_end_waiting(slot: &mut EndSlot, channel: u16, out: &mut usize) -> u32
-    ensures waiting { OfEnd slot.old.value (λ e _. (result ≡ 0) × (out.new ≡ waiting_on channel e.output)) result }
-    ensures same { slot.new.value ≡ slot.old.value }
+    ensures { WaitsOnEnd slot.old.value channel result out.new slot.new.value }
 {
     if !slot.is_open() {
         return HandleFault::NotOpen.number();
@@ -147,6 +168,14 @@ pub extern "C" fn proved_end_waiting(slot: &mut EndSlot, channel: u16, out: &mut
             0
         }
         HeldEnd::Server(kept) => {
+            *out = kept.end.waiting(channel);
+            0
+        }
+        HeldEnd::LendingClient(kept) => {
+            *out = kept.end.waiting(channel);
+            0
+        }
+        HeldEnd::LendingServer(kept) => {
             *out = kept.end.waiting(channel);
             0
         }

@@ -14,7 +14,7 @@ ghost use Rattle.meadowtray.specs.EndLending.{SameEnd, SameHandle};
 
 use crate::codec::statuses::{NO_ROOM, method_fault};
 use crate::ends::numbers::event_of;
-use amqp_core::{Event, Reason, Role};
+use amqp_core::{Event, Reason};
 use amqp_handle::{EndSlot, HandleFault, HeldEnd, Kept, Place};
 use amqp_method::{Header, Message, MethodFaultKind, Properties, write_header, write_method};
 
@@ -22,7 +22,8 @@ use amqp_method::{Header, Message, MethodFaultKind, Properties, write_header, wr
 ///
 /// Of a message, `method` and `header` are the payloads of its frames, and `body` its body; `holds` says whether
 /// there is a content. Of a close, `holds` says whether it was the other end's, with `code` and `text`. Of a flow
-/// `holds` says whether contents may be sent.
+/// `holds` says whether contents may be sent. Of a content that is lent, `method`, `header` or `body` is what came with
+/// the frame, and `holds` says whether the content is whole with it.
 #[repr(C)]
 #[derive(Clone, Copy)]
 pub struct SeenEvent<'a> {
@@ -145,7 +146,7 @@ fn show_reason<'a>(reason: &'a Option<Reason>, out: &mut SeenEvent<'a>)
 }
 
 /// An event of this kind, before anything is said of it.
-fn of_kind<'a>(kind: u8) -> SeenEvent<'a>
+pub(crate) fn of_kind<'a>(kind: u8) -> SeenEvent<'a>
     ensures { result.kind ≡ kind }
 {
     SeenEvent {
@@ -218,9 +219,9 @@ fn show_place<'a>(place: &'a mut Place) -> Result<SeenEvent<'a>, u32>
 }
 
 /// The event at a place of an end, if there is that place.
-fn show_at<'a, R: Role>(kept: &'a mut Kept<R>, place: usize) -> Result<SeenEvent<'a>, u32>
+fn show_at<'a, E>(kept: &'a mut Kept<E>, place: usize) -> Result<SeenEvent<'a>, u32>
     ensures shows { ShowsAt kept.old.places.items place result }
-    ensures* after { sem 𝓛 (Rests (kept_row.the_row R.row R.Hello.row R.Role) kept.entry
+    ensures* after { sem 𝓛 (Rests (kept_row.the_row E.row) kept.entry
         (λ new. SameEnd kept.old new)) }
 {
     if place >= kept.places.len() {
@@ -239,6 +240,8 @@ fn end_event<'a>(slot: &'a mut EndSlot, place: usize) -> Result<SeenEvent<'a>, u
     match slot.held() {
         HeldEnd::Client(kept) => show_at(kept, place),
         HeldEnd::Server(kept) => show_at(kept, place),
+        HeldEnd::LendingClient(kept) => show_at(kept, place),
+        HeldEnd::LendingServer(kept) => show_at(kept, place),
     }
 }
 

@@ -5,7 +5,7 @@ ghost use Rattle.meadowtray.specs.Feeding.{FeedsEnd, FeedsKept, FeedsOne, KeepsA
 
 use crate::codec::statuses::NO_ROOM;
 use crate::ends::numbers::event_of;
-use amqp_core::{CoreFault, Event, Role, Taken};
+use amqp_core::{CoreFault, End, Event, Role, Taken};
 use amqp_handle::{EndSlot, HandleFault, HeldEnd, Kept, Place};
 
 /// The status of an end's fault is this and the fault's number.
@@ -23,7 +23,7 @@ pub struct FedEnd {
 }
 
 /// The status of a fault, and the code of the close that was put.
-fn tell_fault(fault: CoreFault, out: &mut FedEnd) -> u32
+pub(crate) fn tell_fault(fault: CoreFault, out: &mut FedEnd) -> u32
     ensures status { result ≡ core_status fault }
     ensures code { TellsCode fault out.new.code }
 {
@@ -48,7 +48,7 @@ fn keep_at(places: &mut Vec<Place>, place: usize, event: Option<Event>)
 }
 
 /// Feeds an end, and keeps what it tells at a place that is there.
-fn feed<R: Role>(kept: &mut Kept<R>, place: usize, piece: &[u8], out: &mut FedEnd) -> u32
+fn feed<R: Role>(kept: &mut Kept<End<R>>, place: usize, piece: &[u8], out: &mut FedEnd) -> u32
     requires { place < length kept.old.places.items }
     ensures { FeedsKept kept.old place piece.now result out.new kept.new }
 {
@@ -65,7 +65,7 @@ fn feed<R: Role>(kept: &mut Kept<R>, place: usize, piece: &[u8], out: &mut FedEn
 }
 
 /// Feeds an end, and keeps what it tells at a place, if there is that place.
-fn feed_at<R: Role>(kept: &mut Kept<R>, place: usize, piece: &[u8], out: &mut FedEnd) -> u32
+fn feed_at<R: Role>(kept: &mut Kept<End<R>>, place: usize, piece: &[u8], out: &mut FedEnd) -> u32
     ensures { FeedsOne kept.old place piece.now result out.new kept.new }
 {
     if place >= kept.places.len() {
@@ -90,5 +90,7 @@ pub extern "C" fn proved_end_feed(
     match slot.held() {
         HeldEnd::Client(kept) => feed_at(kept, place, piece, out),
         HeldEnd::Server(kept) => feed_at(kept, place, piece, out),
+        HeldEnd::LendingClient(_) => HandleFault::OtherKind.number(),
+        HeldEnd::LendingServer(_) => HandleFault::OtherKind.number(),
     }
 }

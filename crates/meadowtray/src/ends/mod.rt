@@ -1,12 +1,17 @@
 //! Ends of a connection behind handles: clients and servers.
 //!
-//! The exports take either end, and refuse a handle that isn't open.
+//! The exports take each kind of end, and refuse a handle that isn't open.
 
 mod answers;
+mod any_end;
 mod asking;
+mod blaming;
+mod closing;
 mod controlling;
 mod events;
 mod feeding;
+mod hearing;
+mod lending;
 mod messages;
 mod numbers;
 mod opening;

@@ -1,10 +1,12 @@
 //! The numbers of what ends answer.
 ghost use Rattle.std.specs.Prelude.{◌≡◌};
-ghost use Rattle.amqp_channel.specs.StateView.{state_view};
+ghost use Rattle.amqp_channel.specs.Events.EventView.{state_view};
+ghost use Rattle.meadowtray.specs.Blaming.{rule_number};
 ghost use Rattle.meadowtray.specs.EndAnswers.{state_told};
 ghost use Rattle.meadowtray.specs.EndNumbers.{ask_status, asked_status, config_status, event_number, phase_number};
 
-use amqp_core::{AskFault, ChannelState, ConfigFault, Event, Phase};
+use amqp_core::{AskFault, ChannelState, ConfigFault, Event, Phase, Rule};
+use amqp_frame::FrameFaultKind;
 
 /// The status of what is wrong with settings is this and its number.
 const CONFIG_FAULTS: u32 = 500;
@@ -81,5 +83,41 @@ pub(crate) fn event_of(event: &Option<Event>) -> u8
         Some(Event::AnswerAsked) => 12,
         Some(Event::LoginAsked) => 13,
         Some(Event::OpenAsked) => 14,
+    }
+}
+
+/// The number of a rule.
+pub(crate) fn rule_of(rule: Rule) -> u8
+    ensures { result ≡ rule_number rule }
+{
+    match rule {
+        Rule::ProtocolHeader => 1,
+        Rule::Framing(FrameFaultKind::UnknownType) => 2,
+        Rule::Framing(FrameFaultKind::TooLarge) => 3,
+        Rule::Framing(FrameFaultKind::BadEnd) => 4,
+        Rule::Framing(FrameFaultKind::OutOfMemory) => 5,
+        Rule::Framing(FrameFaultKind::Failed) => 6,
+        Rule::HeartbeatIsEmpty => 7,
+        Rule::HeartbeatOnZero => 8,
+        Rule::KnownMethod => 9,
+        Rule::NoSecure => 10,
+        Rule::Syntax => 11,
+        Rule::HandshakeOrder => 12,
+        Rule::TuneFrameSize => 13,
+        Rule::TuneOkRange => 14,
+        Rule::HandshakeIsOver => 15,
+        Rule::ConnectionOnZero => 16,
+        Rule::SentBySide => 17,
+        Rule::WasAsked => 18,
+        Rule::NotOnZero => 19,
+        Rule::ChannelMaximum => 20,
+        Rule::OpenedOnce => 21,
+        Rule::ChannelOpen => 22,
+        Rule::HeaderDue => 23,
+        Rule::BodyDue => 24,
+        Rule::ContentBegun => 25,
+        Rule::BodySize => 26,
+        Rule::WaitingRequests => 27,
+        Rule::ContentSize => 28,
     }
 }

@@ -1,11 +1,13 @@
 //! Handles opened with ends.
-ghost use Rattle.std.specs.Prelude.{◌≡◌, ◌≤◌, length, IfOk, IfErr};
+ghost use Rattle.std.specs.Prelude.{◌≡◌, ◌≤◌, [], length, IfOk, IfErr};
 ghost use Rattle.amqp_core.specs.Config.Configs.{set_up_as, settings_of};
+ghost use Rattle.amqp_core.specs.End.Beginning.{IsFaultIn, IsNewEnd};
 ghost use Rattle.amqp_core.specs.Faults.Numbers.{config_fault_view};
 ghost use Rattle.amqp_core.specs.Config.Settings.{client_hello_view, config_view, role_for, server_hello_view};
 ghost use Rattle.amqp_model.specs.End.Fitting.{config_fault};
 ghost use Rattle.meadowtray.specs.declared.codec.owned.ArgFault.TheVariants as arg;
-ghost use Rattle.meadowtray.specs.EndOpening.{client_said, client_set_up, open_status, server_said, server_set_up, BeginsAs, BeginsKept, IsFaultOf, NotClient, NotClientHello, NotServer, NotServerHello, OpensClient, OpensServer, MakesPlace, MakesPlaceAt};
+ghost use Rattle.meadowtray.specs.declared.ends.opening.OpenFault.TheVariants.{Given};
+ghost use Rattle.meadowtray.specs.EndOpening.{client_said, client_set_up, open_status, server_said, server_set_up, BeginsAs, HoldsClient, HoldsServer, NotClient, NotClientHello, NotServer, NotServerHello, OpensClient, OpensServer, MakesPlace, MakesPlaceAt};
 ghost use Rattle.meadowtray.specs.Handles.{Closes};
 ghost use Rattle.meadowtray.specs.Writing.{NotCounted};
 
@@ -19,7 +21,7 @@ use amqp_value::ShortStr;
 use std::alloc::Global;
 
 /// What a client is set up with, as C says it: the fields of a `Config` and of a `ClientHello`. The properties are
-/// the octets of a table.
+/// the octets of a table; `lends` says whether its events lend.
 #[repr(C)]
 pub struct ClientSettings<'a> {
     pub properties: &'a [u8],
@@ -32,6 +34,7 @@ pub struct ClientSettings<'a> {
     pub channel_max: u16,
     pub heartbeat: u16,
     pub gated: bool,
+    pub lends: bool,
 }
 
 /// What a server is set up with, likewise.
@@ -45,6 +48,7 @@ pub struct ServerSettings<'a> {
     pub channel_max: u16,
     pub heartbeat: u16,
     pub gated: bool,
+    pub lends: bool,
 }
 
 /// Why an end isn't made.
@@ -129,22 +133,29 @@ fn server_hello(alloc: Global, given: &ServerSettings<'_>) -> Result<ServerHello
     })
 }
 
-/// An end as it begins, without a place for an event.
-fn keep<R: Role>(alloc: Global, config: Config<R>) -> Result<Kept<R>, ConfigFault>
-    ensures ok { IfOk result (λ kept. BeginsKept (settings_of R.hello_of config) kept) }
-    ensures err { IfErr result (λ fault. IsFaultOf (settings_of R.hello_of config) fault) }
+/// An end, without a place for an event.
+fn keep<E: Drop>(alloc: Global, end: E) -> Result<Kept<E>, OpenFault>
+    ensures ok { IfOk result (λ kept. (kept.end.value ≡ end) × (kept.places.items ≡ [])) }
+    ensures err { IfErr result (λ fault. fault ≡ Given arg.OutOfMemory) }
 {
-    let end = End::new(alloc, config)?;
     let places = Vec::new(alloc);
     let Ok(end) = Box::new(alloc, end) else {
-        return Err(ConfigFault::OutOfMemory);
+        return Err(OpenFault::Given(ArgFault::OutOfMemory));
     };
     Ok(Kept { end, places })
 }
 
+/// The end that is set up so.
+fn begin<R: Role>(alloc: Global, config: Config<R>) -> Result<End<R>, ConfigFault>
+    ensures ok { IfOk result (λ end. IsNewEnd (settings_of R.hello_of config) end) }
+    ensures err { IfErr result (λ fault. IsFaultIn (settings_of R.hello_of config) fault) }
+{
+    End::new(alloc, config)
+}
+
 #[tactic(auto, using(crate::proofs::Begun::client_fault))]
-fn make_client(alloc: Global, given: &ClientSettings<'_>) -> Result<Kept<Client>, OpenFault>
-    ensures ok { IfOk result (λ kept. BeginsAs (client_set_up given.now) kept) }
+fn make_client(alloc: Global, given: &ClientSettings<'_>) -> Result<End<Client>, OpenFault>
+    ensures ok { IfOk result (λ end. BeginsAs (client_set_up given.now) end) }
     ensures err { IfErr result (λ fault. NotClient given.now fault) }
 {
     let hello = match client_hello(alloc, given) {
@@ -159,15 +170,15 @@ fn make_client(alloc: Global, given: &ClientSettings<'_>) -> Result<Kept<Client>
         gated: given.gated,
         hello,
     };
-    match keep(alloc, config) {
-        Ok(kept) => Ok(kept),
+    match begin(alloc, config) {
+        Ok(end) => Ok(end),
         Err(fault) => Err(OpenFault::Config(fault)),
     }
 }
 
 #[tactic(auto, using(crate::proofs::Begun::server_fault))]
-fn make_server(alloc: Global, given: &ServerSettings<'_>) -> Result<Kept<Server>, OpenFault>
-    ensures ok { IfOk result (λ kept. BeginsAs (server_set_up given.now) kept) }
+fn make_server(alloc: Global, given: &ServerSettings<'_>) -> Result<End<Server>, OpenFault>
+    ensures ok { IfOk result (λ end. BeginsAs (server_set_up given.now) end) }
     ensures err { IfErr result (λ fault. NotServer given.now fault) }
 {
     let hello = match server_hello(alloc, given) {
@@ -182,13 +193,41 @@ fn make_server(alloc: Global, given: &ServerSettings<'_>) -> Result<Kept<Server>
         gated: given.gated,
         hello,
     };
-    match keep(alloc, config) {
-        Ok(kept) => Ok(kept),
+    match begin(alloc, config) {
+        Ok(end) => Ok(end),
         Err(fault) => Err(OpenFault::Config(fault)),
     }
 }
 
-/// Opens a handle with a client that is set up so, as `End::new` makes it.
+/// The client that C gives, of the kind that it gives.
+fn hold_client(alloc: Global, given: &ClientSettings<'_>) -> Result<HeldEnd, OpenFault>
+    ensures ok { IfOk result (λ held. HoldsClient given.now held) }
+    ensures err { IfErr result (λ fault. NotClient given.now fault) }
+{
+    let end = make_client(alloc, given)?;
+    if given.lends {
+        let kept = keep(alloc, end.into_stream())?;
+        return Ok(HeldEnd::LendingClient(kept));
+    }
+    let kept = keep(alloc, end)?;
+    Ok(HeldEnd::Client(kept))
+}
+
+/// The server that C gives, likewise.
+fn hold_server(alloc: Global, given: &ServerSettings<'_>) -> Result<HeldEnd, OpenFault>
+    ensures ok { IfOk result (λ held. HoldsServer given.now held) }
+    ensures err { IfErr result (λ fault. NotServer given.now fault) }
+{
+    let end = make_server(alloc, given)?;
+    if given.lends {
+        let kept = keep(alloc, end.into_stream())?;
+        return Ok(HeldEnd::LendingServer(kept));
+    }
+    let kept = keep(alloc, end)?;
+    Ok(HeldEnd::Server(kept))
+}
+
+/// Opens a handle with a client that is set up so, as `End::new` makes it, or as `End::into_stream` makes it of that.
 #[unsafe(no_mangle)]
 pub extern "C" fn proved_client_open(
     slot: &mut EndSlot,
@@ -200,8 +239,8 @@ pub extern "C" fn proved_client_open(
     if slot.is_open() {
         return HandleFault::AlreadyOpen.number();
     }
-    match make_client(alloc, given) {
-        Ok(kept) => status(slot.open(alloc, HeldEnd::Client(kept))),
+    match hold_client(alloc, given) {
+        Ok(held) => status(slot.open(alloc, held)),
         Err(fault) => fault.number(),
     }
 }
@@ -218,8 +257,8 @@ pub extern "C" fn proved_server_open(
     if slot.is_open() {
         return HandleFault::AlreadyOpen.number();
     }
-    match make_server(alloc, given) {
-        Ok(kept) => status(slot.open(alloc, HeldEnd::Server(kept))),
+    match hold_server(alloc, given) {
+        Ok(held) => status(slot.open(alloc, held)),
         Err(fault) => fault.number(),
     }
 }
@@ -264,5 +303,7 @@ pub extern "C" fn proved_end_make_place(slot: &mut EndSlot, alloc: Global, place
     match slot.held() {
         HeldEnd::Client(kept) => make_place(alloc, &mut kept.places, place),
         HeldEnd::Server(kept) => make_place(alloc, &mut kept.places, place),
+        HeldEnd::LendingClient(_) => HandleFault::OtherKind.number(),
+        HeldEnd::LendingServer(_) => HandleFault::OtherKind.number(),
     }
 }

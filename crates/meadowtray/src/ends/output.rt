@@ -3,22 +3,21 @@ ghost use Rattle.std.specs.Prelude.{◌≡◌, true, is_some};
 ghost use Rattle.std.specs.Borrow.{sem};
 ghost use Rattle.std.specs.Io.BufRead.{Rests};
 ghost use Rattle.amqp_model.specs.Output.Outputs.{output_octets};
-ghost use Rattle.amqp_core.specs.End.View.{endpoint_of};
 ghost use Rattle.amqp_handle.specs.contracts.kept.Kept as kept_row;
-ghost use Rattle.meadowtray.specs.EndAnswers.{IsOutputOf, OfEnd, WritesEnd, WritesKept};
+ghost use Rattle.meadowtray.specs.EndAnswers.{IsOutputOf, OutputOfEnd, WritesEnd, WritesKept};
 ghost use Rattle.meadowtray.specs.EndLending.{StaysSlot};
 
-use amqp_core::Role;
+use crate::ends::any_end::AnyEnd;
 use amqp_handle::{EndSlot, HandleFault, HeldEnd, Kept};
 
 /// More octets than the output has.
 const PAST_OUTPUT: u32 = 10;
 
-fn lend_output<'a, R: Role>(kept: &'a mut Kept<R>) -> &'a [u8]
-    ensures octets { result.now ≡ output_octets (endpoint_of kept.old.end.value).output }
-    ensures* after { sem 𝓛 (Rests (kept_row.the_row R.row R.Hello.row R.Role) kept.entry (λ new. new ≡ kept.old)) }
+fn lend_output<'a, E: AnyEnd>(kept: &'a mut Kept<E>) -> &'a [u8]
+    ensures octets { result.now ≡ output_octets (E.endpoint kept.old.end.value).output }
+    ensures* after { sem 𝓛 (Rests (kept_row.the_row E.row) kept.entry (λ new. new ≡ kept.old)) }
 {
-    let kept: &'a Kept<R> = kept;
+    let kept: &'a Kept<E> = kept;
     kept.end.output()
 }
 
@@ -31,13 +30,15 @@ fn end_output<'a>(slot: &'a mut EndSlot) -> &'a [u8]
     match slot.held() {
         HeldEnd::Client(kept) => lend_output(kept),
         HeldEnd::Server(kept) => lend_output(kept),
+        HeldEnd::LendingClient(kept) => lend_output(kept),
+        HeldEnd::LendingServer(kept) => lend_output(kept),
     }
 }
 
 /// Lends the octets that are to be sent next.
 #[unsafe(no_mangle)]
 pub extern "C" fn proved_end_output<'a>(slot: &'a mut EndSlot, out: &mut &'a [u8]) -> u32
-    ensures { OfEnd slot.old.value (λ e _. (result ≡ 0) × (out.new.now ≡ output_octets e.output)) result }
+    ensures { OutputOfEnd slot.old.value result out.new.now }
 {
     if !slot.is_open() {
         return HandleFault::NotOpen.number();
@@ -46,8 +47,8 @@ pub extern "C" fn proved_end_output<'a>(slot: &'a mut EndSlot, out: &mut &'a [u8
     0
 }
 
-fn wrote<R: Role>(kept: &mut Kept<R>, octets: usize) -> u32
-    ensures { WritesKept kept.old octets result kept.new }
+fn wrote<E: AnyEnd>(kept: &mut Kept<E>, octets: usize) -> u32
+    ensures { WritesKept E.AnyEnd kept.old octets result kept.new }
 {
     if octets > kept.end.output().len() {
         return PAST_OUTPUT;
@@ -67,5 +68,7 @@ pub extern "C" fn proved_end_wrote(slot: &mut EndSlot, octets: usize) -> u32
     match slot.held() {
         HeldEnd::Client(kept) => wrote(kept, octets),
         HeldEnd::Server(kept) => wrote(kept, octets),
+        HeldEnd::LendingClient(kept) => wrote(kept, octets),
+        HeldEnd::LendingServer(kept) => wrote(kept, octets),
     }
 }

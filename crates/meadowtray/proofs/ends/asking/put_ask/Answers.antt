@@ -1,17 +1,14 @@
 use Rattle.std.proofs.Common.{refl, sym, subst}
 use Rattle.amqp_core.specs.Asks.View.{ask_view}
-use Rattle.amqp_core.specs.End.Asks.{AnswersNumber, Asked}
 use Rattle.meadowtray.specs.EndAsks.{ToldAsked}
 use Rattle.meadowtray.proofs.ends.asking.put_ask.Goals as goal
 
 pub returns-in-Ok : goal.returns-in-Ok
 returns-in-Ok g c =
     let ask = ask_view c.args.ask.now in
-    let same = c.deref_mut.ensures.value in
     record {
       answer = c.ask.result;
-      asked = subst (λ end. Asked end ask c.ask.result c.ask.new.self) same c.ask.ensures.asked;
-      number = subst (λ end. AnswersNumber end ask c.ask.result) same c.ask.ensures.number;
+      asked = subst (λ end. g.E.AnyEnd.answered end ask c.ask.result c.ask.new.self) c.deref_mut.ensures.value c.ask.ensures;
       told = subst (λ answer. ToldAsked answer 0 c.unwrap_or.result) (sym c.in-Ok.is) (refl, c.unwrap_or.ensures);
       places = refl;
     }

@@ -1,5 +1,4 @@
 use Rattle.std.proofs.Common.{refl, subst}
-use Rattle.amqp_core.specs.End.Controls.{Controlled}
 use Rattle.meadowtray.specs.Decisions.{decision_view}
 use Rattle.meadowtray.proofs.ends.controlling.decide.Goals as goal
 
@@ -7,7 +6,8 @@ pub returns : goal.returns
 returns g c =
     record {
       answer = c.control.result;
-      controlled = subst (λ end. Controlled end (decision_view c.args.decision.now) c.control.result c.control.new.end) c.deref_mut.ensures.value c.control.ensures;
+      controlled = subst (λ end. g.E.AnyEnd.controlled end (decision_view c.args.decision.now) c.control.result c.control.new.end) c.deref_mut.ensures.value
+          c.control.ensures;
       told = c.asked.ensures;
       places = refl;
     }

@@ -1,7 +1,6 @@
-use Rattle.std.proofs.Common.{◌≡◌, refl, sym, subst}
-use Rattle.amqp_core.specs.End.View.{counters_of}
+use Rattle.std.proofs.Common.{refl, sym, subst}
 use Rattle.amqp_core.specs.End.Feeds.{Feeds}
-use Rattle.meadowtray.specs.Feeding.{CountsTaken, ToldFed}
+use Rattle.meadowtray.specs.Feeding.{ToldFed}
 use Rattle.meadowtray.proofs.ends.feeding.feed.Goals as goal
 
 pub returns-in-Ok : goal.returns-in-Ok
@@ -12,11 +11,7 @@ returns-in-Ok g c =
     let same = c.deref_mut.ensures.value in
     record {
       answer = result;
-      fed = subst (λ end. Feeds end piece result new) same c.feed.ensures.feeds;
-      within = c.feed.ensures.within;
-      progress = c.feed.ensures.progress;
-      frames = subst (λ end. CountsTaken end piece result new) same c.feed.ensures.frames;
-      octets = subst (λ end. (counters_of new).octets ≡ (counters_of end).octets) same c.feed.ensures.octets;
+      fed = subst (λ end. Feeds end piece result new) same c.feed.ensures;
       told = subst (λ answer. ToldFed answer 0 (record { taken = c.in-Ok.taken.octets; code = c.args.out.now.code; kind = c.event_of-out.result })
           c.args.kept.now.places.items c.args.place c.keep_at.new.places.items) (sym c.in-Ok.is)
           (refl, refl, c.event_of-out.ensures, c.keep_at.ensures);
@@ -30,11 +25,7 @@ returns-in-Err g c =
     let same = c.deref_mut.ensures.value in
     record {
       answer = result;
-      fed = subst (λ end. Feeds end piece result new) same c.feed.ensures.feeds;
-      within = c.feed.ensures.within;
-      progress = c.feed.ensures.progress;
-      frames = subst (λ end. CountsTaken end piece result new) same c.feed.ensures.frames;
-      octets = subst (λ end. (counters_of new).octets ≡ (counters_of end).octets) same c.feed.ensures.octets;
+      fed = subst (λ end. Feeds end piece result new) same c.feed.ensures;
       told = subst (λ answer. ToldFed answer c.tell_fault.result c.tell_fault.new.out c.args.kept.now.places.items c.args.place
           c.args.kept.now.places.items) (sym c.in-Err.is) (c.tell_fault.ensures.status, c.tell_fault.ensures.code, refl);
     }

@@ -1,5 +1,5 @@
 use Rattle.meadowtray.proofs.Begun.{server_begins}
 use Rattle.meadowtray.proofs.ends.opening.make_server.Goals as goal
 
-pub returns-in-Ok-keep-clause-ok : goal.returns-in-Ok-keep-clause-ok
-returns-in-Ok-keep-clause-ok c = server_begins c.args.given.now c.in-Ok.hello c.in-Ok-keep.kept c.in-Ok.ensures.ok c.in-Ok-keep.ensures.ok
+pub returns-in-Ok-begin-clause-ok : goal.returns-in-Ok-begin-clause-ok
+returns-in-Ok-begin-clause-ok c = server_begins c.args.given.now c.in-Ok.hello c.in-Ok-begin.end c.in-Ok.ensures.ok c.in-Ok-begin.ensures.ok

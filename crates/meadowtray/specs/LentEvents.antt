@@ -1,0 +1,109 @@
+-- What a feed of an end behind a handle does whose events lend. Read before: what a feed of such an end does (`Lends` of
+-- `amqp_core`).
+use Rattle.std.specs.Prelude.{◌≡◌, ℕ, List, Bool, true, false, Option, Some, None, Result, Ok, Err}
+use Rattle.amqp_method.specs.Encoding.{EncodesMethod}
+use Rattle.amqp_method.specs.Properties.{header, EncodesHeader}
+use Rattle.amqp_model.specs.End.Events as events
+use Rattle.amqp_model.specs.Lent.Alike.{LentEvent, WithoutContent, Begins, Heads, Part, Other}
+use Rattle.amqp_core.specs.Stream.EventRefView.{event_ref_view}
+use Rattle.amqp_core.specs.Stream.Lending.{LentSeen}
+use Rattle.amqp_core.specs.Stream.Lends.{Lends}
+use Rattle.amqp_core.specs.declared.event_ref.EventRef.TheVariants as lent
+use Rattle.amqp_core.specs.declared.event_ref.ReasonRef.{ReasonRef}
+use Rattle.amqp_core.specs.declared.faults.CoreFault.{CoreFault}
+use Rattle.amqp_core.specs.declared.roles.Role.{Ghosts}
+use Rattle.amqp_core.specs.declared.stream.StreamEnd.{StreamEnd}
+use Rattle.amqp_handle.specs.declared.kept.HeldEnd.{HeldEnd}
+use Rattle.amqp_handle.specs.declared.kept.HeldEnd.TheVariants.{Client, Server, LendingClient, LendingServer}
+use Rattle.amqp_handle.specs.declared.kept.Kept.{Kept}
+use Rattle.meadowtray.specs.EndNumbers.{core_status}
+use Rattle.meadowtray.specs.Feeding.{TellsCode}
+use Rattle.meadowtray.specs.declared.ends.events.SeenEvent.{SeenEvent}
+use Rattle.meadowtray.specs.declared.ends.feeding.FedEnd.{FedEnd}
+
+-- ---- what is told
+
+abbrev reason_told : LentEvent → Option events.Reason
+reason_told (Other (events.ConnectionClosed reason)) = reason
+reason_told event = None
+
+-- the reason that a close lends, if it has one
+abbrev pub reason_lent : Option ReasonRef → Option events.Reason
+reason_lent reason = reason_told (event_ref_view (lent.ConnectionClosed reason))
+
+-- the reason of the other end's close
+abbrev pub TellsReason : Option events.Reason → SeenEvent → Type 0
+TellsReason None out = out.holds ≡ false
+TellsReason (Some reason) out = (out.holds ≡ true) × (out.code ≡ reason.code) × (out.text.now ≡ reason.text)
+
+-- an event of which no content is a part
+abbrev pub TellsOther : events.Event → SeenEvent → Type 0
+TellsOther (events.Negotiated agreed) out =
+    (out.kind ≡ 1) × (out.channel_max ≡ agreed.channel_max) × (out.frame_max ≡ agreed.frame_max) × (out.heartbeat ≡ agreed.heartbeat)
+TellsOther (events.Opened channel) out = (out.kind ≡ 2) × (out.channel ≡ channel)
+TellsOther (events.Told channel message) out = ⊥
+TellsOther (events.Flow channel active) out = (out.kind ≡ 4) × (out.channel ≡ channel) × (out.holds ≡ active)
+TellsOther (events.FlowOk channel active) out = (out.kind ≡ 5) × (out.channel ≡ channel) × (out.holds ≡ active)
+TellsOther (events.ChannelClosed channel reason) out = (out.kind ≡ 6) × (out.channel ≡ channel) × TellsReason reason out
+TellsOther (events.ConnectionClosed reason) out = (out.kind ≡ 7) × TellsReason reason out
+TellsOther (events.Discarded channel) out = (out.kind ≡ 8) × (out.channel ≡ channel)
+TellsOther (events.Blocked reason) out = (out.kind ≡ 9) × (out.text.now ≡ reason)
+TellsOther events.Unblocked out = out.kind ≡ 10
+TellsOther events.Quiet out = out.kind ≡ 11
+TellsOther events.AnswerAsked out = out.kind ≡ 12
+TellsOther events.LoginAsked out = out.kind ≡ 13
+TellsOther events.OpenAsked out = out.kind ≡ 14
+
+-- an event, with the octets as they came
+abbrev pub TellsEvent : LentEvent → SeenEvent → Type 0
+TellsEvent (WithoutContent channel method) out = (out.kind ≡ 3) × (out.channel ≡ channel) × EncodesMethod method out.method.now
+TellsEvent (Begins channel method) out = (out.kind ≡ 15) × (out.channel ≡ channel) × EncodesMethod method out.method.now
+TellsEvent (Heads channel size properties whole) out =
+    (out.kind ≡ 16) × (out.channel ≡ channel) × EncodesHeader (header size properties) out.header.now × (out.holds ≡ whole)
+TellsEvent (Part channel octets whole) out = (out.kind ≡ 17) × (out.channel ≡ channel) × (out.body.now ≡ octets) × (out.holds ≡ whole)
+TellsEvent (Other event) out = TellsOther event out
+
+-- the event, if there is one
+abbrev pub TellsMaybe : Option LentEvent → FedEnd → SeenEvent → Type 0
+TellsMaybe None fed out = fed.kind ≡ 0
+TellsMaybe (Some event) fed out = (fed.kind ≡ out.kind) × TellsEvent event out
+
+-- an answer
+abbrev pub TellsLent : Result LentSeen CoreFault → ℕ → FedEnd → SeenEvent → Type 0
+TellsLent (Ok seen) status fed out = (status ≡ 0) × (fed.taken ≡ seen.octets) × TellsMaybe seen.event fed out
+TellsLent (Err fault) status fed out = (status ≡ core_status fault) × TellsCode fault fed.code
+
+-- ---- what the end does
+
+-- the end is fed the piece, answers this, and its places stay
+pub record LendsKept {R H : Type 0} {G : Ghosts R H} (old : Kept (StreamEnd R H G)) (piece : List ℕ) (seen : Result LentSeen CoreFault)
+    (new : Kept (StreamEnd R H G)) : Type 0 where
+  pub lends : Lends old.end.value piece seen new.end.value
+  pub places : new.places ≡ old.places
+
+-- this is what an end answers to a piece
+pub record LentAnswer {R H : Type 0} {G : Ghosts R H} (old : StreamEnd R H G) (piece : List ℕ) (seen : Result LentSeen CoreFault) : Type 0 where
+  -- the end that is left
+  pub new : StreamEnd R H G
+  pub lends : Lends old piece seen new
+
+abbrev pub is_lending : Option HeldEnd → Bool
+is_lending (Some (LendingClient kept)) = true
+is_lending (Some (LendingServer kept)) = true
+is_lending held = false
+
+-- what the end of a handle answers, if its events lend
+abbrev pub LentOf : Option HeldEnd → List ℕ → Result LentSeen CoreFault → Type 0
+LentOf (Some (LendingClient kept)) piece seen = LentAnswer kept.end.value piece seen
+LentOf (Some (LendingServer kept)) piece seen = LentAnswer kept.end.value piece seen
+LentOf held piece seen = ⊥
+
+-- the answer is told; a handle that isn't open is refused, and one whose end gathers
+abbrev pub FeedsLent : Option HeldEnd → List ℕ → ℕ → FedEnd → SeenEvent → Type 0
+FeedsLent None piece status fed out = status ≡ 1
+FeedsLent (Some (Client kept)) piece status fed out = status ≡ 3
+FeedsLent (Some (Server kept)) piece status fed out = status ≡ 3
+FeedsLent (Some (LendingClient kept)) piece status fed out =
+    (seen : Result LentSeen CoreFault) × LentAnswer kept.end.value piece seen × TellsLent seen status fed out
+FeedsLent (Some (LendingServer kept)) piece status fed out =
+    (seen : Result LentSeen CoreFault) × LentAnswer kept.end.value piece seen × TellsLent seen status fed out

@@ -1,0 +1,154 @@
+//! What the other end said in the handshake, and what its last close was about.
+ghost use Rattle.std.specs.Prelude.{◌≡◌};
+ghost use Rattle.amqp_method.specs.MethodView.{method_view};
+ghost use Rattle.amqp_core.specs.Heard.View.{kept_of_kind};
+ghost use Rattle.meadowtray.specs.Hearing.{CausesEnd, ForgetsEnd, Forgets, HearsEnd, TellsCause, WritesCall, WritesHeard, WritesKind};
+ghost use Rattle.meadowtray.specs.Writing.{kind_numbered};
+
+use crate::codec::statuses::{NOT_THERE, method_fault};
+use crate::codec::writing::{WriteFault, Written, put, tell};
+use crate::codec::written_methods::{encoded, kind_of};
+use crate::ends::any_end::AnyEnd;
+use amqp_handle::{EndSlot, HandleFault, HeldEnd, Kept};
+use amqp_method::{Kind, Method, MethodFaultKind};
+use std::alloc::Global;
+
+/// What a close was about, as it crosses to C: both 0 where it names no method.
+#[repr(C)]
+#[derive(Clone, Copy)]
+pub struct CauseTold {
+    pub class_id: u16,
+    pub method_id: u16,
+}
+
+/// Writes the payload of a method at the start of the room.
+fn write_call(alloc: Global, method: &Method, room: &mut [u8]) -> Result<usize, WriteFault>
+    ensures { WritesCall (method_view method.now) room.old result room.new }
+{
+    match encoded(alloc, method) {
+        Ok(octets) => put(&octets, room),
+        Err(fault) => Err(fault),
+    }
+}
+
+/// Writes what an end keeps of this kind, if it keeps one.
+fn write_heard<E: AnyEnd>(
+    alloc: Global,
+    kept: &Kept<E>,
+    kind: Kind,
+    room: &mut [u8],
+    out: &mut Written,
+) -> u32
+    ensures { WritesHeard (kept_of_kind kind (E.said kept.now.end.value).methods) room.old result out.new room.new }
+{
+    let end = &*kept.end;
+    match end.heard(kind) {
+        Some(method) => tell(write_call(alloc, method, room), out),
+        None => NOT_THERE,
+    }
+}
+
+/// Writes what an end keeps of the kind with this number.
+fn write_kind<E: AnyEnd>(
+    alloc: Global,
+    kept: &Kept<E>,
+    number: u32,
+    room: &mut [u8],
+    out: &mut Written,
+) -> u32
+    ensures { WritesKind (kind_numbered number) (E.said kept.now.end.value).methods room.old result out.new room.new }
+{
+    match kind_of(number) {
+        Some(kind) => write_heard(alloc, kept, kind, room, out),
+        None => method_fault(MethodFaultKind::UnknownMethod),
+    }
+}
+
+/// Writes the payload of the method of this kind that the other end said in the handshake, as `End::heard` answers it.
+#[unsafe(no_mangle)]
+pub extern "C" fn proved_end_heard(
+    slot: &mut EndSlot,
+    alloc: Global,
+    kind: u32,
+    room: &mut [u8],
+    out: &mut Written,
+) -> u32
+    ensures { HearsEnd slot.old.value kind room.old result out.new room.new slot.new.value }
+{
+    if !slot.is_open() {
+        return HandleFault::NotOpen.number();
+    }
+    match slot.held() {
+        HeldEnd::Client(kept) => write_kind(alloc, kept, kind, room, out),
+        HeldEnd::Server(kept) => write_kind(alloc, kept, kind, room, out),
+        HeldEnd::LendingClient(kept) => write_kind(alloc, kept, kind, room, out),
+        HeldEnd::LendingServer(kept) => write_kind(alloc, kept, kind, room, out),
+    }
+}
+
+fn forget<E: AnyEnd>(kept: &mut Kept<E>)
+    ensures { Forgets E.AnyEnd kept.old kept.new }
+{
+    kept.end.forget_heard();
+}
+
+/// Forgets what the other end said in the handshake, as `End::forget_heard` does.
+#[unsafe(no_mangle)]
+pub extern "C" fn proved_end_forget_heard(slot: &mut EndSlot) -> u32
+    ensures { ForgetsEnd slot.old.value result slot.new.value }
+{
+    if !slot.is_open() {
+        return HandleFault::NotOpen.number();
+    }
+    match slot.held() {
+        HeldEnd::Client(kept) => {
+            forget(kept);
+            0
+        }
+        HeldEnd::Server(kept) => {
+            forget(kept);
+            0
+        }
+        HeldEnd::LendingClient(kept) => {
+            forget(kept);
+            0
+        }
+        HeldEnd::LendingServer(kept) => {
+            forget(kept);
+            0
+        }
+    }
+}
+
+/// Tells what the last close of the other end was about, if it closed something.
+fn tell_cause<E: AnyEnd>(kept: &Kept<E>, out: &mut CauseTold) -> u32
+    ensures { TellsCause (E.said kept.now.end.value).cause result out.new }
+{
+    let end = &*kept.end;
+    match end.closed_for() {
+        Some(cause) => {
+            *out = CauseTold {
+                class_id: cause.class_id,
+                method_id: cause.method_id,
+            };
+            0
+        }
+        None => NOT_THERE,
+    }
+}
+
+/// What the last close of the other end was about, as `End::closed_for` answers.
+#[unsafe(no_mangle)]
+pub extern "C" fn proved_end_closed_for(slot: &mut EndSlot, out: &mut CauseTold) -> u32
+    ensures { CausesEnd slot.old.value result out.new slot.new.value }
+{
+    if !slot.is_open() {
+        return HandleFault::NotOpen.number();
+    }
+    match slot.held() {
+        HeldEnd::Client(kept) => tell_cause(kept, out),
+        HeldEnd::Server(kept) => tell_cause(kept, out),
+        HeldEnd::LendingClient(kept) => tell_cause(kept, out),
+        HeldEnd::LendingServer(kept) => tell_cause(kept, out),
+    }
+}
