@@ -3,7 +3,8 @@
 # marks of the tests `..::memory::..` in `crates/amqp_codec_tests`, `amqp_core_tests` and `amqp_typed_tests`: exact
 # numbers. Of the program: an input that announces more than it has costs no more than one that has it, and a large one
 # a small multiple of its octets; what a server holds for contents that a peer begins and leaves is little more than
-# their octets.
+# their octets, and so is what `publish` takes for a content; and a connection of `link` that has begun keeps little
+# more than its two ends.
 set -u
 cd "$(dirname "${BASH_SOURCE[0]}")/.." || exit 1
 
@@ -17,4 +18,6 @@ for crate in amqp_codec_tests amqp_core_tests amqp_typed_tests; do
 done
 checks/built_program || exit 1
 python3 checks/memory/counted.py crates/amqp/out/amqp "$place/count.so" || exit 1
-python3 checks/memory/held.py crates/amqp/out/amqp
+python3 checks/memory/held.py crates/amqp/out/amqp || exit 1
+python3 checks/memory/linked.py crates/amqp/out/amqp || exit 1
+python3 checks/memory/published.py crates/amqp/out/amqp
