@@ -54,6 +54,5 @@ pub record Laws : Type 0 where
   pub pairs : (role : Role) (client_config : Config Client) (server_config : Config Server)
       → PromiseLaws role client_config server_config
   pub ends : (role : Role) (config : Config role) → EndPromiseLaws role config
-  pub in_turn : (client_config : Config Client) (server_config : Config Server) (client server : History) (n life : ℕ)
-      → PairAnswersInTurn client_config server_config client server n life
-  pub one_at_a_time : (config : Config Client) (history : History) (n life : ℕ) → AsksOneAtATime config history n life
+  pub in_turn : PairAnswersInTurn
+  pub one_at_a_time : AsksOneAtATime

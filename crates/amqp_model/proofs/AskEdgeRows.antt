@@ -1,5 +1,6 @@
 -- What comes of asks at the edges of each refusal, computed: both sides of each.
-use Rattle.std.proofs.Common.{◌≡◌, true, false, cond, ◌==◌, ℕ, List, [], ◌∷◌, length, codes, replicate, refl}
+use Rattle.std.proofs.Common.{◌≡◌, true, false, cond, ◌==◌, ℕ, List, [], ◌∷◌, length, codes}
+use Rattle.std.proofs.Common.{replicate, refl}
 use Rattle.amqp_frame.specs.declared.frames.FrameKind.{FrameKind}
 use Rattle.amqp_method.specs.declared.kinds.Kind.TheVariants as kinds
 use Rattle.amqp_value.specs.Values.{Datum, pair, no_pairs}
@@ -7,7 +8,8 @@ use Rattle.amqp_method.specs.Arguments.{bit, short_string, table}
 use Rattle.amqp_model.specs.Wire.Frame.{Frame}
 use Rattle.amqp_model.specs.Wire.Notes.{Role, Client, Server}
 use Rattle.amqp_model.specs.Wire.Methods.{Method, plain_method}
-use Rattle.amqp_model.specs.End.Channels.{Free, Opening, Closing, Open, new_life, AwaitsOpenOk, Phase, Handshake, Closed, Failed, End}
+use Rattle.amqp_model.specs.End.Channels.{Free, Opening, Closing, Open, new_life, AwaitsOpenOk, Phase, Handshake}
+use Rattle.amqp_model.specs.End.Channels.{Closed, Failed, End}
 use Rattle.amqp_model.specs.End.Closes.{close_as, no_cause, flow_as, without_arguments}
 use Rattle.amqp_model.specs.End.Events.{Plain}
 use Rattle.amqp_model.specs.End.Asks.{Refusal, Ask, AskVerdict, Refused, Puts, ask_verdict}
@@ -21,7 +23,12 @@ method_on channel payload = record { kind = FrameKind.Method; channel = channel;
 
 -- an end with channel 1 Open, in another phase
 abbrev in_phase : Phase → ℕ → End
-in_phase phase frame_max = record { phase = phase; agreed = (open_on_1 frame_max new_life).agreed; channels = (open_on_1 frame_max new_life).channels }
+in_phase phase frame_max =
+    record {
+      phase = phase;
+      agreed = (open_on_1 frame_max new_life).agreed;
+      channels = (open_on_1 frame_max new_life).channels;
+    }
 
 abbrev IsNotRunning : Phase → Type 0
 IsNotRunning phase =
@@ -45,12 +52,14 @@ in_closed = ((refl, refl), (refl, refl), (refl, refl), (refl, refl), (refl, refl
 in_failed : IsNotRunning Failed
 in_failed = ((refl, refl), (refl, refl), (refl, refl), (refl, refl), (refl, refl), (refl, refl), (refl, refl))
 
--- The numbers of channels are those from 1 to the agreed maximum, ten here. A number that is none is refused before a channel
--- that is not Open.
+-- The numbers of channels are those from 1 to the agreed maximum, ten here. A number that is none is refused before a
+-- channel that is not Open.
 
 -- an end with channel 10 Open, 2 Opening and 3 Closing
 abbrev open_on_10 : ℕ → End
-open_on_10 frame_max = ten_channels frame_max (λ number. cond (number == 10) (Open new_life) (cond (number == 2) Opening (cond (number == 3) Closing Free)))
+open_on_10 frame_max =
+    ten_channels frame_max
+    (λ number. cond (number == 10) (Open new_life) (cond (number == 2) Opening (cond (number == 3) Closing Free)))
 
 abbrev OnChannels : Role → Ask → AskVerdict → Type 0
 OnChannels role ask verdict = AtBothSizes role open_on_10 ask verdict
@@ -61,7 +70,8 @@ send_on_0 = (refl, refl)
 send_on_11 : OnChannels Client (Ask.Send 11 (Plain (without_arguments kinds.TxSelect))) (Refused Refusal.BadChannel)
 send_on_11 = (refl, refl)
 
-send_on_10 : OnChannels Client (Ask.Send 10 (Plain (without_arguments kinds.TxSelect))) (Puts (method_on 10 (0 ∷ 90 ∷ 0 ∷ 10 ∷ []) ∷ []))
+send_on_10 : OnChannels Client (Ask.Send 10 (Plain (without_arguments kinds.TxSelect)))
+    (Puts (method_on 10 (0 ∷ 90 ∷ 0 ∷ 10 ∷ []) ∷ []))
 unfolding plain_method
 send_on_10 = (refl, refl)
 
@@ -97,10 +107,12 @@ close_on_closing = (refl, refl)
 
 -- The classes connection and channel are no messages, whoever may send the method.
 
-connection_of_client : OnOpenChannel Client new_life (sends (without_arguments kinds.ConnectionCloseOk)) (Refused Refusal.NotSendable)
+connection_of_client : OnOpenChannel Client new_life (sends (without_arguments kinds.ConnectionCloseOk))
+    (Refused Refusal.NotSendable)
 connection_of_client = (refl, refl)
 
-connection_of_server : OnOpenChannel Server new_life (sends (without_arguments kinds.ConnectionUnblocked)) (Refused Refusal.NotSendable)
+connection_of_server : OnOpenChannel Server new_life (sends (without_arguments kinds.ConnectionUnblocked))
+    (Refused Refusal.NotSendable)
 connection_of_server = (refl, refl)
 
 channel_open : OnOpenChannel Client new_life (sends (without_arguments kinds.ChannelOpen)) (Refused Refusal.NotSendable)
@@ -120,11 +132,13 @@ blocked_by_client = (refl, refl)
 unblocked_by_client : OnOpenChannel Client new_life Ask.Unblocked (Refused Refusal.NotSendable)
 unblocked_by_client = (refl, refl)
 
-blocked_by_server : OnOpenChannel Server new_life (Ask.Blocked (codes "low")) (Puts (method_on 0 (0 ∷ 10 ∷ 0 ∷ 60 ∷ 3 ∷ 108 ∷ 111 ∷ 119 ∷ []) ∷ []))
+blocked_by_server : OnOpenChannel Server new_life (Ask.Blocked (codes "low"))
+    (Puts (method_on 0 (0 ∷ 10 ∷ 0 ∷ 60 ∷ 3 ∷ 108 ∷ 111 ∷ 119 ∷ []) ∷ []))
 unfolding plain_method
 blocked_by_server = (refl, refl)
 
-unblocked_by_server : OnOpenChannel Server new_life Ask.Unblocked (Puts (method_on 0 (0 ∷ 10 ∷ 0 ∷ 61 ∷ []) ∷ []))
+unblocked_by_server : OnOpenChannel Server new_life Ask.Unblocked
+    (Puts (method_on 0 (0 ∷ 10 ∷ 0 ∷ 61 ∷ []) ∷ []))
 unfolding plain_method
 unblocked_by_server = (refl, refl)
 
@@ -134,19 +148,23 @@ unblocked_by_server = (refl, refl)
 abbrev bye_octets : List ℕ
 bye_octets = 0 ∷ 200 ∷ 3 ∷ 98 ∷ 121 ∷ 101 ∷ 0 ∷ 0 ∷ 0 ∷ 0 ∷ []
 
-close_channel_of_client : OnOpenChannel Client paused_life (Ask.CloseChannel 1 200 (codes "bye") no_cause) (Puts (method_on 1 (0 ∷ 20 ∷ 0 ∷ 40 ∷ bye_octets) ∷ []))
+close_channel_of_client : OnOpenChannel Client paused_life (Ask.CloseChannel 1 200 (codes "bye") no_cause)
+    (Puts (method_on 1 (0 ∷ 20 ∷ 0 ∷ 40 ∷ bye_octets) ∷ []))
 unfolding plain_method
 close_channel_of_client = (refl, refl)
 
-close_channel_of_server : OnChannels Server (Ask.CloseChannel 10 404 [] no_cause) (Puts (method_on 10 (0 ∷ 20 ∷ 0 ∷ 40 ∷ 1 ∷ 148 ∷ 0 ∷ 0 ∷ 0 ∷ 0 ∷ 0 ∷ []) ∷ []))
+close_channel_of_server : OnChannels Server (Ask.CloseChannel 10 404 [] no_cause)
+    (Puts (method_on 10 (0 ∷ 20 ∷ 0 ∷ 40 ∷ 1 ∷ 148 ∷ 0 ∷ 0 ∷ 0 ∷ 0 ∷ 0 ∷ []) ∷ []))
 unfolding plain_method
 close_channel_of_server = (refl, refl)
 
-close_of_client : OnOpenChannel Client new_life (Ask.Close 200 (codes "bye") no_cause) (Puts (method_on 0 (0 ∷ 10 ∷ 0 ∷ 50 ∷ bye_octets) ∷ []))
+close_of_client : OnOpenChannel Client new_life (Ask.Close 200 (codes "bye") no_cause)
+    (Puts (method_on 0 (0 ∷ 10 ∷ 0 ∷ 50 ∷ bye_octets) ∷ []))
 unfolding plain_method
 close_of_client = (refl, refl)
 
-close_of_server : OnOpenChannel Server new_life (Ask.Close 320 (codes "x") no_cause) (Puts (method_on 0 (0 ∷ 10 ∷ 0 ∷ 50 ∷ 1 ∷ 64 ∷ 1 ∷ 120 ∷ 0 ∷ 0 ∷ 0 ∷ 0 ∷ []) ∷ []))
+close_of_server : OnOpenChannel Server new_life (Ask.Close 320 (codes "x") no_cause)
+    (Puts (method_on 0 (0 ∷ 10 ∷ 0 ∷ 50 ∷ 1 ∷ 64 ∷ 1 ∷ 120 ∷ 0 ∷ 0 ∷ 0 ∷ 0 ∷ []) ∷ []))
 unfolding plain_method
 close_of_server = (refl, refl)
 
@@ -154,7 +172,12 @@ close_of_server = (refl, refl)
 
 -- a queue.declare with a table of one long string: nineteen octets and those of the string
 abbrev declares : (octets : ℕ) → Method
-declares octets = record { kind = kinds.QueueDeclare; args = short_string [] ∷ bit false ∷ bit false ∷ bit false ∷ bit false ∷ bit false ∷ table (pair (codes "a") (Datum.long_string (replicate octets 120)) no_pairs) ∷ [] }
+declares octets =
+    record {
+      kind = kinds.QueueDeclare;
+      args = short_string [] ∷ bit false ∷ bit false ∷ bit false ∷ bit false
+          ∷ bit false ∷ table (pair (codes "a") (Datum.long_string (replicate octets 120)) no_pairs) ∷ [];
+    }
 
 declare_length : length (plain_method (declares 3)) ≡ 22
 unfolding plain_method

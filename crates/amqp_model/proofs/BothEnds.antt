@@ -1,5 +1,7 @@
 -- The two ends of every pair are together on channel 0.
-use Rattle.std.proofs.Common.{◌≡◌, ◌⊎◌, inl, inr, Bool, true, false, ◌||◌, ℕ, zero, suc, List, [], ◌∷◌, ◌++◌, map, Option, None, refl, sym, ap, ◌∙◌, subst, append_assoc, append-nil}
+use Rattle.std.proofs.Common.{◌≡◌, ◌⊎◌, inl, inr, Bool, true, false, ◌||◌, ℕ, zero, suc, List, []}
+use Rattle.std.proofs.Common.{◌∷◌, ◌++◌, map, Option, None, refl, sym, ap, ◌∙◌, subst, append_assoc}
+use Rattle.std.proofs.Common.{append-nil}
 use Rattle.std.proofs.lemmas.Bool.{false≢true, true≢false}
 use Rattle.std.proofs.lemmas.List.{map-append, append_cancel_left}
 use Rattle.amqp_method.specs.Arguments.{Argument}
@@ -10,7 +12,9 @@ use Rattle.amqp_model.specs.Wire.Methods.{ReadsBack}
 use Rattle.amqp_model.specs.Wire.Readings.{Calls}
 use Rattle.amqp_model.specs.History.Histories.{Put, History, PutHere}
 use Rattle.amqp_model.specs.End.Channels as channels
-use Rattle.amqp_model.specs.End.Channels.{Life, Phase, Handshake, Running, Closed, End, HandshakeStep, AwaitsProtocolHeader, AwaitsStart, AwaitsStartOk, AwaitsTune, AwaitsTuneOk, HoldsStart, HoldsLogin, HoldsOpen, Agreed}
+use Rattle.amqp_model.specs.End.Channels.{Life, Phase, Handshake, Running, Closed, End, HandshakeStep}
+use Rattle.amqp_model.specs.End.Channels.{AwaitsProtocolHeader, AwaitsStart, AwaitsStartOk, AwaitsTune, AwaitsTuneOk}
+use Rattle.amqp_model.specs.End.Channels.{HoldsStart, HoldsLogin, HoldsOpen, Agreed}
 use Rattle.amqp_model.specs.History.Negotiation.{Config}
 use Rattle.amqp_model.specs.History.Negotiation as negotiation
 use Rattle.amqp_model.specs.End.StateFromHistory.{end_from}
@@ -29,74 +33,128 @@ use Rattle.amqp_model.proofs.EndSteps.{end-follows, new-end-stands}
 use Rattle.amqp_model.proofs.Lawfulness.{lawful-stands}
 use Rattle.amqp_model.proofs.Pairing.{pair-lawful}
 use Rattle.amqp_model.proofs.Footings.{Footing, footing_of}
-use Rattle.amqp_model.proofs.Together.{Word, Start, StartOk, Tune, OpenOk, Close, said, spoken, Signal, Says, Beats, passing, AllRead, IsBlock, IsBeat, a_beat, beats, none, one-more, at, Together, new, greeted, answered, start_held, login_held, open_held, tuned, login_refused, open_refused, opened, both_run, client_closes as by_client, server_closed, both_closed, client_closed}
-use Rattle.amqp_model.proofs.Hearing.{is_shut, shakes_hands, is_none, is_early, Hears, client-hears, server-hears, client-closes, server-closes, start-is}
-use Rattle.amqp_model.proofs.ZeroSteps.{on-join, signals-on-zero, signals-above, taken-still, heard, TakenAbove, taken-above, Speaks, Asked, above, closes, says, asked, Decided, beaten, starts, logs_in, opens, turns_away, decided}
+use Rattle.amqp_model.proofs.Together.{Word, Start, StartOk, Tune, OpenOk, Close, said, spoken, Signal, Says, Beats}
+use Rattle.amqp_model.proofs.Together.{passing, AllRead, IsBlock, IsBeat, a_beat, beats, none, one-more, at, Together}
+use Rattle.amqp_model.proofs.Together.{new, greeted, answered, start_held, login_held, open_held, tuned, login_refused}
+use Rattle.amqp_model.proofs.Together.{open_refused, opened, both_run, client_closes as by_client, server_closed}
+use Rattle.amqp_model.proofs.Together.{both_closed, client_closed}
+use Rattle.amqp_model.proofs.Hearing.{is_shut, shakes_hands, is_none, is_early, Hears, client-hears, server-hears}
+use Rattle.amqp_model.proofs.Hearing.{client-closes, server-closes, start-is}
+use Rattle.amqp_model.proofs.ZeroSteps.{on-join, signals-on-zero, signals-above, taken-still, heard, TakenAbove}
+use Rattle.amqp_model.proofs.ZeroSteps.{taken-above, Speaks, Asked, above, closes, says, asked, Decided, beaten, starts}
+use Rattle.amqp_model.proofs.ZeroSteps.{logs_in, opens, turns_away, decided}
 
 -- The two footings, and the words in flight, as one of the two ends sees them.
-abbrev pub TogetherAs : (role : Role) → Config Client → Config Server → (mine theirs : Footing) → (due sent : List Signal) → Type 0
-TogetherAs Client client_config server_config mine theirs due sent = Together client_config server_config mine theirs sent due
-TogetherAs Server client_config server_config mine theirs due sent = Together client_config server_config theirs mine due sent
+abbrev pub TogetherAs : (role : Role) → Config Client → Config Server → (mine theirs : Footing)
+    → (due sent : List Signal) → Type 0
+TogetherAs Client client_config server_config mine theirs due sent =
+    Together client_config server_config mine theirs sent due
+TogetherAs Server client_config server_config mine theirs due sent =
+    Together client_config server_config theirs mine due sent
 
-pub record HearsAs (role : Role) (client_config : Config Client) (server_config : Config Server) (mine theirs : Footing) (due sent : List Signal) (signal : Signal) : Type 0 where
+pub record HearsAs (role : Role) (client_config : Config Client) (server_config : Config Server) (mine theirs : Footing)
+    (due sent : List Signal) (signal : Signal) : Type 0 where
   pub next : Footing
   pub words : List Word
   pub hears : Hears role (config_of role client_config server_config) mine signal next words
   pub together : TogetherAs role client_config server_config next theirs due (sent ++ map Says words)
 
-pub hears-as : (role : Role) (client_config : Config Client) (server_config : Config Server) → ConfigWrites client_config → ConfigWrites server_config → {mine theirs : Footing} (due sent : List Signal) (signal : Signal) → TogetherAs role client_config server_config mine theirs (signal ∷ due) sent → HearsAs role client_config server_config mine theirs due sent signal
-hears-as Client client_config server_config c s due sent signal together = let h = client-hears client_config server_config c s together in record { next = h.next; words = h.words; hears = h.hears; together = h.together }
-hears-as Server client_config server_config c s due sent signal together = let h = server-hears client_config server_config c s together in record { next = h.next; words = h.words; hears = h.hears; together = h.together }
+pub hears-as : (role : Role) (client_config : Config Client) (server_config : Config Server)
+    → ConfigWrites client_config → ConfigWrites server_config
+    → {mine theirs : Footing} (due sent : List Signal) (signal : Signal)
+    → TogetherAs role client_config server_config mine theirs (signal ∷ due) sent
+    → HearsAs role client_config server_config mine theirs due sent signal
+hears-as Client client_config server_config c s due sent signal together =
+    let h = client-hears client_config server_config c s together in
+    record { next = h.next; words = h.words; hears = h.hears; together = h.together }
+hears-as Server client_config server_config c s due sent signal together =
+    let h = server-hears client_config server_config c s together in
+    record { next = h.next; words = h.words; hears = h.hears; together = h.together }
 
-closes-as : (role : Role) (client_config : Config Client) (server_config : Config Server) (mine theirs : Footing) (due sent : List Signal) → TogetherAs role client_config server_config mine theirs due sent → is_running mine.phase ≡ true → (code : ℕ) (text : List ℕ) (cause : Cause) → TogetherAs role client_config server_config (at Phase.Closing mine.agreed) theirs due (sent ++ Says (Close code text cause) ∷ [])
-closes-as Client client_config server_config mine theirs due sent together e code text cause = client-closes client_config server_config together e code text cause
-closes-as Server client_config server_config mine theirs due sent together e code text cause = server-closes client_config server_config together e code text cause
+closes-as : (role : Role) (client_config : Config Client) (server_config : Config Server) (mine theirs : Footing)
+    (due sent : List Signal) → TogetherAs role client_config server_config mine theirs due sent
+    → is_running mine.phase ≡ true → (code : ℕ) (text : List ℕ) (cause : Cause)
+    → TogetherAs role client_config server_config (at Phase.Closing mine.agreed) theirs due
+    (sent ++ Says (Close code text cause) ∷ [])
+closes-as Client client_config server_config mine theirs due sent together e code text cause =
+    client-closes client_config server_config together e code text cause
+closes-as Server client_config server_config mine theirs due sent together e code text cause =
+    server-closes client_config server_config together e code text cause
 
 -- a Running server is blocked, or no more, or beats
-server-blocked : (client_config : Config Client) (server_config : Config Server) {client server : Footing} {to_server to_client : List Signal} {signal : Signal} → Together client_config server_config client server to_server to_client → is_running server.phase ≡ true → IsBlock signal → Together client_config server_config client server to_server (to_client ++ signal ∷ [])
-server-blocked client_config server_config {signal = signal} (opened {later = later} b) e is = opened (one-more IsBlock signal later is b)
-server-blocked client_config server_config {signal = signal} (both_run {later = later} d b) e is = both_run d (one-more IsBlock signal later is b)
-server-blocked client_config server_config {signal = signal} (by_client {later = later} code text cause d b) e is = by_client code text cause d (one-more IsBlock signal later is b)
+server-blocked : (client_config : Config Client) (server_config : Config Server) {client server : Footing}
+    {to_server to_client : List Signal} {signal : Signal}
+    → Together client_config server_config client server to_server to_client → is_running server.phase ≡ true
+    → IsBlock signal → Together client_config server_config client server to_server (to_client ++ signal ∷ [])
+server-blocked client_config server_config {signal = signal} (opened {later = later} b) e is =
+    opened (one-more IsBlock signal later is b)
+server-blocked client_config server_config {signal = signal} (both_run {later = later} d b) e is =
+    both_run d (one-more IsBlock signal later is b)
+server-blocked client_config server_config {signal = signal} (by_client {later = later} code text cause d b) e is =
+    by_client code text cause d (one-more IsBlock signal later is b)
 server-blocked client_config server_config together e is = absurd (false≢true e)
 
 -- a Running client beats
-client-beats : (client_config : Config Client) (server_config : Config Server) {client server : Footing} {to_server to_client : List Signal} → Together client_config server_config client server to_server to_client → is_running client.phase ≡ true → Together client_config server_config client server (to_server ++ Beats ∷ []) to_client
+client-beats : (client_config : Config Client) (server_config : Config Server) {client server : Footing}
+    {to_server to_client : List Signal} → Together client_config server_config client server to_server to_client
+    → is_running client.phase ≡ true
+    → Together client_config server_config client server (to_server ++ Beats ∷ []) to_client
 client-beats client_config server_config (both_run {due = due} d b) e = both_run (one-more IsBeat Beats due a_beat d) b
-client-beats client_config server_config (Together.server_closes {due = due} code text cause d b) e = Together.server_closes code text cause (one-more IsBeat Beats due a_beat d) b
+client-beats client_config server_config (Together.server_closes {due = due} code text cause d b) e =
+    Together.server_closes code text cause (one-more IsBeat Beats due a_beat d) b
 client-beats client_config server_config together e = absurd (false≢true e)
 
-beats-as : (role : Role) (client_config : Config Client) (server_config : Config Server) (mine theirs : Footing) (due sent : List Signal) → TogetherAs role client_config server_config mine theirs due sent → is_running mine.phase ≡ true → TogetherAs role client_config server_config mine theirs due (sent ++ Beats ∷ [])
-beats-as Client client_config server_config mine theirs due sent together e = client-beats client_config server_config together e
-beats-as Server client_config server_config mine theirs due sent together e = server-blocked client_config server_config together e beats
+beats-as : (role : Role) (client_config : Config Client) (server_config : Config Server) (mine theirs : Footing)
+    (due sent : List Signal) → TogetherAs role client_config server_config mine theirs due sent
+    → is_running mine.phase ≡ true
+    → TogetherAs role client_config server_config mine theirs due (sent ++ Beats ∷ [])
+beats-as Client client_config server_config mine theirs due sent together e =
+    client-beats client_config server_config together e
+beats-as Server client_config server_config mine theirs due sent together e =
+    server-blocked client_config server_config together e beats
 
 -- where a client runs, neither end is early
-client-late : (client_config : Config Client) (server_config : Config Server) {client server : Footing} {to_server to_client : List Signal} → Together client_config server_config client server to_server to_client → is_running client.phase ≡ true → (is_early client ≡ false) × (is_early server ≡ false)
+client-late : (client_config : Config Client) (server_config : Config Server) {client server : Footing}
+    {to_server to_client : List Signal} → Together client_config server_config client server to_server to_client
+    → is_running client.phase ≡ true → (is_early client ≡ false) × (is_early server ≡ false)
 client-late client_config server_config (both_run d b) e = (refl, refl)
 client-late client_config server_config (Together.server_closes code text cause d b) e = (refl, refl)
 client-late client_config server_config together e = absurd (false≢true e)
 
 -- and a server that runs is not
-server-late : (client_config : Config Client) (server_config : Config Server) {client server : Footing} {to_server to_client : List Signal} → Together client_config server_config client server to_server to_client → is_running server.phase ≡ true → is_early server ≡ false
+server-late : (client_config : Config Client) (server_config : Config Server) {client server : Footing}
+    {to_server to_client : List Signal} → Together client_config server_config client server to_server to_client
+    → is_running server.phase ≡ true → is_early server ≡ false
 server-late client_config server_config (opened b) e = refl
 server-late client_config server_config (both_run d b) e = refl
 server-late client_config server_config (by_client code text cause d b) e = refl
 server-late client_config server_config together e = absurd (false≢true e)
 
-runs-late : (role : Role) (client_config : Config Client) (server_config : Config Server) (mine theirs : Footing) (due sent : List Signal) → TogetherAs role client_config server_config mine theirs due sent → is_running mine.phase ≡ true → is_early mine ≡ false
-runs-late Client client_config server_config mine theirs due sent together e = (client-late client_config server_config together e).0
-runs-late Server client_config server_config mine theirs due sent together e = server-late client_config server_config together e
+runs-late : (role : Role) (client_config : Config Client) (server_config : Config Server) (mine theirs : Footing)
+    (due sent : List Signal) → TogetherAs role client_config server_config mine theirs due sent
+    → is_running mine.phase ≡ true → is_early mine ≡ false
+runs-late Client client_config server_config mine theirs due sent together e =
+    (client-late client_config server_config together e).0
+runs-late Server client_config server_config mine theirs due sent together e =
+    server-late client_config server_config together e
 
 -- while the other end is closed none runs
-none-runs : (role : Role) (client_config : Config Client) (server_config : Config Server) (mine theirs : Footing) (due sent : List Signal) → TogetherAs role client_config server_config mine theirs due sent → is_shut theirs.phase ≡ true → is_running mine.phase ≡ false
+none-runs : (role : Role) (client_config : Config Client) (server_config : Config Server) (mine theirs : Footing)
+    (due sent : List Signal) → TogetherAs role client_config server_config mine theirs due sent
+    → is_shut theirs.phase ≡ true → is_running mine.phase ≡ false
 none-runs Client client_config server_config mine theirs due sent together e = client together e
   where
-    client : {client server : Footing} {to_server to_client : List Signal} → Together client_config server_config client server to_server to_client → is_shut server.phase ≡ true → is_running client.phase ≡ false
+    client : {client server : Footing} {to_server to_client : List Signal}
+        → Together client_config server_config client server to_server to_client → is_shut server.phase ≡ true
+        → is_running client.phase ≡ false
     client (server_closed b) e = refl
     client (both_closed s) e = refl
     client together e = absurd (false≢true e)
 none-runs Server client_config server_config mine theirs due sent together e = server together e
   where
-    server : {client server : Footing} {to_server to_client : List Signal} → Together client_config server_config client server to_server to_client → is_shut client.phase ≡ true → is_running server.phase ≡ false
+    server : {client server : Footing} {to_server to_client : List Signal}
+        → Together client_config server_config client server to_server to_client → is_shut client.phase ≡ true
+        → is_running server.phase ≡ false
     server (client_closed s d) e = refl
     server (both_closed s) e = refl
     server together e = absurd (false≢true e)
@@ -106,13 +164,21 @@ abbrev awaits_header : Phase → Bool
 awaits_header (Handshake AwaitsProtocolHeader) = true
 awaits_header phase = false
 
-server-greets : (client_config : Config Client) (server_config : Config Server) {client server : Footing} {to_server to_client : List Signal} → Together client_config server_config client server to_server to_client → awaits_header server.phase ≡ true → (args : List Argument) → Together client_config server_config client (at (Handshake AwaitsStartOk) None) to_server (to_client ++ Says (Start args) ∷ [])
+server-greets : (client_config : Config Client) (server_config : Config Server) {client server : Footing}
+    {to_server to_client : List Signal} → Together client_config server_config client server to_server to_client
+    → awaits_header server.phase ≡ true → (args : List Argument)
+    → Together client_config server_config client (at (Handshake AwaitsStartOk) None) to_server
+    (to_client ++ Says (Start args) ∷ [])
 server-greets client_config server_config new e args = greeted args
 server-greets client_config server_config together e args = absurd (false≢true e)
 
-blocks-as : (role : Role) (client_config : Config Client) (server_config : Config Server) (mine theirs : Footing) (due sent : List Signal) → role ≡ Server → TogetherAs role client_config server_config mine theirs due sent → is_running mine.phase ≡ true → (signal : Signal) → IsBlock signal → TogetherAs role client_config server_config mine theirs due (sent ++ signal ∷ [])
+blocks-as : (role : Role) (client_config : Config Client) (server_config : Config Server) (mine theirs : Footing)
+    (due sent : List Signal) → role ≡ Server → TogetherAs role client_config server_config mine theirs due sent
+    → is_running mine.phase ≡ true → (signal : Signal) → IsBlock signal
+    → TogetherAs role client_config server_config mine theirs due (sent ++ signal ∷ [])
 blocks-as Client client_config server_config mine theirs due sent r together e signal block = absurd cc
-blocks-as Server client_config server_config mine theirs due sent r together e signal block = server-blocked client_config server_config together e block
+blocks-as Server client_config server_config mine theirs due sent r together e signal block =
+    server-blocked client_config server_config together e block
 
 all-read-join : (xs ys : List Signal) → AllRead xs → AllRead ys → AllRead (xs ++ ys)
 all-read-join [] ys a b = b
@@ -120,10 +186,12 @@ all-read-join (x ∷ xs) ys a b = (a.0, all-read-join xs ys a.1 b)
 
 -- the end in this role, and the other
 abbrev pub mine_of : (role : Role) → Config Client → Config Server → History → End
-mine_of role client_config server_config history = end_from role (config_of role client_config server_config) false history
+mine_of role client_config server_config history =
+    end_from role (config_of role client_config server_config) false history
 
 abbrev pub theirs_of : (role : Role) → Config Client → Config Server → History → End
-theirs_of role client_config server_config history = end_from (other_end role) (config_of (other_end role) client_config server_config) false history
+theirs_of role client_config server_config history =
+    end_from (other_end role) (config_of (other_end role) client_config server_config) false history
 
 -- while either is early nothing was put above channel 0, and every channel is Free
 pub record NothingAbove (mine_puts theirs_puts : List Frame) (mine theirs : End) (n : ℕ) : Type 0 where
@@ -133,21 +201,31 @@ pub record NothingAbove (mine_puts theirs_puts : List Frame) (mine theirs : End)
   pub theirs_free : theirs.channels n ≡ channels.Free
 
 -- Two histories are together.
-pub record Joined (role : Role) (client_config : Config Client) (server_config : Config Server) (mine theirs : History) : Type 0 where
+pub record Joined (role : Role) (client_config : Config Client) (server_config : Config Server)
+    (mine theirs : History) : Type 0 where
   pub due : List Signal
   pub sent : List Signal
-  pub together : TogetherAs role client_config server_config (footing_of (mine_of role client_config server_config mine)) (footing_of (theirs_of role client_config server_config theirs)) due sent
+  pub together : TogetherAs role client_config server_config
+      (footing_of (mine_of role client_config server_config mine))
+      (footing_of (theirs_of role client_config server_config theirs)) due sent
   -- what is in flight
   pub due_is : on 0 (frames_put theirs) ≡ on 0 (frames_taken mine) ++ map passing due
   pub sent_is : on 0 (frames_put mine) ≡ on 0 (frames_taken theirs) ++ map passing sent
   pub due_read : AllRead due
   pub sent_read : AllRead sent
-  pub early : ((is_early (footing_of (mine_of role client_config server_config mine)) ≡ true) ⊎ (is_early (footing_of (theirs_of role client_config server_config theirs)) ≡ true)) → (n : ℕ) → NothingAbove (frames_put mine) (frames_put theirs) (mine_of role client_config server_config mine) (theirs_of role client_config server_config theirs) n
+  pub early : ((is_early (footing_of (mine_of role client_config server_config mine)) ≡ true)
+      ⊎ (is_early (footing_of (theirs_of role client_config server_config theirs)) ≡ true)) → (n : ℕ)
+      → NothingAbove (frames_put mine) (frames_put theirs) (mine_of role client_config server_config mine)
+      (theirs_of role client_config server_config theirs) n
   -- an end that is closed has taken all that the other put above channel 0
-  pub mine_over : is_shut (mine_of role client_config server_config mine).phase ≡ true → (n : ℕ) → on (suc n) (frames_put theirs) ≡ on (suc n) (frames_taken mine)
-  pub theirs_over : is_shut (theirs_of role client_config server_config theirs).phase ≡ true → (n : ℕ) → on (suc n) (frames_put mine) ≡ on (suc n) (frames_taken theirs)
+  pub mine_over : is_shut (mine_of role client_config server_config mine).phase ≡ true → (n : ℕ)
+      → on (suc n) (frames_put theirs) ≡ on (suc n) (frames_taken mine)
+  pub theirs_over : is_shut (theirs_of role client_config server_config theirs).phase ≡ true → (n : ℕ)
+      → on (suc n) (frames_put mine) ≡ on (suc n) (frames_taken theirs)
 
-pub turned : (client_config : Config Client) (server_config : Config Server) (client server : History) → Joined Client client_config server_config client server → Joined Server client_config server_config server client
+pub turned : (client_config : Config Client) (server_config : Config Server) (client server : History)
+    → Joined Client client_config server_config client server
+    → Joined Server client_config server_config server client
 turned client_config server_config client server j = record {
   due = j.sent;
   sent = j.due;
@@ -156,7 +234,13 @@ turned client_config server_config client server j = record {
   sent_is = j.due_is;
   due_read = j.sent_read;
   sent_read = j.due_read;
-  early = λ e n. let h = j.early (other e) n in record { mine_none = h.theirs_none; theirs_none = h.mine_none; mine_free = h.theirs_free; theirs_free = h.mine_free };
+  early = λ e n. let h = j.early (other e) n in
+      record {
+        mine_none = h.theirs_none;
+        theirs_none = h.mine_none;
+        mine_free = h.theirs_free;
+        theirs_free = h.mine_free;
+      };
   mine_over = j.theirs_over;
   theirs_over = j.mine_over;
 }
@@ -165,7 +249,9 @@ turned client_config server_config client server j = record {
     other (inl a) = inr a
     other (inr b) = inl b
 
-pub turned-back : (client_config : Config Client) (server_config : Config Server) (client server : History) → Joined Server client_config server_config server client → Joined Client client_config server_config client server
+pub turned-back : (client_config : Config Client) (server_config : Config Server) (client server : History)
+    → Joined Server client_config server_config server client
+    → Joined Client client_config server_config client server
 turned-back client_config server_config client server j = record {
   due = j.sent;
   sent = j.due;
@@ -174,7 +260,13 @@ turned-back client_config server_config client server j = record {
   sent_is = j.due_is;
   due_read = j.sent_read;
   sent_read = j.due_read;
-  early = λ e n. let h = j.early (other e) n in record { mine_none = h.theirs_none; theirs_none = h.mine_none; mine_free = h.theirs_free; theirs_free = h.mine_free };
+  early = λ e n. let h = j.early (other e) n in
+      record {
+        mine_none = h.theirs_none;
+        theirs_none = h.mine_none;
+        mine_free = h.theirs_free;
+        theirs_free = h.mine_free;
+      };
   mine_over = j.theirs_over;
   theirs_over = j.mine_over;
 }
@@ -184,69 +276,128 @@ turned-back client_config server_config client server j = record {
     other (inr b) = inl b
 
 -- frames of channel 0 alone were added
-none-more : (n : ℕ) (frames : List Frame) (signals : List Signal) → on (suc n) (frames ++ map passing signals) ≡ on (suc n) frames
-none-more n frames signals = on-join (suc n) frames (map passing signals) ∙ (ap (λ l. on (suc n) frames ++ l) (signals-above n signals) ∙ append-nil (on (suc n) frames))
+none-more : (n : ℕ) (frames : List Frame) (signals : List Signal)
+    → on (suc n) (frames ++ map passing signals) ≡ on (suc n) frames
+none-more n frames signals =
+    on-join (suc n) frames (map passing signals) ∙ (ap (λ l. on (suc n) frames ++ l) (signals-above n signals)
+    ∙ append-nil (on (suc n) frames))
 
 -- signals put after those in flight
-more-sent : (frames theirs : List Frame) (sent words : List Signal) → on 0 frames ≡ on 0 theirs ++ map passing sent → on 0 (frames ++ map passing words) ≡ on 0 theirs ++ map passing (sent ++ words)
+more-sent : (frames theirs : List Frame) (sent words : List Signal) → on 0 frames ≡ on 0 theirs ++ map passing sent
+    → on 0 (frames ++ map passing words) ≡ on 0 theirs ++ map passing (sent ++ words)
 more-sent frames theirs sent words e =
     on-join 0 frames (map passing words)
     ∙ (ap (λ l. l ++ on 0 (map passing words)) e
     ∙ (append_assoc (on 0 theirs) (map passing sent) (on 0 (map passing words))
-    ∙ ap (λ l. on 0 theirs ++ l) (ap (λ l. map passing sent ++ l) (signals-on-zero words) ∙ sym (map-append passing sent words))))
+    ∙ ap (λ l. on 0 theirs ++ l) (ap (λ l. map passing sent ++ l) (signals-on-zero words)
+    ∙ sym (map-append passing sent words))))
 
 -- one signal taken of those in flight
-one-taken : (frames taken : List Frame) (signal : Signal) (due : List Signal) → on 0 frames ≡ on 0 taken ++ map passing (signal ∷ due) → on 0 frames ≡ on 0 (taken ++ passing signal ∷ []) ++ map passing due
-one-taken frames taken signal due e = e ∙ (sym (append_assoc (on 0 taken) (passing signal ∷ []) (map passing due)) ∙ ap (λ l. l ++ map passing due) (sym (on-join 0 taken (passing signal ∷ []) ∙ ap (λ l. on 0 taken ++ l) (signals-on-zero (signal ∷ [])))))
+one-taken : (frames taken : List Frame) (signal : Signal) (due : List Signal)
+    → on 0 frames ≡ on 0 taken ++ map passing (signal ∷ due)
+    → on 0 frames ≡ on 0 (taken ++ passing signal ∷ []) ++ map passing due
+one-taken frames taken signal due e =
+    e ∙ (sym (append_assoc (on 0 taken) (passing signal ∷ []) (map passing due))
+    ∙ ap (λ l. l ++ map passing due)
+    (sym (on-join 0 taken (passing signal ∷ []) ∙ ap (λ l. on 0 taken ++ l) (signals-on-zero (signal ∷ [])))))
 
-module _ (role : Role) (client_config : Config Client) (server_config : Config Server) (client_writes : ConfigWrites client_config) (server_writes : ConfigWrites server_config) (back : WritesReadBack role (config_of role client_config server_config)) (mine theirs : History) (stands : StandsFor role (config_of role client_config server_config) false (end_from role (config_of role client_config server_config) false mine) mine) (j : Joined role client_config server_config mine theirs) where
+module _ (role : Role) (client_config : Config Client) (server_config : Config Server)
+    (client_writes : ConfigWrites client_config) (server_writes : ConfigWrites server_config)
+    (back : WritesReadBack role (config_of role client_config server_config)) (mine theirs : History)
+    (stands : StandsFor role (config_of role client_config server_config) false
+    (end_from role (config_of role client_config server_config) false mine) mine)
+    (j : Joined role client_config server_config mine theirs) where
   -- a signal comes next
-  hears-joined : (signal : Signal) (due : List Signal) → TogetherAs role client_config server_config (footing_of (mine_of role client_config server_config mine)) (footing_of (theirs_of role client_config server_config theirs)) (signal ∷ due) j.sent → on 0 (frames_put theirs) ≡ on 0 (frames_taken mine) ++ map passing (signal ∷ due) → AllRead (signal ∷ due) → (is_leaving (passing signal) ≡ true → (n : ℕ) → on (suc n) (frames_put theirs) ≡ on (suc n) (frames_taken mine)) → Joined role client_config server_config (then_taken (config_of role client_config server_config) (end_from role (config_of role client_config server_config) false mine) (passing signal) mine) theirs
+  hears-joined : (signal : Signal) (due : List Signal)
+      → TogetherAs role client_config server_config (footing_of (mine_of role client_config server_config mine))
+      (footing_of (theirs_of role client_config server_config theirs)) (signal ∷ due) j.sent
+      → on 0 (frames_put theirs) ≡ on 0 (frames_taken mine) ++ map passing (signal ∷ due)
+      → AllRead (signal ∷ due) → (is_leaving (passing signal) ≡ true → (n : ℕ)
+      → on (suc n) (frames_put theirs) ≡ on (suc n) (frames_taken mine))
+      → Joined role client_config server_config (then_taken (config_of role client_config server_config)
+      (end_from role (config_of role client_config server_config) false mine) (passing signal) mine) theirs
   hears-joined signal due together due_is read leaving =
       let h = hears-as role client_config server_config client_writes server_writes due j.sent signal together in
-      let x = heard role (config_of role client_config server_config) back mine stands signal h.next h.words h.hears read.0 in
-      let before = then_taken (config_of role client_config server_config) (end_from role (config_of role client_config server_config) false mine) (passing signal) mine in
+      let x = heard role (config_of role client_config server_config) back mine stands signal
+      h.next h.words h.hears read.0 in
+      let before = then_taken (config_of role client_config server_config)
+      (end_from role (config_of role client_config server_config) false mine) (passing signal) mine in
       record {
         due = due;
         sent = j.sent ++ map Says h.words;
-        together = subst (λ f. TogetherAs role client_config server_config f (footing_of (theirs_of role client_config server_config theirs)) due (j.sent ++ map Says h.words)) (sym x.footing) h.together;
-        due_is = one-taken (frames_put theirs) (frames_taken mine) signal due due_is ∙ ap (λ l. on 0 l ++ map passing due) (sym x.taken);
-        sent_is = ap (on 0) x.put ∙ more-sent (frames_put mine) (frames_taken theirs) j.sent (map Says h.words) j.sent_is;
+        together = subst (λ f. TogetherAs role client_config server_config f
+            (footing_of (theirs_of role client_config server_config theirs)) due (j.sent ++ map Says h.words))
+            (sym x.footing) h.together;
+        due_is = one-taken (frames_put theirs) (frames_taken mine) signal due due_is
+            ∙ ap (λ l. on 0 l ++ map passing due) (sym x.taken);
+        sent_is = ap (on 0) x.put ∙ more-sent (frames_put mine) (frames_taken theirs) j.sent
+            (map Says h.words) j.sent_is;
         due_read = read.1;
         sent_read = all-read-join j.sent (map Says h.words) j.sent_read x.read;
         early =
-            λ e n. let old = j.early (begun (footing_of (mine_of role client_config server_config mine)) x.footing h.hears.begins e) n in
-            record { mine_none = ap (on (suc n)) x.put ∙ (none-more n (frames_put mine) (map Says h.words) ∙ old.mine_none); theirs_none = old.theirs_none; mine_free = x.channels n ∙ old.mine_free; theirs_free = old.theirs_free };
+            λ e n. let old =
+            j.early (begun (footing_of (mine_of role client_config server_config mine)) x.footing h.hears.begins e) n in
+            record {
+              mine_none = ap (on (suc n)) x.put ∙ (none-more n (frames_put mine) (map Says h.words)
+                  ∙ old.mine_none);
+              theirs_none = old.theirs_none;
+              mine_free = x.channels n ∙ old.mine_free;
+              theirs_free = old.theirs_free;
+            };
         mine_over =
             λ e n. leaving (h.hears.closes (sym (ap (λ (f : Footing). is_shut f.phase) x.footing) ∙ e)) n
             ∙ sym (ap (on (suc n)) x.taken ∙ none-more n (frames_taken mine) (signal ∷ []));
-        theirs_over = λ e n. ap (on (suc n)) x.put ∙ (none-more n (frames_put mine) (map Says h.words) ∙ j.theirs_over e n);
+        theirs_over = λ e n. ap (on (suc n)) x.put
+            ∙ (none-more n (frames_put mine) (map Says h.words) ∙ j.theirs_over e n);
       }
     where
-      begun : {B : Type 0} {after next : Footing} (before : Footing) → after ≡ next → (is_early next ≡ true → is_early before ≡ true) → (is_early after ≡ true) ⊎ B → (is_early before ≡ true) ⊎ B
+      begun : {B : Type 0} {after next : Footing} (before : Footing) → after ≡ next
+          → (is_early next ≡ true → is_early before ≡ true) → (is_early after ≡ true) ⊎ B
+          → (is_early before ≡ true) ⊎ B
       begun before is begins (inl e) = inl (begins (sym (ap is_early is) ∙ e))
       begun before is begins (inr b) = inr b
 
   -- by what is in flight
-  zero-joined : (frame : Frame) (later : List Frame) (due : List Signal) → TogetherAs role client_config server_config (footing_of (mine_of role client_config server_config mine)) (footing_of (theirs_of role client_config server_config theirs)) due j.sent → on 0 (frames_put theirs) ≡ on 0 (frames_taken mine) ++ map passing due → AllRead due → map passing due ≡ frame ∷ later → (is_leaving frame ≡ true → (n : ℕ) → on (suc n) (frames_put theirs) ≡ on (suc n) (frames_taken mine)) → Joined role client_config server_config (then_taken (config_of role client_config server_config) (end_from role (config_of role client_config server_config) false mine) frame mine) theirs
+  zero-joined : (frame : Frame) (later : List Frame) (due : List Signal)
+      → TogetherAs role client_config server_config (footing_of (mine_of role client_config server_config mine))
+      (footing_of (theirs_of role client_config server_config theirs)) due j.sent
+      → on 0 (frames_put theirs) ≡ on 0 (frames_taken mine) ++ map passing due → AllRead due
+      → map passing due ≡ frame ∷ later
+      → (is_leaving frame ≡ true → (n : ℕ)
+      → on (suc n) (frames_put theirs) ≡ on (suc n) (frames_taken mine))
+      → Joined role client_config server_config (then_taken (config_of role client_config server_config)
+      (end_from role (config_of role client_config server_config) false mine) frame mine) theirs
   zero-joined frame later [] together due_is read e leaving = absurd cc
   zero-joined frame later (signal ∷ due) together due_is read e leaving =
-      let same : passing signal ≡ frame = (let h : passing signal ∷ map passing due ≡ frame ∷ later = e in cc) in
-      subst (λ f. (is_leaving f ≡ true → (n : ℕ) → on (suc n) (frames_put theirs) ≡ on (suc n) (frames_taken mine)) → Joined role client_config server_config (then_taken (config_of role client_config server_config) (end_from role (config_of role client_config server_config) false mine) f mine) theirs) same (hears-joined signal due together due_is read) leaving
+      let same : passing signal ≡ frame = (let h : passing signal ∷ map passing due ≡ frame ∷ later = e in
+      cc) in
+      subst (λ f. (is_leaving f ≡ true → (n : ℕ)
+      → on (suc n) (frames_put theirs) ≡ on (suc n) (frames_taken mine))
+      → Joined role client_config server_config (then_taken (config_of role client_config server_config)
+      (end_from role (config_of role client_config server_config) false mine) f mine) theirs) same
+      (hears-joined signal due together due_is read) leaving
 
   no_run : {A : Type 0} {phase : Phase} → phase ≡ Running → is_shut phase ≡ true → A
   no_run p e = absurd (false≢true (sym (ap is_shut p) ∙ e))
 
-  above-joined : (frame : Frame) (m : ℕ) (later : List Frame) → frame.channel ≡ suc m → on (suc m) (frames_put theirs) ≡ on (suc m) (frames_taken mine) ++ frame ∷ later → TakenAbove role (config_of role client_config server_config) mine (then_taken (config_of role client_config server_config) (end_from role (config_of role client_config server_config) false mine) frame mine) → Joined role client_config server_config (then_taken (config_of role client_config server_config) (end_from role (config_of role client_config server_config) false mine) frame mine) theirs
+  above-joined : (frame : Frame) (m : ℕ) (later : List Frame) → frame.channel ≡ suc m
+      → on (suc m) (frames_put theirs) ≡ on (suc m) (frames_taken mine) ++ frame ∷ later
+      → TakenAbove role (config_of role client_config server_config) mine
+      (then_taken (config_of role client_config server_config)
+      (end_from role (config_of role client_config server_config) false mine) frame mine)
+      → Joined role client_config server_config (then_taken (config_of role client_config server_config)
+      (end_from role (config_of role client_config server_config) false mine) frame mine) theirs
   above-joined frame m later here next x = record {
     due = j.due;
     sent = j.sent;
-    together = subst (λ f. TogetherAs role client_config server_config f (footing_of (theirs_of role client_config server_config theirs)) j.due j.sent) (sym x.footing) j.together;
+    together = subst (λ f. TogetherAs role client_config server_config f
+        (footing_of (theirs_of role client_config server_config theirs)) j.due j.sent) (sym x.footing) j.together;
     due_is = j.due_is ∙ ap (λ l. l ++ map passing j.due) (sym x.taken);
     sent_is = x.put ∙ j.sent_is;
     due_read = j.due_read;
     sent_read = j.sent_read;
-    early = λ e n. absurd (some (on (suc m) (frames_taken mine)) (sym (j.early (as_before x.footing e) m).theirs_none ∙ next));
+    early = λ e n.
+        absurd (some (on (suc m) (frames_taken mine)) (sym (j.early (as_before x.footing e) m).theirs_none ∙ next));
     mine_over = λ e. shut x.phase (sym (ap (λ (f : Footing). is_shut f.phase) x.footing) ∙ e);
     theirs_over = λ e n. over x.phase e n;
   }
@@ -255,115 +406,225 @@ module _ (role : Role) (client_config : Config Client) (server_config : Config S
       some [] e = cc
       some (y ∷ xs) e = cc
 
-      as_before : {B : Type 0} {after before : Footing} → after ≡ before → (is_early after ≡ true) ⊎ B → (is_early before ≡ true) ⊎ B
+      as_before : {B : Type 0} {after before : Footing} → after ≡ before → (is_early after ≡ true) ⊎ B
+          → (is_early before ≡ true) ⊎ B
       as_before is (inl e) = inl (sym (ap is_early is) ∙ e)
       as_before is (inr b) = inr b
 
-      shut : {A B : Type 0} {phase : Phase} → ((phase ≡ Running) ⊎ ((phase ≡ Phase.Closing) × B)) → is_shut phase ≡ true → A
+      shut : {A B : Type 0} {phase : Phase} → ((phase ≡ Running) ⊎ ((phase ≡ Phase.Closing) × B))
+          → is_shut phase ≡ true → A
       shut (inl p) e = absurd (false≢true (sym (ap is_shut p) ∙ e))
       shut (inr p) e = absurd (false≢true (sym (ap is_shut p.0) ∙ e))
 
-      over : (((mine_of role client_config server_config mine).phase ≡ Running) ⊎ (((mine_of role client_config server_config mine).phase ≡ Phase.Closing) × (frames_put (then_taken (config_of role client_config server_config) (end_from role (config_of role client_config server_config) false mine) frame mine) ≡ frames_put mine))) → is_shut (theirs_of role client_config server_config theirs).phase ≡ true → (n : ℕ) → on (suc n) (frames_put (then_taken (config_of role client_config server_config) (end_from role (config_of role client_config server_config) false mine) frame mine)) ≡ on (suc n) (frames_taken theirs)
-      over (inl p) e n = absurd (true≢false (sym (ap is_running p) ∙ none-runs role client_config server_config (footing_of (mine_of role client_config server_config mine)) (footing_of (theirs_of role client_config server_config theirs)) j.due j.sent j.together e))
+      over : (((mine_of role client_config server_config mine).phase ≡ Running)
+          ⊎ (((mine_of role client_config server_config mine).phase ≡ Phase.Closing)
+          × (frames_put (then_taken (config_of role client_config server_config)
+          (end_from role (config_of role client_config server_config) false mine) frame mine) ≡ frames_put mine)))
+          → is_shut (theirs_of role client_config server_config theirs).phase ≡ true → (n : ℕ)
+          → on (suc n)
+          (frames_put (then_taken (config_of role client_config server_config)
+          (end_from role (config_of role client_config server_config) false mine) frame mine))
+          ≡ on (suc n) (frames_taken theirs)
+      over (inl p) e n =
+          absurd (true≢false (sym (ap is_running p)
+          ∙ none-runs role client_config server_config (footing_of (mine_of role client_config server_config mine))
+          (footing_of (theirs_of role client_config server_config theirs)) j.due j.sent j.together e))
       over (inr p) e n = ap (on (suc n)) p.1 ∙ j.theirs_over e n
 
   -- a signal is put, by an end that doesn't close at once, to one that is not closed
-  pub speaks-joined : (frames : List Frame) (signal : Signal) (next : Footing) → Speaks role (config_of role client_config server_config) mine (then_put frames mine) signal next → (is_early next ≡ true → (is_early (footing_of (mine_of role client_config server_config mine)) ≡ true) ⊎ (is_early (footing_of (theirs_of role client_config server_config theirs)) ≡ true)) → is_shut next.phase ≡ false → is_shut (theirs_of role client_config server_config theirs).phase ≡ false → TogetherAs role client_config server_config next (footing_of (theirs_of role client_config server_config theirs)) j.due (j.sent ++ signal ∷ []) → Joined role client_config server_config (then_put frames mine) theirs
+  pub speaks-joined : (frames : List Frame) (signal : Signal) (next : Footing)
+      → Speaks role (config_of role client_config server_config) mine (then_put frames mine) signal next
+      → (is_early next ≡ true → (is_early (footing_of (mine_of role client_config server_config mine)) ≡ true)
+      ⊎ (is_early (footing_of (theirs_of role client_config server_config theirs)) ≡ true))
+      → is_shut next.phase ≡ false → is_shut (theirs_of role client_config server_config theirs).phase ≡ false
+      → TogetherAs role client_config server_config next
+      (footing_of (theirs_of role client_config server_config theirs)) j.due (j.sent ++ signal ∷ [])
+      → Joined role client_config server_config (then_put frames mine) theirs
   speaks-joined frames signal next x begins stays others together = record {
     due = j.due;
     sent = j.sent ++ signal ∷ [];
-    together = subst (λ f. TogetherAs role client_config server_config f (footing_of (theirs_of role client_config server_config theirs)) j.due (j.sent ++ signal ∷ [])) (sym x.footing) together;
+    together = subst (λ f. TogetherAs role client_config server_config f
+        (footing_of (theirs_of role client_config server_config theirs)) j.due (j.sent ++ signal ∷ []))
+        (sym x.footing) together;
     due_is = j.due_is ∙ ap (λ l. on 0 l ++ map passing j.due) (sym (taken-still frames mine));
     sent_is = ap (on 0) x.put ∙ more-sent (frames_put mine) (frames_taken theirs) j.sent (signal ∷ []) j.sent_is;
     due_read = j.due_read;
     sent_read = all-read-join j.sent (signal ∷ []) j.sent_read (x.read, tt);
-    early = λ e n. let old = j.early (before e) n in record { mine_none = ap (on (suc n)) x.put ∙ (none-more n (frames_put mine) (signal ∷ []) ∙ old.mine_none); theirs_none = old.theirs_none; mine_free = x.channels n ∙ old.mine_free; theirs_free = old.theirs_free };
+    early = λ e n. let old = j.early (before e) n in
+        record {
+          mine_none = ap (on (suc n)) x.put ∙ (none-more n (frames_put mine) (signal ∷ []) ∙ old.mine_none);
+          theirs_none = old.theirs_none;
+          mine_free = x.channels n ∙ old.mine_free;
+          theirs_free = old.theirs_free;
+        };
     mine_over = λ e. absurd (false≢true (sym (ap (λ (f : Footing). is_shut f.phase) x.footing ∙ stays) ∙ e));
     theirs_over = λ e n. absurd (false≢true (sym others ∙ e));
   }
     where
-      before : ((is_early (footing_of (mine_of role client_config server_config (then_put frames mine))) ≡ true) ⊎ (is_early (footing_of (theirs_of role client_config server_config theirs)) ≡ true)) → (is_early (footing_of (mine_of role client_config server_config mine)) ≡ true) ⊎ (is_early (footing_of (theirs_of role client_config server_config theirs)) ≡ true)
+      before : ((is_early (footing_of (mine_of role client_config server_config (then_put frames mine))) ≡ true)
+          ⊎ (is_early (footing_of (theirs_of role client_config server_config theirs)) ≡ true))
+          → (is_early (footing_of (mine_of role client_config server_config mine)) ≡ true)
+          ⊎ (is_early (footing_of (theirs_of role client_config server_config theirs)) ≡ true)
       before (inl e) = begins (sym (ap is_early x.footing) ∙ e)
       before (inr e) = inr e
 
   -- while an end runs, the other is not closed
-  others-run : (mine_of role client_config server_config mine).phase ≡ Running → is_shut (theirs_of role client_config server_config theirs).phase ≡ false
+  others-run : (mine_of role client_config server_config mine).phase ≡ Running
+      → is_shut (theirs_of role client_config server_config theirs).phase ≡ false
   others-run runs = by (is_shut (theirs_of role client_config server_config theirs).phase) refl
     where
       by : (b : Bool) → is_shut (theirs_of role client_config server_config theirs).phase ≡ b → b ≡ false
       by false e = refl
-      by true e = absurd (true≢false (sym (ap is_running runs) ∙ none-runs role client_config server_config (footing_of (mine_of role client_config server_config mine)) (footing_of (theirs_of role client_config server_config theirs)) j.due j.sent j.together e))
+      by true e =
+          absurd (true≢false (sym (ap is_running runs)
+          ∙ none-runs role client_config server_config (footing_of (mine_of role client_config server_config mine))
+          (footing_of (theirs_of role client_config server_config theirs)) j.due j.sent j.together e))
 
   -- and it is not early
-  late : (mine_of role client_config server_config mine).phase ≡ Running → is_early (footing_of (mine_of role client_config server_config mine)) ≡ false
-  late runs = runs-late role client_config server_config (footing_of (mine_of role client_config server_config mine)) (footing_of (theirs_of role client_config server_config theirs)) j.due j.sent j.together (ap is_running runs)
+  late : (mine_of role client_config server_config mine).phase ≡ Running
+      → is_early (footing_of (mine_of role client_config server_config mine)) ≡ false
+  late runs =
+      runs-late role client_config server_config (footing_of (mine_of role client_config server_config mine))
+      (footing_of (theirs_of role client_config server_config theirs)) j.due j.sent j.together (ap is_running runs)
 
   -- a signal is put by a Running end
-  pub runs-joined : (frames : List Frame) → (mine_of role client_config server_config mine).phase ≡ Running → (signal : Signal) (next : Footing) → Speaks role (config_of role client_config server_config) mine (then_put frames mine) signal next → next.agreed ≡ (mine_of role client_config server_config mine).agreed → shakes_hands next.phase ≡ false → is_shut next.phase ≡ false → TogetherAs role client_config server_config next (footing_of (theirs_of role client_config server_config theirs)) j.due (j.sent ++ signal ∷ []) → Joined role client_config server_config (then_put frames mine) theirs
-  runs-joined frames runs signal next x same over_hands stays together = speaks-joined frames signal next x (λ e. absurd (false≢true (sym none_early ∙ e))) stays (others-run runs) together
+  pub runs-joined : (frames : List Frame) → (mine_of role client_config server_config mine).phase ≡ Running
+      → (signal : Signal) (next : Footing)
+      → Speaks role (config_of role client_config server_config) mine (then_put frames mine) signal next
+      → next.agreed ≡ (mine_of role client_config server_config mine).agreed → shakes_hands next.phase ≡ false
+      → is_shut next.phase ≡ false
+      → TogetherAs role client_config server_config next
+      (footing_of (theirs_of role client_config server_config theirs)) j.due (j.sent ++ signal ∷ [])
+      → Joined role client_config server_config (then_put frames mine) theirs
+  runs-joined frames runs signal next x same over_hands stays together =
+      speaks-joined frames signal next x (λ e. absurd (false≢true (sym none_early ∙ e))) stays
+      (others-run runs) together
     where
       none_agreed : is_none (mine_of role client_config server_config mine).agreed ≡ false
-      none_agreed = sym (ap (λ p. shakes_hands p || is_none (mine_of role client_config server_config mine).agreed) runs) ∙ late runs
+      none_agreed =
+          sym (ap (λ p. shakes_hands p || is_none (mine_of role client_config server_config mine).agreed) runs)
+          ∙ late runs
 
       none_early : is_early next ≡ false
       none_early = ap (λ b. b || is_none next.agreed) over_hands ∙ (ap is_none same ∙ none_agreed)
 
-  asks-joined : (frames : List Frame) → (mine_of role client_config server_config mine).phase ≡ Running → Asked role (config_of role client_config server_config) mine (then_put frames mine) → Joined role client_config server_config (then_put frames mine) theirs
+  asks-joined : (frames : List Frame) → (mine_of role client_config server_config mine).phase ≡ Running
+      → Asked role (config_of role client_config server_config) mine (then_put frames mine)
+      → Joined role client_config server_config (then_put frames mine) theirs
   asks-joined frames runs (above footing put from) = record {
     due = j.due;
     sent = j.sent;
-    together = subst (λ f. TogetherAs role client_config server_config f (footing_of (theirs_of role client_config server_config theirs)) j.due j.sent) (sym footing) j.together;
+    together = subst (λ f. TogetherAs role client_config server_config f
+        (footing_of (theirs_of role client_config server_config theirs)) j.due j.sent) (sym footing) j.together;
     due_is = j.due_is ∙ ap (λ l. on 0 l ++ map passing j.due) (sym (taken-still frames mine));
     sent_is = put ∙ j.sent_is;
     due_read = j.due_read;
     sent_read = j.sent_read;
     early = λ e n. absurd (none_opens from e);
     mine_over = λ e. no_run runs (sym (ap (λ (f : Footing). is_shut f.phase) footing) ∙ e);
-    theirs_over = λ e n. absurd (true≢false (sym (ap is_running runs) ∙ none-runs role client_config server_config (footing_of (mine_of role client_config server_config mine)) (footing_of (theirs_of role client_config server_config theirs)) j.due j.sent j.together e));
+    theirs_over =
+        λ e n. absurd
+        (true≢false (sym (ap is_running runs)
+        ∙ none-runs role client_config server_config (footing_of (mine_of role client_config server_config mine))
+        (footing_of (theirs_of role client_config server_config theirs)) j.due j.sent j.together e));
   }
     where
-      client : (role : Role) (mine theirs : Footing) (due sent : List Signal) → role ≡ Client → TogetherAs role client_config server_config mine theirs due sent → is_running mine.phase ≡ true → is_early theirs ≡ true → ⊥
-      client Client mine theirs due sent r together e f = true≢false (sym f ∙ (client-late client_config server_config together e).1)
+      client : (role : Role) (mine theirs : Footing) (due sent : List Signal) → role ≡ Client
+          → TogetherAs role client_config server_config mine theirs due sent → is_running mine.phase ≡ true
+          → is_early theirs ≡ true → ⊥
+      client Client mine theirs due sent r together e f =
+          true≢false (sym f ∙ (client-late client_config server_config together e).1)
       client Server mine theirs due sent r together e f = cc
 
-      none_opens : ((role ≡ Client) ⊎ ((c : ℕ) × ((life : Life) × ((mine_of role client_config server_config mine).channels c ≡ channels.Open life)))) → ((is_early (footing_of (mine_of role client_config server_config (then_put frames mine))) ≡ true) ⊎ (is_early (footing_of (theirs_of role client_config server_config theirs)) ≡ true)) → ⊥
+      none_opens : ((role ≡ Client)
+          ⊎ ((c : ℕ)
+          × ((life : Life) × ((mine_of role client_config server_config mine).channels c ≡ channels.Open life))))
+          → ((is_early (footing_of (mine_of role client_config server_config (then_put frames mine))) ≡ true)
+          ⊎ (is_early (footing_of (theirs_of role client_config server_config theirs)) ≡ true)) → ⊥
       none_opens from (inl e) = false≢true (sym (ap is_early footing ∙ late runs) ∙ e)
-      none_opens (inl r) (inr e) = client role (footing_of (mine_of role client_config server_config mine)) (footing_of (theirs_of role client_config server_config theirs)) j.due j.sent r j.together (ap is_running runs) e
-      none_opens (inr open_one) (inr e) = let free = (j.early (inr e) open_one.0).mine_free in let one = open_one.1.1 in let both : channels.Free ≡ channels.Open open_one.1.0 = sym free ∙ one in cc
+      none_opens (inl r) (inr e) =
+          client role (footing_of (mine_of role client_config server_config mine))
+          (footing_of (theirs_of role client_config server_config theirs)) j.due j.sent r
+          j.together (ap is_running runs) e
+      none_opens (inr open_one) (inr e) =
+          let free = (j.early (inr e) open_one.0).mine_free in
+          let one = open_one.1.1 in
+          let both : channels.Free ≡ channels.Open open_one.1.0 = sym free ∙ one in
+          cc
   asks-joined frames runs (closes code text cause x) =
-      runs-joined frames runs (Says (Close code text cause)) (at Phase.Closing (mine_of role client_config server_config mine).agreed) x refl refl refl (closes-as role client_config server_config (footing_of (mine_of role client_config server_config mine)) (footing_of (theirs_of role client_config server_config theirs)) j.due j.sent j.together (ap is_running runs) code text cause)
+      runs-joined frames runs (Says (Close code text cause))
+      (at Phase.Closing (mine_of role client_config server_config mine).agreed) x refl refl refl
+      (closes-as role client_config server_config (footing_of (mine_of role client_config server_config mine))
+      (footing_of (theirs_of role client_config server_config theirs)) j.due j.sent j.together
+      (ap is_running runs) code text cause)
   asks-joined frames runs (says signal block r x) =
-      runs-joined frames runs signal (footing_of (mine_of role client_config server_config mine)) x refl (ap shakes_hands runs) (ap is_shut runs) (blocks-as role client_config server_config (footing_of (mine_of role client_config server_config mine)) (footing_of (theirs_of role client_config server_config theirs)) j.due j.sent r j.together (ap is_running runs) signal block)
+      runs-joined frames runs signal (footing_of (mine_of role client_config server_config mine)) x refl
+      (ap shakes_hands runs) (ap is_shut runs)
+      (blocks-as role client_config server_config (footing_of (mine_of role client_config server_config mine))
+      (footing_of (theirs_of role client_config server_config theirs)) j.due j.sent r j.together
+      (ap is_running runs) signal block)
 
   -- a Running end beats
-  pub beats-joined : (frames : List Frame) → (mine_of role client_config server_config mine).phase ≡ Running → Speaks role (config_of role client_config server_config) mine (then_put frames mine) Beats (footing_of (mine_of role client_config server_config mine)) → Joined role client_config server_config (then_put frames mine) theirs
-  beats-joined frames runs x = runs-joined frames runs Beats (footing_of (mine_of role client_config server_config mine)) x refl (ap shakes_hands runs) (ap is_shut runs) (beats-as role client_config server_config (footing_of (mine_of role client_config server_config mine)) (footing_of (theirs_of role client_config server_config theirs)) j.due j.sent j.together (ap is_running runs))
+  pub beats-joined : (frames : List Frame) → (mine_of role client_config server_config mine).phase ≡ Running
+      → Speaks role (config_of role client_config server_config) mine (then_put frames mine) Beats
+      (footing_of (mine_of role client_config server_config mine))
+      → Joined role client_config server_config (then_put frames mine) theirs
+  beats-joined frames runs x =
+      runs-joined frames runs Beats (footing_of (mine_of role client_config server_config mine)) x refl
+      (ap shakes_hands runs) (ap is_shut runs)
+      (beats-as role client_config server_config (footing_of (mine_of role client_config server_config mine))
+      (footing_of (theirs_of role client_config server_config theirs)) j.due j.sent j.together (ap is_running runs))
 
   -- what comes next is taken
-  takes-joined : (frame : Frame) → ComesNext theirs mine frame → goes_on (end_verdict (config_of role client_config server_config) (end_from role (config_of role client_config server_config) false mine) frame) ≡ true → Joined role client_config server_config (then_taken (config_of role client_config server_config) (end_from role (config_of role client_config server_config) false mine) frame mine) theirs
+  takes-joined : (frame : Frame) → ComesNext theirs mine frame
+      → goes_on (end_verdict (config_of role client_config server_config)
+      (end_from role (config_of role client_config server_config) false mine) frame) ≡ true
+      → Joined role client_config server_config (then_taken (config_of role client_config server_config)
+      (end_from role (config_of role client_config server_config) false mine) frame mine) theirs
   takes-joined frame next goes = by-channel frame.channel refl
     where
-      by-channel : (c : ℕ) → frame.channel ≡ c → Joined role client_config server_config (then_taken (config_of role client_config server_config) (end_from role (config_of role client_config server_config) false mine) frame mine) theirs
+      by-channel : (c : ℕ) → frame.channel ≡ c
+          → Joined role client_config server_config (then_taken (config_of role client_config server_config)
+          (end_from role (config_of role client_config server_config) false mine) frame mine) theirs
       by-channel zero here =
-          let there = subst (λ c. on c (frames_put theirs) ≡ on c (frames_taken mine) ++ frame ∷ next.later) here next.next in
-          zero-joined frame next.later j.due j.together j.due_is j.due_read (append_cancel_left (on 0 (frames_taken mine)) (map passing j.due) (frame ∷ next.later) (sym j.due_is ∙ there)) next.at_leaving
+          let there = subst (λ c. on c (frames_put theirs) ≡ on c (frames_taken mine) ++ frame
+          ∷ next.later) here next.next in
+          zero-joined frame next.later j.due j.together j.due_is j.due_read
+          (append_cancel_left (on 0 (frames_taken mine)) (map passing j.due) (frame ∷ next.later) (sym j.due_is
+          ∙ there)) next.at_leaving
       by-channel (suc m) here =
-          let there = subst (λ c. on c (frames_put theirs) ≡ on c (frames_taken mine) ++ frame ∷ next.later) here next.next in
-          above-joined frame m next.later here there (taken-above role (config_of role client_config server_config) back mine stands frame m here goes)
+          let there = subst (λ c. on c (frames_put theirs) ≡ on c (frames_taken mine) ++ frame
+          ∷ next.later) here next.next in
+          above-joined frame m next.later here there
+          (taken-above role (config_of role client_config server_config) back mine stands frame m here goes)
 
 -- a server puts start
-greets-joined : (client_config : Config Client) (server_config : Config Server) → WritesReadBack Server server_config → (theirs : History) → Joined Server client_config server_config [] theirs → Joined Server client_config server_config (Put (method_frame 0 (negotiation.start server_config)) ∷ []) theirs
+greets-joined : (client_config : Config Client) (server_config : Config Server) → WritesReadBack Server server_config
+    → (theirs : History) → Joined Server client_config server_config [] theirs
+    → Joined Server client_config server_config (Put (method_frame 0 (negotiation.start server_config)) ∷ []) theirs
 greets-joined client_config server_config back theirs j = record {
   due = j.due;
   sent = j.sent ++ Says word ∷ [];
-  together = subst (λ f. Together client_config server_config (footing_of (theirs_of Server client_config server_config theirs)) f j.due (j.sent ++ Says word ∷ [])) (sym (ap footing_of end_is)) (server-greets client_config server_config j.together refl (negotiation.start server_config).args);
+  together = subst
+      (λ f. Together client_config server_config
+      (footing_of (theirs_of Server client_config server_config theirs)) f j.due
+      (j.sent ++ Says word ∷ [])) (sym (ap footing_of end_is))
+      (server-greets client_config server_config j.together refl
+      (negotiation.start server_config).args);
   due_is = j.due_is;
   sent_is = ap (λ f. on 0 (f ∷ [])) same ∙ more-sent [] (frames_taken theirs) j.sent (Says word ∷ []) j.sent_is;
   due_read = j.due_read;
   sent_read = all-read-join j.sent (Says word ∷ []) j.sent_read (reads-back 0 (said word) read, tt);
-  early = λ e n. let old = j.early (inl refl) n in record { mine_none = ap (λ f. on (suc n) (f ∷ [])) same ∙ none-more n [] (Says word ∷ []); theirs_none = old.theirs_none; mine_free = ap (λ (e : End). e.channels n) end_is; theirs_free = old.theirs_free };
+  early = λ e n. let old = j.early (inl refl) n in
+      record {
+        mine_none = ap (λ f. on (suc n) (f ∷ [])) same ∙ none-more n [] (Says word ∷ []);
+        theirs_none = old.theirs_none;
+        mine_free = ap (λ (e : End). e.channels n) end_is;
+        theirs_free = old.theirs_free;
+      };
   mine_over = λ e. absurd (false≢true (sym (ap (λ (e : End). is_shut e.phase) end_is) ∙ e));
-  theirs_over = λ e n. ap (λ f. on (suc n) (f ∷ [])) same ∙ (none-more n [] (Says word ∷ []) ∙ j.theirs_over e n);
+  theirs_over = λ e n. ap (λ f. on (suc n) (f ∷ [])) same
+      ∙ (none-more n [] (Says word ∷ []) ∙ j.theirs_over e n);
 }
   where
     word : Word
@@ -375,10 +636,15 @@ greets-joined client_config server_config back theirs j = record {
     read : ReadsBack (said (Start (negotiation.start server_config).args))
     read = subst ReadsBack (start-is server_config) back.greeting
 
-    end_is : end_from Server server_config false (Put (method_frame 0 (negotiation.start server_config)) ∷ []) ≡ end_after Server server_config 0 (PutHere (Calls (said (Start (negotiation.start server_config).args))) (method_frame 0 (negotiation.start server_config))) (new_end Server)
+    end_is : end_from Server server_config false (Put (method_frame 0 (negotiation.start server_config)) ∷ [])
+        ≡ end_after Server server_config 0 (PutHere (Calls (said (Start (negotiation.start server_config).args)))
+        (method_frame 0 (negotiation.start server_config))) (new_end Server)
     end_is =
-        end-stands Server server_config _ _ (end-follows Server server_config (new_end Server) [] (Put (method_frame 0 (negotiation.start server_config))) (new-end-stands Server server_config) (inl refl))
-        ∙ ap (λ r. end_after Server server_config 0 (PutHere r (method_frame 0 (negotiation.start server_config))) (new_end Server)) (reads-back 0 (negotiation.start server_config) back.greeting ∙ ap Calls (start-is server_config))
+        end-stands Server server_config _ _ (end-follows Server server_config (new_end Server) []
+        (Put (method_frame 0 (negotiation.start server_config))) (new-end-stands Server server_config) (inl refl))
+        ∙ ap (λ r. end_after Server server_config 0 (PutHere r (method_frame 0 (negotiation.start server_config)))
+        (new_end Server)) (reads-back 0 (negotiation.start server_config) back.greeting
+        ∙ ap Calls (start-is server_config))
 
 -- what an application decides in the handshake
 
@@ -394,71 +660,148 @@ abbrev holds_open : Phase → Bool
 holds_open (Handshake HoldsOpen) = true
 holds_open phase = false
 
-client-answers : (client_config : Config Client) (server_config : Config Server) {client server : Footing} {to_server to_client : List Signal} → Together client_config server_config client server to_server to_client → holds_start client.phase ≡ true → (args : List Argument) → (is_shut server.phase ≡ false) × Together client_config server_config (at (Handshake AwaitsTune) client.agreed) server (to_server ++ Says (StartOk args) ∷ []) to_client
+client-answers : (client_config : Config Client) (server_config : Config Server) {client server : Footing}
+    {to_server to_client : List Signal} → Together client_config server_config client server to_server to_client
+    → holds_start client.phase ≡ true → (args : List Argument) → (is_shut server.phase ≡ false)
+    × Together client_config server_config (at (Handshake AwaitsTune) client.agreed) server
+    (to_server ++ Says (StartOk args) ∷ []) to_client
 client-answers client_config server_config start_held e args = (refl, answered args)
 client-answers client_config server_config together e args = absurd (false≢true e)
 
-server-admits : (client_config : Config Client) (server_config : Config Server) {client server : Footing} {to_server to_client : List Signal} → Together client_config server_config client server to_server to_client → holds_login server.phase ≡ true → (is_shut client.phase ≡ false) × Together client_config server_config client (at (Handshake AwaitsTuneOk) server.agreed) to_server (to_client ++ Says (Tune server_config.channel_max server_config.frame_max server_config.heartbeat) ∷ [])
+server-admits : (client_config : Config Client) (server_config : Config Server) {client server : Footing}
+    {to_server to_client : List Signal} → Together client_config server_config client server to_server to_client
+    → holds_login server.phase ≡ true → (is_shut client.phase ≡ false)
+    × Together client_config server_config client (at (Handshake AwaitsTuneOk) server.agreed) to_server
+    (to_client ++ Says (Tune server_config.channel_max server_config.frame_max server_config.heartbeat) ∷ [])
 server-admits client_config server_config (login_held gate) e = (refl, tuned)
 server-admits client_config server_config together e = absurd (false≢true e)
 
 -- at an open the client is early
-server-opens : (client_config : Config Client) (server_config : Config Server) {client server : Footing} {to_server to_client : List Signal} → Together client_config server_config client server to_server to_client → holds_open server.phase ≡ true → (is_shut client.phase ≡ false) × Together client_config server_config client (at Running server.agreed) to_server (to_client ++ Says OpenOk ∷ [])
+server-opens : (client_config : Config Client) (server_config : Config Server) {client server : Footing}
+    {to_server to_client : List Signal} → Together client_config server_config client server to_server to_client
+    → holds_open server.phase ≡ true → (is_shut client.phase ≡ false)
+    × Together client_config server_config client (at Running server.agreed) to_server
+    (to_client ++ Says OpenOk ∷ [])
 server-opens client_config server_config open_held e = (refl, opened none)
 server-opens client_config server_config together e = absurd (false≢true e)
 
-server-refuses : (client_config : Config Client) (server_config : Config Server) {client server : Footing} {to_server to_client : List Signal} → Together client_config server_config client server to_server to_client → (holds_login server.phase || holds_open server.phase) ≡ true → (code : ℕ) (text : List ℕ) (cause : Cause) → (is_shut client.phase ≡ false) × Together client_config server_config client (at Phase.Closing server.agreed) to_server (to_client ++ Says (Close code text cause) ∷ [])
-server-refuses client_config server_config (login_held gate) e code text cause = (refl, login_refused gate code text cause)
+server-refuses : (client_config : Config Client) (server_config : Config Server) {client server : Footing}
+    {to_server to_client : List Signal} → Together client_config server_config client server to_server to_client
+    → (holds_login server.phase || holds_open server.phase) ≡ true
+    → (code : ℕ) (text : List ℕ) (cause : Cause) → (is_shut client.phase ≡ false)
+    × Together client_config server_config client (at Phase.Closing server.agreed) to_server
+    (to_client ++ Says (Close code text cause) ∷ [])
+server-refuses client_config server_config (login_held gate) e code text cause =
+    (refl, login_refused gate code text cause)
 server-refuses client_config server_config open_held e code text cause = (refl, open_refused code text cause)
 server-refuses client_config server_config together e code text cause = absurd (false≢true e)
 
 shaking-early : (f : Footing) (step : HandshakeStep) → f.phase ≡ Handshake step → is_early f ≡ true
 shaking-early f step e = ap (λ p. shakes_hands p || is_none f.agreed) e
 
-client-decides : (client_config : Config Client) (server_config : Config Server) → ConfigWrites client_config → ConfigWrites server_config → WritesReadBack Client client_config → (client server : History) (frames : List Frame) → StandsFor Client client_config false (end_from Client client_config false client) client → Joined Client client_config server_config client server → Decided Client client_config client (then_put frames client) → Joined Client client_config server_config (then_put frames client) server
-client-decides client_config server_config client_writes server_writes back client server frames stands j (beaten runs x) = beats-joined Client client_config server_config client_writes server_writes back client server stands j frames runs x
-client-decides client_config server_config client_writes server_writes back client server frames stands j (starts args holds x) =
+client-decides : (client_config : Config Client) (server_config : Config Server) → ConfigWrites client_config
+    → ConfigWrites server_config → WritesReadBack Client client_config
+    → (client server : History) (frames : List Frame)
+    → StandsFor Client client_config false (end_from Client client_config false client) client
+    → Joined Client client_config server_config client server
+    → Decided Client client_config client (then_put frames client)
+    → Joined Client client_config server_config (then_put frames client) server
+client-decides client_config server_config client_writes server_writes back client server frames stands j
+    (beaten runs x) =
+    beats-joined Client client_config server_config client_writes server_writes back client
+    server stands j frames runs x
+client-decides client_config server_config client_writes server_writes back client server frames
+    stands j (starts args holds x) =
     let t = client-answers client_config server_config j.together (ap holds_start holds) args in
-    speaks-joined Client client_config server_config client_writes server_writes back client server stands j frames (Says (StartOk args)) _ x (λ e. inl (shaking-early (footing_of (end_from Client client_config false client)) HoldsStart holds)) refl t.0 t.1
+    speaks-joined Client client_config server_config client_writes server_writes back client server stands j frames
+    (Says (StartOk args)) _ x
+    (λ e. inl (shaking-early (footing_of (end_from Client client_config false client)) HoldsStart holds)) refl t.0 t.1
 
-server-decides : (client_config : Config Client) (server_config : Config Server) → ConfigWrites client_config → ConfigWrites server_config → WritesReadBack Server server_config → (server client : History) (frames : List Frame) → StandsFor Server server_config false (end_from Server server_config false server) server → Joined Server client_config server_config server client → Decided Server server_config server (then_put frames server) → Joined Server client_config server_config (then_put frames server) client
-server-decides client_config server_config client_writes server_writes back server client frames stands j (beaten runs x) = beats-joined Server client_config server_config client_writes server_writes back server client stands j frames runs x
-server-decides client_config server_config client_writes server_writes back server client frames stands j (logs_in holds x) =
+server-decides : (client_config : Config Client) (server_config : Config Server) → ConfigWrites client_config
+    → ConfigWrites server_config → WritesReadBack Server server_config
+    → (server client : History) (frames : List Frame)
+    → StandsFor Server server_config false (end_from Server server_config false server) server
+    → Joined Server client_config server_config server client
+    → Decided Server server_config server (then_put frames server)
+    → Joined Server client_config server_config (then_put frames server) client
+server-decides client_config server_config client_writes server_writes back server client frames stands j
+    (beaten runs x) =
+    beats-joined Server client_config server_config client_writes server_writes back server
+    client stands j frames runs x
+server-decides client_config server_config client_writes server_writes back server client frames
+    stands j (logs_in holds x) =
     let t = server-admits client_config server_config j.together (ap holds_login holds) in
-    speaks-joined Server client_config server_config client_writes server_writes back server client stands j frames (Says (Tune server_config.channel_max server_config.frame_max server_config.heartbeat)) _ x (λ e. inl (shaking-early (footing_of (end_from Server server_config false server)) HoldsLogin holds)) refl t.0 t.1
-server-decides client_config server_config client_writes server_writes back server client frames stands j (opens holds x) =
+    speaks-joined Server client_config server_config client_writes server_writes back server client stands j frames
+    (Says (Tune server_config.channel_max server_config.frame_max server_config.heartbeat)) _ x
+    (λ e. inl (shaking-early (footing_of (end_from Server server_config false server)) HoldsLogin holds)) refl t.0 t.1
+server-decides client_config server_config client_writes server_writes back server client frames
+    stands j (opens holds x) =
     let t = server-opens client_config server_config j.together (ap holds_open holds) in
-    speaks-joined Server client_config server_config client_writes server_writes back server client stands j frames (Says OpenOk) _ x (λ e. inl (shaking-early (footing_of (end_from Server server_config false server)) HoldsOpen holds)) refl t.0 t.1
-server-decides client_config server_config client_writes server_writes back server client frames stands j (turns_away code text cause holds x) =
+    speaks-joined Server client_config server_config client_writes server_writes back server client stands j frames
+    (Says OpenOk) _ x
+    (λ e. inl (shaking-early (footing_of (end_from Server server_config false server)) HoldsOpen holds)) refl t.0 t.1
+server-decides client_config server_config client_writes server_writes back server client frames stands j
+    (turns_away code text cause holds x) =
     let t = server-refuses client_config server_config j.together (either holds) code text cause in
-    speaks-joined Server client_config server_config client_writes server_writes back server client stands j frames (Says (Close code text cause)) _ x (λ e. inl (early holds)) refl t.0 t.1
+    speaks-joined Server client_config server_config client_writes server_writes back server client stands j frames
+    (Says (Close code text cause)) _ x (λ e. inl (early holds)) refl t.0 t.1
   where
-    either : {phase : Phase} → (phase ≡ Handshake HoldsLogin) ⊎ (phase ≡ Handshake HoldsOpen) → (holds_login phase || holds_open phase) ≡ true
+    either : {phase : Phase} → (phase ≡ Handshake HoldsLogin) ⊎ (phase ≡ Handshake HoldsOpen)
+        → (holds_login phase || holds_open phase) ≡ true
     either (inl e) = ap (λ p. holds_login p || holds_open p) e
     either (inr e) = ap (λ p. holds_login p || holds_open p) e
 
-    early : ((end_from Server server_config false server).phase ≡ Handshake HoldsLogin) ⊎ ((end_from Server server_config false server).phase ≡ Handshake HoldsOpen) → is_early (footing_of (end_from Server server_config false server)) ≡ true
+    early : ((end_from Server server_config false server).phase ≡ Handshake HoldsLogin)
+        ⊎ ((end_from Server server_config false server).phase ≡ Handshake HoldsOpen)
+        → is_early (footing_of (end_from Server server_config false server)) ≡ true
     early (inl e) = shaking-early (footing_of (end_from Server server_config false server)) HoldsLogin e
     early (inr e) = shaking-early (footing_of (end_from Server server_config false server)) HoldsOpen e
 
 -- any step
-client-goes-joined : (client_config : Config Client) (server_config : Config Server) → ConfigWrites client_config → ConfigWrites server_config → WritesReadBack Client client_config → (client server : History) (taken : Option Frame) (after : History) → StandsFor Client client_config false (end_from Client client_config false client) client → Joined Client client_config server_config client server → AllComeNext server client taken → Goes Client client_config client taken false after → Joined Client client_config server_config after server
-client-goes-joined client_config server_config client_writes server_writes back client server taken after stands j next (takes frame can g) = takes-joined Client client_config server_config client_writes server_writes back client server stands j frame next g
-client-goes-joined client_config server_config client_writes server_writes back client server taken after stands j next (asks ask frames made read e) =
+client-goes-joined : (client_config : Config Client) (server_config : Config Server) → ConfigWrites client_config
+    → ConfigWrites server_config → WritesReadBack Client client_config
+    → (client server : History) (taken : Option Frame) (after : History)
+    → StandsFor Client client_config false (end_from Client client_config false client) client
+    → Joined Client client_config server_config client server → AllComeNext server client taken
+    → Goes Client client_config client taken false after → Joined Client client_config server_config after server
+client-goes-joined client_config server_config client_writes server_writes back client server taken after stands j next
+    (takes frame can g) =
+    takes-joined Client client_config server_config client_writes server_writes back client server stands j frame next g
+client-goes-joined client_config server_config client_writes server_writes back client server taken after stands j next
+    (asks ask frames made read e) =
     let x = asked Client client_config client stands ask frames made read.method e in
-    asks-joined Client client_config server_config client_writes server_writes back client server stands j frames x.0 x.1
-client-goes-joined client_config server_config client_writes server_writes back client server taken after stands j next (controls control frames read e) = client-decides client_config server_config client_writes server_writes back client server frames stands j (decided Client client_config client control frames stands back read e)
+    asks-joined Client client_config server_config client_writes server_writes back client
+    server stands j frames x.0 x.1
+client-goes-joined client_config server_config client_writes server_writes back client server taken after stands j next
+    (controls control frames read e) =
+    client-decides client_config server_config client_writes server_writes back client server frames stands j
+    (decided Client client_config client control frames stands back read e)
 
-server-goes-joined : (client_config : Config Client) (server_config : Config Server) → ConfigWrites client_config → ConfigWrites server_config → WritesReadBack Server server_config → (server client : History) (taken : Option Frame) (after : History) → StandsFor Server server_config false (end_from Server server_config false server) server → Joined Server client_config server_config server client → AllComeNext client server taken → Goes Server server_config server taken false after → Joined Server client_config server_config after client
-server-goes-joined client_config server_config client_writes server_writes back server client taken after stands j next greets = greets-joined client_config server_config back client j
-server-goes-joined client_config server_config client_writes server_writes back server client taken after stands j next (takes frame can g) = takes-joined Server client_config server_config client_writes server_writes back server client stands j frame next g
-server-goes-joined client_config server_config client_writes server_writes back server client taken after stands j next (asks ask frames made read e) =
+server-goes-joined : (client_config : Config Client) (server_config : Config Server) → ConfigWrites client_config
+    → ConfigWrites server_config → WritesReadBack Server server_config
+    → (server client : History) (taken : Option Frame) (after : History)
+    → StandsFor Server server_config false (end_from Server server_config false server) server
+    → Joined Server client_config server_config server client → AllComeNext client server taken
+    → Goes Server server_config server taken false after → Joined Server client_config server_config after client
+server-goes-joined client_config server_config client_writes server_writes back server client taken after stands j next
+    greets =
+    greets-joined client_config server_config back client j
+server-goes-joined client_config server_config client_writes server_writes back server client taken after stands j next
+    (takes frame can g) =
+    takes-joined Server client_config server_config client_writes server_writes back server client stands j frame next g
+server-goes-joined client_config server_config client_writes server_writes back server client taken after stands j next
+    (asks ask frames made read e) =
     let x = asked Server server_config server stands ask frames made read.method e in
-    asks-joined Server client_config server_config client_writes server_writes back server client stands j frames x.0 x.1
-server-goes-joined client_config server_config client_writes server_writes back server client taken after stands j next (controls control frames read e) = server-decides client_config server_config client_writes server_writes back server client frames stands j (decided Server server_config server control frames stands back read e)
+    asks-joined Server client_config server_config client_writes server_writes back server
+    client stands j frames x.0 x.1
+server-goes-joined client_config server_config client_writes server_writes back server client taken after stands j next
+    (controls control frames read e) =
+    server-decides client_config server_config client_writes server_writes back server client frames stands j
+    (decided Server server_config server control frames stands back read e)
 
 -- two new ends
-new-joined : (client_config : Config Client) (server_config : Config Server) → Joined Client client_config server_config [] []
+new-joined : (client_config : Config Client) (server_config : Config Server)
+    → Joined Client client_config server_config [] []
 new-joined client_config server_config = record {
   due = [];
   sent = [];
@@ -467,18 +810,40 @@ new-joined client_config server_config = record {
   sent_is = refl;
   due_read = tt;
   sent_read = tt;
-  early = λ e n. record { mine_none = refl; theirs_none = refl; mine_free = free Client client_config n; theirs_free = free Server server_config n };
+  early = λ e n. record {
+    mine_none = refl;
+    theirs_none = refl;
+    mine_free = free Client client_config n;
+    theirs_free = free Server server_config n;
+  };
   mine_over = λ e. absurd (false≢true e);
   theirs_over = λ e. absurd (false≢true e);
 }
   where
-    free : (role : Role) (config : Config role) (n : ℕ) → (end_from role config false []).channels n ≡ channels.Free
-    free role config n = ap (λ (e : End). e.channels n) (end-stands role config (new_end role) [] (new-end-stands role config))
+    free : (role : Role) (config : Config role) (n : ℕ)
+        → (end_from role config false []).channels n ≡ channels.Free
+    free role config n =
+        ap (λ (e : End). e.channels n) (end-stands role config (new_end role) [] (new-end-stands role config))
 
-pub pair-joined : (client_config : Config Client) (server_config : Config Server) → ConfigWrites client_config → ConfigWrites server_config → WritesReadBack Client client_config → WritesReadBack Server server_config → (client server : History) → Pair client_config server_config client server → Joined Client client_config server_config client server
-pair-joined client_config server_config client_writes server_writes client_back server_back client server both_begin = new-joined client_config server_config
-pair-joined client_config server_config client_writes server_writes client_back server_back after server (client_goes {client = client} {taken = taken} pair next step) =
-    client-goes-joined client_config server_config client_writes server_writes client_back client server taken after (lawful-stands Client client_config false client client_back (pair-lawful client_config server_config client server pair).0) (pair-joined client_config server_config client_writes server_writes client_back server_back client server pair) next step
-pair-joined client_config server_config client_writes server_writes client_back server_back client after (server_goes {server = server} {taken = taken} pair next step) =
-    let before = turned client_config server_config client server (pair-joined client_config server_config client_writes server_writes client_back server_back client server pair) in
-    turned-back client_config server_config client after (server-goes-joined client_config server_config client_writes server_writes server_back server client taken after (lawful-stands Server server_config false server server_back (pair-lawful client_config server_config client server pair).1) before next step)
+pub pair-joined : (client_config : Config Client) (server_config : Config Server) → ConfigWrites client_config
+    → ConfigWrites server_config → WritesReadBack Client client_config → WritesReadBack Server server_config
+    → (client server : History) → Pair client_config server_config client server
+    → Joined Client client_config server_config client server
+pair-joined client_config server_config client_writes server_writes client_back server_back client server both_begin =
+    new-joined client_config server_config
+pair-joined client_config server_config client_writes server_writes client_back server_back after server
+    (client_goes {client = client} {taken = taken} pair next step) =
+    client-goes-joined client_config server_config client_writes server_writes client_back client server taken after
+    (lawful-stands Client client_config false client client_back
+    (pair-lawful client_config server_config client server pair).0)
+    (pair-joined client_config server_config client_writes server_writes client_back server_back client server pair)
+    next step
+pair-joined client_config server_config client_writes server_writes client_back server_back client after
+    (server_goes {server = server} {taken = taken} pair next step) =
+    let before =
+    turned client_config server_config client server
+    (pair-joined client_config server_config client_writes server_writes client_back server_back client server pair) in
+    turned-back client_config server_config client after
+    (server-goes-joined client_config server_config client_writes server_writes server_back server client taken after
+    (lawful-stands Server server_config false server server_back
+    (pair-lawful client_config server_config client server pair).1) before next step)

@@ -10,7 +10,8 @@ abbrev pub is_class_kind : Kind → Bool
 is_class_kind (Other begins_content) = false
 is_class_kind kind = true
 
-pub class-plain : (kind : MethodKind) (active : Bool) → is_class_kind (kind_of_method kind active) ≡ true → (begins_content (sort_by kind active) ≡ false) × (is_reply kind ≡ false) × (wants kind ≡ Never)
+pub class-plain : (kind : MethodKind) (active : Bool) → is_class_kind (kind_of_method kind active) ≡ true
+    → (begins_content (sort_by kind active) ≡ false) × (is_reply kind ≡ false) × (wants kind ≡ Never)
 class-plain kinds.ChannelOpen active e = (refl, refl, refl)
 class-plain kinds.ChannelOpenOk active e = (refl, refl, refl)
 class-plain kinds.ChannelClose active e = (refl, refl, refl)

@@ -1,5 +1,6 @@
 -- Heartbeats, and what an application decides in the handshake: the laws.
-use Rattle.std.proofs.Common.{◌≡◌, ◌≤◌, Bool, true, false, cond, not, ◌||◌, ◌==◌, min, ℕ, arith, List, ◌++◌, None, refl, sym, ap, ap₂, ◌∙◌, subst, append-nil}
+use Rattle.std.proofs.Common.{◌≡◌, ◌≤◌, Bool, true, false, cond, not, ◌||◌, ◌==◌, min, ℕ, arith}
+use Rattle.std.proofs.Common.{List, ◌++◌, None, refl, sym, ap, ap₂, ◌∙◌, subst, append-nil}
 use Rattle.std.proofs.lemmas.Bool.{true≢false, eqb-true}
 use Rattle.amqp_frame.specs.Frame.{Fits, frame_length}
 use Rattle.amqp_frame.specs.Splitting.{stream, AllFit, IsRest}
@@ -11,7 +12,8 @@ use Rattle.amqp_model.specs.Wire.Methods.{ReadsBack}
 use Rattle.amqp_model.specs.Wire.Readings.{Reading, Calls, reading}
 use Rattle.amqp_model.specs.History.Histories.{History, PutHere}
 use Rattle.amqp_model.specs.End.Channels.{Phase, End}
-use Rattle.amqp_model.specs.History.Negotiation.{Config, Hello, OfClient, FRAME_MIN, frame_limit, start_ok_choosing, tune, connection_open_ok}
+use Rattle.amqp_model.specs.History.Negotiation.{Config, Hello, OfClient, FRAME_MIN, frame_limit, start_ok_choosing}
+use Rattle.amqp_model.specs.History.Negotiation.{tune, connection_open_ok}
 use Rattle.amqp_model.specs.End.StateFromHistory.{end_from}
 use Rattle.amqp_model.specs.End.Closes.{close_as, no_cause}
 use Rattle.amqp_model.specs.End.Asks.{Refused, Puts, AskVerdict}
@@ -28,11 +30,18 @@ use Rattle.amqp_model.specs.Stream.Octets.{frames_put, opening_read, opening_wri
 use Rattle.amqp_model.specs.Stream.Endpoint.{Endpoint, awaits_opening, after_answer}
 use Rattle.amqp_model.specs.Laws.OctetLaws.{EndpointStandsFor}
 use Rattle.amqp_model.specs.Pair.Pairs.{config_of}
-use Rattle.amqp_model.specs.Laws.ControlLaws.{ControlOfHistory, ControlPutsOne, ControlFollows, phase_after_control, ControlMovesPhase, ControlLeavesRest, ControlsAct, ControlSaysNothing, ControlledReadsBack, FitsAndIsShort, ControlledFits, ControlAcceptedFollows, ControlRefusedStays, ControlHolds, ControlsAlike, ControllingLeavesAlike, ControlStandsTogether, ControlledStaysPair, UngatedAnswersAtOnce, SettlesHeartbeat}
+use Rattle.amqp_model.specs.Laws.ControlLaws.{ControlOfHistory, ControlPutsOne, ControlFollows, phase_after_control}
+use Rattle.amqp_model.specs.Laws.ControlLaws.{ControlMovesPhase, ControlLeavesRest, ControlsAct, ControlSaysNothing}
+use Rattle.amqp_model.specs.Laws.ControlLaws.{ControlledReadsBack, FitsAndIsShort, ControlledFits}
+use Rattle.amqp_model.specs.Laws.ControlLaws.{ControlAcceptedFollows, ControlRefusedStays, ControlHolds, ControlsAlike}
+use Rattle.amqp_model.specs.Laws.ControlLaws.{ControllingLeavesAlike, ControlStandsTogether, ControlledStaysPair}
+use Rattle.amqp_model.specs.Laws.ControlLaws.{UngatedAnswersAtOnce, SettlesHeartbeat}
 use Rattle.amqp_model.proofs.Walking.{Stands, stands-kept}
 use Rattle.amqp_model.proofs.Acting.{reads-back}
 use Rattle.amqp_model.proofs.Hearing.{choosing-is}
-use Rattle.amqp_model.proofs.Controlling.{Controlled, beats, admits_login, admits_open, refuses_login, refuses_open, answers, control-puts, OneAtZero, puts-at-zero, control-kept, control-acts, control-channels, control-opened}
+use Rattle.amqp_model.proofs.Controlling.{Controlled, beats, admits_login, admits_open, refuses_login, refuses_open}
+use Rattle.amqp_model.proofs.Controlling.{answers, control-puts, OneAtZero, puts-at-zero, control-kept, control-acts}
+use Rattle.amqp_model.proofs.Controlling.{control-channels, control-opened}
 use Rattle.amqp_model.proofs.Lawfulness.{end-steps}
 use Rattle.amqp_model.proofs.Pairing.{step-stays-pair}
 use Rattle.amqp_model.proofs.ReadBack.{no_cause-fits, connection_close-fits}
@@ -50,10 +59,13 @@ use Rattle.amqp_model.specs.End.FrameVerdict.{asked_or}
 use Rattle.amqp_model.specs.Stream.Pieces.{reads_frames, AreBegun, HoldsUnfinished}
 use Rattle.amqp_model.specs.Pair.Sent.{said_at, said}
 
-pub control-of-history : (role : Role) (config : Config role) (failed : Bool) (end : End) (history : History) (control : Control) → ControlOfHistory role config failed end history control
-control-of-history role config failed end history control stands = ap (λ phase. control_in role config phase control) (sym stands.phase)
+pub control-of-history : (role : Role) (config : Config role) (failed : Bool) (end : End) (history : History)
+    (control : Control) → ControlOfHistory role config failed end history control
+control-of-history role config failed end history control stands =
+    ap (λ phase. control_in role config phase control) (sym stands.phase)
 
-controlled-zero : {role : Role} {config : Config role} {phase : Phase} {control : Control} {frame : Frame} → Controlled role config phase control frame → frame.channel ≡ 0
+controlled-zero : {role : Role} {config : Config role} {phase : Phase} {control : Control} {frame : Frame}
+    → Controlled role config phase control frame → frame.channel ≡ 0
 controlled-zero beats = refl
 controlled-zero admits_login = refl
 controlled-zero admits_open = refl
@@ -67,20 +79,34 @@ control-puts-one role config end control frames e =
     record { frame = p.frame; is = p.is; on_zero = controlled-zero p.controlled }
 
 pub control-follows : ControlFollows
-control-follows role config end history control frames back stands reads e = control-kept Stands stands-kept.puts role config end history frames stands (puts-at-zero role config end control frames back reads e)
+control-follows role config end history control frames back stands reads e =
+    control-kept Stands stands-kept.puts role config end history frames stands
+    (puts-at-zero role config end control frames back reads e)
 
-control-moves : {role : Role} {config : Config role} {control : Control} {frame : Frame} (end : End) (phase : Phase) → WritesReadBack role config → ControlReadsBack role config control → end.phase ≡ phase → Controlled role config phase control frame → (end_after role config frame.channel (PutHere (reading frame) frame) end).phase ≡ phase_after_control phase control
+control-moves : {role : Role} {config : Config role} {control : Control} {frame : Frame} (end : End) (phase : Phase)
+    → WritesReadBack role config → ControlReadsBack role config control → end.phase ≡ phase
+    → Controlled role config phase control frame
+    → (end_after role config frame.channel (PutHere (reading frame) frame) end).phase
+    ≡ phase_after_control phase control
 control-moves {role = role} end phase back reads p beats = ap (phase_put role (Reading.Beat true)) p
-control-moves {config = config} end phase back reads p admits_login = ap₂ (λ r phase. phase_put Server r phase) (reads-back 0 (tune config) back.admission.0) p
-control-moves end phase back reads p admits_open = ap₂ (λ r phase. phase_put Server r phase) (reads-back 0 connection_open_ok back.admission.1) p
-control-moves end phase back reads p (refuses_login code text) = ap₂ (λ r phase. phase_put Server r phase) (reads-back 0 (close_as kinds.ConnectionClose code text) reads.0) p
-control-moves end phase back reads p (refuses_open code text) = ap₂ (λ r phase. phase_put Server r phase) (reads-back 0 (close_as kinds.ConnectionClose code text) reads.0) p
-control-moves {config = config} end phase back reads p (answers mechanism response locale short) = ap₂ (λ r phase. phase_put Client r phase) (reads-back 0 (start_ok_choosing config mechanism response locale) reads ∙ ap Calls (choosing-is config mechanism response locale)) p
+control-moves {config = config} end phase back reads p admits_login =
+    ap₂ (λ r phase. phase_put Server r phase) (reads-back 0 (tune config) back.admission.0) p
+control-moves end phase back reads p admits_open =
+    ap₂ (λ r phase. phase_put Server r phase) (reads-back 0 connection_open_ok back.admission.1) p
+control-moves end phase back reads p (refuses_login code text) =
+    ap₂ (λ r phase. phase_put Server r phase) (reads-back 0 (close_as kinds.ConnectionClose code text) reads.0) p
+control-moves end phase back reads p (refuses_open code text) =
+    ap₂ (λ r phase. phase_put Server r phase) (reads-back 0 (close_as kinds.ConnectionClose code text) reads.0) p
+control-moves {config = config} end phase back reads p (answers mechanism response locale short) =
+    ap₂ (λ r phase. phase_put Client r phase)
+    (reads-back 0 (start_ok_choosing config mechanism response locale) reads
+    ∙ ap Calls (choosing-is config mechanism response locale)) p
 
 pub control-moves-phase : ControlMovesPhase
 control-moves-phase role config end control frames back reads e =
     let p = control-puts role config end.phase control frames e in
-    subst (λ frames. (end_after_put role config frames end).phase ≡ phase_after_control end.phase control) (sym p.is) (control-moves end end.phase back reads refl p.controlled)
+    subst (λ frames. (end_after_put role config frames end).phase ≡ phase_after_control end.phase control) (sym p.is)
+    (control-moves end end.phase back reads refl p.controlled)
 
 pub control-leaves-rest : ControlLeavesRest
 control-leaves-rest role config end control frames back reads e =
@@ -93,17 +119,22 @@ control-leaves-rest role config end control frames back reads e =
     }
 
 pub controls-act : ControlsAct
-controls-act role config history control frames n theirs back reads e = control-acts role theirs history n frames (puts-at-zero role config (end_from role config false history) control frames back reads e)
+controls-act role config history control frames n theirs back reads e =
+    control-acts role theirs history n frames
+    (puts-at-zero role config (end_from role config false history) control frames back reads e)
 
 pub control-says-nothing : ControlSaysNothing
 control-says-nothing role config end history control frames e =
     let p = control-puts role config end.phase control frames e in
     subst (λ frames. said role (then_put frames history) ≡ said role history) (sym p.is)
-    (ap (λ c. said role history ++ said_at role c p.frame history) (controlled-zero p.controlled) ∙ append-nil (said role history))
+    (ap (λ c. said role history ++ said_at role c p.frame history) (controlled-zero p.controlled)
+    ∙ append-nil (said role history))
 
 -- What is written.
 
-controlled-short : {role : Role} {config : Config role} {phase : Phase} {control : Control} {frame : Frame} → ConfigWrites config → ControlReadsBack role config control → Controlled role config phase control frame → frame_length frame ≤ FRAME_MIN
+controlled-short : {role : Role} {config : Config role} {phase : Phase} {control : Control} {frame : Frame}
+    → ConfigWrites config → ControlReadsBack role config control → Controlled role config phase control frame
+    → frame_length frame ≤ FRAME_MIN
 controlled-short writes reads beats = omega arith
 controlled-short {config = config} writes reads admits_login = (tune-sound 0 config writes).short
 controlled-short writes reads admits_open = (open_ok-sound 0).short
@@ -118,28 +149,39 @@ pub controlled-fits : ControlledFits
 controlled-fits role config end control frames writes reads e =
     let p = control-puts role config end.phase control frames e in
     let short = controlled-short writes reads p.controlled in
-    subst FitsAndIsShort (sym p.is) (record { fit = (short-fits p.frame (controlled-zero p.controlled) short, tt); short = (short, tt) })
+    subst FitsAndIsShort (sym p.is)
+    (record { fit = (short-fits p.frame (controlled-zero p.controlled) short, tt); short = (short, tt) })
 
-choosing-fits : MethodReadsBack → (config : Config Client) (mechanism response locale : List ℕ) → HelloFits config.hello → FitsShort mechanism → FitsLong response → FitsShort locale → ReadsBack (start_ok_choosing config mechanism response locale)
+choosing-fits : MethodReadsBack → (config : Config Client) (mechanism response locale : List ℕ)
+    → HelloFits config.hello → FitsShort mechanism → FitsLong response → FitsShort locale
+    → ReadsBack (start_ok_choosing config mechanism response locale)
 choosing-fits methods config mechanism response locale = go config.hello
   where
-    go : (hello : Hello Client) → HelloFits hello → FitsShort mechanism → FitsLong response → FitsShort locale → ReadsBack (start_ok_choosing (record config { hello = hello }) mechanism response locale)
-    go (OfClient properties own_mechanism own_response own_locale virtual_host) hello m r l = methods _ (record { of_kind = refl; arguments = (hello.0, (m, (r, (l, tt)))) })
+    go : (hello : Hello Client) → HelloFits hello → FitsShort mechanism → FitsLong response → FitsShort locale
+        → ReadsBack (start_ok_choosing (record config { hello = hello }) mechanism response locale)
+    go (OfClient properties own_mechanism own_response own_locale virtual_host) hello m r l =
+        methods _ (record { of_kind = refl; arguments = (hello.0, (m, (r, (l, tt)))) })
 
 pub controlled-reads-back : MethodReadsBack → ControlledReadsBack
 controlled-reads-back methods Client config Beat fits c = tt
 controlled-reads-back methods Server config Beat fits c = tt
 controlled-reads-back methods Client config Admit fits c = tt
 controlled-reads-back methods Server config Admit fits c = tt
-controlled-reads-back methods role config (Refuse code text) fits c = (methods _ (connection_close-fits code text no_cause c.0 c.1 no_cause-fits), c.1)
-controlled-reads-back methods Client config (AnswerStart mechanism response locale) fits c = choosing-fits methods config mechanism response locale fits.hello c.0 c.1 c.2
+controlled-reads-back methods role config (Refuse code text) fits c =
+    (methods _ (connection_close-fits code text no_cause c.0 c.1 no_cause-fits), c.1)
+controlled-reads-back methods Client config (AnswerStart mechanism response locale) fits c =
+    choosing-fits methods config mechanism response locale fits.hello c.0 c.1 c.2
 controlled-reads-back methods Server config (AnswerStart mechanism response locale) fits c = tt
 
 -- Octet by octet.
 
-pub control-accepted-follows : (role : Role) (config : Config role) (endpoint : Endpoint) (history : History) (fed written : List ℕ) (control : Control) (frames : List Frame) → ControlAcceptedFollows role config endpoint history fed written control frames
+pub control-accepted-follows : (role : Role) (config : Config role) (endpoint : Endpoint) (history : History)
+    (fed written : List ℕ) (control : Control) (frames : List Frame)
+    → ControlAcceptedFollows role config endpoint history fed written control frames
 control-accepted-follows role config endpoint history fed written control frames s writes back read e =
-    subst (λ answer. EndpointStandsFor role config (after_answer role config endpoint answer) (then_put frames history) fed written) (sym e) (by-reading (reads-frames role (frame_limit endpoint.end.agreed) history fed endpoint.unfinished opened s.read))
+    subst (λ answer. EndpointStandsFor role config (after_answer role config endpoint answer) (then_put frames history)
+    fed written) (sym e)
+    (by-reading (reads-frames role (frame_limit endpoint.end.agreed) history fed endpoint.unfinished opened s.read))
   where
     at : OneAtZero frames
     at = puts-at-zero role config endpoint.end control frames back read e
@@ -153,26 +195,35 @@ control-accepted-follows role config endpoint history fed written control frames
     agreed : (end_after_put role config frames endpoint.end).agreed ≡ endpoint.end.agreed
     agreed = all-keep role config frames endpoint.end (control-keeps role config frames at)
 
-    by-reading : ReadsFrames role (frame_limit endpoint.end.agreed) history fed endpoint.unfinished → EndpointStandsFor role config (after_answer role config endpoint (Puts frames)) (then_put frames history) fed written
+    by-reading : ReadsFrames role (frame_limit endpoint.end.agreed) history fed endpoint.unfinished
+        → EndpointStandsFor role config (after_answer role config endpoint (Puts frames))
+        (then_put frames history) fed written
     by-reading (in_frames opened whole fit rest) =
         let stands = control-kept Stands stands-kept.puts role config endpoint.end history frames s.stands at in
         let opens = stays-opened role frames history opened in
-        let still : IsOpened role (then_put frames history) = puts-opened role frames history (ap (awaits_opening role) s.stands.phase ∙ awaits_none) in
+        let still : IsOpened role (then_put frames history) =
+        puts-opened role frames history (ap (awaits_opening role) s.stands.phase ∙ awaits_none) in
         let same = frames-taken frames history in
         record {
           lawful = goes s.lawful ((end-steps role config endpoint.end history s.stands).controls control frames read e);
           stands = stands;
           opens = ap (awaits_opening role) (sym stands.phase) ∙ (still ∙ ap not (sym opens));
           are_octets = s.are_octets;
-          read = FedAs.in_frames opens (whole ∙ ap (λ l. opening_read role ++ (stream l ++ endpoint.unfinished)) (sym same)) (subst AllFit (sym same) fit) (subst (λ agreed. IsRest (frame_limit agreed) endpoint.unfinished) (sym agreed) rest);
-          out = subst (λ put. IsOutputOf (opening_written role) put written (after_puts frames endpoint.output)) (sym (frames-put frames history)) (output-puts (opening_written role) frames (frames_put history) written endpoint.output s.out (controlled-fits role config endpoint.end control frames writes read e).fit);
+          read = FedAs.in_frames opens (whole ∙ ap (λ l. opening_read role ++ (stream l ++ endpoint.unfinished))
+              (sym same)) (subst AllFit (sym same) fit)
+              (subst (λ agreed. IsRest (frame_limit agreed) endpoint.unfinished) (sym agreed) rest);
+          out = subst (λ put. IsOutputOf (opening_written role) put written (after_puts frames endpoint.output))
+              (sym (frames-put frames history))
+              (output-puts (opening_written role) frames (frames_put history) written endpoint.output s.out
+              (controlled-fits role config endpoint.end control frames writes read e).fit);
         }
 
 pub control-refused-stays : ControlRefusedStays
 control-refused-stays role config endpoint control refusal e = ap (after_answer role config endpoint) e
 
 -- an end that accepts a control reads frames
-reads-in : {role : Role} {config : Config role} {phase : Phase} {control : Control} {frame : Frame} → Controlled role config phase control frame → reads_frames role phase ≡ true
+reads-in : {role : Role} {config : Config role} {phase : Phase} {control : Control} {frame : Frame}
+    → Controlled role config phase control frame → reads_frames role phase ≡ true
 reads-in {role = Client} beats = refl
 reads-in {role = Server} beats = refl
 reads-in admits_login = refl
@@ -181,18 +232,25 @@ reads-in (refuses_login code text) = refl
 reads-in (refuses_open code text) = refl
 reads-in (answers mechanism response locale short) = refl
 
-pub control-holds : (role : Role) (config : Config role) (endpoint : Endpoint) (control : Control) → ControlHolds role config endpoint control
-control-holds role config endpoint control holds back read = cases (control_verdict role config endpoint.end control) refl
+pub control-holds : ControlHolds
+control-holds role config endpoint control holds back read =
+    cases (control_verdict role config endpoint.end control) refl
   where
-    cases : (verdict : AskVerdict) → control_verdict role config endpoint.end control ≡ verdict → HoldsUnfinished role (after_answer role config endpoint verdict)
+    cases : (verdict : AskVerdict) → control_verdict role config endpoint.end control ≡ verdict
+        → HoldsUnfinished role (after_answer role config endpoint verdict)
     cases (Refused why) e = holds
     cases (Puts frames) e =
         let at = puts-at-zero role config endpoint.end control frames back read e in
         let p = control-puts role config endpoint.end.phase control frames e in
         let agreed = all-keep role config frames endpoint.end (control-keeps role config frames at) in
         record {
-          of_opening = λ a. absurd (true≢false (sym a ∙ frames-opened role config frames endpoint.end (control-opened role config endpoint.end control frames e)));
-          of_frame = λ r. subst (λ agreed. AreBegun (frame_limit agreed) endpoint.unfinished) (sym agreed) (holds.of_frame (reads-in p.controlled));
+          of_opening =
+              λ a. absurd
+              (true≢false (sym a
+              ∙ frames-opened role config frames endpoint.end
+              (control-opened role config endpoint.end control frames e)));
+          of_frame = λ r. subst (λ agreed. AreBegun (frame_limit agreed) endpoint.unfinished) (sym agreed)
+              (holds.of_frame (reads-in p.controlled));
         }
 
 pub controls-alike : ControlsAlike
@@ -200,15 +258,23 @@ controls-alike role config one other control a = ap (λ phase. control_in role c
 
 pub controlling-leaves-alike : ControllingLeavesAlike
 controlling-leaves-alike role config one other control a =
-    subst (λ verdict. AlikeEndpoints (after_answer role config one (control_verdict role config one.end control)) (after_answer role config other verdict)) (controls-alike role config one.end other.end control a.end)
+    subst (λ verdict. AlikeEndpoints (after_answer role config one (control_verdict role config one.end control))
+    (after_answer role config other verdict)) (controls-alike role config one.end other.end control a.end)
     (answer-alike role config one other (control_verdict role config one.end control) a)
 
 -- Two ends.
 
-pub controlled-stays-pair : (role : Role) (client_config : Config Client) (server_config : Config Server) (mine theirs : History) (end : End) (control : Control) (frames : List Frame) → ControlledStaysPair role client_config server_config mine theirs end control frames
+pub controlled-stays-pair : (role : Role) (client_config : Config Client) (server_config : Config Server)
+    (mine theirs : History) (end : End) (control : Control) (frames : List Frame)
+    → ControlledStaysPair role client_config server_config mine theirs end control frames
 controlled-stays-pair role client_config server_config mine theirs end control frames p stands read e =
-    let step = (end-steps role (config_of role client_config server_config) end mine stands).controls control frames read e in
-    record { client_writes = p.client_writes; server_writes = p.server_writes; pair = step-stays-pair role client_config server_config mine theirs None _ p.pair tt step }
+    let step = (end-steps role (config_of role client_config server_config) end mine stands).controls
+    control frames read e in
+    record {
+      client_writes = p.client_writes;
+      server_writes = p.server_writes;
+      pair = step-stays-pair role client_config server_config mine theirs None _ p.pair tt step;
+    }
 
 pub control-stands-together : (methods : MethodReadsBack) → ControlStandsTogether
 control-stands-together methods role client_config server_config mine theirs control frames s read e =
@@ -221,8 +287,10 @@ control-stands-together methods role client_config server_config mine theirs con
       my_written = s.my_written;
       their_fed = s.their_fed;
       their_written = s.their_written;
-      pair = controlled-stays-pair role client_config server_config s.my_history s.their_history mine.end control frames s.pair s.mine_stands.stands read e;
-      mine_stands = control-accepted-follows role config mine s.my_history s.my_fed s.my_written control frames s.mine_stands writes (all-reads-back methods role config writes) read e;
+      pair = controlled-stays-pair role client_config server_config s.my_history s.their_history mine.end control frames
+          s.pair s.mine_stands.stands read e;
+      mine_stands = control-accepted-follows role config mine s.my_history s.my_fed s.my_written control frames
+          s.mine_stands writes (all-reads-back methods role config writes) read e;
       theirs_stands = s.theirs_stands;
       to_mine = s.to_mine;
       to_theirs = s.to_theirs;
@@ -230,7 +298,8 @@ control-stands-together methods role client_config server_config mine theirs con
 
 -- An end that is not gated, and one that wants no heartbeat.
 
-at-once : (gated : Bool) (event : Event) (does : FrameVerdict) → gated ≡ false → asked_or gated event does ≡ does
+at-once : (gated : Bool) (event : Event) (does : FrameVerdict) → gated ≡ false
+    → asked_or gated event does ≡ does
 at-once false event does e = refl
 at-once true event does e = absurd (true≢false e)
 
@@ -242,9 +311,12 @@ ungated-answers client_config server_config agreed method client server = record
 }
 
 pub settles-heartbeat : SettlesHeartbeat
-settles-heartbeat client_config server_config = by client_config.heartbeat server_config.heartbeat (client_config.heartbeat == 0) refl (server_config.heartbeat == 0) refl
+settles-heartbeat client_config server_config =
+    by client_config.heartbeat server_config.heartbeat (client_config.heartbeat == 0) refl
+    (server_config.heartbeat == 0) refl
   where
-    by : (a b : ℕ) (x : Bool) → (a == 0) ≡ x → (y : Bool) → (b == 0) ≡ y → min a b ≡ cond (x || y) 0 (min a b)
+    by : (a b : ℕ) (x : Bool) → (a == 0) ≡ x → (y : Bool) → (b == 0) ≡ y
+        → min a b ≡ cond (x || y) 0 (min a b)
     by a b true e y f = let none : a ≡ 0 = eqb-true a 0 e in omega (arith, none)
     by a b false e true f = let none : b ≡ 0 = eqb-true b 0 f in omega (arith, none)
     by a b false e false f = refl

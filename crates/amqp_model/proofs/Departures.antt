@@ -9,7 +9,8 @@ use Rattle.amqp_model.specs.Wire.Methods.{MethodKind, same_kind, plain_method}
 abbrev pub is_departure : MethodKind → Bool
 is_departure kind = same_kind kind kinds.ConnectionClose || same_kind kind kinds.ConnectionCloseOk
 
-pub names-departure : (kind : MethodKind) (args : List Argument) → names_leaving (plain_method (record { kind = kind; args = args })) ≡ is_departure kind
+pub names-departure : (kind : MethodKind) (args : List Argument)
+    → names_leaving (plain_method (record { kind = kind; args = args })) ≡ is_departure kind
 unfolding plain_method
 names-departure kinds.ConnectionStart args = refl
 names-departure kinds.ConnectionStartOk args = refl

@@ -1,5 +1,6 @@
 -- Two endpoints of one connection stand together, whatever their applications ask and however their octets are cut.
-use Rattle.std.proofs.Common.{◌≡◌, ◌≤◌, ◌+◌, false, arith, List, [], ◌++◌, take, length, Option, Some, None, refl, sym, ap, ◌∙◌, subst, length-append}
+use Rattle.std.proofs.Common.{◌≡◌, ◌≤◌, ◌+◌, false, arith, List, [], ◌++◌, take, length, Option}
+use Rattle.std.proofs.Common.{Some, None, refl, sym, ap, ◌∙◌, subst, length-append}
 use Rattle.std.proofs.lemmas.List.{take-append-le}
 use Rattle.amqp_model.specs.Wire.Frame.{Frame}
 use Rattle.amqp_model.specs.Wire.Notes.{Role, Client, Server, other_end}
@@ -14,7 +15,8 @@ use Rattle.amqp_model.specs.Stream.Octets.{frames_put, opening_read, opening_wri
 use Rattle.amqp_model.specs.Pair.Pairs.{config_of}
 use Rattle.amqp_model.specs.Stream.Endpoint.{after_feed}
 use Rattle.amqp_model.specs.Pair.OctetsInFlight.{IsFedNext}
-use Rattle.amqp_model.specs.Pair.EndsTogether.{NewStandTogether, StandTogetherTurned, CarryStandsTogether, AskStandsTogether, AskedStaysPair}
+use Rattle.amqp_model.specs.Pair.EndsTogether.{NewStandTogether, StandTogetherTurned, CarryStandsTogether}
+use Rattle.amqp_model.specs.Pair.EndsTogether.{AskStandsTogether, AskedStaysPair}
 use Rattle.amqp_model.specs.History.Histories.{History}
 use Rattle.amqp_model.proofs.Standing.{end-stands}
 use Rattle.amqp_model.proofs.Lawfulness.{end-steps}
@@ -37,7 +39,11 @@ new-stand-together role client_config server_config client server = record {
   my_written = [];
   their_fed = [];
   their_written = [];
-  pair = record { client_writes = client; server_writes = server; pair = new-ends-pair role client_config server_config };
+  pair = record {
+    client_writes = client;
+    server_writes = server;
+    pair = new-ends-pair role client_config server_config;
+  };
   mine_stands = new-stands role (config_of role client_config server_config);
   theirs_stands = new-stands (other_end role) (config_of (other_end role) client_config server_config);
   to_mine = refl;
@@ -82,7 +88,9 @@ ask-stands-together reads role client_config server_config mine theirs ask frame
     let config = config_of role client_config server_config in
     let writes = writes-of role client_config server_config s.pair.client_writes s.pair.server_writes in
     let same = end-stands role config mine.end s.my_history s.mine_stands.stands in
-    let fits = agreed-fits mine.end.agreed (subst (λ (x : End). IfAgreedFits x.agreed) same (agreed-within reads role config false s.my_history writes s.mine_stands.lawful)) in
+    let fits = agreed-fits mine.end.agreed
+    (subst (λ (x : End). IfAgreedFits x.agreed) same
+    (agreed-within reads role config false s.my_history writes s.mine_stands.lawful)) in
     let fit = asked-fit role mine.end ask frames back fits e in
     let step = (end-steps role config mine.end s.my_history s.mine_stands.stands).asks ask frames made back e in
     record {
@@ -92,8 +100,13 @@ ask-stands-together reads role client_config server_config mine theirs ask frame
       my_written = s.my_written;
       their_fed = s.their_fed;
       their_written = s.their_written;
-      pair = record { client_writes = s.pair.client_writes; server_writes = s.pair.server_writes; pair = step-stays-pair role client_config server_config s.my_history s.their_history None _ s.pair.pair tt step };
-      mine_stands = accepted-follows role config mine s.my_history s.my_fed s.my_written ask frames s.mine_stands (record { reads_back = back; fit = fit }) made e;
+      pair = record {
+        client_writes = s.pair.client_writes;
+        server_writes = s.pair.server_writes;
+        pair = step-stays-pair role client_config server_config s.my_history s.their_history None _ s.pair.pair tt step;
+      };
+      mine_stands = accepted-follows role config mine s.my_history s.my_fed s.my_written ask frames s.mine_stands
+          (record { reads_back = back; fit = fit }) made e;
       theirs_stands = s.theirs_stands;
       to_mine = s.to_mine;
       to_theirs = s.to_theirs;
@@ -103,19 +116,30 @@ pub carry-stands-together : (reads : MethodReadsBack) → CarryStandsTogether
 carry-stands-together reads role client_config server_config mine theirs piece rest s output some are_octets =
     let config = config_of role client_config server_config in
     let others = config_of (other_end role) client_config server_config in
-    let their_writes = writes-of (other_end role) client_config server_config s.pair.client_writes s.pair.server_writes in
-    let put : PutAs (opening_written (other_end role)) (s.their_written ++ output_octets theirs.output) (frames_put s.their_history) =
-    octets-put-as (other_end role) others false s.their_history (opening_written (other_end role)) s.their_written theirs.output (all-reads-back reads (other_end role) others their_writes) s.theirs_stands.lawful s.theirs_stands.out in
+    let their_writes =
+    writes-of (other_end role) client_config server_config s.pair.client_writes s.pair.server_writes in
+    let put : PutAs (opening_written (other_end role)) (s.their_written ++ output_octets theirs.output)
+    (frames_put s.their_history) =
+    octets-put-as (other_end role) others false s.their_history (opening_written (other_end role)) s.their_written
+    theirs.output (all-reads-back reads (other_end role) others their_writes)
+    s.theirs_stands.lawful s.theirs_stands.out in
     let put_here : PutAs (opening_read role) (s.my_fed ++ (piece ++ rest)) (frames_put s.their_history) =
-    subst (λ l. PutAs l (s.my_fed ++ (piece ++ rest)) (frames_put s.their_history)) (openings-meet role) (subst (λ l. PutAs (opening_written (other_end role)) l (frames_put s.their_history)) (ap (λ l. l ++ output_octets theirs.output) (sym s.to_mine) ∙ ap (λ l. s.my_fed ++ l) output) put) in
-    let next : IsFedNext role client_config server_config s.my_history s.their_history mine s.my_fed s.my_written piece rest = record { pair = s.pair; stands = s.mine_stands; put_as = put_here; are_octets = are_octets; some = some } in
-    let on = feed-stays-pair reads role client_config server_config s.my_history s.their_history mine s.my_fed s.my_written piece rest next in
+    subst (λ l. PutAs l (s.my_fed ++ (piece ++ rest)) (frames_put s.their_history)) (openings-meet role)
+    (subst (λ l. PutAs (opening_written (other_end role)) l (frames_put s.their_history))
+    (ap (λ l. l ++ output_octets theirs.output) (sym s.to_mine) ∙ ap (λ l. s.my_fed ++ l) output) put) in
+    let next : IsFedNext role client_config server_config s.my_history s.their_history mine s.my_fed s.my_written piece
+    rest = record { pair = s.pair; stands = s.mine_stands; put_as = put_here; are_octets = are_octets; some = some } in
+    let on = feed-stays-pair reads role client_config server_config s.my_history s.their_history mine s.my_fed
+    s.my_written piece rest next in
     let n = (after_feed role config mine piece).taken in
     let within : n ≤ length piece = feed-within role config mine piece in
-    let all : length (output_octets theirs.output) ≡ length piece + length rest = ap length output ∙ length-append piece rest in
-    let wrote = wrote-follows (other_end role) others theirs s.their_history s.their_fed s.their_written n s.theirs_stands (omega arith) in
+    let all : length (output_octets theirs.output) ≡ length piece + length rest = ap length output
+    ∙ length-append piece rest in
+    let wrote = wrote-follows (other_end role) others theirs s.their_history s.their_fed s.their_written n
+    s.theirs_stands (omega arith) in
     record {
-      none = finds-no-fault-with-octets reads role client_config server_config s.my_history s.their_history mine s.my_fed s.my_written piece rest next;
+      none = finds-no-fault-with-octets reads role client_config server_config s.my_history s.their_history mine
+          s.my_fed s.my_written piece rest next;
       together =
           record {
             my_history = on.after;
@@ -124,16 +148,28 @@ carry-stands-together reads role client_config server_config mine theirs piece r
             my_written = s.my_written;
             their_fed = s.their_fed;
             their_written = s.their_written ++ take n (output_octets theirs.output);
-            pair = record { client_writes = s.pair.client_writes; server_writes = s.pair.server_writes; pair = on.pair };
+            pair = record {
+              client_writes = s.pair.client_writes;
+              server_writes = s.pair.server_writes;
+              pair = on.pair;
+            };
             mine_stands = on.stands;
             theirs_stands = wrote;
-            to_mine = ap (λ l. l ++ take n piece) s.to_mine ∙ ap (λ l. s.their_written ++ l) (sym (ap (take n) output ∙ take-append-le n piece rest within));
+            to_mine = ap (λ l. l ++ take n piece) s.to_mine
+                ∙ ap (λ l. s.their_written ++ l) (sym (ap (take n) output ∙ take-append-le n piece rest within));
             to_theirs = s.to_theirs;
           };
     }
 
 -- An ask that is accepted, of the histories alone.
-pub asked-stays-pair : (role : Role) (client_config : Config Client) (server_config : Config Server) (mine theirs : History) (end : End) (ask : Ask) (frames : List Frame) → AskedStaysPair role client_config server_config mine theirs end ask frames
+pub asked-stays-pair : (role : Role) (client_config : Config Client) (server_config : Config Server)
+    (mine theirs : History) (end : End) (ask : Ask) (frames : List Frame)
+    → AskedStaysPair role client_config server_config mine theirs end ask frames
 asked-stays-pair role client_config server_config mine theirs end ask frames p stands back made e =
-    let step = (end-steps role (config_of role client_config server_config) end mine stands).asks ask frames made back e in
-    record { client_writes = p.client_writes; server_writes = p.server_writes; pair = step-stays-pair role client_config server_config mine theirs None _ p.pair tt step }
+    let step = (end-steps role (config_of role client_config server_config) end mine stands).asks
+    ask frames made back e in
+    record {
+      client_writes = p.client_writes;
+      server_writes = p.server_writes;
+      pair = step-stays-pair role client_config server_config mine theirs None _ p.pair tt step;
+    }

@@ -8,10 +8,19 @@ use Rattle.amqp_model.specs.History.Negotiation.{Config, OfServer, PROTOCOL_HEAD
 use Rattle.amqp_model.specs.End.Closes.{FrameError, method_frame, connection_close, frame_of}
 use Rattle.amqp_model.specs.End.Events.{Quiet, Peer, Fatal, WrongProtocolHeader, AlreadyClosed, AlreadyFailed}
 use Rattle.amqp_model.specs.Output.Outputs.{output_octets}
-use Rattle.amqp_model.specs.Stream.Endpoint.{Endpoint, Feeding, Outcome, Unfinished, Finished, Found, output_of, new_endpoint, after_feed}
+use Rattle.amqp_model.specs.Stream.Endpoint.{Endpoint, Feeding, Outcome, Unfinished, Finished, Found, output_of}
+use Rattle.amqp_model.specs.Stream.Endpoint.{new_endpoint, after_feed}
 
 abbrev server_config : Config Server
-server_config = record { frame_max = 131072; channel_max = 2047; max_body = 16777216; heartbeat = 0; gated = false; hello = OfServer no_pairs (codes "PLAIN") (codes "en_US") }
+server_config =
+    record {
+      frame_max = 131072;
+      channel_max = 2047;
+      max_body = 16777216;
+      heartbeat = 0;
+      gated = false;
+      hello = OfServer no_pairs (codes "PLAIN") (codes "en_US");
+    }
 
 abbrev fed_to : Endpoint → List ℕ → Feeding
 fed_to endpoint piece = after_feed Server server_config endpoint piece
@@ -32,7 +41,12 @@ greeted = fed_to (new_endpoint Server) (65 ∷ 77 ∷ 81 ∷ 80 ∷ 0 ∷ 0 ∷ 
 header : seen greeted ≡ row_of (Finished (Some Quiet)) 8 (Handshake AwaitsStartOk) []
 header = refl
 
-header-output : greeted.endpoint.output ≡ record { ahead = []; begun_on = 0; last = 0; row = method_frame 0 (start server_config) ∷ [] }
+header-output : greeted.endpoint.output ≡ record {
+  ahead = [];
+  begun_on = 0;
+  last = 0;
+  row = method_frame 0 (start server_config) ∷ [];
+}
 header-output = refl
 
 -- octets after it are not looked at yet
@@ -79,7 +93,11 @@ wrong-header-output : output_octets mistaken.endpoint.output ≡ PROTOCOL_HEADER
 wrong-header-output = refl
 
 -- a failed end takes nothing
-failed-after : fed_to mistaken.endpoint (65 ∷ []) ≡ record { endpoint = mistaken.endpoint; taken = 0; outcome = Found AlreadyFailed }
+failed-after : fed_to mistaken.endpoint (65 ∷ []) ≡ record {
+  endpoint = mistaken.endpoint;
+  taken = 0;
+  outcome = Found AlreadyFailed;
+}
 failed-after = refl
 
 -- a client has it to write
@@ -95,12 +113,18 @@ passed = fed_to greeted.endpoint (1 ∷ 0 ∷ 0 ∷ 0 ∷ 0 ∷ 15 ∷ 249 ∷ 0
 above-limit : seen passed ≡ row_of (Found (Peer FrameError)) 7 Failed []
 above-limit = refl
 
-above-limit-output : passed.endpoint.output ≡ record { ahead = []; begun_on = 0; last = 0; row = method_frame 0 (start server_config) ∷ frame_of (connection_close FrameError) ∷ [] }
+above-limit-output : passed.endpoint.output ≡ record {
+  ahead = [];
+  begun_on = 0;
+  last = 0;
+  row = method_frame 0 (start server_config) ∷ frame_of (connection_close FrameError) ∷ [];
+}
 unfolding plain_method
 above-limit-output = refl
 
 -- 4096 octets
-at-limit : seen (fed_to greeted.endpoint (1 ∷ 0 ∷ 0 ∷ 0 ∷ 0 ∷ 15 ∷ 248 ∷ [])) ≡ row_of Unfinished 7 (Handshake AwaitsStartOk) (1 ∷ 0 ∷ 0 ∷ 0 ∷ 0 ∷ 15 ∷ 248 ∷ [])
+at-limit : seen (fed_to greeted.endpoint (1 ∷ 0 ∷ 0 ∷ 0 ∷ 0 ∷ 15 ∷ 248 ∷ []))
+    ≡ row_of Unfinished 7 (Handshake AwaitsStartOk) (1 ∷ 0 ∷ 0 ∷ 0 ∷ 0 ∷ 15 ∷ 248 ∷ [])
 at-limit = refl
 
 -- a type that there isn't
@@ -109,26 +133,47 @@ no-type = refl
 
 -- A heartbeat at an end that is Running.
 abbrev running : Endpoint
-running = record { end = record { phase = Running; agreed = Some (record { channel_max = 2047; frame_max = 131072; heartbeat = 0 }); channels = λ number. Free }; unfinished = []; output = output_of [] }
+running =
+    record {
+      end = record {
+        phase = Running;
+        agreed = Some (record { channel_max = 2047; frame_max = 131072; heartbeat = 0 });
+        channels = λ number. Free;
+      };
+      unfinished = [];
+      output = output_of [];
+    }
 
-heartbeat : fed_to running (8 ∷ 0 ∷ 0 ∷ 0 ∷ 0 ∷ 0 ∷ 0 ∷ 206 ∷ []) ≡ record { endpoint = running; taken = 8; outcome = Finished (Some Quiet) }
+heartbeat : fed_to running (8 ∷ 0 ∷ 0 ∷ 0 ∷ 0 ∷ 0 ∷ 0 ∷ 206 ∷ []) ≡ record {
+  endpoint = running;
+  taken = 8;
+  outcome = Finished (Some Quiet);
+}
 heartbeat = refl
 
 -- in two pieces
-heartbeat-cut : fed_to (fed_to running (8 ∷ 0 ∷ 0 ∷ [])).endpoint (0 ∷ 0 ∷ 0 ∷ 0 ∷ 206 ∷ []) ≡ record { endpoint = running; taken = 5; outcome = Finished (Some Quiet) }
+heartbeat-cut : fed_to (fed_to running (8 ∷ 0 ∷ 0 ∷ [])).endpoint (0 ∷ 0 ∷ 0 ∷ 0 ∷ 206 ∷ [])
+    ≡ record { endpoint = running; taken = 5; outcome = Finished (Some Quiet) }
 heartbeat-cut = refl
 
 -- with another octet at its end
-wrong-end : seen (fed_to running (8 ∷ 0 ∷ 0 ∷ 0 ∷ 0 ∷ 0 ∷ 0 ∷ 205 ∷ [])) ≡ row_of (Found Fatal) 8 Failed []
+wrong-end : seen (fed_to running (8 ∷ 0 ∷ 0 ∷ 0 ∷ 0 ∷ 0 ∷ 0 ∷ 205 ∷ []))
+    ≡ row_of (Found Fatal) 8 Failed []
 wrong-end = refl
 
 -- with a payload, which the standard doesn't allow
-full-heartbeat : seen (fed_to running (8 ∷ 0 ∷ 0 ∷ 0 ∷ 0 ∷ 0 ∷ 1 ∷ 7 ∷ 206 ∷ [])) ≡ row_of (Found (Peer FrameError)) 9 Failed []
+full-heartbeat : seen (fed_to running (8 ∷ 0 ∷ 0 ∷ 0 ∷ 0 ∷ 0 ∷ 1 ∷ 7 ∷ 206 ∷ []))
+    ≡ row_of (Found (Peer FrameError)) 9 Failed []
 full-heartbeat = refl
 
 -- a closed end takes nothing, also no empty piece
 abbrev closed : Endpoint
-closed = record { end = record { phase = Closed; agreed = None; channels = λ number. Free }; unfinished = []; output = output_of [] }
+closed =
+    record {
+      end = record { phase = Closed; agreed = None; channels = λ number. Free };
+      unfinished = [];
+      output = output_of [];
+    }
 
 closed-empty : fed_to closed [] ≡ record { endpoint = closed; taken = 0; outcome = Found AlreadyClosed }
 closed-empty = refl

@@ -14,7 +14,8 @@ use Rattle.amqp_model.proofs.Lawfulness.{end-steps}
 use Rattle.amqp_model.proofs.OctetCuts.{stays-failed}
 use Rattle.amqp_model.proofs.Writing.{writes}
 
-pub runs-out : (role : Role) (config : Config role) (endpoint : Endpoint) (history : History) (fed written : List ℕ) → RunsOut role config endpoint history fed written
+pub runs-out : (role : Role) (config : Config role) (endpoint : Endpoint) (history : History) (fed written : List ℕ)
+    → RunsOut role config endpoint history fed written
 runs-out role config endpoint history fed written s takes = record {
   failed = refl;
   lawful = goes s.lawful ((end-steps role config endpoint.end history s.stands).fails takes);
@@ -23,13 +24,15 @@ runs-out role config endpoint history fed written s takes = record {
   out = s.out;
 }
 
-pub ran-out-writes : (role : Role) (config : Config role) (endpoint : Endpoint) (history : History) (fed written : List ℕ) (n : ℕ) → RanOutWrites role config endpoint history fed written n
+pub ran-out-writes : (role : Role) (config : Config role) (endpoint : Endpoint) (history : History)
+    (fed written : List ℕ) (n : ℕ) → RanOutWrites role config endpoint history fed written n
 ran-out-writes role config endpoint history fed written n r within = record {
   failed = r.failed;
   lawful = r.lawful;
   stands = r.stands;
   read = r.read;
-  out = output-write (opening_written role) (frames_put history) written n endpoint.output (after_writing n endpoint.output) r.out (writes n endpoint.output within);
+  out = output-write (opening_written role) (frames_put history) written n endpoint.output
+      (after_writing n endpoint.output) r.out (writes n endpoint.output within);
 }
 
 pub ran-out-stays : RanOutStays

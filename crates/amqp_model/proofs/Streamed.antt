@@ -1,11 +1,15 @@
 -- What is kept of a content that is lent.
-use Rattle.std.proofs.Common.{◌≡◌, Bool, true, false, cond, ℕ, eqb, ltb, List, [], ◌∷◌, ◌++◌, length, refl, sym, ap, ◌∙◌, length-append}
+use Rattle.std.proofs.Common.{◌≡◌, Bool, true, false, cond, ℕ, eqb, ltb, List, [], ◌∷◌, ◌++◌, length}
+use Rattle.std.proofs.Common.{refl, sym, ap, ◌∙◌, length-append}
 use Rattle.std.proofs.lemmas.List.{length-replicate}
 use Rattle.amqp_model.specs.Wire.Methods.{Method, Properties, carries_content}
 use Rattle.amqp_model.specs.Wire.Contents.{Payload, Calls, Header, Body, Unread, Content}
-use Rattle.amqp_model.specs.Wire.Gathering.{Gathering, Nothing, HeaderDue, BodyDue, Step, Keeps, Completes, Breaks, PastSize, begun, gathered, step, remains, gathering, kept}
-use Rattle.amqp_model.specs.Lent.Streaming.{NoContent, AwaitsHeader, AwaitsBody, GoesOn, Ends, Stops, stream_begun, stream_came, stream_step, stream_remains, streamed, streamed_step}
-use Rattle.amqp_model.specs.Laws.StreamingLaws.{StepsAlike, RemainsAlike, GathersAlike, CameIsKept, WholeIsCame, KeptIsCame, EachIsGathered}
+use Rattle.amqp_model.specs.Wire.Gathering.{Gathering, Nothing, HeaderDue, BodyDue, Step, Keeps, Completes, Breaks}
+use Rattle.amqp_model.specs.Wire.Gathering.{PastSize, begun, gathered, step, remains, gathering, kept}
+use Rattle.amqp_model.specs.Lent.Streaming.{NoContent, AwaitsHeader, AwaitsBody, GoesOn, Ends, Stops, stream_begun}
+use Rattle.amqp_model.specs.Lent.Streaming.{stream_came, stream_step, stream_remains, streamed, streamed_step}
+use Rattle.amqp_model.specs.Laws.StreamingLaws.{StepsAlike, RemainsAlike, GathersAlike, CameIsKept, WholeIsCame}
+use Rattle.amqp_model.specs.Laws.StreamingLaws.{KeptIsCame, EachIsGathered}
 
 pub begun-streamed : (method : Method) → stream_begun method ≡ streamed (begun method)
 begun-streamed method = tests (carries_content method)
@@ -14,10 +18,14 @@ begun-streamed method = tests (carries_content method)
     tests true = refl
     tests false = refl
 
-gathered-streamed : (method : Method) (size : ℕ) (properties : Properties) (body : List ℕ) → stream_came method.kind size (length body) ≡ streamed_step (gathered method size properties body)
+gathered-streamed : (method : Method) (size : ℕ) (properties : Properties) (body : List ℕ)
+    → stream_came method.kind size (length body) ≡ streamed_step (gathered method size properties body)
 gathered-streamed method size properties body = tests (eqb (length body) size) (ltb (length body) size)
   where
-    tests : (b c : Bool) → cond b (Ends method.kind) (cond c (GoesOn (AwaitsBody method.kind size (length body))) (Stops PastSize)) ≡ streamed_step (cond b (Completes (record { method = method; properties = properties; body = body })) (cond c (Keeps (BodyDue method size properties body)) (Breaks PastSize)))
+    tests : (b c : Bool)
+        → cond b (Ends method.kind) (cond c (GoesOn (AwaitsBody method.kind size (length body))) (Stops PastSize))
+        ≡ streamed_step (cond b (Completes (record { method = method; properties = properties; body = body }))
+        (cond c (Keeps (BodyDue method size properties body)) (Breaks PastSize)))
     tests true c = refl
     tests false true = refl
     tests false false = refl
@@ -33,11 +41,13 @@ steps-alike (HeaderDue method) (Header size properties) = gathered-streamed meth
 steps-alike (HeaderDue method) (Body octets) = refl
 steps-alike (HeaderDue method) (Calls other) = refl
 steps-alike (BodyDue method size properties body) (Body octets) =
-    ap (stream_came method.kind size) (sym (length-append body octets)) ∙ gathered-streamed method size properties (body ++ octets)
+    ap (stream_came method.kind size) (sym (length-append body octets))
+    ∙ gathered-streamed method size properties (body ++ octets)
 steps-alike (BodyDue method size properties body) (Header again others) = refl
 steps-alike (BodyDue method size properties body) (Calls other) = refl
 
-remains-streamed : (s : Step) (payload : Payload) → stream_remains (streamed_step s) payload ≡ streamed (remains s payload)
+remains-streamed : (s : Step) (payload : Payload) → stream_remains (streamed_step s) payload
+    ≡ streamed (remains s payload)
 remains-streamed (Keeps gathering) payload = refl
 remains-streamed (Completes content) payload = refl
 remains-streamed (Breaks misfit) (Calls method) = begun-streamed method
@@ -46,12 +56,15 @@ remains-streamed (Breaks misfit) (Body octets) = refl
 remains-streamed (Breaks misfit) Unread = refl
 
 pub remains-alike : RemainsAlike
-remains-alike gathering payload = ap (λ s. stream_remains s payload) (steps-alike gathering payload) ∙ remains-streamed (step gathering payload) payload
+remains-alike gathering payload =
+    ap (λ s. stream_remains s payload) (steps-alike gathering payload)
+    ∙ remains-streamed (step gathering payload) payload
 
 pub gathers-alike : GathersAlike
 gathers-alike [] = refl
 gathers-alike (payload ∷ before) =
-    ap (λ s. stream_remains (stream_step s payload) payload) (gathers-alike before) ∙ remains-alike (gathering before) payload
+    ap (λ s. stream_remains (stream_step s payload) payload) (gathers-alike before)
+    ∙ remains-alike (gathering before) payload
 
 pub came-is-kept : CameIsKept
 came-is-kept Nothing = refl
@@ -59,10 +72,13 @@ came-is-kept (HeaderDue method) = refl
 came-is-kept (BodyDue method size properties body) = refl
 
 -- what a step that has so many octets of a body keeps, or completes
-has-octets : (method : Method) (size : ℕ) (properties : Properties) (body : List ℕ) (content : Content) → gathered method size properties body ≡ Completes content → content.body ≡ body
+has-octets : (method : Method) (size : ℕ) (properties : Properties) (body : List ℕ) (content : Content)
+    → gathered method size properties body ≡ Completes content → content.body ≡ body
 has-octets method size properties body content e = tests (eqb (length body) size) (ltb (length body) size) e
   where
-    tests : (b c : Bool) → cond b (Completes (record { method = method; properties = properties; body = body })) (cond c (Keeps (BodyDue method size properties body)) (Breaks PastSize)) ≡ Completes content → content.body ≡ body
+    tests : (b c : Bool) → cond b (Completes (record { method = method; properties = properties; body = body }))
+        (cond c (Keeps (BodyDue method size properties body)) (Breaks PastSize)) ≡ Completes content
+        → content.body ≡ body
     tests true c e = sym (ap body_in e)
       where
         body_in : Step → List ℕ
@@ -72,10 +88,12 @@ has-octets method size properties body content e = tests (eqb (length body) size
     tests false true e = absurd cc
     tests false false e = absurd cc
 
-keeps-octets : (method : Method) (size : ℕ) (properties : Properties) (body : List ℕ) (next : Gathering) → gathered method size properties body ≡ Keeps next → kept next ≡ body
+keeps-octets : (method : Method) (size : ℕ) (properties : Properties) (body : List ℕ) (next : Gathering)
+    → gathered method size properties body ≡ Keeps next → kept next ≡ body
 keeps-octets method size properties body next e = tests (eqb (length body) size) (ltb (length body) size) e
   where
-    tests : (b c : Bool) → cond b (Completes (record { method = method; properties = properties; body = body })) (cond c (Keeps (BodyDue method size properties body)) (Breaks PastSize)) ≡ Keeps next → kept next ≡ body
+    tests : (b c : Bool) → cond b (Completes (record { method = method; properties = properties; body = body }))
+        (cond c (Keeps (BodyDue method size properties body)) (Breaks PastSize)) ≡ Keeps next → kept next ≡ body
     tests true c e = absurd cc
     tests false true e = sym (ap kept_in e)
       where
@@ -96,7 +114,8 @@ whole-is-came (HeaderDue method) (Body octets) content e = absurd cc
 whole-is-came (HeaderDue method) Unread content e = absurd cc
 whole-is-came (BodyDue method size properties body) (Calls other) content e = absurd cc
 whole-is-came (BodyDue method size properties body) (Header again others) content e = absurd cc
-whole-is-came (BodyDue method size properties body) (Body octets) content e = has-octets method size properties (body ++ octets) content e
+whole-is-came (BodyDue method size properties body) (Body octets) content e =
+    has-octets method size properties (body ++ octets) content e
 whole-is-came (BodyDue method size properties body) Unread content e = absurd cc
 
 begun-kept : (method : Method) → kept (begun method) ≡ []
@@ -125,7 +144,8 @@ kept-is-came (HeaderDue method) next (Body octets) e = absurd cc
 kept-is-came (HeaderDue method) next Unread e = absurd cc
 kept-is-came (BodyDue method size properties body) next (Calls other) e = absurd cc
 kept-is-came (BodyDue method size properties body) next (Header again others) e = absurd cc
-kept-is-came (BodyDue method size properties body) next (Body octets) e = keeps-octets method size properties (body ++ octets) next e
+kept-is-came (BodyDue method size properties body) next (Body octets) e =
+    keeps-octets method size properties (body ++ octets) next e
 kept-is-came (BodyDue method size properties body) next Unread e = absurd cc
 
 pub each-is-gathered : EachIsGathered

@@ -1,8 +1,12 @@
 -- Steps round the channels, and when a frame's turn comes.
-use Rattle.std.proofs.Common.{◌≡◌, ℕ, ◌+◌, ◌-◌, ◌<◌, ◌≤◌, Bool, true, false, not, ◌&&◌, ◌==◌, nat_lt, ◌⊎◌, inl, inr, refl, sym, ap, ◌∙◌, arith, lt-ltb, le-ltb, eq-eqb, ne_eqb, ltb-true, ap₂}
-use Rattle.std.proofs.lemmas.Bool.{cases_lt, cond-true, cond-false, and_parts, eqb-true, eqb-false, not-true, and_from, and_left, not_from_false}
+use Rattle.std.proofs.Common.{◌≡◌, ℕ, ◌+◌, ◌-◌, ◌<◌, ◌≤◌, Bool, true, false, not, ◌&&◌}
+use Rattle.std.proofs.Common.{◌==◌, nat_lt, ◌⊎◌, inl, inr, refl, sym, ap, ◌∙◌, arith, lt-ltb, le-ltb}
+use Rattle.std.proofs.Common.{eq-eqb, ne_eqb, ltb-true, ap₂}
+use Rattle.std.proofs.lemmas.Bool.{cases_lt, cond-true, cond-false, and_parts, eqb-true, eqb-false, not-true, and_from}
+use Rattle.std.proofs.lemmas.Bool.{and_left, not_from_false}
 use Rattle.amqp_frame.specs.Frame.{Frame}
-use Rattle.amqp_model.specs.Output.Arrangement.{is_leaving, Queue, PlainFrames, FramesOn, LeavingFrames, is_in, steps, turn, last_after, HasChannel}
+use Rattle.amqp_model.specs.Output.Arrangement.{is_leaving, Queue, PlainFrames, FramesOn, LeavingFrames, is_in, steps}
+use Rattle.amqp_model.specs.Output.Arrangement.{turn, last_after, HasChannel}
 
 abbrev pub Up : (from to : ℕ) → Type 0
 Up from to = (from < to) × (steps from to ≡ to - from)
@@ -32,7 +36,8 @@ steps-least from to h k = cases (steps-cases from to)
     cases (inr s) = omega arith
 
 -- another number of steps leads to another channel
-pub steps-same : (from a b : ℕ) → from < 65536 → 0 < a → a < 65536 → 0 < b → b < 65536 → steps from a ≡ steps from b → a ≡ b
+pub steps-same : (from a b : ℕ) → from < 65536 → 0 < a → a < 65536 → 0 < b → b < 65536
+    → steps from a ≡ steps from b → a ≡ b
 steps-same from a b h a0 a1 b0 b1 e = cases (steps-cases from a) (steps-cases from b)
   where
     cases : Up from a ⊎ Round from a → Up from b ⊎ Round from b → a ≡ b
@@ -42,10 +47,12 @@ steps-same from a b h a0 a1 b0 b1 e = cases (steps-cases from a) (steps-cases fr
     cases (inr s) (inr t) = omega arith
 
 -- a channel that is met on the way to another one parts the way
-pub steps-parted : (from a b : ℕ) → from < 65536 → a < 65536 → b < 65536 → steps from a < steps from b → steps a b + steps from a ≡ steps from b
+pub steps-parted : (from a b : ℕ) → from < 65536 → a < 65536 → b < 65536 → steps from a < steps from b
+    → steps a b + steps from a ≡ steps from b
 steps-parted from a b h a1 b1 l = cases (steps-cases from a) (steps-cases from b) (steps-cases a b)
   where
-    cases : Up from a ⊎ Round from a → Up from b ⊎ Round from b → Up a b ⊎ Round a b → steps a b + steps from a ≡ steps from b
+    cases : Up from a ⊎ Round from a → Up from b ⊎ Round from b → Up a b ⊎ Round a b
+        → steps a b + steps from a ≡ steps from b
     cases (inl s) (inl t) (inl u) = omega arith
     cases (inl s) (inl t) (inr u) = omega arith
     cases (inl s) (inr t) (inl u) = omega arith
@@ -78,7 +85,8 @@ turn-plain last f z l = cond-false (is_leaving f) _ _ l ∙ cond-true (f.channel
 nonzero : (n : ℕ) → 0 < n → (n == 0) ≡ false
 nonzero n h = ne_eqb n 0 (λ e. omega arith)
 
-pub turn-in_turn : (last : ℕ) (f : Frame) → 0 < f.channel → is_leaving f ≡ false → turn last f ≡ steps last f.channel
+pub turn-in_turn : (last : ℕ) (f : Frame) → 0 < f.channel → is_leaving f ≡ false
+    → turn last f ≡ steps last f.channel
 turn-in_turn last f z l = cond-false (is_leaving f) _ _ l ∙ cond-false (f.channel == 0) _ _ (nonzero f.channel z)
 
 pub turn-leaves : (last : ℕ) (f : Frame) → is_leaving f ≡ true → turn last f ≡ 65536
@@ -111,20 +119,24 @@ turn-most last f h = cases (rank f)
         omega arith
 
 -- a frame of the queue of a channel
-pub in-channel : (c : ℕ) (f : Frame) → is_in (FramesOn c) f ≡ true → (f.channel ≡ c) × (0 < f.channel) × (is_leaving f ≡ false)
+pub in-channel : (c : ℕ) (f : Frame) → is_in (FramesOn c) f ≡ true → (f.channel ≡ c) × (0 < f.channel)
+    × (is_leaving f ≡ false)
 in-channel c f h =
     let p = and_parts (nat_lt 0 c) (f.channel == c) h in
     let same = eqb-true f.channel c p.1 in
     let above : 0 < f.channel = rw same (ltb-true 0 c p.0) in
     (same, above, and_left (f.channel == 0) _ (nonzero f.channel above))
 
-same_queue : (f g : Frame) → f.channel ≡ g.channel → is_leaving f ≡ is_leaving g → (queue : Queue) → is_in queue f ≡ is_in queue g
+same_queue : (f g : Frame) → f.channel ≡ g.channel → is_leaving f ≡ is_leaving g → (queue : Queue)
+    → is_in queue f ≡ is_in queue g
 same_queue f g e l PlainFrames = ap₂ (λ c b. (c == 0) && not b) e l
 same_queue f g e l LeavingFrames = l
 same_queue f g e l (FramesOn c) = ap (λ d. nat_lt 0 c && (d == c)) e
 
 -- what has its turn no later than another does so still, once a frame is begun that has its turn before both
-pub turn-later : (last : ℕ) (f g h : Frame) → last < 65536 → HasChannel f → HasChannel g → HasChannel h → turn last f < turn last g → turn last g ≤ turn last h → turn (last_after last f) g ≤ turn (last_after last f) h
+pub turn-later : (last : ℕ) (f g h : Frame) → last < 65536 → HasChannel f → HasChannel g → HasChannel h
+    → turn last f < turn last g → turn last g ≤ turn last h
+    → turn (last_after last f) g ≤ turn (last_after last f) h
 turn-later last f g h l cf cg ch before after = cases (rank f) (rank g) (rank h)
   where
     kept : f.channel ≡ 0 → turn (last_after last f) g ≤ turn (last_after last f) h
@@ -153,11 +165,13 @@ turn-later last f g h l cf cg ch before after = cases (rank f) (rank g) (rank h)
         rw (last-moves last f fz, turn-in_turn f.channel g gz gn, turn-in_turn f.channel h hz hn) (omega arith)
 
 -- frames of one queue have their turn together
-pub turn-queue : (last : ℕ) (queue : Queue) (f g : Frame) → is_in queue f ≡ true → is_in queue g ≡ true → turn last f ≡ turn last g
+pub turn-queue : (last : ℕ) (queue : Queue) (f g : Frame) → is_in queue f ≡ true → is_in queue g ≡ true
+    → turn last f ≡ turn last g
 turn-queue last PlainFrames f g a b =
     let p = and_parts _ _ a in
     let q = and_parts _ _ b in
-    turn-plain last f (eqb-true f.channel 0 p.0) (not-true _ p.1) ∙ sym (turn-plain last g (eqb-true g.channel 0 q.0) (not-true _ q.1))
+    turn-plain last f (eqb-true f.channel 0 p.0) (not-true _ p.1)
+    ∙ sym (turn-plain last g (eqb-true g.channel 0 q.0) (not-true _ q.1))
 turn-queue last LeavingFrames f g a b = turn-leaves last f a ∙ sym (turn-leaves last g b)
 turn-queue last (FramesOn c) f g a b =
     let p = in-channel c f a in
@@ -172,12 +186,17 @@ pub queue-of : (f : Frame) → Queued f
 queue-of f = cases (rank f)
   where
     cases : Rank f → Queued f
-    cases (plain z l) = queued_in PlainFrames (and_from (f.channel == 0) (not (is_leaving f)) (eq-eqb f.channel 0 z) (not_from_false _ l))
-    cases (in_turn z l) = queued_in (FramesOn f.channel) (and_from (nat_lt 0 f.channel) (f.channel == f.channel) (lt-ltb 0 f.channel z) (eq-eqb f.channel f.channel refl))
+    cases (plain z l) =
+        queued_in PlainFrames
+        (and_from (f.channel == 0) (not (is_leaving f)) (eq-eqb f.channel 0 z) (not_from_false _ l))
+    cases (in_turn z l) =
+        queued_in (FramesOn f.channel) (and_from (nat_lt 0 f.channel) (f.channel == f.channel) (lt-ltb 0 f.channel z)
+        (eq-eqb f.channel f.channel refl))
     cases (leaves z l) = queued_in LeavingFrames l
 
 -- frames that have their turn together are in the same queues
-pub queue-turn : (last : ℕ) (f g : Frame) → last < 65536 → HasChannel f → HasChannel g → turn last f ≡ turn last g → (queue : Queue) → is_in queue f ≡ is_in queue g
+pub queue-turn : (last : ℕ) (f g : Frame) → last < 65536 → HasChannel f → HasChannel g
+    → turn last f ≡ turn last g → (queue : Queue) → is_in queue f ≡ is_in queue g
 queue-turn last f g l cf cg e queue = cases (rank f) (rank g)
   where
     cases : Rank f → Rank g → is_in queue f ≡ is_in queue g

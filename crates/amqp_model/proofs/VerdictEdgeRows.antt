@@ -7,20 +7,27 @@ use Rattle.amqp_method.specs.Arguments.{bit, short, long, short_string}
 use Rattle.amqp_model.specs.Wire.Readings.{Calls, MalformedMethod, UnknownMethod, HeaderOf, BodyOf, Beat}
 use Rattle.amqp_model.specs.History.Histories.{PutHere}
 use Rattle.amqp_model.specs.History.Negotiation.{Config, OfServer, start, start_ok, tune}
-use Rattle.amqp_model.specs.End.Closes.{CloseCode, ContentTooLarge, FrameError, SyntaxError, CommandInvalid, ChannelError, UnexpectedFrame, ResourceError, NotImplemented, without_arguments, connection_close}
-use Rattle.amqp_model.specs.End.Events.{ChannelClosed, ConnectionClosed, Discarded, FlowOk, Negotiated, Fatal, FrameVerdict, Proceeds, RefusesContent, Faults}
+use Rattle.amqp_model.specs.End.Closes.{CloseCode, ContentTooLarge, FrameError, SyntaxError, CommandInvalid}
+use Rattle.amqp_model.specs.End.Closes.{ChannelError, UnexpectedFrame, ResourceError, NotImplemented, without_arguments}
+use Rattle.amqp_model.specs.End.Closes.{connection_close}
+use Rattle.amqp_model.specs.End.Events.{ChannelClosed, ConnectionClosed, Discarded, FlowOk, Negotiated, Fatal}
+use Rattle.amqp_model.specs.End.Events.{FrameVerdict, Proceeds, RefusesContent, Faults}
 use Rattle.amqp_model.specs.End.Machine.{end_after, new_end}
-use Rattle.amqp_model.proofs.VerdictRows.{Came, On, some_frame, verdicts, quietly, silently, closed_with, server_config, client_config, calls, greeted, publish, no_properties, bye, closing_client, open_client, asking_server, server_says, leaving_server, owes}
+use Rattle.amqp_model.proofs.VerdictRows.{Came, On, some_frame, verdicts, quietly, silently, closed_with, server_config}
+use Rattle.amqp_model.proofs.VerdictRows.{client_config, calls, greeted, publish, no_properties, bye, closing_client}
+use Rattle.amqp_model.proofs.VerdictRows.{open_client, asking_server, server_says, leaving_server, owes}
 
 -- The limits that a client settles on: the smaller of its own, 8192 and 10, and the server's, where 0 means none.
 
 -- what a client puts for a tune with these numbers
 abbrev settles : (channel_max frame_max : ℕ) → (tune_ok_channels tune_ok_frame : ℕ) → Type 0
 settles channel_max frame_max own_channels own_frame =
-    verdicts Client client_config (new_end Client) (calls 0 kinds.ConnectionStart [] ∷ calls 0 kinds.ConnectionTune (short channel_max ∷ long frame_max ∷ short 60 ∷ []) ∷ []) ≡
+    verdicts Client client_config (new_end Client) (calls 0 kinds.ConnectionStart [] ∷ calls 0 kinds.ConnectionTune
+    (short channel_max ∷ long frame_max ∷ short 60 ∷ []) ∷ []) ≡
     quietly (owes 0 (start_ok client_config) ∷ [])
-    ∷ quietly (owes 0 (record { kind = kinds.ConnectionTuneOk; args = short own_channels ∷ long own_frame ∷ short 0 ∷ [] }) ∷ owes 0 (record { kind = kinds.ConnectionOpen; args = short_string (codes "/") ∷ [] }) ∷ [])
-    ∷ []
+    ∷ quietly (owes 0
+    (record { kind = kinds.ConnectionTuneOk; args = short own_channels ∷ long own_frame ∷ short 0 ∷ [] })
+    ∷ owes 0 (record { kind = kinds.ConnectionOpen; args = short_string (codes "/") ∷ [] }) ∷ []) ∷ []
 
 no_limits : settles 0 0 10 8192
 no_limits = refl
@@ -48,7 +55,9 @@ greatest_frame = refl
 -- what a server says to a tune-ok with these numbers
 abbrev answers_tune_ok : (channel_max frame_max : ℕ) → FrameVerdict → Type 0
 answers_tune_ok channel_max frame_max verdict =
-    verdicts Server (server_config 8) (greeted 8) (calls 0 kinds.ConnectionStartOk [] ∷ calls 0 kinds.ConnectionTuneOk (short channel_max ∷ long frame_max ∷ short 0 ∷ []) ∷ []) ≡ quietly (owes 0 (tune (server_config 8)) ∷ []) ∷ verdict ∷ []
+    verdicts Server (server_config 8) (greeted 8) (calls 0 kinds.ConnectionStartOk [] ∷ calls 0 kinds.ConnectionTuneOk
+    (short channel_max ∷ long frame_max ∷ short 0 ∷ []) ∷ [])
+    ≡ quietly (owes 0 (tune (server_config 8)) ∷ []) ∷ verdict ∷ []
 
 channels_at_most : answers_tune_ok 2047 131072 (quietly [])
 channels_at_most = refl
@@ -73,13 +82,24 @@ frame_of_none = refl
 
 -- a server of the greatest frames takes one
 abbrev greatest_config : Config Server
-greatest_config = record { frame_max = 1048576; channel_max = 65535; max_body = 8; heartbeat = 0; gated = false; hello = OfServer no_pairs [] [] }
+greatest_config =
+    record {
+      frame_max = 1048576;
+      channel_max = 65535;
+      max_body = 8;
+      heartbeat = 0;
+      gated = false;
+      hello = OfServer no_pairs [] [];
+    }
 
-greatest_taken : verdicts Server greatest_config (end_after Server greatest_config 0 (PutHere (Calls (start greatest_config)) (some_frame 0)) (new_end Server)) (calls 0 kinds.ConnectionStartOk [] ∷ calls 0 kinds.ConnectionTuneOk (short 65535 ∷ long 1048576 ∷ short 0 ∷ []) ∷ calls 0 kinds.ConnectionOpen [] ∷ []) ≡
-    quietly (owes 0 (record { kind = kinds.ConnectionTune; args = short 65535 ∷ long 1048576 ∷ short 0 ∷ [] }) ∷ [])
-    ∷ quietly []
-    ∷ Proceeds (Some (Negotiated (record { channel_max = 65535; frame_max = 1048576; heartbeat = 0 }))) (owes 0 (without_arguments kinds.ConnectionOpenOk) ∷ [])
-    ∷ []
+greatest_taken : verdicts Server greatest_config
+    (end_after Server greatest_config 0 (PutHere (Calls (start greatest_config)) (some_frame 0)) (new_end Server))
+    (calls 0 kinds.ConnectionStartOk [] ∷ calls 0 kinds.ConnectionTuneOk (short 65535 ∷ long 1048576 ∷ short 0
+    ∷ []) ∷ calls 0 kinds.ConnectionOpen [] ∷ []) ≡
+    quietly (owes 0 (record { kind = kinds.ConnectionTune; args = short 65535 ∷ long 1048576 ∷ short 0 ∷ [] })
+    ∷ []) ∷ quietly []
+    ∷ Proceeds (Some (Negotiated (record { channel_max = 65535; frame_max = 1048576; heartbeat = 0 })))
+    (owes 0 (without_arguments kinds.ConnectionOpenOk) ∷ []) ∷ []
 greatest_taken = refl
 
 -- What a client that is Running with ten channels at most and has channel 1 Open says.
@@ -89,7 +109,8 @@ client_says frames = verdicts Client client_config open_client frames
 connection_elsewhere : client_says (calls 1 kinds.ConnectionClose bye ∷ []) ≡ closed_with CommandInvalid ∷ []
 connection_elsewhere = refl
 
-blocked_elsewhere : client_says (calls 1 kinds.ConnectionBlocked (short_string [] ∷ []) ∷ []) ≡ closed_with CommandInvalid ∷ []
+blocked_elsewhere : client_says (calls 1 kinds.ConnectionBlocked (short_string [] ∷ []) ∷ [])
+    ≡ closed_with CommandInvalid ∷ []
 blocked_elsewhere = refl
 
 class_on_zero : client_says (calls 0 kinds.BasicDeliver [] ∷ []) ≡ closed_with ChannelError ∷ []
@@ -110,9 +131,10 @@ header_above_highest = refl
 secure_refused : client_says (calls 0 kinds.ConnectionSecure [] ∷ []) ≡ closed_with NotImplemented ∷ []
 secure_refused = refl
 
--- On a channel that is Closing whatever comes is dropped, also what does not stand there or does not parse; but a heartbeat
--- stands on channel 0.
-closing_drops : verdicts Client client_config closing_client (calls 1 kinds.ConnectionClose bye ∷ On 1 (Calls publish) ∷ On 1 UnknownMethod ∷ On 1 (BodyOf []) ∷ calls 1 kinds.ChannelFlow (bit true ∷ []) ∷ []) ≡
+-- On a channel that is Closing whatever comes is dropped, also what does not stand there or does not parse; but a
+-- heartbeat stands on channel 0.
+closing_drops : verdicts Client client_config closing_client (calls 1 kinds.ConnectionClose bye ∷ On 1 (Calls publish)
+    ∷ On 1 UnknownMethod ∷ On 1 (BodyOf []) ∷ calls 1 kinds.ChannelFlow (bit true ∷ []) ∷ []) ≡
     Proceeds (Some (Discarded 1)) []
     ∷ Proceeds (Some (Discarded 1)) []
     ∷ Proceeds (Some (Discarded 1)) []
@@ -121,15 +143,20 @@ closing_drops : verdicts Client client_config closing_client (calls 1 kinds.Conn
     ∷ []
 closing_drops = refl
 
-heartbeat_on_closing : verdicts Client client_config closing_client (On 1 (Beat true) ∷ []) ≡ closed_with FrameError ∷ []
+heartbeat_on_closing : verdicts Client client_config closing_client (On 1 (Beat true) ∷ [])
+    ≡ closed_with FrameError ∷ []
 heartbeat_on_closing = refl
 
 -- A close that crosses the end's own is answered, on the channel and of the connection.
-crossing_channel_close : verdicts Client client_config closing_client (calls 1 kinds.ChannelClose bye ∷ calls 1 kinds.ChannelCloseOk [] ∷ []) ≡
-    quietly (owes 1 (without_arguments kinds.ChannelCloseOk) ∷ []) ∷ Proceeds (Some (ChannelClosed 1 None)) [] ∷ []
+crossing_channel_close : verdicts Client client_config closing_client
+    (calls 1 kinds.ChannelClose bye ∷ calls 1 kinds.ChannelCloseOk [] ∷ []) ≡
+    quietly (owes 1 (without_arguments kinds.ChannelCloseOk) ∷ [])
+    ∷ Proceeds (Some (ChannelClosed 1 None)) [] ∷ []
 crossing_channel_close = refl
 
-leaving_drops : verdicts Server (server_config 8) leaving_server (On 1 (Calls publish) ∷ On 3 (Beat true) ∷ On 0 MalformedMethod ∷ calls 9 kinds.ConnectionClose bye ∷ calls 0 kinds.ConnectionClose bye ∷ calls 0 kinds.ConnectionCloseOk [] ∷ []) ≡
+leaving_drops : verdicts Server (server_config 8) leaving_server (On 1 (Calls publish) ∷ On 3 (Beat true)
+    ∷ On 0 MalformedMethod ∷ calls 9 kinds.ConnectionClose bye ∷ calls 0 kinds.ConnectionClose bye
+    ∷ calls 0 kinds.ConnectionCloseOk [] ∷ []) ≡
     Proceeds (Some (Discarded 1)) []
     ∷ Proceeds (Some (Discarded 3)) []
     ∷ Proceeds (Some (Discarded 0)) []
@@ -140,18 +167,23 @@ leaving_drops : verdicts Server (server_config 8) leaving_server (On 1 (Calls pu
 leaving_drops = refl
 
 -- A flow-ok is told with its own bit.
-flow_ok_of_pause : verdicts Server (server_config 8) asking_server (calls 1 kinds.ChannelFlowOk (bit false ∷ []) ∷ []) ≡ Proceeds (Some (FlowOk 1 false)) [] ∷ []
+flow_ok_of_pause : verdicts Server (server_config 8) asking_server (calls 1 kinds.ChannelFlowOk (bit false ∷ [])
+    ∷ []) ≡ Proceeds (Some (FlowOk 1 false)) [] ∷ []
 flow_ok_of_pause = refl
 
 -- A body of the greatest size is taken, and one of an octet more is refused.
-greatest_body : server_says (On 1 (Calls publish) ∷ On 1 (HeaderOf 8 no_properties) ∷ []) ≡ silently ∷ silently ∷ []
+greatest_body : server_says (On 1 (Calls publish) ∷ On 1 (HeaderOf 8 no_properties) ∷ [])
+    ≡ silently ∷ silently ∷ []
 greatest_body = refl
 
-body_above_greatest : server_says (On 1 (Calls publish) ∷ On 1 (HeaderOf 9 no_properties) ∷ []) ≡ silently ∷ RefusesContent ∷ []
+body_above_greatest : server_says (On 1 (Calls publish) ∷ On 1 (HeaderOf 9 no_properties) ∷ [])
+    ≡ silently ∷ RefusesContent ∷ []
 body_above_greatest = refl
 
 -- The codes and the texts of the closes that an end puts of itself.
-close_texts : map (λ (code : CloseCode). (connection_close code).method.args) (ContentTooLarge ∷ FrameError ∷ SyntaxError ∷ CommandInvalid ∷ ChannelError ∷ UnexpectedFrame ∷ ResourceError ∷ NotImplemented ∷ []) ≡
+close_texts : map (λ (code : CloseCode). (connection_close code).method.args)
+    (ContentTooLarge ∷ FrameError ∷ SyntaxError ∷ CommandInvalid ∷ ChannelError ∷ UnexpectedFrame
+    ∷ ResourceError ∷ NotImplemented ∷ []) ≡
     (short 311 ∷ short_string (codes "content-too-large") ∷ short 0 ∷ short 0 ∷ [])
     ∷ (short 501 ∷ short_string (codes "frame-error") ∷ short 0 ∷ short 0 ∷ [])
     ∷ (short 502 ∷ short_string (codes "syntax-error") ∷ short 0 ∷ short 0 ∷ [])

@@ -1,23 +1,19 @@
 //! What the two ends of a connection agree on, and that neither finds fault with the other.
 //!
-//! The premise of these laws is `PairWrites`: both ends are set up so that what they say of themselves can be written, and
-//! their histories are those that any steps of the two come to, in any interleaving, where each frame taken is the next on its
-//! channel. An end that is dropped takes no further step. `mine` is the history of the end in the role, `theirs` that of
-//! the other.
+//! The premise of these laws is `PairWrites`: both ends are set up so that what they say of themselves can be written,
+//! and their histories are those that any steps of the two come to, in any interleaving, where each frame taken is the
+//! next on its channel. An end that is dropped takes no further step. `mine` is the history of the end in the role,
+//! `theirs` that of the other.
 
-ghost use Rattle.std.specs.Prelude.{ℕ, List};
-ghost use Rattle.amqp_model.specs.Pair.Agreement.{AgreesOnSmaller, AgreesPastHandshake, AgreesRunning, AgreesUngated, ClosedHasTakenAll, GoesOnAtZero, RunsWhereNextIsAbove};
-ghost use Rattle.amqp_model.specs.End.Channels.{Agreed, End};
-ghost use Rattle.amqp_model.specs.Stream.Endpoint.{Endpoint};
-ghost use Rattle.amqp_model.specs.Pair.EndsAgree.{LivesAgree, NoContentFromPaused};
-ghost use Rattle.amqp_model.specs.Pair.EndsTogether.{AskStandsTogether, AskedStaysPair, CarryStandsTogether, NewStandTogether, StandTogetherTurned};
-ghost use Rattle.amqp_model.specs.End.Asks.{Ask};
-ghost use Rattle.amqp_model.specs.Wire.Frame.{Frame};
-ghost use Rattle.amqp_model.specs.History.Histories.{History};
-ghost use Rattle.amqp_model.specs.History.Negotiation.{Config};
-ghost use Rattle.amqp_model.specs.Wire.Notes.{Client, Role, Server};
-ghost use Rattle.amqp_model.specs.Pair.NoFault.{NextIsMatched, TakesWhatComesNext};
-ghost use Rattle.amqp_model.specs.Pair.OctetsInFlight.{FeedStaysPair, FindsNoFaultWithOctets, GrownStaysPair, ItemsSentAreActedOnOrWaiting, NothingWaitsForClosed, OctetsInFlightAreFrames};
+ghost use Rattle.amqp_model.specs.Pair.Agreement.{AgreesOnSmaller, AgreesPastHandshake, AgreesRunning, AgreesUngated};
+ghost use Rattle.amqp_model.specs.Pair.Agreement.{ClosedHasTakenAll, GoesOnAtZero, RunsWhereNextIsAbove};
+ghost use Rattle.amqp_model.specs.Pair.EndsAgree.{AllLivesAgree, NoContentFromAnyPaused};
+ghost use Rattle.amqp_model.specs.Pair.EndsTogether.{AskStandsTogether, EveryAskStaysPair, CarryStandsTogether};
+ghost use Rattle.amqp_model.specs.Pair.EndsTogether.{NewStandTogether, StandTogetherTurned};
+ghost use Rattle.amqp_model.specs.Pair.NoFault.{EveryNextIsMatched, EveryEndTakesWhatComesNext};
+ghost use Rattle.amqp_model.specs.Pair.OctetsInFlight.{EveryFeedStaysPair, NoFaultWithNextOctets, EveryGrownStaysPair};
+ghost use Rattle.amqp_model.specs.Pair.OctetsInFlight.{AllItemsAreActedOnOrWaiting, NothingWaitsForAnyClosed};
+ghost use Rattle.amqp_model.specs.Pair.OctetsInFlight.{AllOctetsInFlightAreFrames};
 ghost use Rattle.amqp_model.specs.Laws.GatedExample.{GatedExamplesArePairs};
 ghost use Rattle.amqp_model.specs.Laws.PairExample.{ExampleIsPair};
 ghost use Rattle.amqp_model.specs.Pair.WellPut.{NextIsWellPut, PutsWell};
@@ -36,9 +32,9 @@ pub fn limits_are_the_smaller()
     written_reads_back();
 }
 
-/// An end goes on with whatever comes next on channel 0, in the handshake, while both run, and where they close. Where a frame
-/// of another channel comes next, the end is Running, or has put connection.close. An end that is closed has taken all that the
-/// other put, on every channel.
+/// An end goes on with whatever comes next on channel 0, in the handshake, while both run, and where they close. Where
+/// a frame of another channel comes next, the end is Running, or has put connection.close. An end that is closed has
+/// taken all that the other put, on every channel.
 pub fn connection_goes_on()
     ensures zero { GoesOnAtZero }
     ensures above { RunsWhereNextIsAbove }
@@ -47,10 +43,10 @@ pub fn connection_goes_on()
     written_reads_back();
 }
 
-/// Each frame that either end puts says a method that its sender may send, of the class connection on channel 0 and of no
-/// other there; above channel 0, a content header or a part of a body; or, on channel 0, a heartbeat. On channel 0 it
-/// has at most 4096 octets; any other is of a channel up to the agreed maximum, and of at most the agreed size. So is
-/// each frame that comes next.
+/// Each frame that either end puts says a method that its sender may send, of the class connection on channel 0 and of
+/// no other there; above channel 0, a content header or a part of a body; or, on channel 0, a heartbeat. On channel 0
+/// it has at most 4096 octets; any other is of a channel up to the agreed maximum, and of at most the agreed size. So
+/// is each frame that comes next.
 pub fn frames_are_well_put()
     ensures put { PutsWell }
     ensures next { NextIsWellPut }
@@ -58,84 +54,68 @@ pub fn frames_are_well_put()
     written_reads_back();
 }
 
-/// An end can take whatever frame comes next, and goes on with it, on every channel and in every phase. A reply that comes next
-/// to a client answers the request that waits, and a request that comes next to a server finds it keeping fewer than it may.
+/// An end can take whatever frame comes next, and goes on with it, on every channel and in every phase. A reply that
+/// comes next to a client answers the request that waits, and a request that comes next to a server finds it keeping
+/// fewer than it may.
 pub fn no_fault_over_frames()
-    ensures matched { (role : Role) (client_config : Config Client) (server_config : Config Server)
-        (mine theirs : History) (frame : Frame) → NextIsMatched role client_config server_config mine theirs frame }
-    ensures takes { (role : Role) (client_config : Config Client) (server_config : Config Server)
-        (mine theirs : History) (frame : Frame) → TakesWhatComesNext role client_config server_config mine theirs
-        frame }
+    ensures matched { EveryNextIsMatched }
+    ensures takes { EveryEndTakesWhatComesNext }
 {
     written_reads_back();
 }
 
-/// An end that is fed the next octets of what the other put finds no fault, in whatever pieces they come; and what it keeps
-/// then stands for a history that is a pair with the other's again.
+/// An end that is fed the next octets of what the other put finds no fault, in whatever pieces they come; and what it
+/// keeps then stands for a history that is a pair with the other's again.
 pub fn no_fault_over_octets()
-    ensures none { (role : Role) (client_config : Config Client) (server_config : Config Server)
-        (mine theirs : History) (endpoint : Endpoint) (fed written piece later : List ℕ)
-        → FindsNoFaultWithOctets role client_config server_config mine theirs endpoint fed written piece later }
-    ensures pair { (role : Role) (client_config : Config Client) (server_config : Config Server)
-        (mine theirs : History) (endpoint : Endpoint) (fed written piece later : List ℕ)
-        → FeedStaysPair role client_config server_config mine theirs endpoint fed written piece later }
-    ensures grown { (role : Role) (client_config : Config Client) (server_config : Config Server)
-        (mine theirs : History) (endpoint : Endpoint) (fed written piece later : List ℕ) (after : History)
-        → GrownStaysPair role client_config server_config mine theirs endpoint fed written piece later after }
+    ensures none { NoFaultWithNextOctets }
+    ensures pair { EveryFeedStaysPair }
+    ensures grown { EveryGrownStaysPair }
 {
     written_reads_back();
 }
 
 /// No octet waits for an end that is closed: it has none unfinished, and was fed all that the other put.
 pub fn nothing_waits_for_closed()
-    ensures { (role : Role) (client_config : Config Client) (server_config : Config Server) (mine theirs : History)
-        (limit : ℕ) (put fed unfinished rest : List ℕ) → NothingWaitsForClosed role client_config server_config mine
-        theirs limit put fed unfinished rest }
+    ensures { NothingWaitsForAnyClosed }
 {
     written_reads_back();
 }
 
-/// The unfinished octets of an end and those that it was not fed yet are those of whole frames, and on each channel these are
-/// what the other put after what the end took. So the items that the other sent in the life of a live end are those that the
-/// frames acted on and then the waiting ones encode.
+/// The unfinished octets of an end and those that it was not fed yet are those of whole frames, and on each channel
+/// these are what the other put after what the end took. So the items that the other sent in the life of a live end are
+/// those that the frames acted on and then the waiting ones encode.
 pub fn octets_in_flight_are_frames()
-    ensures frames { (role : Role) (limit : ℕ) (mine theirs : History) (put fed unfinished rest : List ℕ)
-        → OctetsInFlightAreFrames role limit mine theirs put fed unfinished rest }
-    ensures items { (role : Role) (client_config : Config Client) (server_config : Config Server)
-        (mine theirs : History) (unfinished rest : List ℕ) (n : ℕ)
-        → ItemsSentAreActedOnOrWaiting role client_config server_config mine theirs unfinished rest n }
+    ensures frames { AllOctetsInFlightAreFrames }
+    ensures items { AllItemsAreActedOnOrWaiting }
 {
     written_reads_back();
 }
 
-/// On each channel above 0 the i-th frame that an end took has the life, as that end counts, of the i-th frame that the other
-/// put. No content but get-ok comes to an end on a channel where it took flow-ok with active 0, and has since put no flow with
-/// active 1.
+/// On each channel above 0 the i-th frame that an end took has the life, as that end counts, of the i-th frame that the
+/// other put. No content but get-ok comes to an end on a channel where it took flow-ok with active 0, and has since put
+/// no flow with active 1.
 pub fn ends_agree_on_lives()
-    ensures lives { (role : Role) (client_config : Config Client) (server_config : Config Server)
-        (mine theirs : History) (n : ℕ) → LivesAgree role client_config server_config mine theirs n }
-    ensures pause { (role : Role) (client_config : Config Client) (server_config : Config Server)
-        (mine theirs : History) (n : ℕ) → NoContentFromPaused role client_config server_config mine theirs n }
+    ensures lives { AllLivesAgree }
+    ensures pause { NoContentFromAnyPaused }
 {
     written_reads_back();
 }
 
-/// Two new ends stand together: their histories are those of a pair, and each was fed what the other wrote. So they go on with
-/// each ask that is accepted, and with each piece of the one's output that is fed to the other, in which no fault is found.
+/// Two new ends stand together: their histories are those of a pair, and each was fed what the other wrote. So they go
+/// on with each ask that is accepted, and with each piece of the one's output that is fed to the other, in which no
+/// fault is found.
 pub fn ends_stand_together()
     ensures new { NewStandTogether }
     ensures turned { StandTogetherTurned }
     ensures carried { CarryStandsTogether }
     ensures asked { AskStandsTogether }
-    ensures pair { (role : Role) (client_config : Config Client) (server_config : Config Server)
-        (mine theirs : History) (end : End) (ask : Ask) (frames : List Frame)
-        → AskedStaysPair role client_config server_config mine theirs end ask frames }
+    ensures pair { EveryAskStaysPair }
 {
     written_reads_back();
 }
 
-/// There is such a pair: two ends that fit their fields, whose limits are the smaller ones at either, come to the histories of
-/// a whole connection, with a content each way, a pause, a request and its reply, and closes that cross.
+/// There is such a pair: two ends that fit their fields, whose limits are the smaller ones at either, come to the
+/// histories of a whole connection, with a content each way, a pause, a request and its reply, and closes that cross.
 pub fn pairs_run()
     ensures { ExampleIsPair }
 {

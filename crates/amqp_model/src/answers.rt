@@ -1,29 +1,23 @@
 //! What an end answers of its channels, read off its history.
 //!
-//! The record of a channel is what the history counts to; these laws say so of each answer, in words that know no record.
+//! The record of a channel is what the history counts to; these laws say so of each answer, in words that know no
+//! record.
 
-ghost use Rattle.std.specs.Prelude.{ℕ, List};
-ghost use Rattle.amqp_model.specs.Laws.AnswersInWords.{ClosedIsFree, GatheredIsUnderWay, NoneIsGathered, OnlyOpenGathers, OnlyOpenIsDue, StateIsOfNotes};
-ghost use Rattle.amqp_model.specs.End.Channels.{End, Life};
-ghost use Rattle.amqp_model.specs.Wire.Contents.{Payload};
-ghost use Rattle.amqp_model.specs.History.Histories.{History};
-ghost use Rattle.amqp_model.specs.History.Negotiation.{Config};
-ghost use Rattle.amqp_model.specs.Wire.Notes.{Role};
+ghost use Rattle.amqp_model.specs.Laws.AnswersInWords.{ClosedIsFree, AllGatheredIsUnderWay, NothingIsGatheredOfNone};
+ghost use Rattle.amqp_model.specs.Laws.AnswersInWords.{OnlyOpenGathers, OnlyOpenIsDue, EveryStateIsOfNotes};
 
-/// The state of a channel up to the agreed maximum is that of its notes, until the connection is closed and all are Free.
+/// The state of a channel up to the agreed maximum is that of its notes, until the connection is closed and all are
+/// Free.
 pub fn states_are_of_notes()
-    ensures open { (role : Role) (config : Config role) (end : End) (history : History) (n : ℕ)
-        → StateIsOfNotes role config end history n }
+    ensures open { EveryStateIsOfNotes }
     ensures closed { ClosedIsFree }
 {}
 
-/// The octets gathered on an Open channel of a Running connection are those of the body parts of the content under way, and
-/// none where none is. Nowhere else are there any.
+/// The octets gathered on an Open channel of a Running connection are those of the body parts of the content under way,
+/// and none where none is. Nowhere else are there any.
 pub fn octets_are_of_body()
-    ensures under_way { (role : Role) (config : Config role) (end : End) (history : History) (n : ℕ) (life : Life)
-        (since : List Payload) → GatheredIsUnderWay role config end history n life since }
-    ensures none { (role : Role) (config : Config role) (end : End) (history : History) (n : ℕ) (life : Life)
-        → NoneIsGathered role config end history n life }
+    ensures under_way { AllGatheredIsUnderWay }
+    ensures none { NothingIsGatheredOfNone }
     ensures elsewhere { OnlyOpenGathers }
 {}
 

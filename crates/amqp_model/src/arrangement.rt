@@ -9,7 +9,14 @@
 //! `IsOutputOf` joins an output with all that its end put and wrote.
 
 ghost use Rattle.amqp_model.specs.Laws.ArrangementExamples.{BegunAndPut, LeavingOnes, LongAndShort, RoundTheTop};
-ghost use Rattle.amqp_model.specs.Laws.ArrangementLaws.{AheadIsOfBegun, AllIsInOrder, AllIsPutAs, ArrangedByRules, ClosesStandAfter, LeavingIsPutLast, LeftIsArranged, LowestAboveComesFirst, NoFewerStepsLead, NothingLeavesAfter, NothingWritten, OneIsLeft, OneRow, OutputAfterPut, OutputAfterPuts, OutputAfterWrite, OutputBegins, OutputFollowsRules, PlaceIsAfterItsQueue, PutArranges, PutExtendsChannels, PutLeavesBegun, PutMovesNone, PutsMakeRow, StepsLead, WaitsWhatIsNotBegun, WriteLeaves, WrittenThenLeft};
+ghost use Rattle.amqp_model.specs.Laws.ArrangementLaws.{AheadIsOfBegun, AllIsInOrder, AllIsPutAs, ArrangedByRules};
+ghost use Rattle.amqp_model.specs.Laws.ArrangementLaws.{ClosesStandAfter, LeavingIsPutLast, LeftIsArranged};
+ghost use Rattle.amqp_model.specs.Laws.ArrangementLaws.{LowestAboveComesFirst, NoFewerStepsLead, NothingLeavesAfter};
+ghost use Rattle.amqp_model.specs.Laws.ArrangementLaws.{NothingWritten, OneIsLeft, OneRow, OutputAfterPut};
+ghost use Rattle.amqp_model.specs.Laws.ArrangementLaws.{OutputAfterPuts, OutputAfterWrite, OutputBegins};
+ghost use Rattle.amqp_model.specs.Laws.ArrangementLaws.{OutputFollowsRules, PlaceIsAfterItsQueue, PutArranges};
+ghost use Rattle.amqp_model.specs.Laws.ArrangementLaws.{PutExtendsChannels, PutLeavesBegun, PutMovesNone, PutsMakeRow};
+ghost use Rattle.amqp_model.specs.Laws.ArrangementLaws.{StepsLead, WaitsWhatIsNotBegun, WriteLeaves, WrittenThenLeft};
 
 /// From one channel to another it is as many steps as counting up takes, where 1 comes after 65535. So the lowest
 /// channel above LAST comes first, else the lowest one.

@@ -1,36 +1,30 @@
 //! How much an end keeps, at most.
 //!
-//! Of each Open channel a part of one body, shorter than the body, which is no greater than the end takes; and the requests
-//! without a reply, one at a client and 1,024 at a server. A new end keeps nothing, and no frame after which it goes on and
-//! no ask makes it keep more than that.
+//! Of each Open channel a part of one body, shorter than the body, which is no greater than the end takes; and the
+//! requests without a reply, one at a client and 1,024 at a server. A new end keeps nothing, and no frame after which
+//! it goes on and no ask makes it keep more than that.
 
-ghost use Rattle.std.specs.Prelude.{ℕ, List};
+ghost use Rattle.std.specs.Prelude.{ℕ};
 ghost use Rattle.amqp_model.specs.End.Amounts.{OneHeaderLength};
-ghost use Rattle.amqp_model.specs.End.Asks.{Ask};
-ghost use Rattle.amqp_model.specs.End.Bounds.{AskStaysWithin, FrameStaysWithin, GatheredIsWithin, NewIsWithin, OthersAreFree, StandsWithin};
+ghost use Rattle.amqp_model.specs.End.Bounds.{EveryAskStaysWithin, EveryFrameStaysWithin, AllGatheredIsWithin};
+ghost use Rattle.amqp_model.specs.End.Bounds.{NewIsWithin, OthersAreFree, StandsWithin};
 ghost use Rattle.amqp_model.specs.End.Channels.{End};
-ghost use Rattle.amqp_model.specs.Wire.Frame.{Frame};
-ghost use Rattle.amqp_model.specs.History.Histories.{History};
-ghost use Rattle.amqp_model.specs.History.Negotiation.{Config};
-ghost use Rattle.amqp_model.specs.Wire.Notes.{Role};
 ghost use Rattle.amqp_model.specs.End.Numbers.{StandsNumbered};
 ghost use Rattle.amqp_model.specs.Laws.AmountLaws.{ContentsAreWithin};
 
-/// Each Open channel of an end is within its bounds: of a new end, after each frame and each ask, and so of every end that
-/// stands for a lawful history.
+/// Each Open channel of an end is within its bounds: of a new end, after each frame and each ask, and so of every end
+/// that stands for a lawful history.
 pub fn ends_are_bounded()
     ensures new { NewIsWithin }
-    ensures frame { (role : Role) (config : Config role) (end : End) (frame : Frame)
-        → FrameStaysWithin role config end frame }
-    ensures ask { (role : Role) (config : Config role) (end : End) (ask : Ask) (frames : List Frame)
-        → AskStaysWithin role config end ask frames }
+    ensures frame { EveryFrameStaysWithin }
+    ensures ask { EveryAskStaysWithin }
     ensures stands { StandsWithin }
 {}
 
-/// What such an end answers: no more octets of a body than the greatest that it takes, and no state but Free of channel 0 and
-/// of the channels above the agreed maximum.
+/// What such an end answers: no more octets of a body than the greatest that it takes, and no state but Free of channel
+/// 0 and of the channels above the agreed maximum.
 pub fn answers_are_bounded()
-    ensures octets { (role : Role) (config : Config role) (end : End) (n : ℕ) → GatheredIsWithin role config end n }
+    ensures octets { AllGatheredIsWithin }
     ensures states { (end : End) (n : ℕ) → OthersAreFree end n }
 {}
 

@@ -8,12 +8,17 @@
 //!
 //! Payloads are in their order, the oldest first; what was taken is a history, the newest first.
 
-ghost use Rattle.std.specs.Prelude.{ℕ, List, [], ◌∷◌};
-ghost use Rattle.amqp_model.specs.Laws.ContentLaws.{ContentEncodedAfter, CutFits, CutIsContent, CutIsShortest, CutsTo, GathersAfresh, GoesOnAsDue, GoesOnWith, IsAtMostOneContent, IsRefusedPastSize, IsToldAtHeader, IsToldAtLastPart, ItemsAreEncoded, ItemsOfPrefix, KeepsItsOctets, KeepsUnderWay, MethodStandsAlone, NoContentAtStart, NothingAfterContent, NothingAfterMethod, OneMoreEncoded, OneUnderWay, PartsInPlace, EncodedAfresh, TellsItems, TellsMisfits, TellsWhole, UnfinishedEncodesNothing};
-ghost use Rattle.amqp_model.specs.Wire.Contents.{Content, Payload};
-ghost use Rattle.amqp_model.specs.Wire.Gathering.{Gathering, Misfit};
+ghost use Rattle.std.specs.Prelude.{List, [], ◌∷◌};
+ghost use Rattle.amqp_model.specs.Laws.ContentLaws.{ContentEncodedAfter, CutFits, CutIsContent, CutIsShortest, CutsTo};
+ghost use Rattle.amqp_model.specs.Laws.ContentLaws.{GathersAfresh, GoesOnAsDue, StepsUnderWay, IsAtMostOneContent};
+ghost use Rattle.amqp_model.specs.Laws.ContentLaws.{IsRefusedPastSize, IsToldAtHeader, IsToldAtLastPart};
+ghost use Rattle.amqp_model.specs.Laws.ContentLaws.{ItemsAreEncoded, ItemsOfPrefix, KeepsItsOctets, KeepsUnderWay};
+ghost use Rattle.amqp_model.specs.Laws.ContentLaws.{MethodStandsAlone, NoContentAtStart, NothingAfterContent};
+ghost use Rattle.amqp_model.specs.Laws.ContentLaws.{NothingAfterMethod, OneMoreEncoded, OneUnderWay, PartsInPlace};
+ghost use Rattle.amqp_model.specs.Laws.ContentLaws.{EncodedAfresh, TellsItems, TellsMisfits, TellsWhole};
+ghost use Rattle.amqp_model.specs.Laws.ContentLaws.{UnfinishedEncodesNothing};
+ghost use Rattle.amqp_model.specs.Wire.Contents.{Payload};
 ghost use Rattle.amqp_model.specs.Wire.Items.{Item};
-ghost use Rattle.amqp_model.specs.Wire.Methods.{Method};
 
 /// Payloads are at most one content, and no content is a prefix of another. So a list of payloads falls into contents
 /// in one way only.
@@ -58,16 +63,16 @@ pub fn gathering_begins_afresh()
     ensures later { GathersAfresh }
 {}
 
-/// The machine's answer to a payload: a content exactly when its payloads are all there, a misfit exactly when the payload
-/// can't come next, and else what is then under way.
+/// The machine's answer to a payload: a content exactly when its payloads are all there, a misfit exactly when the
+/// payload can't come next, and else what is then under way.
 pub fn step_tells()
     ensures whole { TellsWhole }
     ensures misfit { TellsMisfits }
-    ensures goes_on { GoesOnWith }
+    ensures goes_on { StepsUnderWay }
 {}
 
-/// A content without a body is reported at its header, another at the part that fills its size, whatever empty parts came
-/// before, and a part that passes its size is refused.
+/// A content without a body is reported at its header, another at the part that fills its size, whatever empty parts
+/// came before, and a part that passes its size is refused.
 pub fn told_at_last()
     ensures at_header { IsToldAtHeader }
     ensures at_last_part { IsToldAtLastPart }

@@ -5,15 +5,13 @@
 //! one frame on channel 0, or is refused. They are steps of an end as asks are (`controls`, of `Goes`), so that all
 //! laws of one end and of two hold with them; these laws say what one of them makes of an end.
 
-ghost use Rattle.std.specs.Prelude.{Bool, ℕ, List};
-ghost use Rattle.amqp_model.specs.End.Channels.{End};
-ghost use Rattle.amqp_model.specs.Laws.ControlLaws.{ControlAcceptedFollows, ControlFollows, ControlHolds, ControlLeavesRest, ControlMovesPhase, ControlOfHistory, ControlPutsOne, ControlRefusedStays, ControlSaysNothing, ControlStandsTogether, ControlledFits, ControlledReadsBack, ControlledStaysPair, ControllingLeavesAlike, ControlsAct, ControlsAlike, SettlesHeartbeat, UngatedAnswersAtOnce, UngatedNeverHolds};
-ghost use Rattle.amqp_model.specs.End.Controls.{Control};
-ghost use Rattle.amqp_model.specs.Stream.Endpoint.{Endpoint};
-ghost use Rattle.amqp_model.specs.Wire.Frame.{Frame};
-ghost use Rattle.amqp_model.specs.History.Histories.{History};
-ghost use Rattle.amqp_model.specs.History.Negotiation.{Config};
-ghost use Rattle.amqp_model.specs.Wire.Notes.{Client, Role, Server};
+ghost use Rattle.amqp_model.specs.Laws.ControlLaws.{EveryAcceptedControlFollows, ControlFollows, ControlHolds};
+ghost use Rattle.amqp_model.specs.Laws.ControlLaws.{ControlLeavesRest, ControlMovesPhase, EveryControlIsOfHistory};
+ghost use Rattle.amqp_model.specs.Laws.ControlLaws.{ControlPutsOne, ControlRefusedStays, ControlSaysNothing};
+ghost use Rattle.amqp_model.specs.Laws.ControlLaws.{ControlStandsTogether, ControlledFits, ControlledReadsBack};
+ghost use Rattle.amqp_model.specs.Laws.ControlLaws.{EveryControlStaysPair, ControllingLeavesAlike, ControlsAct};
+ghost use Rattle.amqp_model.specs.Laws.ControlLaws.{ControlsAlike, SettlesHeartbeat, UngatedAnswersAtOnce};
+ghost use Rattle.amqp_model.specs.Laws.ControlLaws.{UngatedNeverHolds};
 
 use crate::fitting::written_reads_back;
 
@@ -21,8 +19,7 @@ use crate::fitting::written_reads_back;
 /// the end keeps stands for its history with that frame. The handshake goes on, or ends, or the connection closes; no
 /// channel changes, and no message is said. Above channel 0 the end leaves, if it refuses, and does nothing else.
 pub fn controls_follow()
-    ensures history { (role : Role) (config : Config role) (failed : Bool) (end : End) (history : History)
-        (control : Control) → ControlOfHistory role config failed end history control }
+    ensures history { EveryControlIsOfHistory }
     ensures one { ControlPutsOne }
     ensures follows { ControlFollows }
     ensures phase { ControlMovesPhase }
@@ -43,12 +40,9 @@ pub fn controls_are_written()
 /// An endpoint that accepts a control goes on to stand for its history, and for what it was fed and wrote; one that
 /// refuses it stays as it is. What is unfinished is held, and alike endpoints stay alike.
 pub fn controls_follow_octets()
-    ensures accepted { (role : Role) (config : Config role) (endpoint : Endpoint) (history : History)
-        (fed written : List ℕ) (control : Control) (frames : List Frame)
-        → ControlAcceptedFollows role config endpoint history fed written control frames }
+    ensures accepted { EveryAcceptedControlFollows }
     ensures refused { ControlRefusedStays }
-    ensures held { (role : Role) (config : Config role) (endpoint : Endpoint) (control : Control)
-        → ControlHolds role config endpoint control }
+    ensures held { ControlHolds }
     ensures answer { ControlsAlike }
     ensures alike { ControllingLeavesAlike }
 {}
@@ -57,9 +51,7 @@ pub fn controls_follow_octets()
 /// pair's.
 pub fn controls_stand_together()
     ensures together { ControlStandsTogether }
-    ensures pair { (role : Role) (client_config : Config Client) (server_config : Config Server)
-        (mine theirs : History) (end : End) (control : Control) (frames : List Frame)
-        → ControlledStaysPair role client_config server_config mine theirs end control frames }
+    ensures pair { EveryControlStaysPair }
 {
     written_reads_back();
 }

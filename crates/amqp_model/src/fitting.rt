@@ -1,21 +1,19 @@
 //! What an end writes reads as what it was made of, and fits the fields that it stands in.
 //!
-//! The laws of one end speak of methods whose octets read as the method. Here is when they do: the arguments are those of the
-//! method's kind, numbers fit their fields and strings their lengths. `MethodFits`, `ConfigFits` and `AskFits` say so of a
-//! method, of what an end is set up with and of what an application asks.
+//! The laws of one end speak of methods whose octets read as the method. Here is when they do: the arguments are those
+//! of the method's kind, numbers fit their fields and strings their lengths. `MethodFits`, `ConfigFits` and `AskFits`
+//! say so of a method, of what an end is set up with and of what an application asks.
 
-ghost use Rattle.std.specs.Prelude.{Bool, ℕ, List};
-ghost use Rattle.amqp_model.specs.End.Asks.{Ask};
-ghost use Rattle.amqp_model.specs.End.Channels.{End};
-ghost use Rattle.amqp_model.specs.End.Events.{Message};
-ghost use Rattle.amqp_model.specs.Laws.FittingLaws.{AgreedIsWithin, AgreedStaysWithin, AllReadsBack, AskKeepsAgreed, AskedAreWithin, AskedFit, AskedReadsBack, CloseFits, CloseIsShort, CloseReadsBack, FaultlessConfigFits, FittingConfigIsFaultless, FittingConfigWrites, FramesSayPayloads, HeaderReadsBack, MethodReadsBack, OwedAreShort, OwedFit, OwedReadBack, StartFits};
-ghost use Rattle.amqp_model.specs.Wire.Frame.{Frame};
+ghost use Rattle.amqp_model.specs.Laws.FittingLaws.{AgreedIsWithin, AllAgreedStaysWithin, AllReadsBack};
+ghost use Rattle.amqp_model.specs.Laws.FittingLaws.{EveryAskKeepsAgreed, AllAskedAreWithin, AllAskedFit};
+ghost use Rattle.amqp_model.specs.Laws.FittingLaws.{AskedReadsBack, CloseFits, CloseIsShort, CloseReadsBack};
+ghost use Rattle.amqp_model.specs.Laws.FittingLaws.{FaultlessConfigFits, FittingConfigIsFaultless, FittingConfigWrites};
+ghost use Rattle.amqp_model.specs.Laws.FittingLaws.{FramesSayPayloads, HeaderReadsBack, MethodReadsBack};
+ghost use Rattle.amqp_model.specs.Laws.FittingLaws.{AllOwedAreShort, OwedFit, OwedReadBack, StartFits};
 ghost use Rattle.amqp_model.specs.End.FrameVerdict.{Facts};
-ghost use Rattle.amqp_model.specs.History.Histories.{History};
-ghost use Rattle.amqp_model.specs.Wire.Methods.{Header, Method};
+ghost use Rattle.amqp_model.specs.Wire.Methods.{Header};
 ghost use Rattle.amqp_model.specs.History.Negotiation.{Config};
-ghost use Rattle.amqp_model.specs.Wire.Notes.{Role, Server};
-ghost use Rattle.amqp_model.specs.Wire.Readings.{Reading};
+ghost use Rattle.amqp_model.specs.Wire.Notes.{Role};
 
 /// What is written of a method, and of a content header, reads as it, where it fits its fields.
 pub fn written_reads_back()
@@ -26,8 +24,8 @@ pub fn written_reads_back()
     amqp_method::encoded_is_read();
 }
 
-/// A configuration fits its fields exactly when it has no fault, if its numbers and its hello do. What an end says of itself
-/// can be written then.
+/// A configuration fits its fields exactly when it has no fault, if its numbers and its hello do. What an end says of
+/// itself can be written then.
 pub fn fitting_config_writes()
     ensures faultless { FaultlessConfigFits }
     ensures no_fault { FittingConfigIsFaultless }
@@ -58,31 +56,29 @@ pub fn frames_say_payloads()
     ensures { FramesSayPayloads }
 {}
 
-/// Each frame that an end puts fits its fields: start, what verdicts and a frame above the limit make it put, and what it
-/// puts for an accepted ask.
+/// Each frame that an end puts fits its fields: start, what verdicts and a frame above the limit make it put, and what
+/// it puts for an accepted ask.
 pub fn frames_fit()
     ensures start { StartFits }
     ensures verdict { OwedFit }
     ensures too_large { CloseFits }
-    ensures asked { (role : Role) (end : End) (ask : Ask) (frames : List Frame) → AskedFit role end ask frames }
+    ensures asked { AllAskedFit }
 {}
 
 /// What was agreed in a lawful history has a channel at least, fits its fields, and has a frame size of 4096 to 1048576
 /// octets. It stays so by each frame that an end takes, and no ask changes it.
 pub fn agreed_is_within()
     ensures history { AgreedIsWithin }
-    ensures frame { (role : Role) (config : Config role) (end : End) (frame : Frame)
-        → AgreedStaysWithin role config end frame }
-    ensures ask { (role : Role) (config : Config role) (end : End) (ask : Ask) (frames : List Frame)
-        → AskKeepsAgreed role config end ask frames }
+    ensures frame { AllAgreedStaysWithin }
+    ensures ask { EveryAskKeepsAgreed }
 {
     written_reads_back();
 }
 
-/// The frames that verdicts make an end put have at most 4096 octets, which every end takes, and so has the close that it puts
-/// where a frame is above the limit. Those that it puts for an accepted ask have at most the agreed number.
+/// The frames that verdicts make an end put have at most 4096 octets, which every end takes, and so has the close that
+/// it puts where a frame is above the limit. Those that it puts for an accepted ask have at most the agreed number.
 pub fn frames_are_within()
-    ensures verdict { (role : Role) (facts : Facts role) (reading : Reading) → OwedAreShort role facts reading }
+    ensures verdict { AllOwedAreShort }
     ensures too_large { (role : Role) (facts : Facts role) → CloseIsShort role facts }
-    ensures asked { (role : Role) (end : End) (ask : Ask) (frames : List Frame) → AskedAreWithin role end ask frames }
+    ensures asked { AllAskedAreWithin }
 {}

@@ -9,17 +9,23 @@
 //! in that role, `theirs` those of the other.
 
 ghost use Rattle.std.specs.Prelude.{◌≡◌, ◌↔◌, true, ℕ, List};
-ghost use Rattle.amqp_model.specs.Pair.Carried.{puts, takes};
-ghost use Rattle.amqp_model.specs.Pair.Connections.{ConnectionRun, EachChannelRuns, notes_of, overtaken_client, overtaking_server};
+ghost use Rattle.amqp_model.specs.Pair.Connections.{ConnectionRun, EachChannelRuns, overtaken_client};
+ghost use Rattle.amqp_model.specs.Pair.Connections.{overtaking_server};
 ghost use Rattle.amqp_model.specs.Wire.Frame.{Frame};
-ghost use Rattle.amqp_model.specs.Laws.LifeLaws.{OnEachRun, TakesPrefix, ActsOnPrefix, ActsOnNothingAfterItsClose, ActsOnNothingAfterLeaving, AllActedOnAtClose, AllActedOnAtConnectionClose, FindsNoFault, NoPauseBeforeContent, OnItsWayIsOfItsLife, SentIsActedOnOrOnItsWay, SidesAgree, TakesNoContentPaused};
-ghost use Rattle.amqp_model.specs.Output.Prefixes.{IsPrefixOf};
-ghost use Rattle.amqp_model.specs.History.Lives.{awaits_flow_ok, before_leaving, has_left, has_open_ok, pauses_other, is_alive, is_opening, is_paused, lives, state, waits};
-ghost use Rattle.amqp_model.specs.Wire.Notes.{Note, Role, other_end};
-ghost use Rattle.amqp_model.specs.Pair.Runs.{Run, RunAt};
-ghost use Rattle.amqp_model.specs.Laws.Scripts.{ClosedAndReopened, ClosedAtOnce, CrossingCloses, DiscardedContents, DroppedClient, MessageThenClose, PausedServer, RestartedServer, ServerLeaves, Step, crossing_closes, replay};
-ghost use Rattle.amqp_model.specs.Pair.Sentences.{StatesRead, AwaitsFlowOk, HasLeft, HasOpenOk, PausesOther, IsAlive, IsBeforeLeaving, IsInState, IsPaused, Waits, places_with};
-ghost use Rattle.amqp_model.specs.History.States.{State};
+ghost use Rattle.amqp_model.specs.Laws.LifeLaws.{OnEachRun, TakesPrefix, ActsOnPrefix, ActsOnNothingAfterItsClose};
+ghost use Rattle.amqp_model.specs.Laws.LifeLaws.{ActsOnNothingAfterLeaving, AllActedOnAtClose};
+ghost use Rattle.amqp_model.specs.Laws.LifeLaws.{AllActedOnAtConnectionClose, FindsNoFault, NoPauseBeforeContent};
+ghost use Rattle.amqp_model.specs.Laws.LifeLaws.{OnItsWayIsOfItsLife, SentIsActedOnOrOnItsWay, SidesAgree};
+ghost use Rattle.amqp_model.specs.Laws.LifeLaws.{TakesNoContentPaused};
+ghost use Rattle.amqp_model.specs.History.Lives.{awaits_flow_ok, before_leaving, has_left, has_open_ok, pauses_other};
+ghost use Rattle.amqp_model.specs.History.Lives.{is_alive, is_opening, is_paused, lives, state, waits};
+ghost use Rattle.amqp_model.specs.Wire.Notes.{Note, Role};
+ghost use Rattle.amqp_model.specs.Pair.Runs.{Run};
+ghost use Rattle.amqp_model.specs.Laws.Scripts.{ClosedAndReopened, ClosedAtOnce, CrossingCloses, DiscardedContents};
+ghost use Rattle.amqp_model.specs.Laws.Scripts.{DroppedClient, MessageThenClose, PausedServer, RestartedServer};
+ghost use Rattle.amqp_model.specs.Laws.Scripts.{ServerLeaves, ScriptStep, crossing_closes, replay};
+ghost use Rattle.amqp_model.specs.Pair.Sentences.{StatesRead, AwaitsFlowOk, HasLeft, HasOpenOk, PausesOther, IsAlive};
+ghost use Rattle.amqp_model.specs.Pair.Sentences.{IsBeforeLeaving, IsPaused, Waits, places_with};
 
 /// Both ends mean the same life: the i-th note that one took has the life of the i-th note that the other put, and
 /// what was taken is, frame by frame, a prefix of what was put.
@@ -45,8 +51,8 @@ pub fn in_flight()
     ensures sent { OnEachRun SentIsActedOnOrOnItsWay }
 {}
 
-/// Where the other's close of the channel ended a life, and was taken before the end put one, everything sent in that life
-/// was acted on; and so it is in a life that goes on, where the end has taken all that the other put.
+/// Where the other's close of the channel ended a life, and was taken before the end put one, everything sent in that
+/// life was acted on; and so it is in a life that goes on, where the end has taken all that the other put.
 pub fn all_acted_on_at_close()
     ensures channel { OnEachRun AllActedOnAtClose }
     ensures connection { OnEachRun AllActedOnAtConnectionClose }
@@ -77,13 +83,16 @@ pub fn each_channel_runs()
 pub fn words_read()
     ensures waits { (history : List Note) → (waits history ≡ true) ↔ Waits history }
     ensures alive { (role : Role) (history : List Note) → (is_alive role history ≡ true) ↔ IsAlive role history }
-    ensures lives { (role : Role) (history : List Note) → lives role history ≡ places_with (is_opening role) history }
-    ensures open_ok { (role : Role) (history : List Note) → (has_open_ok role history ≡ true) ↔ HasOpenOk role history }
-    ensures awaits_flow_ok { (role : Role) (history : List Note) → (awaits_flow_ok role history ≡ true) ↔ AwaitsFlowOk
-        role history }
-    ensures paused { (role : Role) (history : List Note) → (is_paused role history ≡ true) ↔ IsPaused role history }
-    ensures pauses_other { (role : Role) (history : List Note) → (pauses_other role history ≡ true) ↔ PausesOther role
-        history }
+    ensures lives { (role : Role) (history : List Note)
+        → lives role history ≡ places_with (is_opening role) history }
+    ensures open_ok { (role : Role) (history : List Note)
+        → (has_open_ok role history ≡ true) ↔ HasOpenOk role history }
+    ensures awaits_flow_ok { (role : Role) (history : List Note)
+        → (awaits_flow_ok role history ≡ true) ↔ AwaitsFlowOk role history }
+    ensures paused { (role : Role) (history : List Note)
+        → (is_paused role history ≡ true) ↔ IsPaused role history }
+    ensures pauses_other { (role : Role) (history : List Note)
+        → (pauses_other role history ≡ true) ↔ PausesOther role history }
     ensures left { (history : List Note) → (has_left history ≡ true) ↔ HasLeft history }
     ensures before_leaving { (history : List Note) → IsBeforeLeaving history (before_leaving history) }
     ensures state { StatesRead }
@@ -91,7 +100,7 @@ pub fn words_read()
 
 /// There are runs: each script plays one, and one of them has closes that cross and two lives.
 pub fn scripts_run()
-    ensures runs { (steps : List Step) → Run (replay steps).client (replay steps).server }
+    ensures runs { (steps : List ScriptStep) → Run (replay steps).client (replay steps).server }
     ensures crossing_run { (f : ℕ → Frame) → Run (crossing_closes f).client (crossing_closes f).server }
     ensures crossing_closes { (f : ℕ → Frame) → CrossingCloses f }
     ensures closed_and_reopened { (f : ℕ → Frame) → ClosedAndReopened f }

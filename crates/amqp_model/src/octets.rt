@@ -1,45 +1,39 @@
 //! One end, octet by octet.
 //!
-//! `after_octet`, of the definitions in `Endpoint`, is one end as a plain machine that takes an octet at a time: a server
-//! compares the first eight with the protocol header, and all others are gathered up to the end of a frame. These laws
-//! say that it is what the definitions over whole frames say: what it keeps stands for a history of whole frames
-//! (`EndpointStandsFor`), the octets fed are those of the frames taken and a rest, and what it writes are the octets of
-//! the frames put.
+//! `after_octet`, of the definitions in `Endpoint`, is one end as a plain machine that takes an octet at a time: a
+//! server compares the first eight with the protocol header, and all others are gathered up to the end of a frame.
+//! These laws say that it is what the definitions over whole frames say: what it keeps stands for a history of whole
+//! frames (`EndpointStandsFor`), the octets fed are those of the frames taken and a rest, and what it writes are the
+//! octets of the frames put.
 
-ghost use Rattle.std.specs.Prelude.{ℕ, List};
-ghost use Rattle.amqp_model.specs.End.Asks.{Ask, Refusal};
-ghost use Rattle.amqp_model.specs.Stream.Endpoint.{Endpoint};
-ghost use Rattle.amqp_model.specs.Wire.Frame.{Frame};
-ghost use Rattle.amqp_model.specs.History.Histories.{History};
 ghost use Rattle.amqp_model.specs.History.Negotiation.{Config};
 ghost use Rattle.amqp_model.specs.Wire.Notes.{Role};
-ghost use Rattle.amqp_model.specs.Laws.OctetLaws.{AcceptedFollows, CutGoesOn, CutStops, FailedWrites, FeedFollows, FeedProgresses, FeedStaysClosed, FeedStaysFailed, FeedTakesAll, FeedTakesWithin, JudgedIsSaid, NewStands, OctetFollows, OneIsSaid, RefusedStays, WroteFollows};
+ghost use Rattle.amqp_model.specs.Laws.OctetLaws.{EveryAcceptedAskFollows, EveryCutGoesOn, EveryCutStops};
+ghost use Rattle.amqp_model.specs.Laws.OctetLaws.{EveryFailedEndWrites, EveryFeedFollows, FeedProgresses};
+ghost use Rattle.amqp_model.specs.Laws.OctetLaws.{EveryClosedStaysClosed, EveryFailedStaysFailed, EveryFeedTakesAll};
+ghost use Rattle.amqp_model.specs.Laws.OctetLaws.{EveryFeedTakesWithin, JudgedIsSaid, NewStands, OctetFollows};
+ghost use Rattle.amqp_model.specs.Laws.OctetLaws.{OneIsSaid, RefusedStays, EveryWriteFollows};
 
 use crate::fitting::written_reads_back;
 
 /// Of octets of which no shorter prefix is a frame or shows a fault, what they are judged to be is what they are: a
-/// frame begun, a whole frame within the limit, or octets of which the last shows a fault. They are exactly one of these.
+/// frame begun, a whole frame within the limit, or octets of which the last shows a fault. They are exactly one of
+/// these.
 pub fn judged_is_said()
     ensures said { JudgedIsSaid }
     ensures one { OneIsSaid }
 {}
 
-/// The same comes of octets however they are cut. Each piece that has octets loses one, none loses more than it has, and
-/// where nothing comes of a piece all of it is taken. An end that is closed, or has failed, takes nothing.
+/// The same comes of octets however they are cut. Each piece that has octets loses one, none loses more than it has,
+/// and where nothing comes of a piece all of it is taken. An end that is closed, or has failed, takes nothing.
 pub fn cut_changes_nothing()
-    ensures goes_on { (role : Role) (config : Config role) (endpoint : Endpoint) (p q : List ℕ)
-        → CutGoesOn role config endpoint p q }
-    ensures stops { (role : Role) (config : Config role) (endpoint : Endpoint) (p q : List ℕ)
-        → CutStops role config endpoint p q }
+    ensures goes_on { EveryCutGoesOn }
+    ensures stops { EveryCutStops }
     ensures progress { FeedProgresses }
-    ensures within { (role : Role) (config : Config role) (endpoint : Endpoint) (piece : List ℕ)
-        → FeedTakesWithin role config endpoint piece }
-    ensures all { (role : Role) (config : Config role) (endpoint : Endpoint) (piece : List ℕ)
-        → FeedTakesAll role config endpoint piece }
-    ensures closed { (role : Role) (config : Config role) (endpoint : Endpoint) (piece : List ℕ)
-        → FeedStaysClosed role config endpoint piece }
-    ensures failed { (role : Role) (config : Config role) (endpoint : Endpoint) (piece : List ℕ)
-        → FeedStaysFailed role config endpoint piece }
+    ensures within { EveryFeedTakesWithin }
+    ensures all { EveryFeedTakesAll }
+    ensures closed { EveryClosedStaysClosed }
+    ensures failed { EveryFailedStaysFailed }
 {}
 
 /// A new end stands for a history of nothing. What an end keeps stands for its history, for all octets fed and for all
@@ -48,17 +42,11 @@ pub fn cut_changes_nothing()
 pub fn octets_follow()
     ensures new { (role : Role) (config : Config role) → NewStands role config }
     ensures octet { OctetFollows }
-    ensures feed { (role : Role) (config : Config role) (endpoint : Endpoint) (history : History)
-        (fed written piece : List ℕ) → FeedFollows role config endpoint history fed written piece }
-    ensures accepted { (role : Role) (config : Config role) (endpoint : Endpoint) (history : History)
-        (fed written : List ℕ) (ask : Ask) (frames : List Frame)
-        → AcceptedFollows role config endpoint history fed written ask frames }
+    ensures feed { EveryFeedFollows }
+    ensures accepted { EveryAcceptedAskFollows }
     ensures refused { RefusedStays }
-    ensures wrote { (role : Role) (config : Config role) (endpoint : Endpoint) (history : History)
-        (fed written : List ℕ) (n : ℕ) → WroteFollows role config endpoint history fed written n }
-    ensures wrote_failed { (role : Role) (config : Config role) (limit : ℕ) (opening : List ℕ) (history : History)
-        (fed written : List ℕ) (endpoint : Endpoint) (n : ℕ) → FailedWrites role config limit opening history fed
-        written endpoint n }
+    ensures wrote { EveryWriteFollows }
+    ensures wrote_failed { EveryFailedEndWrites }
 {
     written_reads_back();
 }

@@ -4,19 +4,17 @@
 //! agreed, and a small record of each channel. These laws say that this is enough: the record of a channel follows
 //! each entry of that channel, and what the end does with a frame or with an ask is what its history gives.
 
-ghost use Rattle.std.specs.Prelude.{Bool, ℕ, List, Option};
-ghost use Rattle.amqp_model.specs.End.Asks.{Ask, first_free};
-ghost use Rattle.amqp_model.specs.End.Channels.{Channel, End};
-ghost use Rattle.amqp_model.specs.Laws.EndLaws.{AnswersOfHistory, AnyFails, AskFollows, AskOfHistory, AsksActs, EndFollows, EndSteps, FailedIsRead, FindsLowest, FollowsPut, FollowsTaken, FrameFails, FrameFollows, LawfulStands, LeavesOthers, NewEndStands, ReadsChannel, ReadsState, StandingHasNotFailed, StaysAtLeaving, StaysLeaving, StepFollows, TakesActs, TooLargeFails, VerdictAgrees, VerdictOfHistory};
-ghost use Rattle.amqp_model.specs.Wire.Frame.{Frame};
-ghost use Rattle.amqp_model.specs.End.FrameVerdict.{Facts};
-ghost use Rattle.amqp_model.specs.History.Histories.{ChannelEntry, Entry, History};
-ghost use Rattle.amqp_model.specs.Laws.LeavingLaws.{ClosesArePutLast, OctetsArePutAs};
-ghost use Rattle.amqp_model.specs.History.Negotiation.{Config};
-ghost use Rattle.amqp_model.specs.Wire.Notes.{Client, Note, Role, Server};
-ghost use Rattle.amqp_model.specs.Output.Outputs.{Output};
+ghost use Rattle.std.specs.Prelude.{List};
+ghost use Rattle.amqp_model.specs.Laws.EndLaws.{AllAnswersAreOfHistory, AnyFails, AskFollows, EveryAskIsOfHistory};
+ghost use Rattle.amqp_model.specs.Laws.EndLaws.{AsksActs, EndFollows, EndSteps, EveryFailedIsRead, EveryLowestIsFound};
+ghost use Rattle.amqp_model.specs.Laws.EndLaws.{FollowsPut, FollowsTaken, FrameFails, FrameFollows, LawfulStands};
+ghost use Rattle.amqp_model.specs.Laws.EndLaws.{LeavesOthers, NewEndStands, EveryRecordReads, ReadsState};
+ghost use Rattle.amqp_model.specs.Laws.EndLaws.{NoStandingEndHasFailed, StaysAtLeaving, StaysLeaving, StepFollows};
+ghost use Rattle.amqp_model.specs.Laws.EndLaws.{TakesActs, TooLargeFails, VerdictAgrees, EveryVerdictIsOfHistory};
+ghost use Rattle.amqp_model.specs.History.Histories.{ChannelEntry};
+ghost use Rattle.amqp_model.specs.Laws.LeavingLaws.{AllClosesArePutLast, AllOctetsArePutAs};
+ghost use Rattle.amqp_model.specs.Wire.Notes.{Role};
 ghost use Rattle.amqp_model.specs.Pair.Pairs.{BothLawful, RunsOnEach};
-ghost use Rattle.amqp_model.specs.Wire.Readings.{Reading};
 
 /// What an end keeps of a channel follows from what it kept before, the entry, and the facts that its verdict rests
 /// on, and stands for that channel's entries extended.
@@ -34,25 +32,23 @@ pub fn others_stay()
 
 /// The record of a channel is what the channel's entries count to, and its state the one of the lives of a channel.
 pub fn record_reads()
-    ensures channel { (role : Role) (channel : Channel) (entries : List ChannelEntry)
-        → ReadsChannel role channel entries }
+    ensures channel { EveryRecordReads }
     ensures state { (role : Role) (entries : List ChannelEntry) → ReadsState role entries }
 {}
 
 /// The verdict of an end on a frame is the one that every history gives for which the end stands.
 pub fn verdict_is_of_history()
-    ensures { (role : Role) (config : Config role) (failed : Bool) (end : End) (history : History) (frame : Frame)
-        → VerdictOfHistory role config failed end history frame }
+    ensures { EveryVerdictIsOfHistory }
 {}
 
 /// What an end does with an ask is what every history gives for which the end stands.
 pub fn ask_is_of_history()
-    ensures { (role : Role) (config : Config role) (failed : Bool) (end : End) (history : History) (ask : Ask)
-        → AskOfHistory role config failed end history ask }
+    ensures { EveryAskIsOfHistory }
 {}
 
-/// Where an end goes on after a frame of a channel above 0, the lives of a channel go on too, and owe the reply that its
-/// verdict puts; or it refuses a content, of which they say that it came. Which event it is says `verdict_names_event`.
+/// Where an end goes on after a frame of a channel above 0, the lives of a channel go on too, and owe the reply that
+/// its verdict puts; or it refuses a content, of which they say that it came. Which event it is says
+/// `verdict_names_event`.
 pub fn verdict_agrees()
     ensures { VerdictAgrees }
 {}
@@ -76,21 +72,19 @@ pub fn end_follows()
 {}
 
 /// What an end that has failed keeps stands for its history too: with the frame that it found fault with and the close
-/// that it put, with that close alone where octets told of a frame above the limit, or with nothing more. Of such an end
-/// the phase, what was agreed and channel 0 are looked at, and no more. An end that stands for a history without a failure has not
-/// failed.
+/// that it put, with that close alone where octets told of a frame above the limit, or with nothing more. Of such an
+/// end the phase, what was agreed and channel 0 are looked at, and no more. An end that stands for a history without a
+/// failure has not failed.
 pub fn failed_follows()
     ensures frame { FrameFails }
     ensures too_large { TooLargeFails }
     ensures other { AnyFails }
-    ensures read { (role : Role) (config : Config role) (end next : End) (history : History)
-        → FailedIsRead role config end next history }
-    ensures not_yet { (role : Role) (config : Config role) (end : End) (history : History)
-        → StandingHasNotFailed role config end history }
+    ensures read { EveryFailedIsRead }
+    ensures not_yet { NoStandingEndHasFailed }
 {}
 
-/// Each lawful history is one that an end stands for: what is read off it, and what an end keeps that goes on with each of
-/// its steps. What the end keeps says which steps these are.
+/// Each lawful history is one that an end stands for: what is read off it, and what an end keeps that goes on with each
+/// of its steps. What the end keeps says which steps these are.
 pub fn lawful_stands()
     ensures read { LawfulStands }
     ensures step { StepFollows }
@@ -99,22 +93,17 @@ pub fn lawful_stands()
 
 /// What an end answers of its channels is what every history gives for which it stands.
 pub fn answers_are_of_history()
-    ensures { (role : Role) (config : Config role) (failed : Bool) (end : End) (history : History) (number : ℕ)
-        → AnswersOfHistory role config failed end history number }
+    ensures { AllAnswersAreOfHistory }
 {}
 
-/// After a connection.close or close-ok an end puts only these. So the octets that it has put, written or not, hold each
-/// channel's frames in order, and no frame of a channel above 0 after a close.
+/// After a connection.close or close-ok an end puts only these. So the octets that it has put, written or not, hold
+/// each channel's frames in order, and no frame of a channel above 0 after a close.
 pub fn closes_are_put_last()
-    ensures frames { (role : Role) (config : Config role) (failed : Bool) (history : History)
-        → ClosesArePutLast role config failed history }
-    ensures octets { (role : Role) (config : Config role) (failed : Bool) (history : History)
-        (opening written : List ℕ) (output : Output) → OctetsArePutAs role config failed history opening written
-        output }
+    ensures frames { AllClosesArePutLast }
+    ensures octets { AllOctetsArePutAs }
 {}
 
 /// The number that an open takes is the lowest that is Free, and there is none where none is found.
 pub fn lowest_is_found()
-    ensures { (channels : ℕ → Channel) (many from : ℕ)
-        → FindsLowest channels many from (first_free channels many from) }
+    ensures { EveryLowestIsFound }
 {}

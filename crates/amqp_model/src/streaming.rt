@@ -6,7 +6,12 @@
 //! frame, ask and write, but for the content told, and stay alike. So an end that lends stands for the histories of
 //! one that gathers.
 
-ghost use Rattle.amqp_model.specs.Laws.StreamingLaws.{AlikeIsEquality, AnswersAlike, AskingLeavesAlike, AsksAlike, CameIsKept, EachFrameLends, EachIsGathered, EntriesLeaveAlike, FeedsAlike, GathersAlike, KeptIsCame, LastIsWhole, PutsAlike, PuttingLeavesAlike, RemainsAlike, StepsAlike, StreamFeedFollows, TakingLeavesAlike, VerdictsAlike, WholeIsCame, WritingLeavesAlike};
+ghost use Rattle.amqp_model.specs.Laws.StreamingLaws.{AlikeIsEquality, AnswersAlike, AskingLeavesAlike, AsksAlike};
+ghost use Rattle.amqp_model.specs.Laws.StreamingLaws.{CameIsKept, EachFrameLends, EachIsGathered, EntriesLeaveAlike};
+ghost use Rattle.amqp_model.specs.Laws.StreamingLaws.{FeedsAlike, GathersAlike, KeptIsCame, LastIsWhole, PutsAlike};
+ghost use Rattle.amqp_model.specs.Laws.StreamingLaws.{PuttingLeavesAlike, RemainsAlike, StepsAlike, StreamFeedFollows};
+ghost use Rattle.amqp_model.specs.Laws.StreamingLaws.{TakingLeavesAlike, VerdictsAlike, WholeIsCame};
+ghost use Rattle.amqp_model.specs.Laws.StreamingLaws.{WritingLeavesAlike};
 
 use crate::octets::octets_follow;
 

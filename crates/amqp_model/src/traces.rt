@@ -1,53 +1,45 @@
 //! What an end writes down of itself.
 //!
-//! An end kept with its history has one note for each frame, and the items that it told and said in the order in which they
-//! came, over all channels. These laws say by what each of the lists grows, so that a list that is grouped by channel, or
-//! that leaves out an item, is none of them.
+//! An end kept with its history has one note for each frame, and the items that it told and said in the order in which
+//! they came, over all channels. These laws say by what each of the lists grows, so that a list that is grouped by
+//! channel, or that leaves out an item, is none of them.
 
-ghost use Rattle.std.specs.Prelude.{ℕ, List};
-ghost use Rattle.amqp_model.specs.End.Asks.{Ask};
-ghost use Rattle.amqp_model.specs.Stream.Endpoint.{Endpoint};
-ghost use Rattle.amqp_model.specs.End.Events.{Message};
+ghost use Rattle.std.specs.Prelude.{List};
 ghost use Rattle.amqp_model.specs.Wire.Frame.{Frame};
 ghost use Rattle.amqp_model.specs.History.Histories.{History};
-ghost use Rattle.amqp_model.specs.Wire.Methods.{Method};
-ghost use Rattle.amqp_model.specs.History.Negotiation.{Config};
-ghost use Rattle.amqp_model.specs.Wire.Notes.{Role};
-ghost use Rattle.amqp_model.specs.Stream.RunningOut.{RanOutStays, RanOutWrites, RunsOut};
-ghost use Rattle.amqp_model.specs.Stream.Traces.{Direction, NotesFrame, PutsTellNothing, SaysAsk, SaysMessage, SaysMethod, TakenSaysNothing, TellsEvent, TracePuts, TraceTakes};
+ghost use Rattle.amqp_model.specs.Stream.RunningOut.{RanOutStays, EveryRanOutEndWrites, EveryEndRunsOut};
+ghost use Rattle.amqp_model.specs.Stream.Traces.{NotesFrame, AllPutsTellNothing, EveryAskIsSaid, SaysMessage};
+ghost use Rattle.amqp_model.specs.Stream.Traces.{EveryMethodIsSaid, TakenSaysNothing, EveryEventIsTold, TracePuts};
+ghost use Rattle.amqp_model.specs.Stream.Traces.{TraceTakes};
 
-/// Each frame put or taken is noted once, after all earlier ones, with its channel and the word for what it is to its channel.
+/// Each frame put or taken is noted once, after all earlier ones, with its channel and the word for what it is to its
+/// channel.
 pub fn frames_are_noted()
     ensures put { (frames : List Frame) (history : History) → TracePuts frames history }
     ensures taken { TraceTakes }
     ensures note { NotesFrame }
 {}
 
-/// What an end told grows by the item of the event that a frame comes to, in the life of its channel, and by nothing else.
+/// What an end told grows by the item of the event that a frame comes to, in the life of its channel, and by nothing
+/// else.
 pub fn events_are_told()
-    ensures event { (role : Role) (config : Config role) (history : History) (frame : Frame)
-        → TellsEvent role config history frame }
-    ensures put { (role : Role) (config : Config role) (frames : List Frame) (history : History)
-        → PutsTellNothing role config frames history }
+    ensures event { EveryEventIsTold }
+    ensures put { AllPutsTellNothing }
 {}
 
-/// What an end said grows by each message that it sends, whole and once, and by each method that is a message by itself. Of
-/// its asks, a message and a flow add themselves and the others nothing. What it takes adds nothing.
+/// What an end said grows by each message that it sends, whole and once, and by each method that is a message by
+/// itself. Of its asks, a message and a flow add themselves and the others nothing. What it takes adds nothing.
 pub fn messages_are_said()
-    ensures method { (role : Role) (channel : ℕ) (method : Method) (history : History)
-        → SaysMethod role channel method history }
+    ensures method { EveryMethodIsSaid }
     ensures message { SaysMessage }
     ensures taken { TakenSaysNothing }
-    ensures ask { (role : Role) (config : Config role) (history : History) (ask : Ask) (frames : List Frame)
-        → SaysAsk role config history ask frames }
+    ensures ask { EveryAskIsSaid }
 {}
 
-/// An end that runs out of memory has failed. What it took, put and was fed stays as it was; it still writes its output, and
-/// takes no octet more.
+/// An end that runs out of memory has failed. What it took, put and was fed stays as it was; it still writes its
+/// output, and takes no octet more.
 pub fn memory_runs_out()
-    ensures stands { (role : Role) (config : Config role) (endpoint : Endpoint) (history : History)
-        (fed written : List ℕ) → RunsOut role config endpoint history fed written }
-    ensures wrote { (role : Role) (config : Config role) (endpoint : Endpoint) (history : History)
-        (fed written : List ℕ) (n : ℕ) → RanOutWrites role config endpoint history fed written n }
+    ensures stands { EveryEndRunsOut }
+    ensures wrote { EveryRanOutEndWrites }
     ensures fed { RanOutStays }
 {}

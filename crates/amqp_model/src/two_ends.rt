@@ -6,28 +6,27 @@
 //! alike: `mine` is the history of the end in that role, `theirs` that of the other. The last law says which frames the
 //! octets of one end carry to the other, channel by channel.
 
-ghost use Rattle.std.specs.Prelude.{Bool, ℕ, suc, List, Option};
-ghost use Rattle.amqp_model.specs.Laws.CarryingLaws.{CompletedComesNext, FramesAreOfChannel, NotesAreOfFrames, OpeningsMeet, TakesPrefixOnEach};
-ghost use Rattle.amqp_model.specs.Wire.Contents.{Payload};
-ghost use Rattle.amqp_model.specs.Wire.Frame.{Frame};
-ghost use Rattle.amqp_model.specs.History.Histories.{History};
-ghost use Rattle.amqp_model.specs.History.Negotiation.{Config};
-ghost use Rattle.amqp_model.specs.Wire.Notes.{Client, Role, Server};
-ghost use Rattle.amqp_model.specs.Pair.Pairs.{NewEndsPair, PairAt, StepStaysPair};
-ghost use Rattle.amqp_model.specs.Laws.SentLaws.{OnEachPair, ActsOnPrefixOfItems, AllItemsActedOnAtClose, AllItemsActedOnAtConnectionClose, AllItemsActedOnOfEnded, FaultTellsNothing, ItemsSentAreActedOnOrInFlight, NoItemsBeforeFirstLife, NothingOfChannel0, SaysWhatIsSent, TellsWhatIsActedOn};
+ghost use Rattle.amqp_model.specs.Laws.CarryingLaws.{CompletedComesNext, FramesAreOfChannel, NotesAreOfFrames};
+ghost use Rattle.amqp_model.specs.Laws.CarryingLaws.{OpeningsMeet, TakesPrefixOnEach};
+ghost use Rattle.amqp_model.specs.Wire.Notes.{Role};
+ghost use Rattle.amqp_model.specs.Pair.Pairs.{AllNewEndsPair, StepStaysPair};
+ghost use Rattle.amqp_model.specs.Laws.SentLaws.{OnEachPair, ActsOnPrefixOfItems, AllItemsActedOnAtClose};
+ghost use Rattle.amqp_model.specs.Laws.SentLaws.{AllItemsActedOnAtConnectionClose, AllItemsActedOnOfEnded};
+ghost use Rattle.amqp_model.specs.Laws.SentLaws.{FaultTellsNothing, ItemsSentAreActedOnOrInFlight};
+ghost use Rattle.amqp_model.specs.Laws.SentLaws.{NoItemsBeforeFirstLife, NothingIsOfChannel0, EveryEndSaysWhatItSends};
+ghost use Rattle.amqp_model.specs.Laws.SentLaws.{EveryEndTellsWhatItActsOn};
 ghost use Rattle.amqp_model.specs.Pair.WholeMessages.{EachFitsNext, FitsWhatIsKept, PutsWholeMessages};
 
-/// Two new ends are a pair, and a pair stays one with each step of either end, where a frame that it takes is the next on
-/// its channel.
+/// Two new ends are a pair, and a pair stays one with each step of either end, where a frame that it takes is the next
+/// on its channel.
 pub fn steps_stay_pairs()
-    ensures new { (role : Role) (client_config : Config Client) (server_config : Config Server)
-        → NewEndsPair role client_config server_config }
+    ensures new { AllNewEndsPair }
     ensures step { StepStaysPair }
 {}
 
-/// What an end puts on a channel in a life is whole messages, one after another, so that each of their payloads can come
-/// next after those before it. And so it is taken: what comes next to a Running end, on a channel that it has Open, fits
-/// after the content that it keeps. No part of a content is out of place, and no message stands inside one.
+/// What an end puts on a channel in a life is whole messages, one after another, so that each of their payloads can
+/// come next after those before it. And so it is taken: what comes next to a Running end, on a channel that it has
+/// Open, fits after the content that it keeps. No part of a content is out of place, and no message stands inside one.
 pub fn whole_messages_are_put()
     ensures whole { PutsWholeMessages }
     ensures each { EachFitsNext }
@@ -58,15 +57,14 @@ pub fn no_items_before_first_life()
     ensures { OnEachPair (λ role channel mine theirs. NoItemsBeforeFirstLife role channel mine) }
 {}
 
-/// What an end that has not failed tells, item by item as they end, is for each channel above 0 and each life what it acted
-/// on; a frame that it finds fault with tells nothing. What it says is what it sent. It tells and says nothing of channel 0.
+/// What an end that has not failed tells, item by item as they end, is for each channel above 0 and each life what it
+/// acted on; a frame that it finds fault with tells nothing. What it says is what it sent. It tells and says nothing of
+/// channel 0.
 pub fn items_are_told_and_said()
-    ensures told { (role : Role) (config : Config role) (n : ℕ) (history : History)
-        → TellsWhatIsActedOn role config (suc n) history }
+    ensures told { EveryEndTellsWhatItActsOn }
     ensures fault { FaultTellsNothing }
-    ensures said { (role : Role) (n : ℕ) (history : History) → SaysWhatIsSent role (suc n) history }
-    ensures channel_0 { (role : Role) (config : Config role) (history : History)
-        → NothingOfChannel0 role config history }
+    ensures said { EveryEndSaysWhatItSends }
+    ensures channel_0 { NothingIsOfChannel0 }
 {}
 
 /// The frames that a history puts and takes on a channel are those that the channel's notes put and take, in order, and

@@ -4,7 +4,7 @@ use Rattle.std.proofs.lemmas.Bool.{eqb-false, cond-true, cond-false, and_parts, 
 use Rattle.std.proofs.lemmas.List.{take_more, get_or_default}
 use Rattle.std.proofs.lemmas.List.Elements.{All-nil, All-cons, All-head, All-tail, All-weaker}
 use Rattle.amqp_frame.specs.Frame.{Frame}
-use Rattle.amqp_model.specs.Output.Arrangement.{is_leaving, steps, turn, IsArranged, IsNext, HasChannel}
+use Rattle.amqp_model.specs.Output.Arrangement.{is_leaving, steps, turn, IsArranged, HasFirstTurn, HasChannel}
 use Rattle.amqp_outbox.specs.OutboxSlots.{slot_of, slot_last, slots_last, turns_before}
 use Rattle.amqp_outbox.specs.OutboxLaps.{lap_after, slot_lap, laps_of, laps_last, moment, is_after, count_until, AllAfter, AreInOrder, TakesLap}
 use Rattle.amqp_outbox.specs.declared.slots.Slot.{Slot}
@@ -124,7 +124,7 @@ waits last f h = cases (is_leaving f) refl (f.channel == 0) refl
     cases false e false z = let k = eqb-false f.channel 0 z in inr (omega arith)
     cases false e true z = let t : turn last f ≡ 0 = cond-false (is_leaving f) _ _ e ∙ cond-true (f.channel == 0) _ _ z in absurd (omega arith)
 
-all_wait : (last : ℕ) (f : Frame) (later : List Frame) → 0 < turn last f → IsNext last f later → All Waits later
+all_wait : (last : ℕ) (f : Frame) (later : List Frame) → 0 < turn last f → HasFirstTurn last f later → All Waits later
 all_wait last f later h n = All-weaker (λ other. turn last f ≤ turn last other) Waits (λ other l. waits last other (omega arith)) later n
 
 -- what stands in a row from a moment on has its turn after it, but for plain frames of channel 0

@@ -3,7 +3,7 @@ use Rattle.std.proofs.Common.{◌≡◌, ℕ, ◌+◌, ◌-◌, ◌<◌, ◌≤�
 use Rattle.std.proofs.lemmas.Bool.{and_left, and_parts, cond-false, cond-true, true≢false, cases_lt}
 use Rattle.std.proofs.lemmas.List.Elements.{All-nil, All-cons, All-head, All-tail, All-append, All-weaker, filter-append}
 use Rattle.amqp_frame.specs.Frame.{Frame}
-use Rattle.amqp_model.specs.Output.Arrangement.{is_leaving, Queue, PlainFrames, FramesOn, LeavingFrames, is_in, queued, steps, turn, last_after, IsNext, IsArranged, Arranges, IsChannel, HasChannel, placed, placed_all, arranged}
+use Rattle.amqp_model.specs.Output.Arrangement.{is_leaving, Queue, PlainFrames, FramesOn, LeavingFrames, is_in, queued, steps, turn, last_after, HasFirstTurn, IsArranged, Arranges, IsChannel, HasChannel, placed, placed_all, arranged}
 use Rattle.amqp_model.specs.Laws.ArrangementLaws.{OneRow, PutsMakeRow, PutArranges, LeavingIsPutLast}
 
 -- what holds of a frame and of all of a row holds of the row with the frame
@@ -78,7 +78,7 @@ next-leaves one made last f a b l n c ca cb apart first =
     let all : All HasChannel (a ++ f ∷ b) = All-append HasChannel a (f ∷ b) ca (All-cons HasChannel f b c cb) in
     let rest : List Frame = arranged (last_after last f) (a ++ b) in
     let m : Arranges (last_after last f) (a ++ b) rest = made (last_after last f) (a ++ b) n both in
-    let next : IsNext last f rest = arranged-keeps (λ other. turn last f ≤ turn last other) (last_after last f) (a ++ b) first in
+    let next : HasFirstTurn last f rest = arranged-keeps (λ other. turn last f ≤ turn last other) (last_after last f) (a ++ b) first in
     is-row one made last (a ++ f ∷ b) (f ∷ rest) l all (next, m.arranged)
     (λ queue. ap (λ l. cond (is_in queue f) (f ∷ l) l) (m.queues queue ∙ filter-append (is_in queue) a b)
     ∙ (put-first (is_in queue f) f (queued queue a) (queued queue b) (λ e. none-queued queue f a e apart) ∙ sym (filter-append (is_in queue) a (f ∷ b))))

@@ -3,7 +3,7 @@ use Rattle.std.proofs.Common.{◌≡◌, ℕ, ◌+◌, ◌-◌, ◌<◌, ◌≤�
 use Rattle.std.proofs.lemmas.Bool.{and_left, cases_eq, cases_lt}
 use Rattle.std.proofs.lemmas.List.Elements.{All-nil, All-cons, All-head, All-tail, All-append, All-weaker, All-push, filter-append}
 use Rattle.amqp_frame.specs.Frame.{Frame}
-use Rattle.amqp_model.specs.Output.Arrangement.{Queue, PlainFrames, FramesOn, LeavingFrames, is_in, queued, steps, turn, IsNext, IsArranged, Arranges, IsChannel, HasChannel, arranged}
+use Rattle.amqp_model.specs.Output.Arrangement.{Queue, PlainFrames, FramesOn, LeavingFrames, is_in, queued, steps, turn, HasFirstTurn, IsArranged, Arranges, IsChannel, HasChannel, arranged}
 use Rattle.amqp_model.specs.Laws.ArrangementLaws.{OneRow, PutsMakeRow}
 use Rattle.amqp_outbox.specs.PiecesRing.{Line, flat, IsLine, IsRing}
 use Rattle.amqp_outbox.proofs.OutboxLaps.{steps-parted}
@@ -148,7 +148,7 @@ arranged-earlier last from k (f ∷ row) u a r =
     let P : Frame → Type 0 = λ (f : Frame). steps from f.channel + k ≡ steps last f.channel in
     let fu = All-head IsAbove f row u in
     let here = All-head P f row a in
-    let next : IsNext last f row = λ i d h.
+    let next : HasFirstTurn last f row = λ i d h.
     let g = get_or row i d in
     let gu = All-tail IsAbove f row u i d h in
     let x = r.0 i d h in

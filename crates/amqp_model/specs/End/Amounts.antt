@@ -1,5 +1,5 @@
--- How many octets an end keeps for its peer: of each channel the header of the content under way and what has come of its
--- body, and what has come of a frame that isn't whole. AMQP 0-9-1 has no such words; they are this profile's.
+-- How many octets an end keeps for its peer: of each channel the header of the content under way and what has come of
+-- its body, and what has come of a frame that isn't whole. AMQP 0-9-1 has no such words; they are this profile's.
 use Rattle.std.specs.Prelude.{◌≡◌, ◌≤◌, ℕ, zero, suc, ◌+◌, List, [], length}
 use Rattle.amqp_value.specs.Lengths.{capped}
 use Rattle.amqp_method.specs.Properties.{EncodesHeader}
@@ -13,7 +13,8 @@ use Rattle.amqp_model.specs.Stream.Endpoint.{Endpoint}
 abbrev pub header_octets : Gathering → ℕ
 header_octets Nothing = 0
 header_octets (HeaderDue method) = 0
-header_octets (BodyDue method size properties body) = capped (length (plain_header (record { body_size = size; properties = properties })))
+header_octets (BodyDue method size properties body) =
+    capped (length (plain_header (record { body_size = size; properties = properties })))
 
 abbrev pub header_octets_on : Channel → ℕ
 header_octets_on (Open life) = header_octets life.content
@@ -34,7 +35,8 @@ IsSum octets sum = (most : ℕ) → 65535 ≤ most → sum ≡ sum_to most octet
 -- what an end keeps of the contents under way on its channels up to this number
 abbrev pub contents_kept : (most : ℕ) → End → ℕ
 contents_kept most end =
-    sum_to most (λ number. header_octets_on (end.channels number)) + sum_to most (λ number. body_octets_on (end.channels number))
+    sum_to most (λ number. header_octets_on (end.channels number))
+    + sum_to most (λ number. body_octets_on (end.channels number))
 
 -- and of a frame that isn't whole
 abbrev pub octets_kept : (most : ℕ) → Endpoint → ℕ
@@ -50,4 +52,6 @@ GathersOctets end count = (most : ℕ) → 65535 ≤ most → count ≡ capped (
 
 -- every encoding of a header has as many octets as the plain one
 abbrev pub OneHeaderLength : Type 0
-OneHeaderLength = (header : Header) (octets : List ℕ) → EncodesHeader header octets → length octets ≡ length (plain_header header)
+OneHeaderLength =
+    (header : Header) (octets : List ℕ) → EncodesHeader header octets
+    → length octets ≡ length (plain_header header)

@@ -1,12 +1,15 @@
 -- What an application asks of an end: the refusals in their order, of which the first that applies is answered, and
--- what an accepted ask puts. `amqp0-9-1.xml`: channel.open, flow and close, connection.close; the rest is this profile's.
-use Rattle.std.specs.Prelude.{Bool, true, false, not, ◌&&◌, ◌||◌, ℕ, zero, suc, ◌+◌, ◌==◌, nat_lt, List, [], ◌∷◌, map, length, Option, Some, None}
+-- what an accepted ask puts. `amqp0-9-1.xml`: channel.open, flow and close, connection.close; the rest is this
+-- profile's.
+use Rattle.std.specs.Prelude.{Bool, true, false, not, ◌&&◌, ◌||◌, ℕ, zero, suc, ◌+◌, ◌==◌, nat_lt}
+use Rattle.std.specs.Prelude.{List, [], ◌∷◌, map, length, Option, Some, None}
 use Rattle.amqp_frame.specs.declared.frames.FrameKind.{FrameKind}
 use Rattle.amqp_method.specs.declared.kinds.Kind.TheVariants as kinds
 use Rattle.amqp_model.specs.Wire.Frame.{Frame}
 use Rattle.amqp_model.specs.Wire.Notes.{Role, Client, Server, is_client}
 use Rattle.amqp_method.specs.Arguments.{short_string}
-use Rattle.amqp_model.specs.Wire.Methods.{MethodKind, Method, carries_content, class_of, same_kind, sends, is_request, is_reply, plain_method, plain_header}
+use Rattle.amqp_model.specs.Wire.Methods.{MethodKind, Method, carries_content, class_of, same_kind, sends, is_request}
+use Rattle.amqp_model.specs.Wire.Methods.{is_reply, plain_method, plain_header}
 use Rattle.amqp_model.specs.Wire.Contents as contents
 use Rattle.amqp_model.specs.Wire.Contents.{Content, Payload, Unread, cut}
 use Rattle.amqp_model.specs.End.Channels as channels
@@ -27,7 +30,8 @@ pub data Ask : Type 0 where
 -- Out of memory, which is 9, stands after these, and is no matter of the asks. That no decision is awaited is no answer
 -- to an ask, but to what else an application does with the connection.
 pub data Refusal : Type 0 where
-  NotRunning BadChannel NotOpen Paused NotSendable TooLarge FlowPending NoFreeChannel ReplyPending NoSuchRequest NotAwaited : Refusal
+  NotRunning BadChannel NotOpen Paused NotSendable TooLarge FlowPending NoFreeChannel : Refusal
+  ReplyPending NoSuchRequest NotAwaited : Refusal
 
 abbrev pub refusal_number : Refusal → ℕ
 refusal_number NotRunning = 1
@@ -80,7 +84,8 @@ is_free channel = false
 -- the first Free number of so many, counted up from one
 abbrev pub first_free : (channels : ℕ → Channel) (many from : ℕ) → Option ℕ
 first_free channels zero from = None
-first_free channels (suc many) from = elim (is_free (channels from)) [ true ↦ Some from | false ↦ first_free channels many (suc from) ]
+first_free channels (suc many) from =
+    elim (is_free (channels from)) [ true ↦ Some from | false ↦ first_free channels many (suc from) ]
 
 -- the lowest Free number up to the agreed maximum
 abbrev pub lowest_free : End → Option ℕ
@@ -133,7 +138,8 @@ is_pausable (Whole content) = not (same_kind content.method.kind kinds.BasicGetO
 
 -- the other end paused this one in this life, and the message is a content other than get-ok
 abbrev pub paused : End → Ask → Option Refusal
-paused end (Send channel message) = when (is_pausable message && in_life (life_of (end.channels channel)) (λ life. life.paused)) Paused
+paused end (Send channel message) =
+    when (is_pausable message && in_life (life_of (end.channels channel)) (λ life. life.paused)) Paused
 paused end ask = None
 
 -- the methods of the connection and of the opening, closing and flow of a channel are not sent as messages
@@ -157,7 +163,8 @@ header_octets content = plain_header (record { body_size = length content.body; 
 
 abbrev message_passes : Option Agreed → Message → Bool
 message_passes agreed (Plain method) = passes agreed (plain_method method)
-message_passes agreed (Whole content) = passes agreed (plain_method content.method) || passes agreed (header_octets content)
+message_passes agreed (Whole content) =
+    passes agreed (plain_method content.method) || passes agreed (header_octets content)
 
 -- the payload of the method or of the header does not fit a frame
 abbrev pub too_large : End → Ask → Option Refusal
@@ -166,7 +173,8 @@ too_large end ask = None
 
 -- this end's last flow of this life is unanswered
 abbrev pub flow_pending : End → Ask → Option Refusal
-flow_pending end (Flow channel active) = when (in_life (life_of (end.channels channel)) (λ life. life.awaits)) FlowPending
+flow_pending end (Flow channel active) =
+    when (in_life (life_of (end.channels channel)) (λ life. life.awaits)) FlowPending
 flow_pending end ask = None
 
 -- no number up to the agreed maximum is Free
@@ -191,7 +199,8 @@ reply_pending role end ask = None
 abbrev pub no_such_request : Role → End → Ask → Option Refusal
 no_such_request Server end (Send channel message) =
     when
-    (is_reply (method_of message).kind && in_life (life_of (end.channels channel)) (λ life. not (answers_first (method_of message).kind life.requests)))
+    (is_reply (method_of message).kind && in_life (life_of (end.channels channel))
+    (λ life. not (answers_first (method_of message).kind life.requests)))
     NoSuchRequest
 no_such_request role end ask = None
 
@@ -217,7 +226,11 @@ refusal role end ask =
 abbrev pub payload_frame : (channel : ℕ) → Payload → Frame
 payload_frame channel (contents.Calls method) = method_frame channel method
 payload_frame channel (contents.Header size properties) =
-    record { kind = FrameKind.Header; channel = channel; payload = plain_header (record { body_size = size; properties = properties }) }
+    record {
+      kind = FrameKind.Header;
+      channel = channel;
+      payload = plain_header (record { body_size = size; properties = properties });
+    }
 payload_frame channel (contents.Body octets) = record { kind = FrameKind.Body; channel = channel; payload = octets }
 payload_frame channel Unread = record { kind = FrameKind.Heartbeat; channel = channel; payload = [] }
 
@@ -248,7 +261,8 @@ abbrev pub frames_asked : End → Ask → List Frame
 frames_asked end Open = opens_on (lowest_free end)
 frames_asked end (Send channel message) = map (payload_frame channel) (message_payloads (frame_max end.agreed) message)
 frames_asked end (Flow channel active) = one_method channel (method_asked (Flow channel active))
-frames_asked end (CloseChannel channel code text cause) = one_method channel (method_asked (CloseChannel channel code text cause))
+frames_asked end (CloseChannel channel code text cause) =
+    one_method channel (method_asked (CloseChannel channel code text cause))
 frames_asked end (Close code text cause) = one_method 0 (method_asked (Close code text cause))
 frames_asked end (Blocked reason) = one_method 0 (method_asked (Blocked reason))
 frames_asked end Unblocked = one_method 0 (method_asked Unblocked)

@@ -1,7 +1,8 @@
 -- What was wrong, where an end finds fault: one name for each way to it. AMQP 0-9-1 specification, sections 2.2.4 to
 -- 2.2.7 and 4.2, and `amqp0-9-1.xml`, the constants with reply codes. The rules and their order are those of the
 -- verdict on a frame, which is this profile's; here each is told apart from the others that earn the same code.
-use Rattle.std.specs.Prelude.{Bool, cond, not, ◌&&◌, ◌==◌, nat_lt, nat_le, ℕ, List, [], ◌∷◌, length, Option, Some, None, Result, Ok, Err}
+use Rattle.std.specs.Prelude.{Bool, cond, not, ◌&&◌, ◌==◌, nat_lt, nat_le, ℕ, List, [], ◌∷◌, length}
+use Rattle.std.specs.Prelude.{Option, Some, None, Result, Ok, Err}
 use Rattle.amqp_frame.specs.declared.faults.FrameFaultKind.{FrameFaultKind}
 use Rattle.amqp_frame.specs.declared.faults.FrameFaultKind.TheVariants as octets
 use Rattle.amqp_frame.specs.declared.frames.FrameKind.{FrameKind}
@@ -15,12 +16,18 @@ use Rattle.amqp_model.specs.Wire.Frame.{Frame}
 use Rattle.amqp_model.specs.Wire.Notes.{Role, Client, Server, is_client, Kind, Open, OpenOk, Close, Flow, FlowOk, Other}
 use Rattle.amqp_model.specs.History.States.{State}
 use Rattle.amqp_model.specs.Wire.Methods.{MethodKind, Method, class_of, same_kind, sends, is_request, is_reply}
-use Rattle.amqp_model.specs.Wire.Gathering.{Gathering, Nothing, HeaderDue, BodyDue, Misfit, NothingBegun, HeaderAwaited, BodyAwaited, PastSize, MethodInside, NotRead, Step, Keeps, Completes, Breaks, step}
-use Rattle.amqp_model.specs.Wire.Readings.{Reading, Calls, UnknownMethod, MalformedMethod, HeaderOf, MalformedHeader, BodyOf, Beat, reading, kind_of, payload_of}
+use Rattle.amqp_model.specs.Wire.Gathering.{Gathering, Nothing, HeaderDue, BodyDue, Misfit, NothingBegun, HeaderAwaited}
+use Rattle.amqp_model.specs.Wire.Gathering.{BodyAwaited, PastSize, MethodInside, NotRead, Step, Keeps, Completes}
+use Rattle.amqp_model.specs.Wire.Gathering.{Breaks, step}
+use Rattle.amqp_model.specs.Wire.Readings.{Reading, Calls, UnknownMethod, MalformedMethod, HeaderOf, MalformedHeader}
+use Rattle.amqp_model.specs.Wire.Readings.{BodyOf, Beat, reading, kind_of, payload_of}
 use Rattle.amqp_model.specs.End.Channels as channels
-use Rattle.amqp_model.specs.End.Channels.{Life, Channel, state_of, Phase, Handshake, Closed, Failed, HandshakeStep, AwaitsStart, AwaitsStartOk, AwaitsTune, AwaitsTuneOk, AwaitsOpen, AwaitsOpenOk}
+use Rattle.amqp_model.specs.End.Channels.{Life, Channel, state_of, Phase, Handshake, Closed, Failed, HandshakeStep}
+use Rattle.amqp_model.specs.End.Channels.{AwaitsStart, AwaitsStartOk, AwaitsTune, AwaitsTuneOk, AwaitsOpen}
+use Rattle.amqp_model.specs.End.Channels.{AwaitsOpenOk}
 use Rattle.amqp_model.specs.History.Negotiation.{Config, tunes_too_small, agreed_in, in_range}
-use Rattle.amqp_model.specs.End.Closes.{FrameError, SyntaxError, CommandInvalid, ChannelError, UnexpectedFrame, ResourceError, NotImplemented, number_of}
+use Rattle.amqp_model.specs.End.Closes.{FrameError, SyntaxError, CommandInvalid, ChannelError, UnexpectedFrame}
+use Rattle.amqp_model.specs.End.Closes.{ResourceError, NotImplemented, number_of}
 use Rattle.amqp_model.specs.End.Events.{Fault, Peer, Fatal, WrongProtocolHeader}
 use Rattle.amqp_model.specs.End.FrameVerdict.{Facts, MOST_REQUESTS, is_awaited, awaits_in, is_no_channel, answers_first}
 
@@ -37,7 +44,8 @@ pub data Rule : Type 0 where
   -- a part of a content on channel 0 or above the agreed maximum, on a channel that is not Open, a header that does
   -- not parse, a part where no content is begun, body where the header is due, a header where body is due, a header
   -- that does not parse where body is due or no content is begun, body past its size
-  ContentOffChannel ContentNotOpen HeaderMalformed ContentNotBegun BodyForHeader HeaderForBody ContentUnread BodyPastSize : Rule
+  ContentOffChannel ContentNotOpen HeaderMalformed ContentNotBegun BodyForHeader HeaderForBody ContentUnread : Rule
+  BodyPastSize : Rule
   -- a method of the class connection on another channel than 0, and another than those that come after the handshake
   ConnectionOffZero ConnectionOutOfOrder : Rule
   -- a method that the other end may not send; one on channel 0 or above the agreed maximum; one on a channel that is
@@ -122,7 +130,8 @@ leaving_finding Phase.Closing = Some None
 leaving_finding phase = None
 
 abbrev pub heartbeat_finding : (number : ℕ) → Reading → Option Finding
-heartbeat_finding number (Beat empty) = Some (cond (number == 0) (cond empty None (Some HeartbeatNotEmpty)) (Some HeartbeatOffZero))
+heartbeat_finding number (Beat empty) =
+    Some (cond (number == 0) (cond empty None (Some HeartbeatNotEmpty)) (Some HeartbeatOffZero))
 heartbeat_finding number reading = None
 
 -- nor where it has put channel.close on the channel
@@ -141,11 +150,12 @@ awaited_finding Client config AwaitsStart method = None
 awaited_finding Client config AwaitsTune method = cond (tunes_too_small method) (Some TuneTooSmall) None
 awaited_finding Client config AwaitsOpenOk method = None
 awaited_finding Server config AwaitsStartOk method = None
-awaited_finding Server config AwaitsTuneOk method = cond (in_range config (agreed_in method)) None (Some TuneOkOutOfRange)
+awaited_finding Server config AwaitsTuneOk method =
+    cond (in_range config (agreed_in method)) None (Some TuneOkOutOfRange)
 awaited_finding Server config AwaitsOpen method = None
 awaited_finding role config step method = Some HandshakeOutOfOrder
 
-abbrev pub step_finding : (role : Role) → Config role → HandshakeStep → Method → Finding
+abbrev step_finding : (role : Role) → Config role → HandshakeStep → Method → Finding
 step_finding role config step method =
     cond (same_kind method.kind kinds.ConnectionClose) None
     (cond (is_client role && same_kind method.kind kinds.ConnectionSecure) (Some SecureNotThere)
@@ -184,7 +194,8 @@ part_on_finding facts (channels.Open life) reading = part_finding facts life.con
 part_on_finding facts channel reading = Some ContentNotOpen
 
 abbrev pub content_on_finding : {role : Role} → Facts role → Reading → Finding
-content_on_finding facts reading = cond (is_no_channel facts) (Some ContentOffChannel) (part_on_finding facts facts.channel reading)
+content_on_finding facts reading =
+    cond (is_no_channel facts) (Some ContentOffChannel) (part_on_finding facts facts.channel reading)
 
 abbrev pub content_finding : {role : Role} → Facts role → Reading → Option Finding
 content_finding facts (HeaderOf size properties) = Some (content_on_finding facts (HeaderOf size properties))
@@ -201,20 +212,20 @@ connection_finding role method =
     (cond (is_client role && same_kind method.kind kinds.ConnectionUnblocked) None (Some ConnectionOutOfOrder))))
 
 -- What the lives of a channel do not allow.
-abbrev pub free_finding : Role → Kind → Finding
+abbrev free_finding : Role → Kind → Finding
 free_finding Server Open = None
 free_finding Server OpenOk = Some ChannelOutOfOrder
 free_finding Client Open = Some ChannelOutOfOrder
 free_finding role kind = Some MethodNotOpen
 
-abbrev pub opening_finding : Role → Kind → Finding
+abbrev opening_finding : Role → Kind → Finding
 opening_finding role Close = None
 opening_finding Client OpenOk = None
 opening_finding Server OpenOk = Some ChannelOutOfOrder
 opening_finding Client Open = Some ChannelOutOfOrder
 opening_finding role kind = Some MethodNotOpen
 
-abbrev pub open_finding : Role → (awaits : Bool) → Kind → Finding
+abbrev open_finding : Role → (awaits : Bool) → Kind → Finding
 open_finding role awaits Close = None
 open_finding role awaits (Flow active) = None
 open_finding role awaits (FlowOk active) = cond awaits None (Some FlowOkUnasked)
@@ -293,7 +304,7 @@ pub record Blame : Type 0 where
   pub called : Option MethodKind
   pub field : Option MethodFault
 
-abbrev pub called_by : Reading → (payload : List ℕ) → Option MethodKind
+abbrev called_by : Reading → (payload : List ℕ) → Option MethodKind
 called_by (Calls method) payload = Some method.kind
 called_by MalformedMethod payload = kind_of_ids payload
 called_by reading payload = None
@@ -308,11 +319,17 @@ fault_of_kind frames.Header payload = fault_in (header_reading.header_at payload
 fault_of_kind kind payload = None
 
 -- the first field of a method or of a content header that can't be read
-abbrev pub field_fault : Frame → Option MethodFault
+abbrev field_fault : Frame → Option MethodFault
 field_fault frame = fault_of_kind frame.kind frame.payload
 
 abbrev pub told_of : Frame → Rule → Blame
-told_of frame rule = record { rule = rule; channel = Some frame.channel; called = called_by (reading frame) frame.payload; field = field_fault frame }
+told_of frame rule =
+    record {
+      rule = rule;
+      channel = Some frame.channel;
+      called = called_by (reading frame) frame.payload;
+      field = field_fault frame;
+    }
 
 abbrev pub maybe_told_of : Frame → Option Rule → Option Blame
 maybe_told_of frame (Some rule) = Some (told_of frame rule)

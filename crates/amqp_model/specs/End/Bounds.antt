@@ -40,7 +40,7 @@ ChannelIsWithin role max_body channel = Unit {0}
 abbrev pub EndIsWithin : (role : Role) → Config role → End → Type 0
 EndIsWithin role config end = (n : ℕ) → ChannelIsWithin role config.max_body (end.channels n)
 
--- those of a new end are
+-- A new end is within the bounds.
 abbrev pub NewIsWithin : Type 0
 NewIsWithin =
     (role : Role) (config : Config role)
@@ -52,20 +52,38 @@ FrameStaysWithin role config end frame =
     EndIsWithin role config end → goes_on (end_verdict config end frame) ≡ true
     → EndIsWithin role config (end_after_taken role config end (reading frame) frame)
 
+-- An end stays within its bounds by each frame after which it goes on.
+abbrev pub EveryFrameStaysWithin : Type 0
+EveryFrameStaysWithin =
+    (role : Role) (config : Config role) (end : End) (frame : Frame)
+    → FrameStaysWithin role config end frame
+
 abbrev pub AskStaysWithin : (role : Role) → Config role → End → Ask → List Frame → Type 0
 AskStaysWithin role config end ask frames =
-    EndIsWithin role config end → ReadsBack (method_asked ask) → is_made ask ≡ true → ask_verdict role end ask ≡ Puts frames
+    EndIsWithin role config end → ReadsBack (method_asked ask) → is_made ask ≡ true
+    → ask_verdict role end ask ≡ Puts frames
     → EndIsWithin role config (end_after_put role config frames end)
 
--- so are those of every end that stands for a lawful history
+-- An end stays within its bounds by each ask that it accepts.
+abbrev pub EveryAskStaysWithin : Type 0
+EveryAskStaysWithin =
+    (role : Role) (config : Config role) (end : End) (ask : Ask) (frames : List Frame)
+    → AskStaysWithin role config end ask frames
+
+-- Every end that stands for a lawful history is within the bounds.
 abbrev pub StandsWithin : Type 0
 StandsWithin =
     (role : Role) (config : Config role) (end : End) (history : History)
-    → WritesReadBack role config → Lawful role config false history → StandsFor role config false end history → EndIsWithin role config end
+    → WritesReadBack role config → Lawful role config false history → StandsFor role config false end history
+    → EndIsWithin role config end
 
 -- what is kept of a body, as it is answered, is less than the greatest body, or nothing
 abbrev pub GatheredIsWithin : (role : Role) → Config role → End → (n : ℕ) → Type 0
 GatheredIsWithin role config end n = EndIsWithin role config end → gathered end n ≤ config.max_body
+
+-- What an end within its bounds has gathered is no more than the greatest body.
+abbrev pub AllGatheredIsWithin : Type 0
+AllGatheredIsWithin = (role : Role) (config : Config role) (end : End) (n : ℕ) → GatheredIsWithin role config end n
 
 -- channel 0, and the channels above the agreed maximum, are Free
 abbrev pub OthersAreFree : End → (n : ℕ) → Type 0

@@ -45,6 +45,7 @@ pub record Agreed : Type 0 where
   pub frame_max : ℕ
   pub heartbeat : ℕ
 
+-- what an end keeps: the phase of its connection, what was agreed, and a record of each channel
 pub record End : Type 0 where
   pub phase : Phase
   pub agreed : Option Agreed

@@ -10,7 +10,8 @@ use Rattle.amqp_method.specs.Arguments.{bit, short, short_string}
 use Rattle.amqp_model.specs.Wire.Methods.{MethodKind, Method, ReadsBack, class_of, id_of, plain_method}
 
 pub data CloseCode : Type 0 where
-  ContentTooLarge FrameError SyntaxError CommandInvalid ChannelError UnexpectedFrame ResourceError NotImplemented : CloseCode
+  ContentTooLarge FrameError SyntaxError CommandInvalid ChannelError UnexpectedFrame ResourceError : CloseCode
+  NotImplemented : CloseCode
 
 abbrev pub number_of : CloseCode → ℕ
 number_of ContentTooLarge = 311
@@ -47,7 +48,11 @@ cause_of kind = record { class_id = class_of kind; method_id = id_of kind }
 -- a close of the connection or of a channel with a code, a text and a cause
 abbrev pub close_for : MethodKind → (code : ℕ) (text : List ℕ) → Cause → Method
 close_for kind code text cause =
-    record { kind = kind; args = short code ∷ short_string text ∷ short cause.class_id ∷ short cause.method_id ∷ [] }
+    record {
+      kind = kind;
+      args = short code ∷ short_string text ∷ short cause.class_id
+          ∷ short cause.method_id ∷ [];
+    }
 
 -- a close that is about no method
 abbrev pub close_as : MethodKind → (code : ℕ) (text : List ℕ) → Method
@@ -76,7 +81,8 @@ abbrev pub connection_close_ok : Owed
 connection_close_ok = record { channel = 0; method = without_arguments kinds.ConnectionCloseOk }
 
 abbrev pub channel_close : ℕ → CloseCode → Owed
-channel_close channel code = record { channel = channel; method = close_as kinds.ChannelClose (number_of code) (text_of code) }
+channel_close channel code =
+    record { channel = channel; method = close_as kinds.ChannelClose (number_of code) (text_of code) }
 
 -- the methods that answer open, close and flow
 abbrev pub reply_to : Option Kind → List Method

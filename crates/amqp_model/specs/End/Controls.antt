@@ -27,7 +27,7 @@ pub data Control : Type 0 where
 abbrev pub heartbeat_frame : Frame
 heartbeat_frame = record { kind = FrameKind.Heartbeat; channel = 0; payload = [] }
 
-abbrev pub puts_on_zero : Method → AskVerdict
+abbrev puts_on_zero : Method → AskVerdict
 puts_on_zero method = Puts (method_frame 0 method ∷ [])
 
 -- a Running end puts a heartbeat
@@ -56,7 +56,8 @@ abbrev pub puts_short : Frame → AskVerdict
 puts_short frame = unless_long (nat_lt FRAME_MIN (frame_length frame)) frame
 
 -- a client that holds start puts start-ok, with its own properties
-abbrev pub answers_in : (role : Role) → Config role → Phase → (mechanism response locale : List ℕ) → AskVerdict
+abbrev pub answers_in : (role : Role) → Config role → Phase
+    → (mechanism response locale : List ℕ) → AskVerdict
 answers_in Client config (Handshake HoldsStart) mechanism response locale =
     puts_short (method_frame 0 (start_ok_choosing config mechanism response locale))
 answers_in role config phase mechanism response locale = Refused NotAwaited
@@ -66,7 +67,8 @@ abbrev pub control_in : (role : Role) → Config role → Phase → Control → 
 control_in role config phase Beat = beats_in phase
 control_in role config phase Admit = admits_in role config phase
 control_in role config phase (Refuse code text) = refuses_in role phase code text
-control_in role config phase (AnswerStart mechanism response locale) = answers_in role config phase mechanism response locale
+control_in role config phase (AnswerStart mechanism response locale) =
+    answers_in role config phase mechanism response locale
 
 abbrev pub control_verdict : (role : Role) → Config role → End → Control → AskVerdict
 control_verdict role config end control = control_in role config end.phase control

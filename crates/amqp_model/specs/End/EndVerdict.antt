@@ -21,7 +21,8 @@ end_verdict config end frame = verdict_on (facts_at config end frame.channel) (r
 
 -- the frames that the verdict puts, the oldest first
 abbrev pub end_puts : {role : Role} → Config role → End → Frame → List Frame
-end_puts config end frame = map frame_of (methods_put (facts_at config end frame.channel) (end_verdict config end frame))
+end_puts config end frame =
+    map frame_of (methods_put (facts_at config end frame.channel) (end_verdict config end frame))
 
 -- the frames that close the connection where octets show a frame above the limit
 abbrev pub too_large_puts : {role : Role} → Config role → End → List Frame

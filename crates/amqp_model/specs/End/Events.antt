@@ -35,9 +35,9 @@ pub data Event : Type 0 where
   Blocked : (reason : List ℕ) → Event
   Unblocked Quiet : Event
 
--- the other end breaks the protocol, which closes the connection with a code; a type octet that there isn't, a wrong end
--- octet or a tune-ok out of range, to which there is no answer; another protocol header; and that the connection was
--- closed, or had failed, before
+-- the other end breaks the protocol, which closes the connection with a code; a type octet that there isn't, a wrong
+-- end octet or a tune-ok out of range, to which there is no answer; another protocol header; and that the connection
+-- was closed, or had failed, before
 pub data Fault : Type 0 where
   Peer : CloseCode → Fault
   Fatal WrongProtocolHeader AlreadyClosed AlreadyFailed : Fault

@@ -1,7 +1,8 @@
--- What fits its fields: methods and content headers, what an end is set up with, what was agreed, and what an application
--- asks. The fields are those of `amqp0-9-1.xml` and of the AMQP 0-9-1 specification, section 4.2.6.1; the limits of a
--- configuration are this profile's.
-use Rattle.std.specs.Prelude.{◌≡◌, ◌<◌, ◌≤◌, ◌^◌, true, cond, ◌||◌, ◌==◌, nat_lt, ℕ, Option, Some, None}
+-- What fits its fields: methods and content headers, what an end is set up with, what was agreed, and what an
+-- application asks. The fields are those of `amqp0-9-1.xml` and of the AMQP 0-9-1 specification, section 4.2.6.1; the
+-- limits of a configuration are this profile's.
+use Rattle.std.specs.Prelude.{◌≡◌, ◌<◌, ◌≤◌, ◌^◌, true, cond, ◌||◌, ◌==◌, nat_lt, ℕ}
+use Rattle.std.specs.Prelude.{Option, Some, None}
 use Rattle.amqp_frame.specs.Frame.{frame_length}
 use Rattle.amqp_method.specs.Arguments.{Fits}
 use Rattle.amqp_method.specs.Fitting.{AreOctets, FitsShort, FitsLong, TableFits, ArgumentsFit, PropertiesFit}
@@ -14,7 +15,8 @@ use Rattle.amqp_model.specs.History.Negotiation.{Hello, OfClient, OfServer, Conf
 use Rattle.amqp_model.specs.End.Closes.{Cause, method_frame}
 use Rattle.amqp_model.specs.End.Events.{Message, Plain, Whole}
 use Rattle.amqp_model.specs.End.ReadingBack.{header_of}
-use Rattle.amqp_model.specs.End.Asks.{Ask, Open, Send, Flow, CloseChannel, Close, Blocked, Unblocked, is_made, channel_max, frame_max}
+use Rattle.amqp_model.specs.End.Asks.{Ask, Open, Send, Flow, CloseChannel, Close, Blocked, Unblocked, is_made}
+use Rattle.amqp_model.specs.End.Asks.{channel_max, frame_max}
 use Rattle.amqp_model.specs.End.Controls.{Control, Beat, Admit, Refuse, AnswerStart}
 
 -- the arguments are those of the method's kind, and each fits its field
@@ -64,12 +66,13 @@ config_fault_number FrameMax = 1
 config_fault_number ChannelMax = 2
 config_fault_number HelloTooLong = 3
 
--- the first that applies: the greatest frame is below 4096 octets or above 1048576; there is no channel; the greeting is
--- longer than a frame of 4096 octets
+-- the first that applies: the greatest frame is below 4096 octets or above 1048576; there is no channel; the greeting
+-- is longer than a frame of 4096 octets
 abbrev pub config_fault : (role : Role) → Config role → Option ConfigFault
 config_fault role config =
     cond (nat_lt config.frame_max FRAME_MIN || nat_lt FRAME_MOST config.frame_max) (Some FrameMax)
-    (cond (config.channel_max == 0) (Some ChannelMax) (cond (nat_lt FRAME_MIN (frame_length (method_frame 0 (greeting role config)))) (Some HelloTooLong) None))
+    (cond (config.channel_max == 0) (Some ChannelMax)
+    (cond (nat_lt FRAME_MIN (frame_length (method_frame 0 (greeting role config)))) (Some HelloTooLong) None))
 
 -- the client's virtual host fits its field
 abbrev pub HostFits : {role : Role} → Hello role → Type 0
@@ -112,7 +115,7 @@ pub record ContentFits (content : Content) : Type 0 where
   pub body : AreOctets content.body
 
 -- the method of a message fits its fields, and so does its content, if it has one
-abbrev pub MessageFits : Message → Type 0
+abbrev MessageFits : Message → Type 0
 MessageFits (Plain method) = MethodFits method
 MessageFits (Whole content) = ContentFits content
 
@@ -126,7 +129,8 @@ abbrev pub PartsFit : Ask → Type 0
 PartsFit Open = Unit {0}
 PartsFit (Send channel message) = (channel < 2 ^ 16) × MessageFits message
 PartsFit (Flow channel active) = channel < 2 ^ 16
-PartsFit (CloseChannel channel code text cause) = (channel < 2 ^ 16) × (code < 2 ^ 16) × FitsShort text × CauseFits cause
+PartsFit (CloseChannel channel code text cause) =
+    (channel < 2 ^ 16) × (code < 2 ^ 16) × FitsShort text × CauseFits cause
 PartsFit (Close code text cause) = (code < 2 ^ 16) × FitsShort text × CauseFits cause
 PartsFit (Blocked reason) = FitsShort reason
 PartsFit Unblocked = Unit {0}

@@ -2,19 +2,31 @@
 --
 -- AMQP 0-9-1 specification, sections 2.2.4 to 2.2.7 and 4.2, and `amqp0-9-1.xml`. The codes are the standard's, and
 -- which fault earns which is this profile's choice; so is the order of the rules.
-use Rattle.std.specs.Prelude.{Bool, true, false, cond, not, ◌&&◌, ◌||◌, ℕ, ◌==◌, nat_lt, nat_le, List, [], ◌∷◌, map, length, Option, Some, None}
+use Rattle.std.specs.Prelude.{Bool, true, false, cond, not, ◌&&◌, ◌||◌, ℕ, ◌==◌, nat_lt, nat_le, List, []}
+use Rattle.std.specs.Prelude.{◌∷◌, map, length, Option, Some, None}
 use Rattle.amqp_method.specs.declared.kinds.Kind.TheVariants as kinds
 use Rattle.amqp_model.specs.Wire.Notes.{Role, Client, Server, is_client, Kind, Close, Other}
 use Rattle.amqp_model.specs.History.Verdict as lives
 use Rattle.amqp_model.specs.History.Verdict.{verdict_at}
-use Rattle.amqp_model.specs.Wire.Methods.{MethodKind, Method, class_of, same_kind, sends, carries_content, is_request, is_reply, answers, octets_at}
-use Rattle.amqp_model.specs.Wire.Gathering.{Gathering, Nothing, HeaderDue, PastSize, Step, Keeps, Completes, Breaks, step}
-use Rattle.amqp_model.specs.Wire.Readings.{Reading, Calls, UnknownMethod, MalformedMethod, HeaderOf, MalformedHeader, BodyOf, Beat, is_call, kind_of, payload_of}
+use Rattle.amqp_model.specs.Wire.Methods.{MethodKind, Method, class_of, same_kind, sends, carries_content, is_request}
+use Rattle.amqp_model.specs.Wire.Methods.{is_reply, answers, octets_at}
+use Rattle.amqp_model.specs.Wire.Gathering.{Gathering, Nothing, HeaderDue, PastSize, Step, Keeps, Completes, Breaks}
+use Rattle.amqp_model.specs.Wire.Gathering.{step}
+use Rattle.amqp_model.specs.Wire.Readings.{Reading, Calls, UnknownMethod, MalformedMethod, HeaderOf, MalformedHeader}
+use Rattle.amqp_model.specs.Wire.Readings.{BodyOf, Beat, is_call, kind_of, payload_of}
 use Rattle.amqp_model.specs.End.Channels as channels
-use Rattle.amqp_model.specs.End.Channels.{Life, Channel, Closing, state_of, Phase, Handshake, Closed, Failed, Agreed, AwaitsProtocolHeader, AwaitsStart, AwaitsStartOk, AwaitsTune, AwaitsTuneOk, AwaitsOpen, AwaitsOpenOk, HoldsStart, HoldsLogin, HoldsOpen}
-use Rattle.amqp_model.specs.History.Negotiation.{Config, start_ok, tune, settled, tunes_too_small, tune_ok, agreed_in, in_range, connection_open, connection_open_ok}
-use Rattle.amqp_model.specs.End.Closes.{CloseCode, FrameError, SyntaxError, CommandInvalid, ChannelError, UnexpectedFrame, ResourceError, NotImplemented, ContentTooLarge, Owed, connection_close, connection_close_ok, channel_close, reply_to}
-use Rattle.amqp_model.specs.End.Events.{Plain, Whole, Reason, reason_in, Event, AnswerAsked, LoginAsked, OpenAsked, Negotiated, Opened, Told, Flow, FlowOk, ChannelClosed, ConnectionClosed, Discarded, Blocked, Unblocked, Quiet, Peer, Fatal, AlreadyClosed, AlreadyFailed, FrameVerdict, Proceeds, RefusesContent, Faults}
+use Rattle.amqp_model.specs.End.Channels.{Life, Channel, Closing, state_of, Phase, Handshake, Closed, Failed, Agreed}
+use Rattle.amqp_model.specs.End.Channels.{AwaitsProtocolHeader, AwaitsStart, AwaitsStartOk, AwaitsTune, AwaitsTuneOk}
+use Rattle.amqp_model.specs.End.Channels.{AwaitsOpen, AwaitsOpenOk, HoldsStart, HoldsLogin, HoldsOpen}
+use Rattle.amqp_model.specs.History.Negotiation.{Config, start_ok, tune, settled, tunes_too_small, tune_ok, agreed_in}
+use Rattle.amqp_model.specs.History.Negotiation.{in_range, connection_open, connection_open_ok}
+use Rattle.amqp_model.specs.End.Closes.{CloseCode, FrameError, SyntaxError, CommandInvalid, ChannelError}
+use Rattle.amqp_model.specs.End.Closes.{UnexpectedFrame, ResourceError, NotImplemented, ContentTooLarge, Owed}
+use Rattle.amqp_model.specs.End.Closes.{connection_close, connection_close_ok, channel_close, reply_to}
+use Rattle.amqp_model.specs.End.Events.{Plain, Whole, Reason, reason_in, Event, AnswerAsked, LoginAsked, OpenAsked}
+use Rattle.amqp_model.specs.End.Events.{Negotiated, Opened, Told, Flow, FlowOk, ChannelClosed, ConnectionClosed}
+use Rattle.amqp_model.specs.End.Events.{Discarded, Blocked, Unblocked, Quiet, Peer, Fatal, AlreadyClosed, AlreadyFailed}
+use Rattle.amqp_model.specs.End.Events.{FrameVerdict, Proceeds, RefusesContent, Faults}
 
 -- all that a verdict rests on: the end's configuration, its phase, what was agreed, the frame's channel, and what
 -- the end keeps of that channel
@@ -53,7 +65,8 @@ when_over phase = None
 abbrev pub leaving_on : (number : ℕ) → Reading → FrameVerdict
 leaving_on number reading =
     cond ((number == 0) && is_call kinds.ConnectionClose reading) (Proceeds (Some Quiet) (connection_close_ok ∷ []))
-    (cond ((number == 0) && is_call kinds.ConnectionCloseOk reading) (Proceeds (Some (ConnectionClosed None)) []) (Proceeds (Some (Discarded number)) []))
+    (cond ((number == 0) && is_call kinds.ConnectionCloseOk reading) (Proceeds (Some (ConnectionClosed None)) [])
+    (Proceeds (Some (Discarded number)) []))
 
 abbrev pub when_leaving : Phase → (number : ℕ) → Reading → Option FrameVerdict
 when_leaving Phase.Closing number reading = Some (leaving_on number reading)
@@ -70,7 +83,7 @@ abbrev reason_of : Reading → Option Reason
 reason_of (Calls method) = Some (reason_in method)
 reason_of reading = None
 
-abbrev pub event_of : (number : ℕ) → Reading → lives.Event → Option Event
+abbrev pub event_of : (number : ℕ) → Reading → lives.ChannelEvent → Option Event
 event_of number reading lives.Opened = Some (Opened number)
 event_of number reading lives.ClosedByUs = Some (ChannelClosed number None)
 event_of number reading lives.ClosedByPeer = Some (ChannelClosed number (reason_of reading))
@@ -88,7 +101,8 @@ abbrev code_of : ℕ → CloseCode
 code_of number = cond (number == lives.channel_error) ChannelError CommandInvalid
 
 abbrev pub as_lives : (number : ℕ) → Reading → lives.Verdict → FrameVerdict
-as_lives number reading (lives.GoesOn event owed) = Proceeds (event_of number reading event) (map (on_channel number) (reply_to owed))
+as_lives number reading (lives.GoesOn event owed) =
+    Proceeds (event_of number reading event) (map (on_channel number) (reply_to owed))
 as_lives number reading (lives.Fault code) = fault (code_of code)
 
 abbrev pub awaits_in : Channel → Bool
@@ -142,7 +156,8 @@ asked_or false event at_once = at_once
 -- size too small with a fault; the server answers start-ok with tune and open with open-ok, and a tune-ok past its
 -- own limits can't be answered. An end that is gated asks its application for the answer to start, to start-ok and to
 -- open.
-abbrev pub on_awaited : (role : Role) → Config role → Option Agreed → channels.HandshakeStep → Method → FrameVerdict
+abbrev pub on_awaited : (role : Role) → Config role → Option Agreed → channels.HandshakeStep
+    → Method → FrameVerdict
 on_awaited Client config agreed AwaitsStart method =
     asked_or config.gated AnswerAsked (Proceeds (Some Quiet) (on_zero (start_ok config) ∷ []))
 on_awaited Client config agreed AwaitsTune method =
@@ -151,13 +166,15 @@ on_awaited Client config agreed AwaitsTune method =
 on_awaited Client config agreed AwaitsOpenOk method = Proceeds (negotiated agreed) []
 on_awaited Server config agreed AwaitsStartOk method =
     asked_or config.gated LoginAsked (Proceeds (Some Quiet) (on_zero (tune config) ∷ []))
-on_awaited Server config agreed AwaitsTuneOk method = cond (in_range config (agreed_in method)) (Proceeds (Some Quiet) []) (Faults Fatal)
+on_awaited Server config agreed AwaitsTuneOk method =
+    cond (in_range config (agreed_in method)) (Proceeds (Some Quiet) []) (Faults Fatal)
 on_awaited Server config agreed AwaitsOpen method =
     asked_or config.gated OpenAsked (Proceeds (negotiated agreed) (on_zero connection_open_ok ∷ []))
 on_awaited role config agreed step method = fault CommandInvalid
 
 -- The handshake, on channel 0: a close is answered, secure is not there, and the awaited method does its step.
-abbrev pub in_step : (role : Role) → Config role → Option Agreed → channels.HandshakeStep → Method → FrameVerdict
+abbrev pub in_step : (role : Role) → Config role → Option Agreed → channels.HandshakeStep
+    → Method → FrameVerdict
 in_step role config agreed step method =
     cond (same_kind method.kind kinds.ConnectionClose) (closed_by method)
     (cond (is_client role && same_kind method.kind kinds.ConnectionSecure) (fault NotImplemented)
@@ -216,12 +233,15 @@ abbrev pub on_connection : Role → Method → FrameVerdict
 on_connection role method =
     cond (same_kind method.kind kinds.ConnectionClose) (closed_by method)
     (cond (is_client role && same_kind method.kind kinds.ConnectionSecure) (fault NotImplemented)
-    (cond (is_client role && same_kind method.kind kinds.ConnectionBlocked) (Proceeds (Some (Blocked (octets_at 0 method))) [])
-    (cond (is_client role && same_kind method.kind kinds.ConnectionUnblocked) (Proceeds (Some Unblocked) []) (fault CommandInvalid))))
+    (cond (is_client role && same_kind method.kind kinds.ConnectionBlocked)
+    (Proceeds (Some (Blocked (octets_at 0 method))) [])
+    (cond (is_client role && same_kind method.kind kinds.ConnectionUnblocked) (Proceeds (Some Unblocked) [])
+    (fault CommandInvalid))))
 
 abbrev pub when_connection : Role → (number : ℕ) → Method → Option FrameVerdict
 when_connection role number method =
-    cond (class_of method.kind == 10) (Some (cond (number == 0) (on_connection role method) (fault CommandInvalid))) None
+    cond (class_of method.kind == 10) (Some (cond (number == 0) (on_connection role method) (fault CommandInvalid)))
+    None
 
 -- A method that the other end may not send.
 abbrev pub when_misdirected : Role → Method → Option FrameVerdict
@@ -233,7 +253,8 @@ when_no_channel facts = cond (is_no_channel facts) (Some (fault ChannelError)) N
 
 -- A method without content is told at once; of one with content the header is due.
 abbrev pub on_message : (number : ℕ) → Method → FrameVerdict
-on_message number method = cond (carries_content method) (Proceeds None []) (Proceeds (Some (Told number (Plain method))) [])
+on_message number method =
+    cond (carries_content method) (Proceeds None []) (Proceeds (Some (Told number (Plain method))) [])
 
 -- the method answers the oldest of these requests
 abbrev pub answers_first : MethodKind → List MethodKind → Bool
@@ -243,7 +264,8 @@ answers_first kind (request ∷ later) = answers kind request
 -- Replies are matched: a client takes no reply but to the request that waits, a server keeps so many requests.
 abbrev pub on_matched : Role → (number : ℕ) → List MethodKind → Method → FrameVerdict
 on_matched Client number requests method =
-    cond (is_reply method.kind && not (answers_first method.kind requests)) (fault CommandInvalid) (on_message number method)
+    cond (is_reply method.kind && not (answers_first method.kind requests)) (fault CommandInvalid)
+    (on_message number method)
 on_matched Server number requests method =
     cond (is_request method && nat_le MOST_REQUESTS (length requests)) (fault ResourceError) (on_message number method)
 
@@ -260,7 +282,8 @@ is_gathering kept = true
 -- A close ends the life at any place; no other method stands inside a content.
 abbrev pub on_open : {role : Role} → Facts role → Life → Method → Kind → FrameVerdict
 on_open facts life method Close = lives_verdict facts (Calls method) Close
-on_open facts life method kind = cond (is_gathering life.content) (fault UnexpectedFrame) (on_idle facts life method kind)
+on_open facts life method kind =
+    cond (is_gathering life.content) (fault UnexpectedFrame) (on_idle facts life method kind)
 
 -- A method on a channel that is Open; on one that is Free or Opening the lives of a channel say all.
 abbrev pub by_state : {role : Role} → Facts role → Channel → Method → FrameVerdict
@@ -270,7 +293,8 @@ by_state facts channel method = lives_verdict facts (Calls method) (kind_of (Cal
 -- a method on a connection that is Running
 abbrev pub on_method : {role : Role} → Facts role → Method → FrameVerdict
 on_method {role} facts method =
-    first_of (when_connection role facts.number method ∷ when_misdirected role method ∷ when_no_channel facts ∷ [])
+    first_of (when_connection role facts.number method ∷ when_misdirected role method
+    ∷ when_no_channel facts ∷ [])
     (by_state facts facts.channel method)
 
 -- what no earlier rule has taken is a method

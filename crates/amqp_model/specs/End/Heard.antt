@@ -22,7 +22,8 @@ awaited_by phase reading = None
 -- An end hears the method that it awaits in the handshake, on channel 0, if it goes on with it: no tune with a frame
 -- size too small, and no tune-ok out of range.
 abbrev pub hears : {role : Role} → Config role → End → Frame → Option Method
-hears config end frame = cond ((frame.channel == 0) && goes_on (end_verdict config end frame)) (awaited_by end.phase (reading frame)) None
+hears config end frame =
+    cond ((frame.channel == 0) && goes_on (end_verdict config end frame)) (awaited_by end.phase (reading frame)) None
 
 -- a method of this kind that is heard now, or the one from before
 abbrev pub or_earlier : MethodKind → (now earlier : Option Method) → Option Method

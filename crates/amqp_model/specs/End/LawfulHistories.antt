@@ -10,7 +10,8 @@ use Rattle.amqp_model.specs.History.Negotiation.{Config, start}
 use Rattle.amqp_model.specs.End.StateFromHistory.{end_from}
 use Rattle.amqp_model.specs.End.Closes.{method_frame}
 use Rattle.amqp_model.specs.End.Asks.{Ask, is_made, Puts, ask_verdict}
-use Rattle.amqp_model.specs.End.EndVerdict.{end_verdict, end_puts, too_large_puts, goes_on, takes_frames, takes_octets, CanTake}
+use Rattle.amqp_model.specs.End.EndVerdict.{end_verdict, end_puts, too_large_puts, goes_on, takes_frames, takes_octets}
+use Rattle.amqp_model.specs.End.EndVerdict.{CanTake}
 use Rattle.amqp_model.specs.End.Controls.{Control, control_verdict}
 use Rattle.amqp_model.specs.End.ReadingBack.{AskReadsBack, ControlReadsBack}
 
@@ -30,7 +31,8 @@ end_of {role} config history = end_from role config false history
 -- One step of an end that has not failed: its history before, the frame that it takes if it takes one, whether it has
 -- failed then, and its history after.
 pub data Goes :
-    (role : Role) → Config role → (before : History) → (taken : Option Frame) → (failed : Bool) → (after : History) → Type 0 where
+    (role : Role) → Config role → (before : History) → (taken : Option Frame)
+    → (failed : Bool) → (after : History) → Type 0 where
   -- a server took the whole protocol header, and puts start
   greets : {config : Config Server} → Goes Server config [] None false (Put (method_frame 0 (start config)) ∷ [])
   -- it takes a frame, and goes on
@@ -53,11 +55,14 @@ pub data Goes :
       → Goes role config before None true before
   -- an application asks what can be made and written, and the end accepts
   asks :
-      {role : Role} {config : Config role} {before : History} (ask : Ask) (frames : List Frame) → is_made ask ≡ true → AskReadsBack ask
-      → ask_verdict role (end_of config before) ask ≡ Puts frames → Goes role config before None false (then_put frames before)
+      {role : Role} {config : Config role} {before : History} (ask : Ask) (frames : List Frame) → is_made ask ≡ true
+      → AskReadsBack ask
+      → ask_verdict role (end_of config before) ask ≡ Puts frames
+      → Goes role config before None false (then_put frames before)
   -- it beats, or decides in the handshake, what can be written, and the end accepts
   controls :
-      {role : Role} {config : Config role} {before : History} (control : Control) (frames : List Frame) → ControlReadsBack role config control
+      {role : Role} {config : Config role} {before : History} (control : Control) (frames : List Frame)
+      → ControlReadsBack role config control
       → control_verdict role config (end_of config before) control ≡ Puts frames
       → Goes role config before None false (then_put frames before)
 

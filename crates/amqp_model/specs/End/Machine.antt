@@ -1,7 +1,8 @@
 -- How what an end keeps follows an entry, and the histories that what it keeps stands for.
 --
 -- An entry of a channel above 0 changes the record of that channel alone, and by that record and the entry alone.
-use Rattle.std.specs.Prelude.{◌≡◌, ◌≤◌, Bool, true, false, cond, not, ◌&&◌, ◌||◌, ℕ, zero, suc, ◌==◌, List, [], ◌∷◌, ◌++◌, drop, length, Option, Some, None}
+use Rattle.std.specs.Prelude.{◌≡◌, ◌≤◌, Bool, true, false, cond, not, ◌&&◌, ◌||◌, ℕ, zero, suc}
+use Rattle.std.specs.Prelude.{◌==◌, List, [], ◌∷◌, ◌++◌, drop, length, Option, Some, None}
 use Rattle.amqp_method.specs.declared.kinds.Kind.TheVariants as kinds
 use Rattle.amqp_model.specs.Wire.Frame.{Frame}
 use Rattle.amqp_model.specs.Wire.Notes.{Role, Client, Server, is_client, is_server, Kind}
@@ -9,9 +10,13 @@ use Rattle.amqp_model.specs.History.Lives.{is_alive, waits, has_open_ok, is_paus
 use Rattle.amqp_model.specs.Wire.Methods.{MethodKind, Method, same_kind, is_reply}
 use Rattle.amqp_model.specs.Wire.Gathering.{Gathering, Nothing, HeaderDue, BodyDue, step, remains}
 use Rattle.amqp_model.specs.Wire.Readings.{Reading, Calls, is_call, kind_of, payload_of, reading as reading_of}
-use Rattle.amqp_model.specs.History.Histories.{History, ChannelEntry, PutHere, TookHere, LeftHere, entries_on, notes, under_way, entries_before_leaving}
+use Rattle.amqp_model.specs.History.Histories.{History, ChannelEntry, PutHere, TookHere, LeftHere, entries_on, notes}
+use Rattle.amqp_model.specs.History.Histories.{under_way, entries_before_leaving}
 use Rattle.amqp_model.specs.History.Replies.{asked_by, answered_by, requested, replied, unreplied}
-use Rattle.amqp_model.specs.End.Channels.{Life, Channel, Free, Opening, Closing, Open, new_life, HandshakeStep, AwaitsProtocolHeader, AwaitsStart, AwaitsStartOk, AwaitsTune, AwaitsTuneOk, AwaitsOpen, AwaitsOpenOk, HoldsStart, HoldsLogin, HoldsOpen, Phase, Handshake, Running, Closed, Failed, Agreed, End}
+use Rattle.amqp_model.specs.End.Channels.{Life, Channel, Free, Opening, Closing, Open, new_life, HandshakeStep}
+use Rattle.amqp_model.specs.End.Channels.{AwaitsProtocolHeader, AwaitsStart, AwaitsStartOk, AwaitsTune, AwaitsTuneOk}
+use Rattle.amqp_model.specs.End.Channels.{AwaitsOpen, AwaitsOpenOk, HoldsStart, HoldsLogin, HoldsOpen, Phase, Handshake}
+use Rattle.amqp_model.specs.End.Channels.{Running, Closed, Failed, Agreed, End}
 use Rattle.amqp_model.specs.History.Negotiation.{Config, agreed_in}
 use Rattle.amqp_model.specs.End.StateFromHistory.{accepted, awaits_tune_ok, phase_from, agreed_from}
 use Rattle.amqp_model.specs.End.Closes.{FrameError, Owed, frame_of}
@@ -112,7 +117,8 @@ after_taken role entry (Open life) kind = open_after_taking role entry life kind
 
 abbrev pub channel_after : Role → ChannelEntry → Channel → Channel
 channel_after role (PutHere reading frame) channel = after_put role (PutHere reading frame) channel (kind_of reading)
-channel_after role (TookHere reading frame) channel = after_taken role (TookHere reading frame) channel (kind_of reading)
+channel_after role (TookHere reading frame) channel =
+    after_taken role (TookHere reading frame) channel (kind_of reading)
 channel_after role LeftHere channel = channel
 
 -- What an entry of channel 0 leaves of the phase and of what was agreed.
@@ -150,16 +156,19 @@ after_tune_ok step = AwaitsOpen
 -- the client's handshake goes on with start and tune, the server's with start-ok, tune-ok and open
 abbrev pub step_taken : Role → Reading → HandshakeStep → HandshakeStep
 step_taken Client reading step =
-    cond (is_call kinds.ConnectionTune reading) AwaitsOpenOk (cond (is_call kinds.ConnectionStart reading) (after_start step) step)
+    cond (is_call kinds.ConnectionTune reading) AwaitsOpenOk
+    (cond (is_call kinds.ConnectionStart reading) (after_start step) step)
 step_taken Server reading step =
     cond (is_call kinds.ConnectionOpen reading) HoldsOpen
-    (cond (is_call kinds.ConnectionTuneOk reading) (after_tune_ok step) (cond (is_call kinds.ConnectionStartOk reading) (after_start_ok step) step))
+    (cond (is_call kinds.ConnectionTuneOk reading) (after_tune_ok step)
+    (cond (is_call kinds.ConnectionStartOk reading) (after_start_ok step) step))
 
 -- and with the answers: the client's start-ok, the server's start and tune
 abbrev pub step_put : Role → Reading → HandshakeStep → HandshakeStep
 step_put Client reading step = cond (is_call kinds.ConnectionStartOk reading) (after_start_ok_put step) step
 step_put Server reading step =
-    cond (is_call kinds.ConnectionTune reading) (after_tune_put step) (cond (is_call kinds.ConnectionStart reading) (after_start_put step) step)
+    cond (is_call kinds.ConnectionTune reading) (after_tune_put step)
+    (cond (is_call kinds.ConnectionStart reading) (after_start_put step) step)
 
 -- open-ok ends the handshake: a client takes it, a server puts it
 abbrev pub taken_ends_handshake : Role → Reading → Bool
@@ -175,7 +184,8 @@ is_any_close reading = is_call kinds.ConnectionClose reading || is_call kinds.Co
 
 abbrev pub phase_taken : Role → Reading → Phase → Phase
 phase_taken role reading (Handshake step) =
-    cond (is_any_close reading) Closed (cond (taken_ends_handshake role reading) Running (Handshake (step_taken role reading step)))
+    cond (is_any_close reading) Closed (cond (taken_ends_handshake role reading) Running
+    (Handshake (step_taken role reading step)))
 phase_taken role reading Running = cond (is_any_close reading) Closed Running
 phase_taken role reading Phase.Closing = cond (is_call kinds.ConnectionCloseOk reading) Closed Phase.Closing
 phase_taken role reading phase = phase
@@ -197,7 +207,8 @@ abbrev pub agreed_after : (role : Role) → Config role → Phase → ChannelEnt
 agreed_after Client config phase (PutHere (Calls method) frame) agreed =
     cond (same_kind method.kind kinds.ConnectionTuneOk) (Some (agreed_in method)) agreed
 agreed_after Server config phase (TookHere (Calls method) frame) agreed =
-    cond (same_kind method.kind kinds.ConnectionTuneOk && awaits_tune_ok phase) (accepted config (agreed_in method)) agreed
+    cond (same_kind method.kind kinds.ConnectionTuneOk && awaits_tune_ok phase)
+    (accepted config (agreed_in method)) agreed
 agreed_after role config phase entry agreed = agreed
 
 -- once the end has put connection.close, no channel changes
@@ -220,14 +231,16 @@ end_after role config (suc n) entry end =
     record {
       phase = end.phase;
       agreed = end.agreed;
-      channels = set_channel (suc n) (unless_leaving end.phase (end.channels (suc n)) (channel_after role entry (end.channels (suc n)))) end.channels;
+      channels = set_channel (suc n) (unless_leaving end.phase (end.channels (suc n))
+          (channel_after role entry (end.channels (suc n)))) end.channels;
     }
 
 -- the methods that a verdict owes are put, each as an entry of its channel
 abbrev pub end_after_owed : (role : Role) → Config role → List Owed → End → End
 end_after_owed role config [] end = end
 end_after_owed role config (owed ∷ later) end =
-    end_after_owed role config later (end_after role config owed.channel (PutHere (Calls owed.method) (frame_of owed)) end)
+    end_after_owed role config later (end_after role config owed.channel
+    (PutHere (Calls owed.method) (frame_of owed)) end)
 
 -- the frames of an accepted ask are put, each as an entry of its channel
 abbrev pub end_after_put : (role : Role) → Config role → List Frame → End → End
@@ -243,15 +256,17 @@ abbrev pub failed_by : FrameVerdict → End → End
 failed_by (Faults fault) end = as_failed end
 failed_by verdict end = end
 
--- An end takes a frame that says this: its verdict, and what the end keeps then. An end that is closed or has failed takes no
--- frame, so this says nothing of it.
+-- An end takes a frame that says this: its verdict, and what the end keeps then. An end that is closed or has failed
+-- takes no frame, so this says nothing of it.
 abbrev pub taken_verdict : {role : Role} → Config role → End → (number : ℕ) → Reading → FrameVerdict
 taken_verdict config end number reading = verdict_on (facts_at config end number) reading
 
 abbrev pub end_after_taken : (role : Role) → Config role → End → Reading → Frame → End
 end_after_taken role config end reading frame =
     failed_by (taken_verdict config end frame.channel reading)
-    (end_after_owed role config (methods_put (facts_at config end frame.channel) (taken_verdict config end frame.channel reading)) (end_after role config frame.channel (TookHere reading frame) end))
+    (end_after_owed role config (methods_put (facts_at config end frame.channel)
+    (taken_verdict config end frame.channel reading))
+    (end_after role config frame.channel (TookHere reading frame) end))
 
 -- Octets show a frame above the limit: the end closes the connection, and has failed.
 abbrev pub end_after_too_large : (role : Role) → Config role → End → End
@@ -333,11 +348,12 @@ Counts role (Open life) entries = CountsOpen role life entries
 abbrev pub ChannelStandsFor : Role → Channel → List ChannelEntry → Type 0
 ChannelStandsFor role channel entries = Counts role channel (entries_before_leaving entries)
 
--- What an end keeps stands for its history. Until the handshake is over every channel is Free. Of an end that has failed
--- no channel is looked at any more.
+-- What an end keeps stands for its history. Until the handshake is over every channel is Free. Of an end that has
+-- failed no channel is looked at any more.
 pub record StandsFor (role : Role) (config : Config role) (failed : Bool) (end : End) (history : History) : Type 0 where
   pub phase : phase_from role failed (entries_on 0 history) ≡ end.phase
   pub agreed : agreed_from role config (entries_on 0 history) ≡ end.agreed
   pub no_channel : end.channels 0 ≡ Free
   pub free_before : (step : HandshakeStep) → end.phase ≡ Handshake step → (n : ℕ) → end.channels n ≡ Free
-  pub channels : failed ≡ false → (n : ℕ) → ChannelStandsFor role (end.channels (suc n)) (entries_on (suc n) history)
+  pub channels : failed ≡ false → (n : ℕ)
+      → ChannelStandsFor role (end.channels (suc n)) (entries_on (suc n) history)

@@ -13,8 +13,9 @@ use Rattle.amqp_model.specs.End.Machine.{StandsFor}
 abbrev pub NoneAbove : End → Type 0
 NoneAbove end = (n : ℕ) → channel_max end.agreed < n → end.channels n ≡ Free
 
--- so it is of every end that stands for a lawful history
+-- Every end that stands for a lawful history keeps no record of a channel above the agreed maximum.
 abbrev pub StandsNumbered : Type 0
 StandsNumbered =
     (role : Role) (config : Config role) (end : End) (history : History)
-    → WritesReadBack role config → Lawful role config false history → StandsFor role config false end history → NoneAbove end
+    → WritesReadBack role config → Lawful role config false history → StandsFor role config false end history
+    → NoneAbove end

@@ -1,5 +1,5 @@
--- What is written reads as what it was made of: premises of the laws that speak of what an end puts. `Fitting` says when they
--- hold.
+-- What is written reads as what it was made of: premises of the laws that speak of what an end puts. `Fitting` says
+-- when they hold.
 use Rattle.std.specs.Prelude.{◌≡◌, ℕ, length, Some}
 use Rattle.amqp_method.specs.declared.kinds.Kind.TheVariants as kinds
 use Rattle.amqp_method.specs.Fitting.{FitsShort}
@@ -21,11 +21,12 @@ abbrev pub header_of : Content → Header
 header_of content = record { body_size = length content.body; properties = content.properties }
 
 abbrev pub HeaderAskedReadsBack : Ask → Type 0
-HeaderAskedReadsBack (Send channel (Whole content)) = header_at (plain_header (header_of content)) ≡ Some (header_of content)
+HeaderAskedReadsBack (Send channel (Whole content)) =
+    header_at (plain_header (header_of content)) ≡ Some (header_of content)
 HeaderAskedReadsBack ask = Unit {0}
 
--- The text of a close, and the reason of a block, is a short string. The plain encoding of a longer one could read back too,
--- with a length that is no octet.
+-- The text of a close, and the reason of a block, is a short string. The plain encoding of a longer one could read back
+-- too, with a length that is no octet.
 abbrev pub TextAskedFits : Ask → Type 0
 TextAskedFits (CloseChannel channel code text cause) = FitsShort text
 TextAskedFits (Close code text cause) = FitsShort text
@@ -42,7 +43,8 @@ pub record AskReadsBack (ask : Ask) : Type 0 where
 -- answer to start. What a server admits with says its own configuration.
 abbrev pub ControlReadsBack : (role : Role) → Config role → Control → Type 0
 ControlReadsBack role config (Refuse code text) = ReadsBack (close_as kinds.ConnectionClose code text) × FitsShort text
-ControlReadsBack Client config (AnswerStart mechanism response locale) = ReadsBack (start_ok_choosing config mechanism response locale)
+ControlReadsBack Client config (AnswerStart mechanism response locale) =
+    ReadsBack (start_ok_choosing config mechanism response locale)
 ControlReadsBack role config control = Unit {0}
 
 abbrev pub AdmissionReadsBack : (role : Role) → Config role → Type 0

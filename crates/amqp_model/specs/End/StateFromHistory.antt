@@ -2,16 +2,21 @@
 --
 -- That an end has failed is no function of a history, since a wrong end octet or out of memory leaves it as it was:
 -- a mark stands beside the history and is looked at first.
-use Rattle.std.specs.Prelude.{Bool, true, false, cond, not, ◌&&◌, ◌||◌, ℕ, zero, suc, List, [], ◌∷◌, Option, Some, None}
+use Rattle.std.specs.Prelude.{Bool, true, false, cond, not, ◌&&◌, ◌||◌, ℕ, zero, suc, List, [], ◌∷◌}
+use Rattle.std.specs.Prelude.{Option, Some, None}
 use Rattle.amqp_method.specs.declared.kinds.Kind.TheVariants as kinds
 use Rattle.amqp_model.specs.Wire.Notes.{Role, Client, Server}
 use Rattle.amqp_model.specs.History.States.{State}
 use Rattle.amqp_model.specs.History.Lives.{state_by, is_paused, awaits_flow_ok}
 use Rattle.amqp_model.specs.Wire.Methods.{MethodKind, same_kind}
 use Rattle.amqp_model.specs.Wire.Readings.{Calls, is_call}
-use Rattle.amqp_model.specs.History.Histories.{History, ChannelEntry, PutHere, TookHere, entries_on, notes, under_way, entries_before_leaving}
+use Rattle.amqp_model.specs.History.Histories.{History, ChannelEntry, PutHere, TookHere, entries_on, notes, under_way}
+use Rattle.amqp_model.specs.History.Histories.{entries_before_leaving}
 use Rattle.amqp_model.specs.History.Replies.{unreplied}
-use Rattle.amqp_model.specs.End.Channels.{Life, Channel, Free, Opening, Closing, Open, HandshakeStep, AwaitsProtocolHeader, AwaitsStart, AwaitsStartOk, AwaitsTune, AwaitsTuneOk, AwaitsOpen, AwaitsOpenOk, HoldsStart, HoldsLogin, HoldsOpen, Phase, Handshake, Running, Closed, Failed, Agreed, End}
+use Rattle.amqp_model.specs.End.Channels.{Life, Channel, Free, Opening, Closing, Open, HandshakeStep}
+use Rattle.amqp_model.specs.End.Channels.{AwaitsProtocolHeader, AwaitsStart, AwaitsStartOk, AwaitsTune, AwaitsTuneOk}
+use Rattle.amqp_model.specs.End.Channels.{AwaitsOpen, AwaitsOpenOk, HoldsStart, HoldsLogin, HoldsOpen, Phase, Handshake}
+use Rattle.amqp_model.specs.End.Channels.{Running, Closed, Failed, Agreed, End}
 use Rattle.amqp_model.specs.History.Negotiation.{Config, agreed_in, in_range}
 
 -- Channel 0: the connection itself.
@@ -48,18 +53,21 @@ is_negotiated Server entries = has_put kinds.ConnectionOpenOk entries
 abbrev pub step_from : Role → List ChannelEntry → HandshakeStep
 step_from Client entries =
     cond (has_taken kinds.ConnectionTune entries) AwaitsOpenOk
-    (cond (has_put kinds.ConnectionStartOk entries) AwaitsTune (cond (has_taken kinds.ConnectionStart entries) HoldsStart AwaitsStart))
+    (cond (has_put kinds.ConnectionStartOk entries) AwaitsTune
+    (cond (has_taken kinds.ConnectionStart entries) HoldsStart AwaitsStart))
 step_from Server entries =
     cond (has_taken kinds.ConnectionOpen entries) HoldsOpen
     (cond (has_taken kinds.ConnectionTuneOk entries) AwaitsOpen
     (cond (has_put kinds.ConnectionTune entries) AwaitsTuneOk
-    (cond (has_taken kinds.ConnectionStartOk entries) HoldsLogin (cond (has_put kinds.ConnectionStart entries) AwaitsStartOk AwaitsProtocolHeader))))
+    (cond (has_taken kinds.ConnectionStartOk entries) HoldsLogin
+    (cond (has_put kinds.ConnectionStart entries) AwaitsStartOk AwaitsProtocolHeader))))
 
 abbrev pub phase_from : Role → (failed : Bool) → List ChannelEntry → Phase
 phase_from role failed entries =
     cond failed Failed
     (cond (is_closed entries) Closed
-    (cond (has_put kinds.ConnectionClose entries) Phase.Closing (cond (is_negotiated role entries) Running (Handshake (step_from role entries)))))
+    (cond (has_put kinds.ConnectionClose entries) Phase.Closing
+    (cond (is_negotiated role entries) Running (Handshake (step_from role entries)))))
 
 abbrev pub accepted : Config Server → Agreed → Option Agreed
 accepted config agreed = cond (in_range config agreed) (Some agreed) None

@@ -12,6 +12,7 @@ use Rattle.amqp_model.specs.Wire.Gathering.{Gathering, gathering}
 use Rattle.amqp_model.specs.Wire.Readings.{Reading, reading, is_call, kind_of, payload_of}
 
 -- a frame that the end appended to its output, or that it took as a whole
+-- a frame that an end put, or one that it took
 pub data Entry : Type 0 where
   Put Took : Frame → Entry
 
@@ -19,6 +20,7 @@ abbrev pub channel_of : Entry → ℕ
 channel_of (Put frame) = frame.channel
 channel_of (Took frame) = frame.channel
 
+-- what an end put and took, the newest first
 abbrev pub History : Type 0
 History = List Entry
 
@@ -35,7 +37,8 @@ closes_connection frame = (frame.channel == 0) && is_call kinds.ConnectionClose 
 -- what a channel sees of an entry
 abbrev pub seen_on : (channel : ℕ) → Entry → List ChannelEntry
 seen_on channel (Put frame) =
-    cond (frame.channel == channel) (PutHere (reading frame) frame ∷ []) (cond (closes_connection frame) (LeftHere ∷ []) [])
+    cond (frame.channel == channel) (PutHere (reading frame) frame ∷ [])
+    (cond (closes_connection frame) (LeftHere ∷ []) [])
 seen_on channel (Took frame) = cond (frame.channel == channel) (TookHere (reading frame) frame ∷ []) []
 
 -- the entries of one channel
@@ -66,4 +69,5 @@ under_way entries = gathering (payloads_taken entries)
 abbrev pub entries_before_leaving : List ChannelEntry → List ChannelEntry
 entries_before_leaving [] = []
 entries_before_leaving (LeftHere ∷ before) = entries_before_leaving before
-entries_before_leaving (entry ∷ before) = cond (has_left (notes before)) (entries_before_leaving before) (entry ∷ before)
+entries_before_leaving (entry ∷ before) =
+    cond (has_left (notes before)) (entries_before_leaving before) (entry ∷ before)

@@ -10,7 +10,8 @@
 -- answered is this profile's rule.
 use Rattle.std.specs.Prelude.{Bool, true, false, cond, not, ◌&&◌, ◌||◌, ℕ, suc, List, [], ◌∷◌}
 use Rattle.amqp_model.specs.History.States.{State, Free, Opening, Closing}
-use Rattle.amqp_model.specs.Wire.Notes.{Role, is_client, is_server, Open, OpenOk, Close, CloseOk, Flow, FlowOk, Note, Put, Took, Leaving}
+use Rattle.amqp_model.specs.Wire.Notes.{Role, is_client, is_server, Open, OpenOk, Close, CloseOk, Flow, FlowOk, Note}
+use Rattle.amqp_model.specs.Wire.Notes.{Put, Took, Leaving}
 
 -- a test of a note, given what stands before it
 abbrev pub Test : Type 0

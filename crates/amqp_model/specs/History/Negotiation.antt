@@ -1,7 +1,8 @@
 -- The handshake of a connection: AMQP 0-9-1 specification, sections 2.2.4, 4.2.2 and 4.2.7, and `amqp0-9-1.xml`,
 -- class connection. The order is protocol header, start, start-ok, tune, tune-ok, open, open-ok. An end that is gated
 -- leaves what it answers to start, or to start-ok and open, to its application: that is this profile's.
-use Rattle.std.specs.Prelude.{Bool, cond, not, ◌&&◌, ℕ, nat_lt, nat_le, ◌==◌, min, List, [], ◌∷◌, Option, Some, None}
+use Rattle.std.specs.Prelude.{Bool, cond, not, ◌&&◌, ℕ, nat_lt, nat_le, ◌==◌, min, List, [], ◌∷◌}
+use Rattle.std.specs.Prelude.{Option, Some, None}
 use Rattle.amqp_method.specs.declared.kinds.Kind.TheVariants as kinds
 use Rattle.amqp_value.specs.Values.{Pairs}
 use Rattle.amqp_model.specs.Wire.Notes.{Role, Client, Server}
@@ -40,7 +41,10 @@ frame_limit (Some agreed) = agreed.frame_max
 
 abbrev start_by : Hello Server → Method
 start_by (OfServer properties mechanisms locales) =
-    record { kind = kinds.ConnectionStart; args = octet 0 ∷ octet 9 ∷ table properties ∷ long_string mechanisms ∷ long_string locales ∷ [] }
+    record {
+      kind = kinds.ConnectionStart;
+      args = octet 0 ∷ octet 9 ∷ table properties ∷ long_string mechanisms ∷ long_string locales ∷ [];
+    }
 
 -- version 0, 9, and the server's hello
 abbrev pub start : Config Server → Method
@@ -67,7 +71,10 @@ start_ok_choosing config mechanism response locale = start_ok_with config.hello 
 -- the server's own limits, and the heartbeat that it wants
 abbrev pub tune : Config Server → Method
 tune config =
-    record { kind = kinds.ConnectionTune; args = short config.channel_max ∷ long config.frame_max ∷ short config.heartbeat ∷ [] }
+    record {
+      kind = kinds.ConnectionTune;
+      args = short config.channel_max ∷ long config.frame_max ∷ short config.heartbeat ∷ [];
+    }
 
 -- the smaller of two limits, where the other end's 0 means none
 abbrev pub smaller : (own others : ℕ) → ℕ
@@ -95,7 +102,8 @@ tune_ok agreed =
 
 -- what a tune-ok says
 abbrev pub agreed_in : Method → Agreed
-agreed_in method = record { channel_max = number_at 0 method; frame_max = number_at 1 method; heartbeat = number_at 2 method }
+agreed_in method =
+    record { channel_max = number_at 0 method; frame_max = number_at 1 method; heartbeat = number_at 2 method }
 
 -- the server takes a tune-ok within its own limits, with any heartbeat
 abbrev pub in_range : Config Server → Agreed → Bool

@@ -15,7 +15,7 @@ request_made (Calls method) = cond (is_request method) (method.kind ∷ []) []
 request_made reading = []
 
 -- a reply that carries no content, which answers as it is taken
-abbrev pub replies_plainly : Reading → Bool
+abbrev replies_plainly : Reading → Bool
 replies_plainly (Calls method) = is_reply method.kind && not (carries_content method)
 replies_plainly reading = false
 
@@ -53,14 +53,16 @@ abbrev pub requested : Role → List ChannelEntry → List MethodKind
 requested role [] = []
 requested role (entry ∷ before) =
     cond (is_opening role (note_of entry) (notes before)) []
-    (cond (counts (note_of entry) (notes before)) (requested role before ++ asked_by role entry) (requested role before))
+    (cond (counts (note_of entry) (notes before)) (requested role before ++ asked_by role entry)
+    (requested role before))
 
 -- how many replies there were in the life
 abbrev pub replied : Role → List ChannelEntry → ℕ
 replied role [] = 0
 replied role (entry ∷ before) =
     cond (is_opening role (note_of entry) (notes before)) 0
-    (cond (counts (note_of entry) (notes before)) (replied role before + answered_by role entry (under_way before)) (replied role before))
+    (cond (counts (note_of entry) (notes before)) (replied role before + answered_by role entry (under_way before))
+    (replied role before))
 
 -- the requests of the life without a reply, the oldest first
 abbrev pub unreplied : Role → List ChannelEntry → List MethodKind

@@ -1,21 +1,23 @@
--- What an end does with a frame that it takes on a channel: one function by cases of role, state, awaited flow and kind.
+-- What an end does with a frame that it takes on a channel: one function by cases of role, state, awaited flow and
+-- kind.
 --
 -- The discarding and the answers are those of `amqp0-9-1.xml`, channel.open, flow and close; the codes are the
 -- standard's, and which of them a frame earns is this profile's choice.
 use Rattle.std.specs.Prelude.{Bool, cond, ℕ, List, Option, Some, None}
-use Rattle.amqp_model.specs.Wire.Notes.{Role, Client, Server, Kind, Open, OpenOk, Close, CloseOk, Flow, FlowOk, Other, Note}
+use Rattle.amqp_model.specs.Wire.Notes.{Role, Client, Server, Kind, Open, OpenOk, Close, CloseOk, Flow, FlowOk, Other}
+use Rattle.amqp_model.specs.Wire.Notes.{Note}
 use Rattle.amqp_model.specs.History.States.{State, Free, Opening, Closing}
 use Rattle.amqp_model.specs.History.Lives.{state, awaits_flow_ok, has_left}
 
 -- What comes of a frame. `Acted` is a message that counts: a method without content is told at once, the frames of a
 -- content together, with its last. `Quiet` is a close that crosses the end's own
-pub data Event : Type 0 where
-  Opened Acted ClosedByUs ClosedByPeer Discarded Quiet : Event
-  FlowAsked FlowAnswered : (active : Bool) → Event
+pub data ChannelEvent : Type 0 where
+  Opened Acted ClosedByUs ClosedByPeer Discarded Quiet : ChannelEvent
+  FlowAsked FlowAnswered : (active : Bool) → ChannelEvent
 
 -- the end goes on, with an event and the frame that it owes in reply, or it closes the connection with a code
 pub data Verdict : Type 0 where
-  GoesOn : (event : Event) (owed : Option Kind) → Verdict
+  GoesOn : (event : ChannelEvent) (owed : Option Kind) → Verdict
   Fault : (code : ℕ) → Verdict
 
 -- the codes that a frame can earn here: `amqp0-9-1.xml`, command-invalid and channel-error
@@ -31,15 +33,16 @@ when_closing Close = GoesOn Quiet (Some CloseOk)
 when_closing CloseOk = GoesOn ClosedByUs None
 when_closing kind = GoesOn Discarded None
 
--- The number is free: only an open begins a life, and only the client puts one. An open or an open-ok in the wrong direction
--- is command-invalid, all else channel-error.
+-- The number is free: only an open begins a life, and only the client puts one. An open or an open-ok in the wrong
+-- direction is command-invalid, all else channel-error.
 abbrev pub when_free : Role → Kind → Verdict
 when_free Server Open = GoesOn Opened (Some OpenOk)
 when_free Server OpenOk = Fault command_invalid
 when_free Client Open = Fault command_invalid
 when_free role kind = Fault channel_error
 
--- The client has put open and awaits open-ok, which the server may have let a close follow. A server has no such channel.
+-- The client has put open and awaits open-ok, which the server may have let a close follow. A server has no such
+-- channel.
 abbrev pub when_opening : Role → Kind → Verdict
 when_opening role Close = GoesOn ClosedByPeer (Some CloseOk)
 when_opening Client OpenOk = GoesOn Opened None
@@ -66,4 +69,5 @@ verdict_at role State.Open awaits kind = when_open role awaits kind
 -- the verdict on the next note: an end that has put connection.close drops whatever comes on a channel
 abbrev pub verdict : Role → List Note → Kind → Verdict
 verdict role history kind =
-    cond (has_left history) (GoesOn Discarded None) (verdict_at role (state role history) (awaits_flow_ok role history) kind)
+    cond (has_left history) (GoesOn Discarded None)
+    (verdict_at role (state role history) (awaits_flow_ok role history) kind)

@@ -19,13 +19,14 @@ BlamedIsFault =
     (role : Role) (facts : Facts role) (reading : Reading) (rule : Rule)
     → blamed facts reading ≡ Some rule → verdict_on facts reading ≡ Faults (fault_of rule)
 
--- an end that is not over finds fault with no other
+-- An end that is not over goes on with each frame that breaks no rule.
 abbrev pub FaultIsBlamed : Type 0
 FaultIsBlamed =
     (role : Role) (facts : Facts role) (reading : Reading)
-    → takes_octets facts.phase ≡ true → blamed facts reading ≡ None → goes_on (verdict_on facts reading) ≡ true
+    → takes_octets facts.phase ≡ true → blamed facts reading ≡ None
+    → goes_on (verdict_on facts reading) ≡ true
 
--- and octets that show a fault break a rule of the same fault
+-- Octets that show a fault break a rule whose fault is that one.
 abbrev pub OctetsAreBlamed : Type 0
 OctetsAreBlamed =
     (kind : FrameFaultKind) (rule : Rule)
@@ -38,14 +39,16 @@ BlamedAlike =
     → blamed (facts_at config one number) reading ≡ blamed (facts_at config other number) reading
 
 -- What is told of a piece is of the fault that comes of it, and nothing is told where no fault comes.
-abbrev pub Tells : Outcome → Option Blame → Type 0
-Tells (Found fault) (Some blame) = fault ≡ fault_of blame.rule
-Tells (Found fault) None = ⊥
-Tells outcome None = Unit {0}
-Tells outcome (Some blame) = ⊥
+abbrev pub TellsFinding : Outcome → Option Blame → Type 0
+TellsFinding (Found fault) (Some blame) = fault ≡ fault_of blame.rule
+TellsFinding (Found fault) None = ⊥
+TellsFinding outcome None = Unit {0}
+TellsFinding outcome (Some blame) = ⊥
 
+-- Where octets are taken, the rule told to be broken by a piece has the fault that the piece comes to; and none is told
+-- where no fault comes.
 abbrev pub FeedTells : Type 0
 FeedTells =
     (role : Role) (config : Config role) (endpoint : Endpoint) (piece : List ℕ)
     → takes_octets endpoint.end.phase ≡ true
-    → Tells (after_feed role config endpoint piece).outcome (blame_in_feed role config endpoint piece)
+    → TellsFinding (after_feed role config endpoint piece).outcome (blame_in_feed role config endpoint piece)

@@ -27,7 +27,7 @@ FramesAreOfChannel =
     → (on channel (frames_put history) ≡ map frame_carried (put_by (notes_on channel history)))
     × (on channel (frames_taken history) ≡ map frame_carried (taken_by (notes_on channel history)))
 
--- and each of these notes says what its frame is to the channel
+-- Each note of a channel says what its frame is to the channel.
 abbrev pub NotesAreOfFrames : Type 0
 NotesAreOfFrames =
     (channel : ℕ) (history : History)
@@ -39,7 +39,8 @@ abbrev pub OpeningsMeet : Role → Type 0
 OpeningsMeet role = opening_written (other_end role) ≡ opening_read role
 
 -- The octets that the other end put are those that were fed to this one, and then a rest.
-pub record Carries (role : Role) (limit : ℕ) (mine theirs : History) (put fed unfinished rest : List ℕ) : Type 0 where
+pub record Carries (role : Role) (limit : ℕ) (mine theirs : History)
+    (put fed unfinished rest : List ℕ) : Type 0 where
   pub put_as : PutAs (opening_read role) put (frames_put theirs)
   pub fed_as : FedAs role limit mine fed unfinished
   pub put_is : put ≡ fed ++ rest
@@ -56,5 +57,5 @@ abbrev pub CompletedComesNext : Type 0
 CompletedComesNext =
     (role : Role) (limit : ℕ) (mine theirs : History) (put fed unfinished rest : List ℕ)
     → (f : Frame) (prefix later : List ℕ)
-    → Carries role limit mine theirs put fed unfinished rest → rest ≡ prefix ++ later → unfinished ++ prefix ≡ octets f → Fits f
-    → ComesNext theirs mine f
+    → Carries role limit mine theirs put fed unfinished rest → rest ≡ prefix ++ later
+    → unfinished ++ prefix ≡ octets f → Fits f → ComesNext theirs mine f

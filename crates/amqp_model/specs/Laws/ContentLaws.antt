@@ -1,12 +1,15 @@
 -- What holds of contents, of what is gathered of them, and of items: the statements that the public laws carry.
-use Rattle.std.specs.Prelude.{◌≡◌, ◌↔◌, true, false, ℕ, ◌*◌, ◌<◌, ◌≤◌, List, [], ◌∷◌, ◌++◌, length, take, drop, reverse, All, Some, slice_get}
+use Rattle.std.specs.Prelude.{◌≡◌, ◌↔◌, true, false, ℕ, ◌*◌, ◌<◌, ◌≤◌, List, [], ◌∷◌}
+use Rattle.std.specs.Prelude.{◌++◌, length, take, drop, reverse, All, Some, slice_get}
 use Rattle.amqp_model.specs.Output.Prefixes.{IsPrefixOf}
 use Rattle.std.specs.Option.{option_to_list}
 use Rattle.amqp_frame.specs.Frame.{Frame, frame_length}
 use Rattle.amqp_frame.specs.declared.frames.FrameKind.TheVariants.{Body as BodyKind}
 use Rattle.amqp_model.specs.Wire.Methods.{Method, Properties, sort_of, carries_content}
-use Rattle.amqp_model.specs.Wire.Contents.{Payload, Calls, Header, Body, Content, IsContent, pieces, cut, UnderWay, EndsContent, body_octets, due, IsDue}
-use Rattle.amqp_model.specs.Wire.Gathering.{Gathering, Nothing, BodyDue, Misfit, PastSize, Completes, Keeps, Breaks, step, gathering, kept, Gathers, DoesNotFit}
+use Rattle.amqp_model.specs.Wire.Contents.{Payload, Calls, Header, Body, Content, IsContent, pieces, cut, UnderWay}
+use Rattle.amqp_model.specs.Wire.Contents.{EndsContent, body_octets, due, IsDue}
+use Rattle.amqp_model.specs.Wire.Gathering.{Gathering, Nothing, BodyDue, Misfit, PastSize, Completes, Keeps, Breaks}
+use Rattle.amqp_model.specs.Wire.Gathering.{step, gathering, kept, Gathers, DoesNotFit}
 use Rattle.amqp_model.specs.Wire.Items.{Item, WholeContent, EndsItem, Encodes, item_of, item_ended, items_taken, items}
 
 -- payloads are the content of at most one message
@@ -19,7 +22,8 @@ IsAtMostOneContent =
 abbrev pub NoContentAtStart : Type 0
 NoContentAtStart =
     (payloads : List Payload)
-    → (one other : Content) (next : Payload) (later : List Payload) → IsContent one payloads → IsContent other (payloads ++ next ∷ later) → ⊥
+    → (one other : Content) (next : Payload) (later : List Payload) → IsContent one payloads
+    → IsContent other (payloads ++ next ∷ later) → ⊥
 
 -- the frame of a body part
 abbrev body_frame : (channel : ℕ) → (octets : List ℕ) → Frame
@@ -32,7 +36,9 @@ BodyFits max _ = Unit {0}
 
 -- what is written of a content is that content, where its method carries one and a frame has room for a body
 abbrev pub CutIsContent : Type 0
-CutIsContent = (max : ℕ) (content : Content) → 8 < max → carries_content content.method ≡ true → IsContent content (cut max content)
+CutIsContent =
+    (max : ℕ) (content : Content) → 8 < max → carries_content content.method ≡ true
+    → IsContent content (cut max content)
 
 -- no frame of a body part is longer than it may be
 abbrev pub CutFits : Type 0
@@ -41,7 +47,8 @@ CutFits = (max : ℕ) (content : Content) → 8 < max → All (BodyFits max) (cu
 -- no payloads of the content whose body parts fit are fewer
 abbrev pub CutIsShortest : Type 0
 CutIsShortest =
-    (max : ℕ) (content : Content) (payloads : List Payload) → 8 < max → IsContent content payloads → All (BodyFits max) payloads
+    (max : ℕ) (content : Content) (payloads : List Payload) → 8 < max → IsContent content payloads
+    → All (BodyFits max) payloads
     → length (cut max content) ≤ length payloads
 
 -- the body part at a place holds the octets from there on that fit
@@ -58,7 +65,8 @@ body_lengths (_ ∷ later) = body_lengths later
 
 -- a body of this length is written in parts of these lengths
 abbrev pub CutsTo : (max body_length : ℕ) → List ℕ → Type 0
-CutsTo max body_length lengths = (content : Content) → length content.body ≡ body_length → body_lengths (cut max content) ≡ lengths
+CutsTo max body_length lengths =
+    (content : Content) → length content.body ≡ body_length → body_lengths (cut max content) ≡ lengths
 
 -- payloads taken leave at most one content under way
 abbrev pub OneUnderWay : Type 0
@@ -70,7 +78,8 @@ OneUnderWay =
 abbrev pub GoesOnAsDue : Type 0
 GoesOnAsDue =
     (taken since : List Payload)
-    → (content : Content) (next : Payload) (later : List Payload) → UnderWay taken since → IsContent content (reverse since ++ next ∷ later)
+    → (content : Content) (next : Payload) (later : List Payload) → UnderWay taken since
+    → IsContent content (reverse since ++ next ∷ later)
     → IsDue (due since) next
 
 -- the machine keeps what is under way: a state says it all, and it is the state for it
@@ -97,7 +106,7 @@ NothingAfterMethod =
     (before : List Payload) (method : Method)
     → carries_content method ≡ false → Gathers (Calls method ∷ before) Nothing
 
--- nor after a content that is whole
+-- Nothing is under way after a content that is whole.
 abbrev pub NothingAfterContent : Type 0
 NothingAfterContent =
     (taken : List Payload) (content : Content)
@@ -115,9 +124,9 @@ TellsMisfits =
     (before : List Payload) (payload : Payload) (misfit : Misfit)
     → (step (gathering before) payload ≡ Breaks misfit) ↔ DoesNotFit before payload misfit
 
--- where it goes on, it does so with what is then under way
-abbrev pub GoesOnWith : Type 0
-GoesOnWith =
+-- Where the machine goes on with a payload, it does so with what is then under way.
+abbrev pub StepsUnderWay : Type 0
+StepsUnderWay =
     (before : List Payload) (payload : Payload) (state : Gathering)
     → step (gathering before) payload ≡ Keeps state → Gathers (payload ∷ before) state
 
@@ -141,7 +150,8 @@ ItemsOfPrefix =
 abbrev pub OneMoreEncoded : Type 0
 OneMoreEncoded =
     (prefix : List Payload) (payload : Payload)
-    → items (prefix ++ payload ∷ []) ≡ items prefix ++ option_to_list (item_ended (gathering (reverse prefix)) payload)
+    → items (prefix ++ payload ∷ []) ≡ items prefix ++ option_to_list
+    (item_ended (gathering (reverse prefix)) payload)
 
 -- where nothing is under way, what comes after is encoded as if nothing had come before
 abbrev pub EncodedAfresh : Type 0
@@ -155,7 +165,8 @@ abbrev pub MethodStandsAlone : Type 0
 MethodStandsAlone =
     (prefix : List Payload) (method : Method) (later : List Payload)
     → carries_content method ≡ false
-    → items (prefix ++ Calls method ∷ later) ≡ (items prefix ++ option_to_list (item_of method (sort_of method))) ++ items later
+    → items (prefix ++ Calls method ∷ later)
+    ≡ (items prefix ++ option_to_list (item_of method (sort_of method))) ++ items later
 
 -- a content's payloads add just that content, whatever stands before them
 abbrev pub ContentEncodedAfter : Type 0
@@ -181,11 +192,17 @@ IsToldAtHeader =
 
 -- the content `hi` is whole with its last part, and not with an empty one before
 abbrev pub IsToldAtLastPart : Type 0
-IsToldAtLastPart = (method : Method) (properties : Properties) (before : List Payload) → carries_content method ≡ true
-    → (gathering (Body [] ∷ Body (104 ∷ []) ∷ Header 2 properties ∷ Calls method ∷ before) ≡ BodyDue method 2 properties (104 ∷ []))
-    × (step (BodyDue method 2 properties (104 ∷ [])) (Body (105 ∷ [])) ≡ Completes (content_of method properties (104 ∷ 105 ∷ [])))
+IsToldAtLastPart =
+    (method : Method) (properties : Properties) (before : List Payload) → carries_content method ≡ true
+    → (gathering (Body [] ∷ Body (104 ∷ []) ∷ Header 2 properties ∷ Calls method ∷ before)
+    ≡ BodyDue method 2 properties (104 ∷ []))
+    × (step (BodyDue method 2 properties (104 ∷ [])) (Body (105 ∷ []))
+    ≡ Completes (content_of method properties (104 ∷ 105 ∷ [])))
 
 -- a part of two octets is past the end where one is left
 abbrev pub IsRefusedPastSize : Type 0
-IsRefusedPastSize = (method : Method) (properties : Properties) (before : List Payload) → carries_content method ≡ true
-    → step (gathering (Body (104 ∷ []) ∷ Header 2 properties ∷ Calls method ∷ before)) (Body (105 ∷ 33 ∷ [])) ≡ Breaks PastSize
+IsRefusedPastSize =
+    (method : Method) (properties : Properties) (before : List Payload) → carries_content method ≡ true
+    → step (gathering (Body (104 ∷ []) ∷ Header 2 properties ∷ Calls method ∷ before))
+    (Body (105 ∷ 33 ∷ []))
+    ≡ Breaks PastSize

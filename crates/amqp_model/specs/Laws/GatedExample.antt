@@ -9,7 +9,8 @@ use Rattle.amqp_model.specs.Wire.Notes.{Client, Server}
 use Rattle.amqp_model.specs.Wire.Methods.{Method}
 use Rattle.amqp_model.specs.History.Histories.{Put, Took, History}
 use Rattle.amqp_model.specs.End.Channels.{Closed, Agreed}
-use Rattle.amqp_model.specs.History.Negotiation.{Config, OfClient, OfServer, start, start_ok_choosing, tune, tune_ok, connection_open, connection_open_ok}
+use Rattle.amqp_model.specs.History.Negotiation.{Config, OfClient, OfServer, start, start_ok_choosing, tune, tune_ok}
+use Rattle.amqp_model.specs.History.Negotiation.{connection_open, connection_open_ok}
 use Rattle.amqp_model.specs.End.Closes.{method_frame, without_arguments, close_as}
 use Rattle.amqp_model.specs.End.Controls.{heartbeat_frame}
 use Rattle.amqp_model.specs.End.LawfulHistories.{end_of}
@@ -61,7 +62,7 @@ abbrev pub close_ok : Method
 close_ok = without_arguments kinds.ConnectionCloseOk
 
 -- what each of the two put and took, the newest first
-abbrev pub admitted_client : History
+abbrev admitted_client : History
 admitted_client =
     Put (on_zero close_ok)
     ∷ Took (on_zero closing)
@@ -75,7 +76,7 @@ admitted_client =
     ∷ Took (on_zero (start gated_server))
     ∷ []
 
-abbrev pub admitting_server : History
+abbrev admitting_server : History
 admitting_server =
     Took (on_zero close_ok)
     ∷ Took heartbeat_frame
@@ -89,13 +90,15 @@ admitting_server =
     ∷ Put (on_zero (start gated_server))
     ∷ []
 
-abbrev pub refused_client : History
+abbrev refused_client : History
 refused_client =
-    Put (on_zero close_ok) ∷ Took (on_zero refusing) ∷ Put (on_zero chosen) ∷ Took (on_zero (start gated_server)) ∷ []
+    Put (on_zero close_ok) ∷ Took (on_zero refusing) ∷ Put (on_zero chosen)
+    ∷ Took (on_zero (start gated_server)) ∷ []
 
-abbrev pub refusing_server : History
+abbrev refusing_server : History
 refusing_server =
-    Took (on_zero close_ok) ∷ Put (on_zero refusing) ∷ Took (on_zero chosen) ∷ Put (on_zero (start gated_server)) ∷ []
+    Took (on_zero close_ok) ∷ Put (on_zero refusing) ∷ Took (on_zero chosen)
+    ∷ Put (on_zero (start gated_server)) ∷ []
 
 -- Two ends come to these histories. Both are closed then; where the login was admitted they have agreed, and where it
 -- was refused they have not.

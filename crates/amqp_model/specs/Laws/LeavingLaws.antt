@@ -14,9 +14,24 @@ abbrev pub ClosesArePutLast : (role : Role) → Config role → (failed : Bool) 
 ClosesArePutLast role config failed history =
     WritesReadBack role config → Lawful role config failed history → LeavesLast (frames_put history)
 
+-- An end puts nothing but closes of the connection after a close of it.
+abbrev pub AllClosesArePutLast : Type 0
+AllClosesArePutLast =
+    (role : Role) (config : Config role) (failed : Bool) (history : History)
+    → ClosesArePutLast role config failed history
+
 -- So its octets, written or not, are what it began with and then its frames, each channel's in order, and no frame of a
 -- channel above 0 after a close.
-abbrev pub OctetsArePutAs : (role : Role) → Config role → (failed : Bool) → History → (opening written : List ℕ) → Output → Type 0
+abbrev pub OctetsArePutAs : (role : Role) → Config role → (failed : Bool) → History
+    → (opening written : List ℕ) → Output → Type 0
 OctetsArePutAs role config failed history opening written output =
-    WritesReadBack role config → Lawful role config failed history → IsOutputOf opening (frames_put history) written output
+    WritesReadBack role config → Lawful role config failed history
+    → IsOutputOf opening (frames_put history) written output
     → PutAs opening (written ++ output_octets output) (frames_put history)
+
+-- The octets of an end, written or not, are what it began with and then its frames, in order.
+abbrev pub AllOctetsArePutAs : Type 0
+AllOctetsArePutAs =
+    (role : Role) (config : Config role) (failed : Bool) (history : History) (opening written : List ℕ)
+    (output : Output)
+    → OctetsArePutAs role config failed history opening written output

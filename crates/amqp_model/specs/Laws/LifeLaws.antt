@@ -1,16 +1,19 @@
 -- What holds of every run of a channel: the statements that the public laws carry.
-use Rattle.std.specs.Prelude.{◌≡◌, ◌⊎◌, true, false, ℕ, List, ◌∷◌, ◌++◌, map, All, Option, Some, slice_get}
+use Rattle.std.specs.Prelude.{◌≡◌, ◌⊎◌, true, false, ℕ, List, ◌∷◌, ◌++◌, map, All, Option, Some}
+use Rattle.std.specs.Prelude.{slice_get}
 use Rattle.amqp_model.specs.Output.Prefixes.{IsPrefixOf}
 use Rattle.amqp_model.specs.Wire.Frame.{Frame}
 use Rattle.amqp_model.specs.Wire.Notes.{Role, other_end, Kind, Close, Note, Put, Took, Leaving, is_content}
 use Rattle.amqp_model.specs.History.States.{State, Opening}
 use Rattle.amqp_model.specs.History.Lives.{lives, state, has_left, pauses_other}
 use Rattle.amqp_model.specs.Pair.Sentences.{PausesOther}
-use Rattle.amqp_model.specs.History.Verdict.{Event, GoesOn, verdict}
-use Rattle.amqp_model.specs.Pair.Carried.{Carried, Carry, message_frames, put_by, taken_by, NoteInLife, life_of, puts, takes, sent, acted}
+use Rattle.amqp_model.specs.History.Verdict.{ChannelEvent, GoesOn, verdict}
+use Rattle.amqp_model.specs.Pair.Carried.{Carried, Carry, message_frames, put_by, taken_by, NoteInLife, life_of, puts}
+use Rattle.amqp_model.specs.Pair.Carried.{takes, sent, acted}
 use Rattle.amqp_model.specs.Pair.Runs.{IsNext, RunAt}
 
--- A law of both ends of every run of a channel: `mine` are the notes of the end in this role, `theirs` those of the other.
+-- A law of both ends of every run of a channel: `mine` are the notes of the end in this role, `theirs` those of the
+-- other.
 abbrev pub OnEachRun : (Role → (mine theirs : List Note) → Type 0) → Type 0
 OnEachRun Law = (role : Role) (mine theirs : List Note) → RunAt role mine theirs → Law role mine theirs
 
@@ -26,11 +29,13 @@ SidesAgree role mine theirs =
 
 -- the verdict on a frame of this kind, if it comes next, is no fault
 abbrev pub GoesOnWith : Role → List Note → Kind → Type 0
-GoesOnWith role mine kind = (event : Event) × (owed : Option Kind) × (verdict role mine kind ≡ GoesOn event owed)
+GoesOnWith role mine kind =
+    (event : ChannelEvent) × (owed : Option Kind) × (verdict role mine kind ≡ GoesOn event owed)
 
 -- whatever comes next to the end, it goes on
 abbrev pub FindsNoFault : Role → (mine theirs : List Note) → Type 0
-FindsNoFault role mine theirs = (kind : Kind) (frame : Frame) → IsNext theirs mine (Carry kind frame) → GoesOnWith role mine kind
+FindsNoFault role mine theirs =
+    (kind : Kind) (frame : Frame) → IsNext theirs mine (Carry kind frame) → GoesOnWith role mine kind
 
 -- what an end acted on in a life is a prefix of what the other sent in it
 abbrev pub ActsOnPrefix : Role → (mine theirs : List Note) → Type 0
@@ -42,7 +47,7 @@ pub record IsLive (role : Role) (history : List Note) : Type 0 where
   pub state_is : (state role history ≡ Opening) ⊎ (state role history ≡ State.Open)
 
 -- what the other put is what the end took, and then what is in flight
-abbrev pub IsOnItsWay : Role → (mine theirs : List Note) → List NoteInLife → Type 0
+abbrev IsOnItsWay : Role → (mine theirs : List Note) → List NoteInLife → Type 0
 IsOnItsWay role mine theirs rest = puts (other_end role) theirs ≡ takes role mine ++ rest
 
 -- the end took the other's close in this life, before it put a close of the channel or the connection
@@ -57,7 +62,8 @@ pub record EndedByPeer (role : Role) (life : ℕ) (history : List Note) : Type 0
 -- all that is in flight to a live end is of its own life
 abbrev pub OnItsWayIsOfItsLife : Role → (mine theirs : List Note) → Type 0
 OnItsWayIsOfItsLife role mine theirs =
-    (rest : List NoteInLife) → IsLive role mine → IsOnItsWay role mine theirs rest → All (λ entry. life_of entry ≡ lives role mine) rest
+    (rest : List NoteInLife) → IsLive role mine → IsOnItsWay role mine theirs rest
+    → All (λ entry. life_of entry ≡ lives role mine) rest
 
 -- what the other sent in the life of a live end is what the end acted on in it, and then the messages in flight
 abbrev pub SentIsActedOnOrOnItsWay : Role → (mine theirs : List Note) → Type 0
@@ -67,29 +73,29 @@ SentIsActedOnOrOnItsWay role mine theirs =
 
 -- all that the other sent in a life that its close ended was acted on
 abbrev pub AllActedOnAtClose : Role → (mine theirs : List Note) → Type 0
-AllActedOnAtClose role mine theirs = (life : ℕ) → EndedByPeer role life mine → acted role life mine ≡ sent (other_end role) life theirs
+AllActedOnAtClose role mine theirs =
+    (life : ℕ) → EndedByPeer role life mine → acted role life mine ≡ sent (other_end role) life theirs
 
 -- All that the other sent in the life of a live end was acted on, where the end has taken all that the other put. So
 -- it is as the end takes the other's connection.close, which stands after every frame put before it.
 abbrev pub AllActedOnAtConnectionClose : Role → (mine theirs : List Note) → Type 0
 AllActedOnAtConnectionClose role mine theirs =
-    IsLive role mine → put_by theirs ≡ taken_by mine → acted role (lives role mine) mine ≡ sent (other_end role) (lives role mine) theirs
+    IsLive role mine → put_by theirs ≡ taken_by mine
+    → acted role (lives role mine) mine ≡ sent (other_end role) (lives role mine) theirs
 
 -- a content that an end takes comes at no moment at which the end has paused the other: none from where it took
 -- flow-ok with active 0 in a life until it puts flow with active 1
 abbrev pub TakesNoContentPaused : Role → (mine theirs : List Note) → Type 0
 TakesNoContentPaused role mine theirs =
-    (later : List Note) (kind : Kind) (frame : Frame) (before : List Note) → mine ≡ later ++ Took kind frame ∷ before
-    → is_content kind ≡ true
-    → pauses_other role before ≡ false
+    (later : List Note) (kind : Kind) (frame : Frame) (before : List Note)
+    → mine ≡ later ++ Took kind frame ∷ before → is_content kind ≡ true → pauses_other role before ≡ false
 
--- the same in plain words: there was no flow-ok with active 0 taken after which came no opening note and no flow
--- with active 1 put
+-- The same in plain words: before a content that an end takes, it took no flow-ok with active 0 after which came
+-- neither an opening note nor a flow with active 1 that it put.
 abbrev pub NoPauseBeforeContent : Role → (mine theirs : List Note) → Type 0
 NoPauseBeforeContent role mine theirs =
-    (later : List Note) (kind : Kind) (frame : Frame) (before : List Note) → mine ≡ later ++ Took kind frame ∷ before
-    → is_content kind ≡ true
-    → PausesOther role before → ⊥
+    (later : List Note) (kind : Kind) (frame : Frame) (before : List Note)
+    → mine ≡ later ++ Took kind frame ∷ before → is_content kind ≡ true → PausesOther role before → ⊥
 
 -- from where the end puts close in a life, it acts on nothing of that life
 abbrev pub ActsOnNothingAfterItsClose : Role → (mine : List Note) → Type 0
@@ -101,4 +107,5 @@ ActsOnNothingAfterItsClose role mine =
 abbrev pub ActsOnNothingAfterLeaving : Type 0
 ActsOnNothingAfterLeaving =
     (role : Role) (mine : List Note)
-    → (life : ℕ) (later before : List Note) → mine ≡ later ++ Leaving ∷ before → acted role life mine ≡ acted role life before
+    → (life : ℕ) (later before : List Note) → mine ≡ later ++ Leaving ∷ before
+    → acted role life mine ≡ acted role life before

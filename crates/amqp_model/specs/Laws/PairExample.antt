@@ -1,6 +1,6 @@
--- A connection of two ends, from its first frame to its last: they settle on the client's limit of channels and on the server's
--- size of a frame, each sends a content, the server pauses the client, a request has its reply, and the closes of the channel
--- and of the connection cross.
+-- A connection of two ends, from its first frame to its last: they settle on the client's limit of channels and on the
+-- server's size of a frame, each sends a content, the server pauses the client, a request has its reply, and the closes
+-- of the channel and of the connection cross.
 use Rattle.std.specs.Prelude.{◌≡◌, false, List, [], ◌∷◌, codes, length, Option, Some, None}
 use Rattle.amqp_value.specs.Values.{no_pairs}
 use Rattle.amqp_method.specs.declared.kinds.Kind.TheVariants as kinds
@@ -12,7 +12,8 @@ use Rattle.amqp_model.specs.Wire.Contents.{Content, Header, Body}
 use Rattle.amqp_model.specs.Wire.Items.{PlainMethod, WholeContent, FlowItem, FlowOkItem}
 use Rattle.amqp_model.specs.History.Histories.{Put, Took, History}
 use Rattle.amqp_model.specs.End.Channels.{Closed, Agreed}
-use Rattle.amqp_model.specs.History.Negotiation.{Config, OfClient, OfServer, start, start_ok, tune, tune_ok, connection_open, connection_open_ok}
+use Rattle.amqp_model.specs.History.Negotiation.{Config, OfClient, OfServer, start, start_ok, tune, tune_ok}
+use Rattle.amqp_model.specs.History.Negotiation.{connection_open, connection_open_ok}
 use Rattle.amqp_model.specs.End.Closes.{method_frame, without_arguments, flow_as, close_as}
 use Rattle.amqp_model.specs.End.Asks.{payload_frame}
 use Rattle.amqp_model.specs.End.LawfulHistories.{end_of}
@@ -32,7 +33,15 @@ example_client =
     }
 
 abbrev pub example_server : Config Server
-example_server = record { frame_max = 4096; channel_max = 2047; max_body = 1000; heartbeat = 0; gated = false; hello = OfServer no_pairs (codes "PLAIN") (codes "en_US") }
+example_server =
+    record {
+      frame_max = 4096;
+      channel_max = 2047;
+      max_body = 1000;
+      heartbeat = 0;
+      gated = false;
+      hello = OfServer no_pairs (codes "PLAIN") (codes "en_US");
+    }
 
 -- what they settle
 abbrev pub settled_example : Agreed
@@ -64,16 +73,24 @@ abbrev pub select_ok : Method
 select_ok = without_arguments kinds.TxSelectOk
 
 abbrev no_properties : List (Option Argument)
-no_properties = None ∷ None ∷ None ∷ None ∷ None ∷ None ∷ None ∷ None ∷ None ∷ None ∷ None ∷ None ∷ None ∷ None ∷ []
+no_properties =
+    None ∷ None ∷ None ∷ None ∷ None ∷ None ∷ None ∷ None ∷ None ∷ None ∷ None
+    ∷ None ∷ None ∷ None ∷ []
 
 abbrev publish : Method
-publish = record { kind = kinds.BasicPublish; args = short_string [] ∷ short_string (codes "q") ∷ bit false ∷ bit false ∷ [] }
+publish =
+    record {
+      kind = kinds.BasicPublish;
+      args = short_string [] ∷ short_string (codes "q")
+          ∷ bit false ∷ bit false ∷ [];
+    }
 
 abbrev deliver : Method
 deliver =
     record {
       kind = kinds.BasicDeliver;
-      args = short_string (codes "t") ∷ long_long 1 ∷ bit false ∷ short_string [] ∷ short_string (codes "q") ∷ [];
+      args = short_string (codes "t") ∷ long_long 1 ∷ bit false ∷ short_string []
+          ∷ short_string (codes "q") ∷ [];
     }
 
 -- the content that the client sends, and the one that the server does
@@ -161,5 +178,9 @@ pub record ExampleIsPair : Type 0 where
   pub client_agreed : (end_of example_client client_history).agreed ≡ Some settled_example
   pub server_agreed : (end_of example_server server_history).agreed ≡ Some settled_example
   -- what each acted on in the one life of channel 1
-  pub by_server : items_acted Server 1 1 server_history ≡ WholeContent published ∷ FlowOkItem false ∷ PlainMethod select ∷ []
-  pub by_client : items_acted Client 1 1 client_history ≡ WholeContent delivered ∷ FlowItem false ∷ PlainMethod select_ok ∷ []
+  pub by_server :
+      items_acted Server 1 1 server_history ≡ WholeContent published ∷ FlowOkItem false
+      ∷ PlainMethod select ∷ []
+  pub by_client :
+      items_acted Client 1 1 client_history ≡ WholeContent delivered ∷ FlowItem false
+      ∷ PlainMethod select_ok ∷ []

@@ -1,21 +1,24 @@
 -- Runs written as scripts, which compute, and what some of them come to.
 --
 -- In a script a reply is put with the frame that it answers, in place of its own: no definition looks into a frame.
-use Rattle.std.specs.Prelude.{◌≡◌, true, false, cond, ℕ, zero, suc, List, [], ◌∷◌, ◌++◌, length, drop, Some, None}
+use Rattle.std.specs.Prelude.{◌≡◌, true, false, cond, ℕ, zero, suc, List, [], ◌∷◌, ◌++◌, length, drop}
+use Rattle.std.specs.Prelude.{Some, None}
 use Rattle.amqp_model.specs.Wire.Frame.{Frame}
-use Rattle.amqp_model.specs.Wire.Notes.{Role, Client, Server, Kind, Open, OpenOk, Close, CloseOk, Flow, FlowOk, Other, Note, Put, Took, Leaving}
+use Rattle.amqp_model.specs.Wire.Notes.{Role, Client, Server, Kind, Open, OpenOk, Close, CloseOk, Flow, FlowOk, Other}
+use Rattle.amqp_model.specs.Wire.Notes.{Note, Put, Took, Leaving}
 use Rattle.amqp_model.specs.History.States.{State, Free, Closing}
 use Rattle.amqp_model.specs.History.Lives.{lives, state, pauses_other, is_paused}
-use Rattle.amqp_model.specs.History.Verdict.{Opened, Acted, ClosedByUs, ClosedByPeer, Discarded, Quiet, FlowAsked, FlowAnswered, Verdict, GoesOn, Fault, verdict}
+use Rattle.amqp_model.specs.History.Verdict.{Opened, Acted, ClosedByUs, ClosedByPeer, Discarded, Quiet, FlowAsked}
+use Rattle.amqp_model.specs.History.Verdict.{FlowAnswered, Verdict, GoesOn, Fault, verdict}
 use Rattle.amqp_model.specs.Pair.Carried.{Carried, Carry, put_by, taken_by, sent, acted}
 use Rattle.amqp_model.specs.Pair.Runs.{may_put}
 
 -- an end's application asks for a frame; an end takes so many of the notes in flight to it, or all if they are
 -- fewer; an end puts connection.close
-pub data Step : Type 0 where
-  Ask : Role → Kind → Frame → Step
-  Take : Role → (notes : ℕ) → Step
-  Leave : Role → Step
+pub data ScriptStep : Type 0 where
+  Ask : Role → Kind → Frame → ScriptStep
+  Take : Role → (notes : ℕ) → ScriptStep
+  Leave : Role → ScriptStep
 
 -- the notes of both ends, how many steps were done, and which of them were asks that an end refused
 pub record World : Type 0 where
@@ -52,24 +55,25 @@ stepped Client notes w = record { client = notes; server = w.server; steps = suc
 stepped Server notes w = record { client = w.client; server = notes; steps = suc w.steps; refused = w.refused }
 
 abbrev pub refused_step : World → World
-refused_step w = record { client = w.client; server = w.server; steps = suc w.steps; refused = w.refused ++ suc w.steps ∷ [] }
+refused_step w =
+    record { client = w.client; server = w.server; steps = suc w.steps; refused = w.refused ++ suc w.steps ∷ [] }
 
 abbrev pub other_notes : Role → World → List Note
 other_notes Client w = w.server
 other_notes Server w = w.client
 
-abbrev pub after : World → Step → World
+abbrev pub after : World → ScriptStep → World
 after w (Ask role kind frame) =
     cond (may_put role (notes_at role w) kind) (stepped role (Put kind frame ∷ notes_at role w) w) (refused_step w)
 after w (Take role notes) = stepped role (take_many notes role (other_notes role w) (notes_at role w)) w
 after w (Leave role) = stepped role (Leaving ∷ notes_at role w) w
 
-abbrev pub play : World → List Step → World
+abbrev pub play : World → List ScriptStep → World
 play w [] = w
 play w (step ∷ steps) = play (after w step) steps
 
 -- what a script comes to
-abbrev pub replay : List Step → World
+abbrev pub replay : List ScriptStep → World
 replay steps = play (record { client = []; server = []; steps = 0; refused = [] }) steps
 
 -- the verdicts on what an end took, the oldest first
@@ -83,12 +87,12 @@ abbrev pub ALL : ℕ
 ALL = 9
 
 -- a script that begins as the client opens the channel, in three steps
-abbrev pub on_open_channel : Frame → List Step → List Step
+abbrev on_open_channel : Frame → List ScriptStep → List ScriptStep
 on_open_channel open_frame steps = Ask Client Open open_frame ∷ Take Server ALL ∷ Take Client ALL ∷ steps
 
 -- Both ends close before they take the other's close. At step 7 the client may not open the number again, since it
 -- has not taken its close-ok; at step 9 it may.
-abbrev pub crossing_steps : (ℕ → Frame) → List Step
+abbrev pub crossing_steps : (ℕ → Frame) → List ScriptStep
 crossing_steps f =
     on_open_channel (f 1)
     (Ask Client Close (f 4)
@@ -104,6 +108,8 @@ crossing_steps f =
 abbrev pub crossing_closes : (ℕ → Frame) → World
 crossing_closes f = replay (crossing_steps f)
 
+-- In that run only the seventh step is refused, both ends count two lives and are Open, and no message was sent or
+-- acted on.
 pub record CrossingCloses (f : ℕ → Frame) : Type 0 where
   pub refused : (crossing_closes f).refused ≡ 7 ∷ []
   pub lives_of_client : lives Client (crossing_closes f).client ≡ 2
@@ -115,20 +121,30 @@ pub record CrossingCloses (f : ℕ → Frame) : Type 0 where
       ≡ GoesOn Opened None ∷ GoesOn Quiet (Some CloseOk) ∷ GoesOn ClosedByUs None ∷ GoesOn Opened None ∷ []
   pub server_took :
       verdicts Server (crossing_closes f).server
-      ≡ GoesOn Opened (Some OpenOk) ∷ GoesOn Quiet (Some CloseOk) ∷ GoesOn ClosedByUs None ∷ GoesOn Opened (Some OpenOk) ∷ []
-  pub to_server : (life : ℕ) → (sent Client life (crossing_closes f).client ≡ []) × (acted Server life (crossing_closes f).server ≡ [])
-  pub to_client : (life : ℕ) → (sent Server life (crossing_closes f).server ≡ []) × (acted Client life (crossing_closes f).client ≡ [])
+      ≡ GoesOn Opened (Some OpenOk) ∷ GoesOn Quiet (Some CloseOk) ∷ GoesOn ClosedByUs None
+      ∷ GoesOn Opened (Some OpenOk) ∷ []
+  pub to_server :
+      (life : ℕ) → (sent Client life (crossing_closes f).client ≡ [])
+      × (acted Server life (crossing_closes f).server ≡ [])
+  pub to_client :
+      (life : ℕ) → (sent Server life (crossing_closes f).server ≡ [])
+      × (acted Client life (crossing_closes f).client ≡ [])
 
 -- The server closes; the client's close-ok and its next open are taken one after the other.
 abbrev pub closed_and_reopened : (ℕ → Frame) → World
 closed_and_reopened f =
-    replay (on_open_channel (f 1) (Ask Server Close (f 4) ∷ Take Client ALL ∷ Ask Client Open (f 6) ∷ Take Server ALL ∷ []))
+    replay (on_open_channel (f 1) (Ask Server Close (f 4) ∷ Take Client ALL
+    ∷ Ask Client Open (f 6) ∷ Take Server ALL ∷ []))
 
+-- In that run nothing is refused, and the server takes the close-ok before the open.
 pub record ClosedAndReopened (f : ℕ → Frame) : Type 0 where
   pub refused : (closed_and_reopened f).refused ≡ []
-  pub client_took : verdicts Client (closed_and_reopened f).client ≡ GoesOn Opened None ∷ GoesOn ClosedByPeer (Some CloseOk) ∷ []
+  pub client_took :
+      verdicts Client (closed_and_reopened f).client ≡ GoesOn Opened None
+      ∷ GoesOn ClosedByPeer (Some CloseOk) ∷ []
   pub server_took :
-      verdicts Server (closed_and_reopened f).server ≡ GoesOn Opened (Some OpenOk) ∷ GoesOn ClosedByUs None ∷ GoesOn Opened (Some OpenOk) ∷ []
+      verdicts Server (closed_and_reopened f).server
+      ≡ GoesOn Opened (Some OpenOk) ∷ GoesOn ClosedByUs None ∷ GoesOn Opened (Some OpenOk) ∷ []
 
 -- The server closes right after its open-ok, before the client has taken that; the client opens again.
 abbrev pub closed_at_once : (ℕ → Frame) → World
@@ -143,13 +159,19 @@ closed_at_once f =
     ∷ Take Server ALL
     ∷ [])
 
+-- In that run nothing is refused, the client is told of the open and then of the close, and both ends count two lives.
 pub record ClosedAtOnce (f : ℕ → Frame) : Type 0 where
   pub refused : (closed_at_once f).refused ≡ []
-  pub client_took : verdicts Client (closed_at_once f).client ≡ GoesOn Opened None ∷ GoesOn ClosedByPeer (Some CloseOk) ∷ []
+  pub client_took :
+      verdicts Client (closed_at_once f).client ≡ GoesOn Opened None ∷ GoesOn ClosedByPeer (Some CloseOk) ∷ []
   pub lives_of_client : lives Client (closed_at_once f).client ≡ 2
   pub lives_of_server : lives Server (closed_at_once f).server ≡ 2
-  pub to_server : (life : ℕ) → (sent Client life (closed_at_once f).client ≡ []) × (acted Server life (closed_at_once f).server ≡ [])
-  pub to_client : (life : ℕ) → (sent Server life (closed_at_once f).server ≡ []) × (acted Client life (closed_at_once f).client ≡ [])
+  pub to_server :
+      (life : ℕ) → (sent Client life (closed_at_once f).client ≡ [])
+      × (acted Server life (closed_at_once f).server ≡ [])
+  pub to_client :
+      (life : ℕ) → (sent Server life (closed_at_once f).server ≡ [])
+      × (acted Client life (closed_at_once f).client ≡ [])
 
 -- The server sends three contents without a body. The client has taken the first as it closes: it drops the rest.
 abbrev pub discarded_contents : (ℕ → Frame) → World
@@ -168,6 +190,7 @@ discarded_contents f =
     ∷ Take Client ALL
     ∷ []))
 
+-- In that run the client acts on the first content alone and drops the other two, and both ends come to be Free.
 pub record DiscardedContents (f : ℕ → Frame) : Type 0 where
   pub refused : (discarded_contents f).refused ≡ []
   pub client_took :
@@ -183,7 +206,8 @@ pub record DiscardedContents (f : ℕ → Frame) : Type 0 where
       ∷ []
   pub client_is : state Client (discarded_contents f).client ≡ Free
   pub server_is : state Server (discarded_contents f).server ≡ Free
-  pub sent_to_client : sent Server 1 (discarded_contents f).server ≡ f 4 ∷ f 5 ∷ f 6 ∷ f 7 ∷ f 8 ∷ f 9 ∷ []
+  pub sent_to_client : sent Server 1 (discarded_contents f).server ≡ f 4 ∷ f 5 ∷ f 6
+      ∷ f 7 ∷ f 8 ∷ f 9 ∷ []
   pub acted_by_client : acted Client 1 (discarded_contents f).client ≡ f 4 ∷ f 5 ∷ []
   pub sent_to_server : sent Client 1 (discarded_contents f).client ≡ []
   pub acted_by_server : acted Server 1 (discarded_contents f).server ≡ []
@@ -202,10 +226,12 @@ paused_server f =
     ∷ Take Client ALL
     ∷ []))
 
+-- In that run the second flow and the content are refused, and the client acts on the get-ok and its header.
 pub record PausedServer (f : ℕ → Frame) : Type 0 where
   pub refused : (paused_server f).refused ≡ 5 ∷ 7 ∷ []
   pub server_took :
-      verdicts Server (paused_server f).server ≡ GoesOn Opened (Some OpenOk) ∷ GoesOn (FlowAsked false) (Some (FlowOk false)) ∷ []
+      verdicts Server (paused_server f).server
+      ≡ GoesOn Opened (Some OpenOk) ∷ GoesOn (FlowAsked false) (Some (FlowOk false)) ∷ []
   pub client_took :
       verdicts Client (paused_server f).client
       ≡ GoesOn Opened None ∷ GoesOn (FlowAnswered false) None ∷ GoesOn Acted None ∷ GoesOn Acted None ∷ []
@@ -230,22 +256,29 @@ restarted_server f =
     ∷ Take Client ALL
     ∷ []))
 
+-- In that run the content that comes before the server takes the second flow is refused, and the one after it is acted
+-- on.
 pub record RestartedServer (f : ℕ → Frame) : Type 0 where
   pub refused : (restarted_server f).refused ≡ 8 ∷ []
   pub client_took :
       verdicts Client (restarted_server f).client
-      ≡ GoesOn Opened None ∷ GoesOn (FlowAnswered false) None ∷ GoesOn (FlowAnswered true) None ∷ GoesOn Acted None ∷ []
+      ≡ GoesOn Opened None ∷ GoesOn (FlowAnswered false) None ∷ GoesOn (FlowAnswered true) None
+      ∷ GoesOn Acted None ∷ []
   pub acted_by_client : acted Client 1 (restarted_server f).client ≡ f 4 ∷ f 7 ∷ f 10 ∷ []
   pub client_holds : pauses_other Client (restarted_server f).client ≡ false
   pub server_is : is_paused Server (restarted_server f).server ≡ false
 
 -- The server sends a message and closes right after it: the client acts on the message.
 abbrev pub message_then_close : (ℕ → Frame) → World
-message_then_close f = replay (on_open_channel (f 1) (Ask Server (Other false) (f 4) ∷ Ask Server Close (f 5) ∷ Take Client ALL ∷ []))
+message_then_close f =
+    replay (on_open_channel (f 1) (Ask Server (Other false) (f 4) ∷ Ask Server Close (f 5)
+    ∷ Take Client ALL ∷ []))
 
+-- In that run the client acts on all that the server sent.
 pub record MessageThenClose (f : ℕ → Frame) : Type 0 where
   pub client_took :
-      verdicts Client (message_then_close f).client ≡ GoesOn Opened None ∷ GoesOn Acted None ∷ GoesOn ClosedByPeer (Some CloseOk) ∷ []
+      verdicts Client (message_then_close f).client
+      ≡ GoesOn Opened None ∷ GoesOn Acted None ∷ GoesOn ClosedByPeer (Some CloseOk) ∷ []
   pub sent_to_client : sent Server 1 (message_then_close f).server ≡ f 4 ∷ []
   pub acted_by_client : acted Client 1 (message_then_close f).client ≡ f 4 ∷ []
 
@@ -253,8 +286,10 @@ pub record MessageThenClose (f : ℕ → Frame) : Type 0 where
 abbrev pub dropped_client : (ℕ → Frame) → (taken : ℕ) → World
 dropped_client f taken =
     replay (on_open_channel (f 1)
-    (Ask Client (Other true) (f 4) ∷ Ask Client (Other false) (f 5) ∷ Ask Client (Other false) (f 6) ∷ Take Server taken ∷ []))
+    (Ask Client (Other true) (f 4) ∷ Ask Client (Other false) (f 5) ∷ Ask Client (Other false)
+    (f 6) ∷ Take Server taken ∷ []))
 
+-- In that run the server acts on as much of what was sent as it takes, in order.
 pub record DroppedClient (f : ℕ → Frame) : Type 0 where
   pub sent_to_server : sent Client 1 (dropped_client f 1).client ≡ f 4 ∷ f 5 ∷ f 6 ∷ []
   pub first_alone : acted Server 1 (dropped_client f 1).server ≡ f 4 ∷ []
@@ -264,12 +299,16 @@ pub record DroppedClient (f : ℕ → Frame) : Type 0 where
 abbrev pub server_leaves : (ℕ → Frame) → World
 server_leaves f =
     replay
-    (on_open_channel (f 1) (Ask Client (Other false) (f 4) ∷ Leave Server ∷ Ask Client Close (f 6) ∷ Take Server ALL ∷ Ask Server Close (f 8) ∷ []))
+    (on_open_channel (f 1) (Ask Client (Other false) (f 4) ∷ Leave Server
+    ∷ Ask Client Close (f 6) ∷ Take Server ALL ∷ Ask Server Close (f 8) ∷ []))
 
+-- In that run the server acts on nothing, and its own close is refused; it keeps the channel Open, and the client is
+-- Closing.
 pub record ServerLeaves (f : ℕ → Frame) : Type 0 where
   pub refused : (server_leaves f).refused ≡ 8 ∷ []
   pub server_took :
-      verdicts Server (server_leaves f).server ≡ GoesOn Opened (Some OpenOk) ∷ GoesOn Discarded None ∷ GoesOn Discarded None ∷ []
+      verdicts Server (server_leaves f).server
+      ≡ GoesOn Opened (Some OpenOk) ∷ GoesOn Discarded None ∷ GoesOn Discarded None ∷ []
   pub sent_to_server : sent Client 1 (server_leaves f).client ≡ f 4 ∷ []
   pub acted_by_server : acted Server 1 (server_leaves f).server ≡ []
   pub server_is : state Server (server_leaves f).server ≡ State.Open

@@ -32,13 +32,15 @@ AllItemsActedOnAtClose role channel mine theirs =
     (life : ℕ) → EndedByPeer role life (notes_on channel mine)
     → items_acted role channel life mine ≡ items_sent (other_end role) channel life theirs
 
--- all the items that the other sent in the life of a live end were acted on, where the other's connection.close comes next
+-- all the items that the other sent in the life of a live end were acted on, where the other's connection.close comes
+-- next
 abbrev pub AllItemsActedOnAtConnectionClose : Role → (channel : ℕ) → (mine theirs : History) → Type 0
 AllItemsActedOnAtConnectionClose role channel mine theirs =
     (frame : Frame)
     → IsLive role (notes_on channel mine)
     → ComesNext theirs mine frame → is_leaving frame ≡ true
-    → items_acted role channel (life_on role channel mine) mine ≡ items_sent (other_end role) channel (life_on role channel mine) theirs
+    → items_acted role channel (life_on role channel mine) mine
+    ≡ items_sent (other_end role) channel (life_on role channel mine) theirs
 
 -- the end took the other's connection.close in this life of the channel, before it put a close of the channel or the
 -- connection
@@ -69,25 +71,43 @@ ItemsSentAreActedOnOrInFlight role channel mine theirs =
 
 -- the end sent nothing, and acted on nothing, before the first life of a channel
 abbrev pub NoItemsBeforeFirstLife : Role → (channel : ℕ) → History → Type 0
-NoItemsBeforeFirstLife role channel history = (items_sent role channel 0 history ≡ []) × (items_acted role channel 0 history ≡ [])
+NoItemsBeforeFirstLife role channel history =
+    (items_sent role channel 0 history ≡ []) × (items_acted role channel 0 history ≡ [])
 
 -- the items that an end that has not failed told of a channel and a life are those that it acted on in it
 abbrev pub TellsWhatIsActedOn : (role : Role) → Config role → (channel : ℕ) → History → Type 0
 TellsWhatIsActedOn role config channel history =
-    Lawful role config false history → (life : ℕ) → items_of channel life (told role config history) ≡ items_acted role channel life history
+    Lawful role config false history → (life : ℕ)
+    → items_of channel life (told role config history) ≡ items_acted role channel life history
+
+-- What an end told of a channel and a life is what it acted on there.
+abbrev pub EveryEndTellsWhatItActsOn : Type 0
+EveryEndTellsWhatItActsOn =
+    (role : Role) (config : Config role) (n : ℕ) (history : History)
+    → TellsWhatIsActedOn role config (suc n) history
 
 -- a frame that the end finds fault with tells nothing
 abbrev pub FaultTellsNothing : Type 0
 FaultTellsNothing =
     (role : Role) (config : Config role) (history : History) (frame : Frame)
     → goes_on (end_verdict config (end_from role config false history) frame) ≡ false
-    → told role config (then_taken config (end_from role config false history) frame history) ≡ told role config history
+    → told role config (then_taken config (end_from role config false history) frame history)
+    ≡ told role config history
 
 -- the items said on a channel in a life are those that the end sent in it
 abbrev pub SaysWhatIsSent : Role → (channel : ℕ) → History → Type 0
-SaysWhatIsSent role channel history = (life : ℕ) → items_of channel life (said role history) ≡ items_sent role channel life history
+SaysWhatIsSent role channel history =
+    (life : ℕ) → items_of channel life (said role history) ≡ items_sent role channel life history
+
+-- What an end said on a channel in a life is what it sent there.
+abbrev pub EveryEndSaysWhatItSends : Type 0
+EveryEndSaysWhatItSends = (role : Role) (n : ℕ) (history : History) → SaysWhatIsSent role (suc n) history
 
 -- nothing is told or said of channel 0
 abbrev pub NothingOfChannel0 : (role : Role) → Config role → History → Type 0
 NothingOfChannel0 role config history =
     (life : ℕ) → (items_of 0 life (told role config history) ≡ []) × (items_of 0 life (said role history) ≡ [])
+
+-- Nothing is told or said of channel 0.
+abbrev pub NothingIsOfChannel0 : Type 0
+NothingIsOfChannel0 = (role : Role) (config : Config role) (history : History) → NothingOfChannel0 role config history

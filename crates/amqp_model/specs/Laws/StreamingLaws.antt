@@ -5,7 +5,8 @@ use Rattle.amqp_model.specs.Wire.Frame.{Frame}
 use Rattle.amqp_model.specs.Wire.Notes.{Role}
 use Rattle.amqp_model.specs.Wire.Contents.{Payload, Content}
 use Rattle.amqp_model.specs.Wire.Gathering.{Gathering, Completes, Keeps, step, remains, gathering, kept}
-use Rattle.amqp_model.specs.Lent.Streaming.{Streaming, stream_step, stream_remains, streaming, came, octets_of, streamed, streamed_step, gathered_as}
+use Rattle.amqp_model.specs.Lent.Streaming.{Streaming, stream_step, stream_remains, streaming, came, octets_of}
+use Rattle.amqp_model.specs.Lent.Streaming.{streamed, streamed_step, gathered_as}
 use Rattle.amqp_model.specs.Wire.Readings.{Reading, payload_of}
 use Rattle.amqp_model.specs.History.Histories.{ChannelEntry, History}
 use Rattle.amqp_model.specs.End.Channels.{Life, Channel, Open, End}
@@ -20,7 +21,8 @@ use Rattle.amqp_model.specs.End.Machine.{end_after, end_after_put, end_after_tak
 use Rattle.amqp_model.specs.End.Fitting.{ConfigWrites}
 use Rattle.amqp_model.specs.Stream.Endpoint.{Endpoint, Feeding, after_feed, after_ask, after_wrote}
 use Rattle.amqp_model.specs.Laws.OctetLaws.{IsOctet, EndpointStandsFor, Follows}
-use Rattle.amqp_model.specs.Lent.Alike.{AlikeEnds, AlikeEndpoints, AlikeFeedings, maybe_telling, verdict_telling, LentEvent, lent}
+use Rattle.amqp_model.specs.Lent.Alike.{AlikeEnds, AlikeEndpoints, AlikeFeedings, maybe_telling, verdict_telling}
+use Rattle.amqp_model.specs.Lent.Alike.{LentEvent, lent}
 
 -- Contents.
 
@@ -30,14 +32,14 @@ StepsAlike =
     (gathering : Gathering) (payload : Payload)
     → stream_step (streamed gathering) payload ≡ streamed_step (step gathering payload)
 
--- and leaves the same
+-- After a payload, what remains of a content is the same, whether its octets are gathered or lent.
 abbrev pub RemainsAlike : Type 0
 RemainsAlike =
     (gathering : Gathering) (payload : Payload)
     → stream_remains (stream_step (streamed gathering) payload) payload
     ≡ streamed (remains (step gathering payload) payload)
 
--- so after any payloads as much is known
+-- After any payloads as much is known of the content under way, whether its octets are gathered or lent.
 abbrev pub GathersAlike : Type 0
 GathersAlike = (taken : List Payload) → streaming taken ≡ streamed (gathering taken)
 
@@ -51,13 +53,13 @@ WholeIsCame =
     (gathering : Gathering) (payload : Payload) (content : Content)
     → step gathering payload ≡ Completes content → content.body ≡ kept gathering ++ octets_of payload
 
--- one that goes on has them so far, where any were there before
+-- A content that goes on has kept the octets that it had, followed by those of this part.
 abbrev pub KeptIsCame : Type 0
 KeptIsCame =
     (gathering next : Gathering) (payload : Payload)
     → step gathering payload ≡ Keeps next → kept next ≡ kept gathering ++ octets_of payload
 
--- whatever is known of a content under way, there is one of which as much is known
+-- For whatever is known of a content under way there is a content of which just that is known.
 abbrev pub EachIsGathered : Type 0
 EachIsGathered = (streaming : Streaming) → streamed (gathered_as streaming) ≡ streaming
 
@@ -68,7 +70,8 @@ pub record AlikeIsEquality : Type 0 where
   pub itself : (endpoint : Endpoint) → AlikeEndpoints endpoint endpoint
   pub both_ways : (one other : Endpoint) → AlikeEndpoints one other → AlikeEndpoints other one
   pub onwards :
-      (one other third : Endpoint) → AlikeEndpoints one other → AlikeEndpoints other third → AlikeEndpoints one third
+      (one other third : Endpoint) → AlikeEndpoints one other → AlikeEndpoints other third
+      → AlikeEndpoints one third
 
 -- alike ends have the same verdict on a frame, but for the content that it tells
 abbrev pub VerdictsAlike : Type 0
@@ -77,59 +80,61 @@ VerdictsAlike =
     → verdict_telling (taken_verdict config one number reading)
     ≡ verdict_telling (taken_verdict config other number reading)
 
--- and put the same
+-- On a frame that they take, alike ends put the same methods.
 abbrev pub PutsAlike : Type 0
 PutsAlike =
     (role : Role) (config : Config role) (one other : End) (number : ℕ) (reading : Reading) → AlikeEnds one other
     → methods_put (facts_at config one number) (taken_verdict config one number reading)
     ≡ methods_put (facts_at config other number) (taken_verdict config other number reading)
 
--- they stay alike after each entry
+-- Alike ends stay alike after each entry.
 abbrev pub EntriesLeaveAlike : Type 0
 EntriesLeaveAlike =
     (role : Role) (config : Config role) (one other : End) (number : ℕ) (entry : ChannelEntry) → AlikeEnds one other
     → AlikeEnds (end_after role config number entry one) (end_after role config number entry other)
 
--- after the frames of an ask
+-- Alike ends stay alike after the frames of an ask are put.
 abbrev pub PuttingLeavesAlike : Type 0
 PuttingLeavesAlike =
     (role : Role) (config : Config role) (one other : End) (frames : List Frame) → AlikeEnds one other
     → AlikeEnds (end_after_put role config frames one) (end_after_put role config frames other)
 
--- and after a frame that they take, with what its verdict puts
+-- Alike ends stay alike after a frame that they take, with what its verdict puts.
 abbrev pub TakingLeavesAlike : Type 0
 TakingLeavesAlike =
     (role : Role) (config : Config role) (one other : End) (reading : Reading) (frame : Frame) → AlikeEnds one other
     → AlikeEnds (end_after_taken role config one reading frame) (end_after_taken role config other reading frame)
 
--- a piece comes to the same, but for the content told, and leaves them alike
+-- A piece fed to alike endpoints comes to the same, but for the content told, and leaves them alike.
 abbrev pub FeedsAlike : Type 0
 FeedsAlike =
     (role : Role) (config : Config role) (one other : Endpoint) (piece : List ℕ) → AlikeEndpoints one other
     → AlikeFeedings (after_feed role config one piece) (after_feed role config other piece)
 
--- an ask has the same answer
+-- Alike ends answer an ask alike.
 abbrev pub AsksAlike : Type 0
 AsksAlike =
     (role : Role) (one other : End) (ask : Ask)
     → AlikeEnds one other → ask_verdict role one ask ≡ ask_verdict role other ask
 
--- and leaves them alike
+-- Alike endpoints stay alike after an ask.
 abbrev pub AskingLeavesAlike : Type 0
 AskingLeavesAlike =
     (role : Role) (config : Config role) (one other : Endpoint) (ask : Ask) → AlikeEndpoints one other
     → AlikeEndpoints (after_ask role config one ask) (after_ask role config other ask)
 
--- and so does a write
+-- Alike endpoints stay alike after a write.
 abbrev pub WritingLeavesAlike : Type 0
 WritingLeavesAlike =
-    (n : ℕ) (one other : Endpoint) → AlikeEndpoints one other → AlikeEndpoints (after_wrote n one) (after_wrote n other)
+    (n : ℕ) (one other : Endpoint) → AlikeEndpoints one other
+    → AlikeEndpoints (after_wrote n one) (after_wrote n other)
 
 -- a channel is in the same state, and the same reply is due on it
 pub record SameOnChannel (one other : End) (number : ℕ) : Type 0 where
   pub state : channel_state one number ≡ channel_state other number
   pub request : reply_due one number ≡ reply_due other number
 
+-- Alike ends answer the same of each channel: its state, and the reply that is due on it.
 abbrev pub AnswersAlike : Type 0
 AnswersAlike = (one other : End) (number : ℕ) → AlikeEnds one other → SameOnChannel one other number
 
@@ -151,6 +156,8 @@ pub record StreamFollows (role : Role) (config : Config role) (endpoint : Endpoi
   pub follows : Follows role config gathers history fed written piece (after_feed role config gathers piece)
   pub alike : AlikeFeedings (after_feed role config gathers piece) new
 
+-- An end that lends tells of a piece what one that gathers tells, but for a content, and stands for the history that
+-- follows.
 abbrev pub StreamFeedFollows : Type 0
 StreamFeedFollows =
     (role : Role) (config : Config role) (endpoint : Endpoint) (history : History) (fed written piece : List ℕ)
@@ -164,6 +171,7 @@ pub record LendsOne (number : ℕ) (reading : Reading) (event : Option Event) : 
   pub told : LentEvent
   pub lent_is : lent number reading (maybe_telling event) ≡ Some told
 
+-- Each verdict that goes on lends one event of its frame.
 abbrev pub EachFrameLends : Type 0
 EachFrameLends =
     (role : Role) (facts : Facts role) (reading : Reading) (event : Option Event) (owed : List Owed)
@@ -177,6 +185,8 @@ pub record LendsLast (reading : Reading) (channel : Channel) (content : Content)
   pub whole : step life.content (payload_of reading) ≡ Completes content
   pub body : content.body ≡ kept life.content ++ octets_of (payload_of reading)
 
+-- Where a verdict tells a whole content, the frame was the last of it: what had come before and what the frame lends
+-- are its body.
 abbrev pub LastIsWhole : Type 0
 LastIsWhole =
     (role : Role) (facts : Facts role) (reading : Reading) (number : ℕ) (content : Content) (owed : List Owed)

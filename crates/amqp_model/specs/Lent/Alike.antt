@@ -6,7 +6,8 @@ use Rattle.amqp_model.specs.Wire.Readings.{Reading, Calls, HeaderOf, BodyOf}
 use Rattle.amqp_model.specs.Lent.Streaming.{streamed}
 use Rattle.amqp_model.specs.End.Channels.{Life, Channel, Free, Opening, Closing, Open, End}
 use Rattle.amqp_model.specs.End.Closes.{Owed}
-use Rattle.amqp_model.specs.End.Events.{Event, Told, Plain, Whole, Fault, FrameVerdict, Proceeds, RefusesContent, Faults}
+use Rattle.amqp_model.specs.End.Events.{Event, Told, Plain, Whole, Fault, FrameVerdict, Proceeds, RefusesContent}
+use Rattle.amqp_model.specs.End.Events.{Faults}
 use Rattle.amqp_model.specs.Stream.Endpoint.{Endpoint, Outcome, Unfinished, Finished, Found, Feeding}
 
 -- What an end keeps.
@@ -41,21 +42,21 @@ pub record AlikeEndpoints (one other : Endpoint) : Type 0 where
 -- What an end reports.
 
 -- what an event says, but for the content that it tells
-pub data Telling : Type 0 where
-  Tells : Event → Telling
-  TellsWhole : (channel : ℕ) → Telling
+pub data EventTelling : Type 0 where
+  Tells : Event → EventTelling
+  TellsWhole : (channel : ℕ) → EventTelling
 
-abbrev pub telling : Event → Telling
+abbrev pub telling : Event → EventTelling
 telling (Told channel (Whole content)) = TellsWhole channel
 telling event = Tells event
 
-abbrev pub maybe_telling : Option Event → Option Telling
+abbrev pub maybe_telling : Option Event → Option EventTelling
 maybe_telling (Some event) = Some (telling event)
 maybe_telling None = None
 
 -- what a verdict says, but for that content
 pub data VerdictTelling : Type 0 where
-  Proceeding : Option Telling → List Owed → VerdictTelling
+  Proceeding : Option EventTelling → List Owed → VerdictTelling
   Refusing : VerdictTelling
   Faulting : Fault → VerdictTelling
 
@@ -67,7 +68,7 @@ verdict_telling (Faults fault) = Faulting fault
 -- what comes of octets, but for that content
 pub data OutcomeTelling : Type 0 where
   NothingYet : OutcomeTelling
-  Came : Option Telling → OutcomeTelling
+  Came : Option EventTelling → OutcomeTelling
   Failing : Fault → OutcomeTelling
 
 abbrev pub outcome_telling : Outcome → OutcomeTelling
@@ -101,7 +102,7 @@ part_lent number reading whole = None
 
 -- What is lent of a frame that says this, where so much is told of it: a content's frames tell nothing but the last,
 -- which tells the whole.
-abbrev pub lent : (number : ℕ) → Reading → Option Telling → Option LentEvent
+abbrev pub lent : (number : ℕ) → Reading → Option EventTelling → Option LentEvent
 lent number reading None = part_lent number reading false
 lent number reading (Some (TellsWhole channel)) = part_lent number reading true
 lent number reading (Some (Tells (Told channel (Plain method)))) = Some (WithoutContent channel method)

@@ -2,10 +2,13 @@
 -- octet of the body. AMQP 0-9-1 specification, section 4.2.6, "Content Framing".
 --
 -- `Gathering` is what an end keeps that gives whole contents. `streamed` leaves of it what is looked at by the rules.
-use Rattle.std.specs.Prelude.{Bool, true, false, cond, nat_lt, ℕ, ◌+◌, List, [], ◌∷◌, length, replicate, ◌==◌}
+use Rattle.std.specs.Prelude.{Bool, true, false, cond, nat_lt, ℕ, ◌+◌, List, [], ◌∷◌, length, replicate}
+use Rattle.std.specs.Prelude.{◌==◌}
 use Rattle.amqp_model.specs.Wire.Methods.{MethodKind, Method, carries_content}
 use Rattle.amqp_model.specs.Wire.Contents.{Payload, Calls, Header, Body, Unread}
-use Rattle.amqp_model.specs.Wire.Gathering.{Gathering, Nothing, HeaderDue, BodyDue, Misfit, NothingBegun, HeaderAwaited, BodyAwaited, PastSize, MethodInside, NotRead, Step, Keeps, Completes, Breaks}
+use Rattle.amqp_model.specs.Wire.Gathering.{Gathering, Nothing, HeaderDue, BodyDue, Misfit, NothingBegun, HeaderAwaited}
+use Rattle.amqp_model.specs.Wire.Gathering.{BodyAwaited, PastSize, MethodInside, NotRead, Step, Keeps, Completes}
+use Rattle.amqp_model.specs.Wire.Gathering.{Breaks}
 
 -- Nothing is under way; or a method of this kind was taken, and the header is due; or the header was taken too, and of
 -- a body of so many octets so many have come.

@@ -7,7 +7,8 @@
 -- 1. the oldest plain frame of channel 0: one that is neither connection.close nor connection.close-ok;
 -- 2. else the oldest frame of the channel that is met first, counting up from LAST + 1 (after 65535 comes 1);
 -- 3. else the oldest connection.close or close-ok.
-use Rattle.std.specs.Prelude.{◌≡◌, ℕ, ◌+◌, ◌-◌, ◌^◌, ◌<◌, ◌≤◌, Bool, true, false, cond, not, ◌&&◌, ◌||◌, ◌==◌, nat_lt, List, [], ◌∷◌, ◌++◌, All, filter}
+use Rattle.std.specs.Prelude.{◌≡◌, ℕ, ◌+◌, ◌-◌, ◌^◌, ◌<◌, ◌≤◌, Bool, true, false, cond}
+use Rattle.std.specs.Prelude.{not, ◌&&◌, ◌||◌, ◌==◌, nat_lt, List, [], ◌∷◌, ◌++◌, All, filter}
 use Rattle.amqp_frame.specs.declared.frames.FrameKind.{FrameKind}
 use Rattle.amqp_frame.specs.declared.frames.FrameKind.TheVariants.{Method}
 use Rattle.amqp_frame.specs.Frame.{Frame}
@@ -63,13 +64,13 @@ last_after_all last [] = last
 last_after_all last (f ∷ later) = last_after_all (last_after last f) later
 
 -- none of the others has its turn before the frame
-abbrev pub IsNext : (last : ℕ) → Frame → (others : List Frame) → Type 0
-IsNext last f others = All (λ other. turn last f ≤ turn last other) others
+abbrev pub HasFirstTurn : (last : ℕ) → Frame → (others : List Frame) → Type 0
+HasFirstTurn last f others = All (λ other. turn last f ≤ turn last other) others
 
 -- A row of frames that are to be begun after LAST: each of them is next, once those before it are begun.
 abbrev pub IsArranged : (last : ℕ) → (row : List Frame) → Type 0
 IsArranged last [] = Unit {0}
-IsArranged last (f ∷ later) = IsNext last f later × IsArranged (last_after last f) later
+IsArranged last (f ∷ later) = HasFirstTurn last f later × IsArranged (last_after last f) later
 
 -- The row is that of the frames that wait, given in the order in which they were put: each queue is in that order.
 pub record Arranges (last : ℕ) (waiting row : List Frame) : Type 0 where
@@ -86,7 +87,8 @@ HasChannel f = IsChannel f.channel
 -- a row that a frame is put into: it stands before the first that has its turn later
 abbrev pub placed : (last : ℕ) → Frame → (row : List Frame) → List Frame
 placed last f [] = f ∷ []
-placed last f (g ∷ later) = cond (nat_lt (turn last f) (turn last g)) (f ∷ g ∷ later) (g ∷ placed (last_after last g) f later)
+placed last f (g ∷ later) =
+    cond (nat_lt (turn last f) (turn last g)) (f ∷ g ∷ later) (g ∷ placed (last_after last g) f later)
 
 -- a row that frames are put into, one after another
 abbrev pub placed_all : (last : ℕ) → (frames row : List Frame) → List Frame

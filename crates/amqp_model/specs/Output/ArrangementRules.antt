@@ -1,5 +1,6 @@
 -- What it is for a row to be arranged, in the words of the rules and read off the whole of it.
-use Rattle.std.specs.Prelude.{◌≡◌, ℕ, zero, suc, ◌+◌, ◌<◌, ◌≤◌, ◌⊎◌, cond, ◌==◌, nat_lt, List, ◌∷◌, ◌++◌, map, Contains, filter}
+use Rattle.std.specs.Prelude.{◌≡◌, ℕ, zero, suc, ◌+◌, ◌<◌, ◌≤◌, ◌⊎◌, cond, ◌==◌, nat_lt}
+use Rattle.std.specs.Prelude.{List, ◌∷◌, ◌++◌, map, Contains, filter}
 use Rattle.amqp_frame.specs.Frame.{Frame}
 use Rattle.amqp_model.specs.Output.Arrangement.{PlainFrames, LeavingFrames, queued, steps}
 
@@ -25,9 +26,11 @@ pub record FollowsRules (last : ℕ) (row : List Frame) : Type 0 where
   -- where the channel d follows the channel c, LAST being the first of all, no channel that counting up from c + 1
   -- meets before d stands after
   pub in_turn :
-      (before after : List ℕ) (c d e : ℕ) → last ∷ channels_of (above_0 row) ≡ before ++ c ∷ d ∷ after → Contains after e
+      (before after : List ℕ) (c d e : ℕ) → last ∷ channels_of (above_0 row) ≡ before ++ c ∷ d ∷ after
+      → Contains after e
       → steps c d ≤ steps c e
 
 -- A channel is met no later than the other: it is the lowest above LAST, or else, where none is above, the lowest.
 abbrev pub ComesNoLater : (last channel other : ℕ) → Type 0
-ComesNoLater last channel other = ((last < channel) × (last < other → channel ≤ other)) ⊎ ((channel ≤ other) × (other ≤ last))
+ComesNoLater last channel other =
+    ((last < channel) × (last < other → channel ≤ other)) ⊎ ((channel ≤ other) × (other ≤ last))

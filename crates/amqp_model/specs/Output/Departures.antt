@@ -1,7 +1,8 @@
 -- In which order the frames leave that an end puts, from the first to the last. That what was put before a
 -- connection.close leaves before it is this profile's own promise; the standard has the close itself (AMQP 0-9-1
 -- specification, section 2.3.7, "Closing Channels and Connections").
-use Rattle.std.specs.Prelude.{◌≡◌, ℕ, zero, suc, ◌<◌, true, cond, List, [], ◌∷◌, ◌++◌, length, All}
+use Rattle.std.specs.Prelude.{◌≡◌, ℕ, zero, suc, ◌<◌, true, cond, List, [], ◌∷◌, ◌++◌, length}
+use Rattle.std.specs.Prelude.{All}
 use Rattle.amqp_model.specs.Output.Prefixes.{IsPrefixOf}
 use Rattle.amqp_frame.specs.Frame.{Frame}
 use Rattle.amqp_frame.specs.Splitting.{stream, AllFit}
@@ -19,13 +20,17 @@ pub record KeepsOrder (put departing : List Frame) : Type 0 where
   -- each queue's frames leave in the order in which they were put
   pub queues : (queue : Queue) → queued queue departing ≡ queued queue put
   -- what was put before a connection.close or close-ok leaves before it
-  pub closes : (k : ℕ) (queue : Queue) → IsPrefixOf (queued queue (before_close k put)) (queued queue (before_close k departing))
+  pub closes :
+      (k : ℕ) (queue : Queue)
+      → IsPrefixOf (queued queue (before_close k put)) (queued queue (before_close k departing))
 
 -- the output of an end that began with these octets, then put these frames, and wrote these octets
 pub record IsOutputOf (opening : List ℕ) (put : List Frame) (written : List ℕ) (o : Output) : Type 0 where
   -- the frames of which the first octet is written, in the order in which they left
   pub begun : List Frame
-  pub all_begun : (before later : List Frame) (f : Frame) → begun ≡ before ++ f ∷ later → length (opening ++ stream before) < length written
+  pub all_begun :
+      (before later : List Frame) (f : Frame) → begun ≡ before ++ f ∷ later
+      → length (opening ++ stream before) < length written
   pub octets_are : written ++ o.ahead ≡ opening ++ stream begun
   pub begun_on_is : o.begun_on ≡ begun_on_after 0 begun
   pub last_is : o.last ≡ last_after_all 0 begun
@@ -50,7 +55,8 @@ pub record LeavesAfter (earlier later before after : List Frame) (queue : Queue)
 -- after a connection.close or close-ok nothing but these was put
 abbrev pub LeavesLast : List Frame → Type 0
 LeavesLast frames =
-    (before after : List Frame) (f : Frame) → frames ≡ before ++ f ∷ after → is_leaving f ≡ true → All (λ g. is_leaving g ≡ true) after
+    (before after : List Frame) (f : Frame) → frames ≡ before ++ f ∷ after → is_leaving f ≡ true
+    → All (λ g. is_leaving g ≡ true) after
 
 -- All octets of an end, written or not, are what it began with and then the frames that it put, each channel's in
 -- order, and no frame of a channel above 0 after a connection.close or close-ok.
@@ -60,5 +66,5 @@ pub record PutAs (opening octets : List ℕ) (put : List Frame) : Type 0 where
   pub fit : AllFit departing
   pub each_channel : (channel : ℕ) → on channel departing ≡ on channel put
   pub closes_last :
-      (before after : List Frame) (f : Frame) → departing ≡ before ++ f ∷ after → is_leaving f ≡ true → (channel : ℕ) → 0 < channel
-      → on channel after ≡ []
+      (before after : List Frame) (f : Frame) → departing ≡ before ++ f ∷ after
+      → is_leaving f ≡ true → (channel : ℕ) → 0 < channel → on channel after ≡ []

@@ -1,5 +1,6 @@
 -- The octets that an end has put and not written, and what a put and a write make of them.
-use Rattle.std.specs.Prelude.{◌≡◌, ℕ, ◌+◌, ◌-◌, ◌<◌, ◌≤◌, cond, ◌==◌, nat_lt, List, [], ◌∷◌, ◌++◌, length, drop}
+use Rattle.std.specs.Prelude.{◌≡◌, ℕ, ◌+◌, ◌-◌, ◌<◌, ◌≤◌, cond, ◌==◌, nat_lt, List, []}
+use Rattle.std.specs.Prelude.{◌∷◌, ◌++◌, length, drop}
 use Rattle.amqp_frame.specs.Frame.{Frame, octets, frame_length}
 use Rattle.amqp_frame.specs.Splitting.{stream}
 use Rattle.amqp_model.specs.Output.Arrangement.{last_after, last_after_all, on, placed}
@@ -42,7 +43,9 @@ pub record Writes (n : ℕ) (old new : Output) : Type 0 where
   -- the frames of which the first octet is among these
   pub begun : List Frame
   pub row_is : old.row ≡ begun ++ new.row
-  pub all_begun : (before later : List Frame) (f : Frame) → begun ≡ before ++ f ∷ later → length (old.ahead ++ stream before) < n
+  pub all_begun :
+      (before later : List Frame) (f : Frame) → begun ≡ before ++ f ∷ later
+      → length (old.ahead ++ stream before) < n
   pub no_more_begun : n ≤ length (old.ahead ++ stream begun)
   pub begun_on_is : new.begun_on ≡ begun_on_after old.begun_on begun
   pub last_is : new.last ≡ last_after_all old.last begun

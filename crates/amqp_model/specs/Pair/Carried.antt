@@ -12,7 +12,8 @@ pub data Carried : Type 0 where
 -- the frames that are messages
 abbrev pub message_frames : List Carried → List Frame
 message_frames [] = []
-message_frames (Carry kind frame ∷ later) = cond (is_message kind) (frame ∷ message_frames later) (message_frames later)
+message_frames (Carry kind frame ∷ later) =
+    cond (is_message kind) (frame ∷ message_frames later) (message_frames later)
 
 abbrev pub put_by : List Note → List Carried
 put_by [] = []
@@ -34,13 +35,15 @@ life_of (At kind life frame) = life
 -- the notes put, each with its life
 abbrev pub puts : Role → List Note → List NoteInLife
 puts role [] = []
-puts role (Put kind frame ∷ before) = puts role before ++ At kind (lives role (Put kind frame ∷ before)) frame ∷ []
+puts role (Put kind frame ∷ before) =
+    puts role before ++ At kind (lives role (Put kind frame ∷ before)) frame ∷ []
 puts role (_ ∷ before) = puts role before
 
 -- the notes taken, each with its life
 abbrev pub takes : Role → List Note → List NoteInLife
 takes role [] = []
-takes role (Took kind frame ∷ before) = takes role before ++ At kind (lives role (Took kind frame ∷ before)) frame ∷ []
+takes role (Took kind frame ∷ before) =
+    takes role before ++ At kind (lives role (Took kind frame ∷ before)) frame ∷ []
 takes role (_ ∷ before) = takes role before
 
 abbrev pub is_open : State → Bool
@@ -51,8 +54,8 @@ is_open _ = false
 abbrev pub acts_next : Role → List Note → Bool
 acts_next role history = not (has_left history) && is_open (state role history)
 
--- The notes that the end took while it acted on what it takes, each with its life. A frame that it finds fault with, after
--- which nothing comes, is one of them: in a run there is none.
+-- The notes that the end took while it acted on what it takes, each with its life. A frame that it finds fault with,
+-- after which nothing comes, is one of them: in a run there is none.
 abbrev pub acted_takes : Role → List Note → List NoteInLife
 acted_takes role [] = []
 acted_takes role (Took kind frame ∷ before) =
@@ -64,7 +67,8 @@ acted_takes role (_ ∷ before) = acted_takes role before
 -- the frames of a life's messages
 abbrev pub messages : ℕ → List NoteInLife → List Frame
 messages life [] = []
-messages life (At kind n frame ∷ later) = cond (is_message kind && (n == life)) (frame ∷ messages life later) (messages life later)
+messages life (At kind n frame ∷ later) =
+    cond (is_message kind && (n == life)) (frame ∷ messages life later) (messages life later)
 
 -- the frames that the end sent in a life, in order
 abbrev pub sent : Role → ℕ → List Note → List Frame

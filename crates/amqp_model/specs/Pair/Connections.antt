@@ -3,7 +3,7 @@
 use Rattle.std.specs.Prelude.{◌≡◌, true, cond, ℕ, List, [], ◌∷◌, Some, None, ◌==◌}
 use Rattle.amqp_model.specs.Wire.Frame.{Frame}
 use Rattle.amqp_model.specs.Wire.Notes.{Role, Client, Server, Kind, Open, OpenOk, Note, Put, Took, Leaving}
-use Rattle.amqp_model.specs.History.Verdict.{Event, GoesOn, verdict}
+use Rattle.amqp_model.specs.History.Verdict.{ChannelEvent, GoesOn, verdict}
 use Rattle.amqp_model.specs.Pair.Carried.{Carry}
 use Rattle.amqp_model.specs.Pair.Runs.{may_put, IsNext, Run}
 
@@ -22,18 +22,21 @@ notes_of channel (TookOn other kind frame ∷ before) =
 notes_of channel (LeavingAll ∷ before) = Leaving ∷ notes_of channel before
 
 -- one act of an end: an act on one of its channels, or connection.close for all of them
-pub data ConnectionActs (role : Role) (theirs : List ConnectionNote) : List ConnectionNote → List ConnectionNote → Type 0 where
+pub data ConnectionActs (role : Role) (theirs : List ConnectionNote) : List ConnectionNote → List ConnectionNote
+    → Type 0 where
   asks_on :
-      {mine : List ConnectionNote} (channel : ℕ) (kind : Kind) (frame : Frame) → may_put role (notes_of channel mine) kind ≡ true
+      {mine : List ConnectionNote} (channel : ℕ) (kind : Kind) (frame : Frame)
+      → may_put role (notes_of channel mine) kind ≡ true
       → ConnectionActs role theirs mine (PutOn channel kind frame ∷ mine)
   leaves_all : {mine : List ConnectionNote} → ConnectionActs role theirs mine (LeavingAll ∷ mine)
   takes_on :
-      {mine : List ConnectionNote} (channel : ℕ) (kind : Kind) (frame : Frame) (event : Event)
+      {mine : List ConnectionNote} (channel : ℕ) (kind : Kind) (frame : Frame) (event : ChannelEvent)
       → IsNext (notes_of channel theirs) (notes_of channel mine) (Carry kind frame)
       → verdict role (notes_of channel mine) kind ≡ GoesOn event None
       → ConnectionActs role theirs mine (TookOn channel kind frame ∷ mine)
   replies_on :
-      {mine : List ConnectionNote} (channel : ℕ) (kind : Kind) (frame : Frame) (event : Event) (reply : Kind) (answer : Frame)
+      {mine : List ConnectionNote} (channel : ℕ) (kind : Kind) (frame : Frame) (event : ChannelEvent) (reply : Kind)
+      (answer : Frame)
       → IsNext (notes_of channel theirs) (notes_of channel mine) (Carry kind frame)
       → verdict role (notes_of channel mine) kind ≡ GoesOn event (Some reply)
       → ConnectionActs role theirs mine (PutOn channel reply answer ∷ TookOn channel kind frame ∷ mine)
@@ -42,10 +45,12 @@ pub data ConnectionActs (role : Role) (theirs : List ConnectionNote) : List Conn
 pub data ConnectionRun : (client server : List ConnectionNote) → Type 0 where
   nothing : ConnectionRun [] []
   client_does :
-      {client server after : List ConnectionNote} → ConnectionRun client server → ConnectionActs Client server client after
+      {client server after : List ConnectionNote} → ConnectionRun client server
+      → ConnectionActs Client server client after
       → ConnectionRun after server
   server_does :
-      {client server after : List ConnectionNote} → ConnectionRun client server → ConnectionActs Server client server after
+      {client server after : List ConnectionNote} → ConnectionRun client server
+      → ConnectionActs Server client server after
       → ConnectionRun client after
 
 -- on each channel the notes of a connection are a run
@@ -59,4 +64,5 @@ abbrev pub overtaken_client : (ℕ → Frame) → List ConnectionNote
 overtaken_client f = PutOn 2 Open (f 2) ∷ PutOn 1 Open (f 1) ∷ []
 
 abbrev pub overtaking_server : (ℕ → Frame) → List ConnectionNote
-overtaking_server f = PutOn 1 OpenOk (f 1) ∷ TookOn 1 Open (f 1) ∷ PutOn 2 OpenOk (f 2) ∷ TookOn 2 Open (f 2) ∷ []
+overtaking_server f =
+    PutOn 1 OpenOk (f 1) ∷ TookOn 1 Open (f 1) ∷ PutOn 2 OpenOk (f 2) ∷ TookOn 2 Open (f 2) ∷ []

@@ -1,6 +1,7 @@
--- Requests and replies among the items of a channel: each reply answers its request. `amqp0-9-1.xml`: the methods with a
--- response; that they are answered in their order is this profile's rule.
-use Rattle.std.specs.Prelude.{◌≡◌, ◌≤◌, true, false, cond, ℕ, suc, List, [], ◌∷◌, ◌++◌, drop, length}
+-- Requests and replies among the items of a channel: each reply answers its request. `amqp0-9-1.xml`: the methods with
+-- a response; that they are answered in their order is this profile's rule.
+use Rattle.std.specs.Prelude.{◌≡◌, ◌≤◌, true, false, cond, ℕ, suc, List, [], ◌∷◌, ◌++◌, drop}
+use Rattle.std.specs.Prelude.{length}
 use Rattle.amqp_model.specs.Wire.Notes.{Role, Client, Server}
 use Rattle.amqp_model.specs.History.Lives.{lives, before_leaving}
 use Rattle.amqp_model.specs.Wire.Methods.{MethodKind, is_request, is_reply, answers}
@@ -36,14 +37,15 @@ abbrev pub replies_in : List Item → List MethodKind
 replies_in [] = []
 replies_in (item ∷ later) = reply_in item ++ replies_in later
 
--- the first reply answers the first request, the second the second and so on, and there are no more replies than requests
+-- the first reply answers the first request, the second the second and so on, and there are no more replies than
+-- requests
 abbrev pub InTurn : (replies requests : List MethodKind) → Type 0
 InTurn [] requests = Unit {0}
 InTurn (reply ∷ later) [] = ⊥
 InTurn (reply ∷ later) (request ∷ others) = (answers reply request ≡ true) × InTurn later others
 
--- The requests and replies of a life at one end. A client sends requests and acts on replies, a server acts on requests and
--- sends replies.
+-- The requests and replies of a life at one end. A client sends requests and acts on replies, a server acts on requests
+-- and sends replies.
 
 abbrev pub requests_at : Role → (channel life : ℕ) → History → List MethodKind
 requests_at Client channel life history = requests_in (items_sent Client channel life history)
@@ -55,7 +57,8 @@ replies_at Server channel life history = replies_in (items_sent Server channel l
 
 -- the requests of a life after those that have their replies
 abbrev pub unanswered_at : Role → (channel life : ℕ) → History → List MethodKind
-unanswered_at role channel life history = drop (length (replies_at role channel life history)) (requests_at role channel life history)
+unanswered_at role channel life history =
+    drop (length (replies_at role channel life history)) (requests_at role channel life history)
 
 -- the life that a channel is in, as its end counts, up to where it put connection.close
 abbrev pub life_here : Role → (channel : ℕ) → History → ℕ
@@ -71,9 +74,10 @@ AnswersInTurn =
     → InTurn (replies_at role (suc n) life history) (requests_at role (suc n) life history)
 
 -- a client has sent at most one request more than it has replies
-abbrev pub AsksOneAtATime : Config Client → History → (n life : ℕ) → Type 0
-AsksOneAtATime config history n life =
-    WritesReadBack Client config → Lawful Client config false history
+abbrev pub AsksOneAtATime : Type 0
+AsksOneAtATime =
+    (config : Config Client) (history : History) (n life : ℕ)
+    → WritesReadBack Client config → Lawful Client config false history
     → length (requests_at Client (suc n) life history) ≤ suc (length (replies_at Client (suc n) life history))
 
 -- an Open channel keeps the requests of its life that have no reply, in order
@@ -81,7 +85,8 @@ abbrev pub KeepsUnanswered : Type 0
 KeepsUnanswered =
     (role : Role) (config : Config role) (end : End) (history : History) (n : ℕ) (life : Life)
     → WritesReadBack role config → Lawful role config false history → StandsFor role config false end history
-    → end.channels (suc n) ≡ Open life → life.requests ≡ unanswered_at role (suc n) (life_here role (suc n) history) history
+    → end.channels (suc n) ≡ Open life
+    → life.requests ≡ unanswered_at role (suc n) (life_here role (suc n) history) history
 
 -- and the reply that is due is to the first of them
 abbrev pub DueIsFirst : (role : Role) → Config role → End → History → (n : ℕ) → Life → Type 0
@@ -90,14 +95,27 @@ DueIsFirst role config end history n life =
     → end.channels (suc n) ≡ Open life → takes_octets end.phase ≡ true
     → reply_due end (suc n) ≡ first_of (unanswered_at role (suc n) (life_here role (suc n) history) history)
 
--- Of two ends: the replies that the server sent, and those of them that the client acted on, answer in turn the requests
--- that the client sent, and those of them that the server acted on.
-pub record AllInTurn (channel life : ℕ) (client server : History) : Type 0 where
-  pub sent_sent : InTurn (replies_in (items_sent Server channel life server)) (requests_in (items_sent Client channel life client))
-  pub sent_acted : InTurn (replies_in (items_sent Server channel life server)) (requests_in (items_acted Server channel life server))
-  pub acted_sent : InTurn (replies_in (items_acted Client channel life client)) (requests_in (items_sent Client channel life client))
-  pub acted_acted : InTurn (replies_in (items_acted Client channel life client)) (requests_in (items_acted Server channel life server))
+-- The reply that is due is to the first request without one.
+abbrev pub EveryDueIsFirst : Type 0
+EveryDueIsFirst =
+    (role : Role) (config : Config role) (end : End) (history : History) (n : ℕ) (life : Life)
+    → DueIsFirst role config end history n life
 
-abbrev pub PairAnswersInTurn : Config Client → Config Server → (client server : History) → (n life : ℕ) → Type 0
-PairAnswersInTurn client_config server_config client server n life =
-    PairAt Client client_config server_config client server → AllInTurn (suc n) life client server
+-- Of two ends: the replies that the server sent, and those of them that the client acted on, answer in turn the
+-- requests that the client sent, and those of them that the server acted on.
+pub record AllInTurn (channel life : ℕ) (client server : History) : Type 0 where
+  pub sent_sent :
+      InTurn (replies_in (items_sent Server channel life server)) (requests_in (items_sent Client channel life client))
+  pub sent_acted :
+      InTurn (replies_in (items_sent Server channel life server)) (requests_in (items_acted Server channel life server))
+  pub acted_sent :
+      InTurn (replies_in (items_acted Client channel life client)) (requests_in (items_sent Client channel life client))
+  pub acted_acted :
+      InTurn (replies_in (items_acted Client channel life client))
+      (requests_in (items_acted Server channel life server))
+
+-- Between two ends the replies of the life of a channel answer its requests in turn.
+abbrev pub PairAnswersInTurn : Type 0
+PairAnswersInTurn =
+    (client_config : Config Client) (server_config : Config Server) (client server : History) (n life : ℕ)
+    → PairAt Client client_config server_config client server → AllInTurn (suc n) life client server

@@ -26,13 +26,31 @@ NextIsMatched role client_config server_config mine theirs frame =
     → (end_in role client_config server_config mine).channels (suc n) ≡ Open life
     → IsMatched role life.requests method
 
+-- A method that comes next to a Running end is matched with the requests that it keeps.
+abbrev pub EveryNextIsMatched : Type 0
+EveryNextIsMatched =
+    (role : Role) (client_config : Config Client) (server_config : Config Server) (mine theirs : History)
+    (frame : Frame)
+    → NextIsMatched role client_config server_config mine theirs frame
+
 -- an end takes the frame, and goes on with it
-pub record TakesWithoutFault (role : Role) (client_config : Config Client) (server_config : Config Server) (mine : History) (frame : Frame) : Type 0 where
+pub record TakesWithoutFault (role : Role) (client_config : Config Client) (server_config : Config Server)
+    (mine : History) (frame : Frame) : Type 0 where
   pub can : CanTake (end_in role client_config server_config mine) frame
-  pub goes : goes_on (end_verdict (config_of role client_config server_config) (end_in role client_config server_config mine) frame) ≡ true
+  pub goes :
+      goes_on (end_verdict (config_of role client_config server_config)
+      (end_in role client_config server_config mine) frame) ≡ true
 
 -- so it does with whatever comes next
-abbrev pub TakesWhatComesNext : Role → Config Client → Config Server → (mine theirs : History) → Frame → Type 0
+abbrev pub TakesWhatComesNext : Role → Config Client → Config Server
+    → (mine theirs : History) → Frame → Type 0
 TakesWhatComesNext role client_config server_config mine theirs frame =
     PairWrites role client_config server_config mine theirs → ComesNext theirs mine frame
     → TakesWithoutFault role client_config server_config mine frame
+
+-- An end of a pair takes whatever frame comes next without a fault.
+abbrev pub EveryEndTakesWhatComesNext : Type 0
+EveryEndTakesWhatComesNext =
+    (role : Role) (client_config : Config Client) (server_config : Config Server) (mine theirs : History)
+    (frame : Frame)
+    → TakesWhatComesNext role client_config server_config mine theirs frame

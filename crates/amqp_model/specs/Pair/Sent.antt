@@ -1,5 +1,6 @@
 -- What an end sent in a life of a channel, and what it acted on in it: the items that its frames of that life encode.
-use Rattle.std.specs.Prelude.{Bool, false, cond, ◌&&◌, ◌==◌, ℕ, zero, suc, List, [], ◌∷◌, ◌++◌, map, filter, reverse}
+use Rattle.std.specs.Prelude.{Bool, false, cond, ◌&&◌, ◌==◌, ℕ, zero, suc, List, [], ◌∷◌, ◌++◌, map}
+use Rattle.std.specs.Prelude.{filter, reverse}
 use Rattle.std.specs.Option.{option_to_list}
 use Rattle.amqp_model.specs.Wire.Frame.{Frame}
 use Rattle.amqp_model.specs.Wire.Notes.{Role}
@@ -27,8 +28,8 @@ items_in frames = items (map payload_in frames)
 abbrev pub items_sent : Role → (channel life : ℕ) → History → List Item
 items_sent role channel life history = items_in (sent role life (notes_on channel history))
 
--- the items that the end acted on in a life of a channel, in order; `told` leaves out that of a frame that it found fault
--- with, where there is one
+-- the items that the end acted on in a life of a channel, in order; `told` leaves out that of a frame that it found
+-- fault with, where there is one
 abbrev pub items_acted : Role → (channel life : ℕ) → History → List Item
 items_acted role channel life history = items_in (acted role life (notes_on channel history))
 
@@ -60,7 +61,8 @@ ended_by_put role channel life frame before = ended_by channel life (sent role l
 abbrev pub told_at : Role → (channel : ℕ) → Frame → (before : History) → List Telling
 told_at role zero frame before = []
 told_at role (suc n) frame before =
-    cond (acts_next role (notes_on (suc n) before)) (ended_by_taken role (suc n) (life_on role (suc n) (Took frame ∷ before)) frame before)
+    cond (acts_next role (notes_on (suc n) before))
+    (ended_by_taken role (suc n) (life_on role (suc n) (Took frame ∷ before)) frame before)
     []
 
 -- the item that a frame put on a channel above 0 ends
@@ -89,4 +91,5 @@ said role (Took frame ∷ before) = said role before
 -- the items of one channel and life, in order
 abbrev pub items_of : (channel life : ℕ) → List Telling → List Item
 items_of channel life tellings =
-    map (λ telling. telling.item) (filter (λ telling. (telling.channel == channel) && (telling.life == life)) tellings)
+    map (λ telling. telling.item)
+    (filter (λ telling. (telling.channel == channel) && (telling.life == life)) tellings)

@@ -1,8 +1,11 @@
 -- The words of `Lives`, said of a whole history: what each recursion there counts.
-use Rattle.std.specs.Prelude.{◌≡◌, ◌↔◌, ◌⊎◌, true, false, ℕ, List, [], ◌∷◌, ◌++◌, count_by}
+use Rattle.std.specs.Prelude.{◌≡◌, ◌↔◌, ◌⊎◌, true, false, ℕ, List, [], ◌∷◌, ◌++◌}
+use Rattle.std.specs.Prelude.{count_by}
 use Rattle.amqp_model.specs.Wire.Notes.{Role, is_client, is_server, Note, Leaving}
 use Rattle.amqp_model.specs.History.States.{State, Free, Opening, Closing}
-use Rattle.amqp_model.specs.History.Lives.{state, before_leaving, Test, either, puts_close, takes_close_ok, is_opening, ends_life, takes_open_ok, puts_flow, takes_flow_ok, takes_flow, takes_pause, takes_pause_ok, puts_restart}
+use Rattle.amqp_model.specs.History.Lives.{state, before_leaving, Test, either, puts_close, takes_close_ok, is_opening}
+use Rattle.amqp_model.specs.History.Lives.{ends_life, takes_open_ok, puts_flow, takes_flow_ok, takes_flow, takes_pause}
+use Rattle.amqp_model.specs.History.Lives.{takes_pause_ok, puts_restart}
 
 -- none of these notes, each with all that stands before it, is so
 abbrev pub NoneSo : Test → (notes before : List Note) → Type 0
@@ -59,8 +62,10 @@ PausesOther role history = HasSince takes_pause_ok (either (is_opening role) put
 abbrev pub IsInState : Role → List Note → State → Type 0
 IsInState role notes Free = IsAlive role notes → ⊥
 IsInState role notes Closing = IsAlive role notes × Waits notes
-IsInState role notes Opening = IsAlive role notes × (Waits notes → ⊥) × (is_client role ≡ true) × (HasOpenOk role notes → ⊥)
-IsInState role notes State.Open = IsAlive role notes × (Waits notes → ⊥) × ((is_server role ≡ true) ⊎ HasOpenOk role notes)
+IsInState role notes Opening =
+    IsAlive role notes × (Waits notes → ⊥) × (is_client role ≡ true) × (HasOpenOk role notes → ⊥)
+IsInState role notes State.Open =
+    IsAlive role notes × (Waits notes → ⊥) × ((is_server role ≡ true) ⊎ HasOpenOk role notes)
 
 -- the end put connection.close
 abbrev pub HasLeft : List Note → Type 0
@@ -70,7 +75,8 @@ HasLeft history = (later : List Note) × (before : List Note) × (history ≡ la
 pub data IsBeforeLeaving (history : List Note) : List Note → Type 0 where
   never_left : (HasLeft history → ⊥) → IsBeforeLeaving history history
   left_once :
-      {notes : List Note} (later : List Note) → history ≡ later ++ Leaving ∷ notes → (HasLeft notes → ⊥) → IsBeforeLeaving history notes
+      {notes : List Note} (later : List Note) → history ≡ later ++ Leaving ∷ notes → (HasLeft notes → ⊥)
+      → IsBeforeLeaving history notes
 
 -- the state counted in a history is the one that its notes before connection.close are in
 abbrev pub StatesRead : Type 0

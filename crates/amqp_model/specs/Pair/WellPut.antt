@@ -19,28 +19,28 @@ use Rattle.amqp_model.specs.Pair.Agreement.{PairWrites, smaller_limits}
 -- above channel 0, a content header or a part of a body; or, on channel 0, an empty heartbeat. Each parses.
 pub data SaysWell (role : Role) (channel : ℕ) : Reading → Type 0 where
   calls :
-      (method : Method) → sends (is_client role) method.kind ≡ true → (class_of method.kind == 10) ≡ (channel == 0)
-      → SaysWell role channel (Calls method)
+      (method : Method) → sends (is_client role) method.kind ≡ true
+      → (class_of method.kind == 10) ≡ (channel == 0) → SaysWell role channel (Calls method)
   heads : (size : ℕ) (properties : Properties) → channel ≢ 0 → SaysWell role channel (HeaderOf size properties)
   fills : (octets : List ℕ) → channel ≢ 0 → SaysWell role channel (BodyOf octets)
   beats : channel ≡ 0 → SaysWell role channel (Beat true)
 
--- a frame of channel 0 has at most 4096 octets; any other is of a channel up to the agreed maximum, and of at most the agreed
--- size
+-- a frame of channel 0 has at most 4096 octets; any other is of a channel up to the agreed maximum, and of at most the
+-- agreed size
 pub record IsWellPut (role : Role) (limits : Agreed) (frame : Frame) : Type 0 where
   pub says : SaysWell role frame.channel (reading frame)
   pub at_zero : frame.channel ≡ 0 → frame_length frame ≤ FRAME_MIN
   pub numbered : frame.channel ≤ limits.channel_max
   pub within : frame_length frame ≤ limits.frame_max
 
--- so is each frame that an end of a pair puts
+-- Each frame that an end of a pair puts is well put.
 abbrev pub PutsWell : Type 0
 PutsWell =
     (role : Role) (client_config : Config Client) (server_config : Config Server) (mine theirs : History)
     → PairWrites role client_config server_config mine theirs
     → AllByRecursion (λ frame. IsWellPut role (smaller_limits client_config server_config) frame) (frames_put mine)
 
--- and each that comes next to it
+-- Each frame that comes next to an end of a pair was well put by the other.
 abbrev pub NextIsWellPut : Type 0
 NextIsWellPut =
     (role : Role) (client_config : Config Client) (server_config : Config Server) (mine theirs : History)

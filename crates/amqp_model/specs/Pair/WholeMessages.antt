@@ -1,11 +1,12 @@
--- Whole messages: AMQP 0-9-1 specification, section 4.2.6, "Content Framing". Payloads stand in their order here, the oldest
--- first.
+-- Whole messages: AMQP 0-9-1 specification, section 4.2.6, "Content Framing". Payloads stand in their order here, the
+-- oldest first.
 use Rattle.std.specs.Prelude.{◌≡◌, Bool, true, ℕ, suc, List, [], ◌∷◌, ◌++◌, map, reverse}
 use Rattle.amqp_model.specs.Wire.Frame.{Frame}
 use Rattle.amqp_model.specs.Wire.Notes.{Role, Client, Server, is_message}
 use Rattle.amqp_model.specs.Pair.Carried.{sent}
 use Rattle.amqp_model.specs.Wire.Contents.{Payload}
-use Rattle.amqp_model.specs.Wire.Gathering.{Gathering, Nothing, Step, Keeps, Completes, Breaks, step, remains, gathering}
+use Rattle.amqp_model.specs.Wire.Gathering.{Gathering, Nothing, Step, Keeps, Completes, Breaks, step, remains}
+use Rattle.amqp_model.specs.Wire.Gathering.{gathering}
 use Rattle.amqp_model.specs.Wire.Readings.{reading, kind_of}
 use Rattle.amqp_model.specs.History.Histories.{History}
 use Rattle.amqp_model.specs.End.Channels.{Life, Open, Running}

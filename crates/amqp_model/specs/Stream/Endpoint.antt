@@ -1,7 +1,8 @@
--- One end of a connection, octet by octet: what it keeps, and what becomes of it by the next octet, by a piece of octets, by
--- an ask and by a write. AMQP 0-9-1 specification, sections 2.3.4, "Delimiting Frames", 4.2.2, "Protocol Header", and 4.2.3,
--- "General Frame Format".
-use Rattle.std.specs.Prelude.{Bool, true, false, cond, ℕ, suc, ◌==◌, List, [], ◌∷◌, ◌++◌, map, Option, Some, None}
+-- One end of a connection, octet by octet: what it keeps, and what becomes of it by the next octet, by a piece of
+-- octets, by an ask and by a write. AMQP 0-9-1 specification, sections 2.3.4, "Delimiting Frames", 4.2.2, "Protocol
+-- Header", and 4.2.3, "General Frame Format".
+use Rattle.std.specs.Prelude.{Bool, true, false, cond, ℕ, suc, ◌==◌, List, [], ◌∷◌, ◌++◌, map, Option}
+use Rattle.std.specs.Prelude.{Some, None}
 use Rattle.amqp_frame.specs.declared.faults.FrameFaultKind.{FrameFaultKind}
 use Rattle.amqp_frame.specs.declared.faults.FrameFaultKind.TheVariants.{TooLarge}
 use Rattle.amqp_model.specs.Wire.Frame.{Frame}
@@ -10,7 +11,8 @@ use Rattle.amqp_model.specs.Wire.Readings.{reading}
 use Rattle.amqp_model.specs.End.Channels.{Phase, Handshake, Closed, Failed, AwaitsProtocolHeader, End}
 use Rattle.amqp_model.specs.History.Negotiation.{Config, PROTOCOL_HEADER, frame_limit, start}
 use Rattle.amqp_model.specs.End.Closes.{FrameError, Owed, frame_of}
-use Rattle.amqp_model.specs.End.Events.{Event, Quiet, Fault, Peer, Fatal, WrongProtocolHeader, AlreadyClosed, AlreadyFailed, FrameVerdict, Faults}
+use Rattle.amqp_model.specs.End.Events.{Event, Quiet, Fault, Peer, Fatal, WrongProtocolHeader, AlreadyClosed}
+use Rattle.amqp_model.specs.End.Events.{AlreadyFailed, FrameVerdict, Faults}
 use Rattle.amqp_model.specs.End.FrameVerdict.{Facts, on_zero, methods_put, event_told}
 use Rattle.amqp_model.specs.End.Asks.{Ask, AskVerdict, Refused, Puts, ask_verdict}
 use Rattle.amqp_model.specs.End.Controls.{Control, control_verdict}
@@ -18,8 +20,10 @@ use Rattle.amqp_model.specs.Output.Outputs.{Output, after_puts, after_writing}
 use Rattle.amqp_model.specs.End.EndVerdict.{facts_at, end_verdict, end_puts}
 use Rattle.amqp_model.specs.End.Machine.{end_after_owed, end_after_put, end_after_taken, failed_by, new_end}
 use Rattle.amqp_model.specs.Stream.Octets.{opening_read, opening_written}
--- What octets are: a frame begun, a whole frame, or octets of which the last shows a fault. Those who read of an end read of it here.
-pub use Rattle.amqp_frame.specs.Judged.{Judgement, Begun, Whole, Wrong, kind_of_type, frame_in, judged_by_end, judged_by_size, judged_by_type, judged}
+-- What octets are: a frame begun, a whole frame, or octets of which the last shows a fault. Those who read of an end
+-- read of it here.
+pub use Rattle.amqp_frame.specs.Judged.{Judgement, Begun, Whole, Wrong, kind_of_type, frame_in, judged_by_end}
+pub use Rattle.amqp_frame.specs.Judged.{judged_by_size, judged_by_type, judged}
 
 -- Octets beside those that are wanted.
 
@@ -78,12 +82,20 @@ unless_over endpoint None feeding = feeding
 -- an octet is taken, and nothing is whole yet
 abbrev pub goes_on_with : Endpoint → (octets : List ℕ) → Feeding
 goes_on_with endpoint octets =
-    record { endpoint = record { end = endpoint.end; unfinished = octets; output = endpoint.output }; taken = 1; outcome = Unfinished }
+    record {
+      endpoint = record { end = endpoint.end; unfinished = octets; output = endpoint.output };
+      taken = 1;
+      outcome = Unfinished;
+    }
 
 -- an octet is taken by which this comes, with these frames put
 abbrev pub comes_to : Endpoint → End → (put : List Frame) → Outcome → Feeding
 comes_to endpoint end put outcome =
-    record { endpoint = record { end = end; unfinished = []; output = after_puts put endpoint.output }; taken = 1; outcome = outcome }
+    record {
+      endpoint = record { end = end; unfinished = []; output = after_puts put endpoint.output };
+      taken = 1;
+      outcome = outcome;
+    }
 
 -- the end has not read yet what stands before the frames: a server awaits the protocol header
 abbrev pub awaits_opening : Role → Phase → Bool
@@ -99,11 +111,16 @@ greeting Server config = on_zero (start config) ∷ []
 abbrev pub after_opening : (role : Role) → Config role → Endpoint → (octets : List ℕ) → Comparison → Feeding
 after_opening role config endpoint octets Prefix = goes_on_with endpoint octets
 after_opening role config endpoint octets Same =
-    comes_to endpoint (end_after_owed role config (greeting role config) endpoint.end) (map frame_of (greeting role config))
+    comes_to endpoint (end_after_owed role config (greeting role config) endpoint.end)
+    (map frame_of (greeting role config))
     (Finished (Some Quiet))
 after_opening role config endpoint octets Differs =
     record {
-      endpoint = record { end = failed_by (Faults WrongProtocolHeader) endpoint.end; unfinished = []; output = output_of PROTOCOL_HEADER };
+      endpoint = record {
+        end = failed_by (Faults WrongProtocolHeader) endpoint.end;
+        unfinished = [];
+        output = output_of PROTOCOL_HEADER;
+      };
       taken = 1;
       outcome = Found WrongProtocolHeader;
     }
@@ -126,17 +143,22 @@ owed_at_fault config end kind = methods_put (facts_at config end 0) (Faults (fau
 abbrev pub after_judged : (role : Role) → Config role → Endpoint → (octets : List ℕ) → Judgement → Feeding
 after_judged role config endpoint octets Begun = goes_on_with endpoint octets
 after_judged role config endpoint octets (Whole frame) =
-    comes_to endpoint (end_after_taken role config endpoint.end (reading frame) frame) (end_puts config endpoint.end frame)
+    comes_to endpoint (end_after_taken role config endpoint.end (reading frame) frame)
+    (end_puts config endpoint.end frame)
     (outcome_of (facts_at config endpoint.end frame.channel) (end_verdict config endpoint.end frame))
 after_judged role config endpoint octets (Wrong kind) =
     comes_to endpoint
-    (failed_by (Faults (fault_told kind)) (end_after_owed role config (owed_at_fault config endpoint.end kind) endpoint.end))
+    (failed_by (Faults (fault_told kind))
+    (end_after_owed role config (owed_at_fault config endpoint.end kind) endpoint.end))
     (map frame_of (owed_at_fault config endpoint.end kind)) (Found (fault_told kind))
 
 -- the octets that are not whole yet, with one more
-abbrev pub after_octets : (role : Role) → Config role → Endpoint → (octets : List ℕ) → (awaits : Bool) → Feeding
-after_octets role config endpoint octets true = after_opening role config endpoint octets (compared octets (opening_read role))
-after_octets role config endpoint octets false = after_judged role config endpoint octets (judged (frame_limit endpoint.end.agreed) octets)
+abbrev pub after_octets : (role : Role) → Config role → Endpoint → (octets : List ℕ)
+    → (awaits : Bool) → Feeding
+after_octets role config endpoint octets true =
+    after_opening role config endpoint octets (compared octets (opening_read role))
+after_octets role config endpoint octets false =
+    after_judged role config endpoint octets (judged (frame_limit endpoint.end.agreed) octets)
 
 -- the next octet
 abbrev pub after_octet : (role : Role) → Config role → Endpoint → (octet : ℕ) → Feeding
@@ -146,13 +168,15 @@ after_octet role config endpoint octet =
 
 -- the octets after the first are fed where nothing came of that one
 abbrev pub fed_after : (first : Feeding) → Outcome → (later : Feeding) → Feeding
-fed_after first Unfinished later = record { endpoint = later.endpoint; taken = suc later.taken; outcome = later.outcome }
+fed_after first Unfinished later =
+    record { endpoint = later.endpoint; taken = suc later.taken; outcome = later.outcome }
 fed_after first outcome later = first
 
 -- a piece, octet by octet, up to where something comes
 abbrev pub after_feed : (role : Role) → Config role → Endpoint → (piece : List ℕ) → Feeding
 after_feed role config endpoint [] =
-    unless_over endpoint (refusal_in endpoint.end.phase) (record { endpoint = endpoint; taken = 0; outcome = Unfinished })
+    unless_over endpoint (refusal_in endpoint.end.phase)
+    (record { endpoint = endpoint; taken = 0; outcome = Unfinished })
 after_feed role config endpoint (octet ∷ later) =
     fed_after (after_octet role config endpoint octet) (after_octet role config endpoint octet).outcome
     (after_feed role config (after_octet role config endpoint octet).endpoint later)
@@ -175,8 +199,10 @@ after_ask role config endpoint ask = after_answer role config endpoint (ask_verd
 
 -- a heartbeat, or a decision in the handshake
 abbrev pub after_control : (role : Role) → Config role → Endpoint → Control → Endpoint
-after_control role config endpoint control = after_answer role config endpoint (control_verdict role config endpoint.end control)
+after_control role config endpoint control =
+    after_answer role config endpoint (control_verdict role config endpoint.end control)
 
 -- so many octets of the output were written
 abbrev pub after_wrote : ℕ → Endpoint → Endpoint
-after_wrote n endpoint = record { end = endpoint.end; unfinished = endpoint.unfinished; output = after_writing n endpoint.output }
+after_wrote n endpoint =
+    record { end = endpoint.end; unfinished = endpoint.unfinished; output = after_writing n endpoint.output }

@@ -1,6 +1,6 @@
--- An end that ran out of memory. It fails, and what it was doing is not done: its history, the octets fed that are no whole
--- frame and its output are as they were. So of an end kept with its history there are three cases: it stands for its history,
--- it failed by octets that show why, or it ran out of memory.
+-- An end that ran out of memory. It fails, and what it was doing is not done: its history, the octets fed that are no
+-- whole frame and its output are as they were. So of an end kept with its history there are three cases: it stands for
+-- its history, it failed by octets that show why, or it ran out of memory.
 use Rattle.std.specs.Prelude.{◌≡◌, ◌≤◌, true, ℕ, List, ◌++◌, length, take}
 use Rattle.amqp_model.specs.Wire.Notes.{Role}
 use Rattle.amqp_model.specs.History.Histories.{History}
@@ -17,7 +17,8 @@ use Rattle.amqp_model.specs.End.Events.{AlreadyFailed}
 use Rattle.amqp_model.specs.Laws.OctetLaws.{EndpointStandsFor}
 
 -- the history is lawful, and nothing else stands apart from it
-pub record RanOut (role : Role) (config : Config role) (endpoint : Endpoint) (history : History) (fed written : List ℕ) : Type 0 where
+pub record RanOut (role : Role) (config : Config role) (endpoint : Endpoint) (history : History)
+    (fed written : List ℕ) : Type 0 where
   pub failed : endpoint.end.phase ≡ Failed
   pub lawful : Lawful role config true history
   pub stands : StandsFor role config true endpoint.end history
@@ -26,7 +27,8 @@ pub record RanOut (role : Role) (config : Config role) (endpoint : Endpoint) (hi
 
 -- what is left of an end that runs out of memory
 abbrev pub out_of_memory : Endpoint → Endpoint
-out_of_memory endpoint = record { end = as_failed endpoint.end; unfinished = endpoint.unfinished; output = endpoint.output }
+out_of_memory endpoint =
+    record { end = as_failed endpoint.end; unfinished = endpoint.unfinished; output = endpoint.output }
 
 -- it stood for its history, and takes octets
 abbrev pub RunsOut : (role : Role) → Config role → Endpoint → History → (fed written : List ℕ) → Type 0
@@ -34,15 +36,32 @@ RunsOut role config endpoint history fed written =
     EndpointStandsFor role config endpoint history fed written → takes_octets endpoint.end.phase ≡ true
     → RanOut role config (out_of_memory endpoint) history fed written
 
+-- An end that stands for a history and runs out of memory has run out with that history.
+abbrev pub EveryEndRunsOut : Type 0
+EveryEndRunsOut =
+    (role : Role) (config : Config role) (endpoint : Endpoint) (history : History) (fed written : List ℕ)
+    → RunsOut role config endpoint history fed written
+
 -- it still writes what it has put
-abbrev pub RanOutWrites : (role : Role) → Config role → Endpoint → History → (fed written : List ℕ) → (n : ℕ) → Type 0
+abbrev pub RanOutWrites : (role : Role) → Config role → Endpoint → History
+    → (fed written : List ℕ) → (n : ℕ) → Type 0
 RanOutWrites role config endpoint history fed written n =
     RanOut role config endpoint history fed written → n ≤ length (output_octets endpoint.output)
     → RanOut role config (after_wrote n endpoint) history fed (written ++ take n (output_octets endpoint.output))
 
--- and takes no octet more
+-- An end that ran out of memory writes on what it has put.
+abbrev pub EveryRanOutEndWrites : Type 0
+EveryRanOutEndWrites =
+    (role : Role) (config : Config role) (endpoint : Endpoint) (history : History) (fed written : List ℕ) (n : ℕ)
+    → RanOutWrites role config endpoint history fed written n
+
+-- An end that ran out of memory takes no octet more.
 abbrev pub RanOutStays : Type 0
 RanOutStays =
     (role : Role) (config : Config role) (endpoint : Endpoint) (history : History) (fed written piece : List ℕ)
     → RanOut role config endpoint history fed written
-    → after_feed role config endpoint piece ≡ record { endpoint = endpoint; taken = 0; outcome = Found AlreadyFailed }
+    → after_feed role config endpoint piece ≡ record {
+      endpoint = endpoint;
+      taken = 0;
+      outcome = Found AlreadyFailed;
+    }

@@ -1,6 +1,8 @@
--- What an end writes down of itself: one note a frame, the items that it told and those that it said, in the order in which
--- these came over all channels. Each frame taken and each frame put makes them longer, and by these words it is said by what.
-use Rattle.std.specs.Prelude.{◌≡◌, ◌≢◌, Bool, true, false, cond, not, ◌||◌, ℕ, zero, suc, ◌==◌, List, [], ◌∷◌, ◌++◌, map, Option, Some, None}
+-- What an end writes down of itself: one note a frame, the items that it told and those that it said, in the order in
+-- which these came over all channels. Each frame taken and each frame put makes them longer, and by these words it is
+-- said by what.
+use Rattle.std.specs.Prelude.{◌≡◌, ◌≢◌, Bool, true, false, cond, not, ◌||◌, ℕ, zero, suc, ◌==◌}
+use Rattle.std.specs.Prelude.{List, [], ◌∷◌, ◌++◌, map, Option, Some, None}
 use Rattle.std.specs.Option.{option_to_list}
 use Rattle.amqp_method.specs.declared.kinds.Kind.TheVariants as kinds
 use Rattle.amqp_model.specs.Wire.Frame.{Frame}
@@ -44,7 +46,11 @@ word_of (Kind.Other begins_content) = Other
 -- the note of a frame
 abbrev pub noted : Direction → Frame → Noted
 noted direction frame =
-    record { channel = frame.channel; direction = direction; word = cond (frame.channel == 0) Other (word_of (kind_of (reading frame))) }
+    record {
+      channel = frame.channel;
+      direction = direction;
+      word = cond (frame.channel == 0) Other (word_of (kind_of (reading frame)));
+    }
 
 -- the frame calls the method that the word names; an Other calls none of these
 abbrev pub is_word_of : Word → Reading → Bool
@@ -63,13 +69,15 @@ is_word_of Other reading =
     || is_call kinds.ChannelFlow reading
     || is_call kinds.ChannelFlowOk reading)
 
--- A note has the channel and the direction of its frame. Its word is the one that the frame calls, and on channel 0 an Other.
+-- A note has the channel and the direction of its frame. Its word is the one that the frame calls, and on channel 0 an
+-- Other.
 pub record IsNoteOf (direction : Direction) (frame : Frame) (note : Noted) : Type 0 where
   pub same_channel : note.channel ≡ frame.channel
   pub same_direction : note.direction ≡ direction
   pub on_zero : frame.channel ≡ 0 → note.word ≡ Other
   pub above_zero : frame.channel ≢ 0 → is_word_of note.word (reading frame) ≡ true
 
+-- The note of a frame says of it what it is to say.
 abbrev pub NotesFrame : Type 0
 NotesFrame =
     (direction : Direction) (frame : Frame)
@@ -106,7 +114,8 @@ item_in_event (Some event) = item_told event
 
 -- that item, with the channel and its life
 abbrev pub telling_at : (channel life : ℕ) → Option Item → List Telling
-telling_at channel life item = map (λ item. record { channel = channel; life = life; item = item }) (option_to_list item)
+telling_at channel life item =
+    map (λ item. record { channel = channel; life = life; item = item }) (option_to_list item)
 
 -- A frame that an end takes and goes on after makes `told` longer by just the item of its event, last of all.
 abbrev pub TellsEvent : (role : Role) → Config role → History → Frame → Type 0
@@ -115,11 +124,24 @@ TellsEvent role config history frame =
     → goes_on (end_verdict config (end_of config history) frame) ≡ true
     → told role config (then_taken config (end_of config history) frame history)
     ≡ told role config history ++ telling_at frame.channel (life_on role frame.channel history)
-    (item_in_event (event_told (facts_at config (end_of config history) frame.channel) (end_verdict config (end_of config history) frame)))
+    (item_in_event (event_told (facts_at config (end_of config history) frame.channel)
+    (end_verdict config (end_of config history) frame)))
+
+-- A frame after which an end goes on adds to what it told the item of its event, and nothing else.
+abbrev pub EveryEventIsTold : Type 0
+EveryEventIsTold =
+    (role : Role) (config : Config role) (history : History) (frame : Frame)
+    → TellsEvent role config history frame
 
 -- and frames that are put leave it
 abbrev pub PutsTellNothing : (role : Role) → Config role → List Frame → History → Type 0
 PutsTellNothing role config frames history = told role config (then_put frames history) ≡ told role config history
+
+-- Frames that are put add nothing to what an end told.
+abbrev pub AllPutsTellNothing : Type 0
+AllPutsTellNothing =
+    (role : Role) (config : Config role) (frames : List Frame) (history : History)
+    → PutsTellNothing role config frames history
 
 -- The same of what an end says.
 
@@ -128,13 +150,19 @@ abbrev pub telling_above : (channel life : ℕ) → Option Item → List Telling
 telling_above zero life item = []
 telling_above (suc n) life item = telling_at (suc n) life item
 
--- A method that is put makes `said` longer by the item that it is by itself: a flow-ok that is owed, and each ask that puts
--- one method.
+-- A method that is put makes `said` longer by the item that it is by itself: a flow-ok that is owed, and each ask that
+-- puts one method.
 abbrev pub SaysMethod : Role → (channel : ℕ) → Method → History → Type 0
 SaysMethod role channel method history =
     ReadsBack method
     → said role (Put (method_frame channel method) ∷ history) ≡ said role history
     ++ telling_above channel (life_on role channel history) (item_of method (sort_of method))
+
+-- A method that is put adds to what an end said the item that it is by itself.
+abbrev pub EveryMethodIsSaid : Type 0
+EveryMethodIsSaid =
+    (role : Role) (channel : ℕ) (method : Method) (history : History)
+    → SaysMethod role channel method history
 
 -- the item of a message
 abbrev pub item_of_message : Message → Item
@@ -151,11 +179,13 @@ SaysMessage =
     → said role (then_put frames history)
     ≡ said role history ++ telling_at channel (life_on role channel history) (Some (item_of_message message))
 
--- What an ask says: a message that is sent says itself, and a flow that is asked its flow, each on its channel in the life
--- that the channel has then. All other asks say nothing.
+-- What an ask says: a message that is sent says itself, and a flow that is asked its flow, each on its channel in the
+-- life that the channel has then. All other asks say nothing.
 abbrev pub said_by_ask : Role → Ask → History → List Telling
-said_by_ask role (Send channel message) history = telling_at channel (life_on role channel history) (Some (item_of_message message))
-said_by_ask role (Ask.Flow channel active) history = telling_at channel (life_on role channel history) (Some (FlowItem active))
+said_by_ask role (Send channel message) history =
+    telling_at channel (life_on role channel history) (Some (item_of_message message))
+said_by_ask role (Ask.Flow channel active) history =
+    telling_at channel (life_on role channel history) (Some (FlowItem active))
 said_by_ask role ask history = []
 
 -- An ask that is accepted makes `said` longer by just that, last of all.
@@ -165,7 +195,13 @@ SaysAsk role config history ask frames =
     → is_made ask ≡ true → AskReadsBack ask → ask_verdict role (end_of config history) ask ≡ Puts frames
     → said role (then_put frames history) ≡ said role history ++ said_by_ask role ask history
 
--- and frames that are taken leave it
+-- An accepted ask adds to what an end said just what it says.
+abbrev pub EveryAskIsSaid : Type 0
+EveryAskIsSaid =
+    (role : Role) (config : Config role) (history : History) (ask : Ask) (frames : List Frame)
+    → SaysAsk role config history ask frames
+
+-- Frames that are taken leave what an end said.
 abbrev pub TakenSaysNothing : Type 0
 TakenSaysNothing =
     (role : Role) (frame : Frame) (history : History)

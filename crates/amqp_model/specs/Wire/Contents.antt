@@ -4,7 +4,8 @@
 --
 -- All is said of payloads: what the frames of one channel say, once they are read. A list of payloads is in their
 -- order, the oldest first, but for `taken` and `since`, which are histories, the newest first.
-use Rattle.std.specs.Prelude.{◌≡◌, ◌≢◌, true, ℕ, zero, suc, ◌+◌, ◌-◌, ◌/◌, List, [], ◌∷◌, ◌++◌, length, take, drop, map, reverse}
+use Rattle.std.specs.Prelude.{◌≡◌, ◌≢◌, true, ℕ, zero, suc, ◌+◌, ◌-◌, ◌/◌, List, []}
+use Rattle.std.specs.Prelude.{◌∷◌, ◌++◌, length, take, drop, map, reverse}
 use Rattle.std.specs.List.{concat}
 use Rattle.amqp_model.specs.Wire.Methods.{Method, Properties, carries_content}
 
@@ -35,7 +36,8 @@ pub record IsContent (content : Content) (payloads : List Payload) : Type 0 wher
   pub parts : List (List ℕ)
   pub joined : concat parts ≡ content.body
   pub ends_full : EndsFull parts
-  pub payloads_are : payloads ≡ Calls content.method ∷ Header (length content.body) content.properties ∷ map Body parts
+  pub payloads_are : payloads ≡ Calls content.method ∷ Header (length content.body) content.properties
+      ∷ map Body parts
 
 -- the first so many pieces of octets, each as long as there is room, the last with what is left
 abbrev pub first_pieces : (pieces room : ℕ) → List ℕ → List (List ℕ)
@@ -53,7 +55,9 @@ room_in max = max - 8
 
 -- the payloads of a content as this profile writes it, in frames of at most `max` octets: each part as long as fits
 abbrev pub cut : (max : ℕ) → Content → List Payload
-cut max content = Calls content.method ∷ Header (length content.body) content.properties ∷ map Body (pieces (room_in max) content.body)
+cut max content =
+    Calls content.method ∷ Header (length content.body) content.properties
+    ∷ map Body (pieces (room_in max) content.body)
 
 -- A content is under way: of the payloads taken, `since` are the newest; there are some, and they are a prefix of a
 -- content's payloads, but not all of them.

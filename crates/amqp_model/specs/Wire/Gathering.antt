@@ -1,6 +1,7 @@
 -- What an end keeps of a content that it takes, payload by payload: a machine of three states. Its laws, in
 -- `ContentLaws`, say that it keeps what the definitions of `Contents` speak of.
-use Rattle.std.specs.Prelude.{◌≡◌, cond, nat_lt, ℕ, ◌+◌, ◌<◌, List, [], ◌∷◌, ◌++◌, length, map, reverse, ◌==◌}
+use Rattle.std.specs.Prelude.{◌≡◌, cond, nat_lt, ℕ, ◌+◌, ◌<◌, List, [], ◌∷◌, ◌++◌, length}
+use Rattle.std.specs.Prelude.{map, reverse, ◌==◌}
 use Rattle.std.specs.List.{concat}
 use Rattle.amqp_model.specs.Wire.Methods.{Method, Properties, carries_content}
 use Rattle.amqp_model.specs.Wire.Contents.{Payload, Calls, Header, Body, Unread, Content, UnderWay}
@@ -69,19 +70,27 @@ abbrev pub Gathers : (taken : List Payload) → Gathering → Type 0
 Gathers taken Nothing = (since : List Payload) → UnderWay taken since → ⊥
 Gathers taken (HeaderDue method) = UnderWay taken (Calls method ∷ [])
 Gathers taken (BodyDue method size properties body) =
-    (parts : List (List ℕ)) × UnderWay taken (reverse (map Body parts) ++ Header size properties ∷ Calls method ∷ [])
+    (parts : List (List ℕ))
+    × UnderWay taken (reverse (map Body parts) ++ Header size properties ∷ Calls method ∷ [])
     × (concat parts ≡ body)
 
 -- why a payload can't come next, in the words of `Contents`
 pub data DoesNotFit (before : List Payload) : Payload → Misfit → Type 0 where
-  header_first : {size : ℕ} {properties : Properties} → Gathers before Nothing → DoesNotFit before (Header size properties) NothingBegun
+  header_first :
+      {size : ℕ} {properties : Properties} → Gathers before Nothing
+      → DoesNotFit before (Header size properties) NothingBegun
   body_first : {octets : List ℕ} → Gathers before Nothing → DoesNotFit before (Body octets) NothingBegun
-  body_early : {method : Method} {octets : List ℕ} → Gathers before (HeaderDue method) → DoesNotFit before (Body octets) HeaderAwaited
+  body_early :
+      {method : Method} {octets : List ℕ} → Gathers before (HeaderDue method)
+      → DoesNotFit before (Body octets) HeaderAwaited
   header_again :
       {method : Method} {size again : ℕ} {properties others : Properties} {body : List ℕ}
       → Gathers before (BodyDue method size properties body) → DoesNotFit before (Header again others) BodyAwaited
   past_size :
-      {method : Method} {size : ℕ} {properties : Properties} {body octets : List ℕ} → Gathers before (BodyDue method size properties body)
+      {method : Method} {size : ℕ} {properties : Properties} {body octets : List ℕ}
+      → Gathers before (BodyDue method size properties body)
       → size < length body + length octets → DoesNotFit before (Body octets) PastSize
-  method_inside : {method : Method} {since : List Payload} → UnderWay before since → DoesNotFit before (Calls method) MethodInside
+  method_inside :
+      {method : Method} {since : List Payload} → UnderWay before since
+      → DoesNotFit before (Calls method) MethodInside
   not_read : DoesNotFit before Unread NotRead

@@ -3,10 +3,12 @@
 -- which frames make up a message is said in the AMQP 0-9-1 specification, section 4.2.6, "Content Framing".
 use Rattle.std.specs.Prelude.{◌≡◌, Bool, List, [], ◌∷◌, ◌++◌, reverse, Option, Some, None}
 use Rattle.std.specs.Option.{option_to_list}
-use Rattle.amqp_model.specs.Wire.Methods.{Method, Sort, BeginsContent, OpensOrCloses, Plain, AsksFlow, AnswersFlow, sort_of}
+use Rattle.amqp_model.specs.Wire.Methods.{Method, Sort, BeginsContent, OpensOrCloses, Plain, AsksFlow, AnswersFlow}
+use Rattle.amqp_model.specs.Wire.Methods.{sort_of}
 use Rattle.amqp_model.specs.Wire.Contents.{Payload, Calls, Header, Body, Unread, Content, EndsContent}
 use Rattle.amqp_model.specs.Wire.Gathering.{Gathering, Step, Completes, step, gathering}
 
+-- what the frames of a channel tell the application: a method, a whole content, a flow or a flow-ok
 pub data Item : Type 0 where
   PlainMethod : Method → Item
   WholeContent : Content → Item
@@ -14,7 +16,8 @@ pub data Item : Type 0 where
 
 -- the newest payload calls a method of this sort
 abbrev pub CallsLast : (taken : List Payload) → Method → Sort → Type 0
-CallsLast taken method sort = (before : List Payload) × (taken ≡ Calls method ∷ before) × (sort_of method ≡ sort)
+CallsLast taken method sort =
+    (before : List Payload) × (taken ≡ Calls method ∷ before) × (sort_of method ≡ sort)
 
 -- the newest payload is the last of this item
 abbrev pub EndsItem : (taken : List Payload) → Item → Type 0
@@ -27,7 +30,8 @@ EndsItem taken (FlowOkItem active) = (method : Method) × CallsLast taken method
 pub data Encodes : (taken : List Payload) → List Item → Type 0 where
   nothing : Encodes [] []
   with_item :
-      {payload : Payload} {before : List Payload} {items : List Item} (item : Item) → Encodes before items → EndsItem (payload ∷ before) item
+      {payload : Payload} {before : List Payload} {items : List Item} (item : Item) → Encodes before items
+      → EndsItem (payload ∷ before) item
       → Encodes (payload ∷ before) (items ++ item ∷ [])
   without :
       {payload : Payload} {before : List Payload} {items : List Item} → Encodes before items

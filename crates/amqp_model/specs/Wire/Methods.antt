@@ -1,6 +1,6 @@
--- Methods and content headers, in the words of contents, histories and verdicts: what a kind is to a channel, which methods
--- are requests and replies, and what octets say as a payload. What is said of a kind is said by the crate of methods,
--- beside its one table.
+-- Methods and content headers, in the words of contents, histories and verdicts: what a kind is to a channel, which
+-- methods are requests and replies, and what octets say as a payload. What is said of a kind is said by the crate of
+-- methods, beside its one table.
 use Rattle.std.specs.Prelude.{◌≡◌, List, Option, Some, None, ℕ, Result, Ok, Err}
 use Rattle.amqp_method.specs.Arguments.{Argument, Call}
 use Rattle.amqp_method.specs.HeaderReading as header_reading
@@ -15,7 +15,8 @@ pub use Rattle.amqp_method.specs.Kinds.{class_of, id_of, same_kind, sends}
 pub use Rattle.amqp_method.specs.Places.{argument_at, bit_at, number_at, octets_at}
 pub use Rattle.amqp_method.specs.Methods.{Wanted, Always, Never, UnlessNoWait}
 pub use Rattle.amqp_method.specs.Requests.{wants, is_wanted, is_request, answered, is_reply, answers}
-pub use Rattle.amqp_method.specs.Sorts.{Sort, BeginsContent, OpensOrCloses, Plain, AsksFlow, AnswersFlow, sort_by, sort_of, begins_content, carries_content}
+pub use Rattle.amqp_method.specs.Sorts.{Sort, BeginsContent, OpensOrCloses, Plain, AsksFlow, AnswersFlow, sort_by}
+pub use Rattle.amqp_method.specs.Sorts.{sort_of, begins_content, carries_content}
 
 -- a method with its arguments
 abbrev pub Method : Type 0
@@ -33,7 +34,7 @@ pub data MethodRead : Type 0 where
   Reads : Method → MethodRead
   NoSuchMethod DoesNotParse : MethodRead
 
-abbrev pub fault_read : MethodFaultKind → MethodRead
+abbrev fault_read : MethodFaultKind → MethodRead
 fault_read faults.UnknownMethod = NoSuchMethod
 fault_read kind = DoesNotParse
 
@@ -44,6 +45,7 @@ method_read (Err fault) = fault_read fault.kind
 unfoldable pub method_at : List ℕ → MethodRead
 method_at payload = method_read (reading.method_at payload)
 
+-- a content header: the class, the size of the body, and the properties
 abbrev pub Header : Type 0
 Header = ContentHeader
 

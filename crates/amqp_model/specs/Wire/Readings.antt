@@ -6,7 +6,8 @@ use Rattle.amqp_method.specs.declared.kinds.Kind.TheVariants as kinds
 use Rattle.amqp_model.specs.Wire.Frame.{Frame}
 use Rattle.amqp_model.specs.Wire.Notes.{Kind, Open, OpenOk, Close, CloseOk, Flow, FlowOk, Other}
 use Rattle.amqp_model.specs.Wire.Methods as methods
-use Rattle.amqp_model.specs.Wire.Methods.{MethodKind, Properties, MethodRead, Reads, NoSuchMethod, DoesNotParse, method_at, header_at, same_kind, bit_at}
+use Rattle.amqp_model.specs.Wire.Methods.{MethodKind, Properties, MethodRead, Reads, NoSuchMethod, DoesNotParse}
+use Rattle.amqp_model.specs.Wire.Methods.{method_at, header_at, same_kind, bit_at}
 use Rattle.amqp_model.specs.Wire.Contents.{Payload, Unread}
 
 -- a method, one that there isn't, or one that doesn't parse; a content header with its body's size, or one that

@@ -1,5 +1,6 @@
 -- Each clause is a lemma on two endpoints.
-use Rattle.amqp_model.proofs.EndsTogether.{new-stand-together, stand-together-turned, carry-stands-together, ask-stands-together, asked-stays-pair}
+use Rattle.amqp_model.proofs.EndsTogether.{new-stand-together, stand-together-turned, carry-stands-together}
+use Rattle.amqp_model.proofs.EndsTogether.{ask-stands-together, asked-stays-pair}
 use Rattle.amqp_model.proofs.agreement.ends_stand_together.Goals as goal
 
 pub returns-clause-new : goal.returns-clause-new

@@ -6,7 +6,12 @@ use Rattle.amqp_model.proofs.arrangement.example_rows.Goals as goal
 
 pub returns-clause-long_and_short : goal.returns-clause-long_and_short
 returns-clause-long_and_short c =
-    λ most rest most_is rest_is. (refl, rw (most_is, rest_is) refl, λ arranged. let sooner : 65535 ≤ 1 = arranged.1.0 2 close (omega arith) in omega arith)
+    λ most rest most_is rest_is. (
+      refl,
+      rw (most_is, rest_is) refl,
+      λ arranged. let sooner : 65535
+          ≤ 1 = arranged.1.0 2 close (omega arith) in omega arith,
+    )
 
 pub returns-clause-begun_and_put : goal.returns-clause-begun_and_put
 unfolding octets

@@ -1,5 +1,6 @@
 -- Each clause is a lemma on lists of payloads.
-use Rattle.amqp_model.proofs.ItemLemmas.{items-prefix, items-more, items-content, items-unfinished, items-apart, items-method}
+use Rattle.amqp_model.proofs.ItemLemmas.{items-prefix, items-more, items-content, items-unfinished, items-apart}
+use Rattle.amqp_model.proofs.ItemLemmas.{items-method}
 use Rattle.amqp_model.proofs.contents.items_follow.Goals as goal
 
 pub returns-clause-prefix : goal.returns-clause-prefix

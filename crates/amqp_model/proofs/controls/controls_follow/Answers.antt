@@ -1,5 +1,6 @@
 -- Each clause is a lemma on one end.
-use Rattle.amqp_model.proofs.ControlLaws.{control-of-history, control-puts-one, control-follows, control-moves-phase, control-leaves-rest, controls-act, control-says-nothing}
+use Rattle.amqp_model.proofs.ControlLaws.{control-of-history, control-puts-one, control-follows, control-moves-phase}
+use Rattle.amqp_model.proofs.ControlLaws.{control-leaves-rest, controls-act, control-says-nothing}
 use Rattle.amqp_model.proofs.controls.controls_follow.Goals as goal
 
 pub returns-clause-history : goal.returns-clause-history

@@ -1,6 +1,7 @@
 -- The scripts compute.
 use Rattle.amqp_model.specs.Laws.Scripts.{crossing_steps}
-use Rattle.amqp_model.proofs.Scripts.{replay_runs, crossing, reopened, closed_early, discarded, paused, restarted, closed_after_message, dropped, server_left}
+use Rattle.amqp_model.proofs.Scripts.{replay_runs, crossing, reopened, closed_early, discarded, paused, restarted}
+use Rattle.amqp_model.proofs.Scripts.{closed_after_message, dropped, server_left}
 use Rattle.amqp_model.proofs.lives.scripts_run.Goals as goal
 
 pub returns-clause-runs : goal.returns-clause-runs

@@ -1,5 +1,6 @@
 -- Each clause is a lemma on pieces.
-use Rattle.amqp_model.proofs.OctetCuts.{cut-goes-on, cut-stops, feed-progresses, feed-within, feed-all, stays-closed, stays-failed}
+use Rattle.amqp_model.proofs.OctetCuts.{cut-goes-on, cut-stops, feed-progresses, feed-within, feed-all, stays-closed}
+use Rattle.amqp_model.proofs.OctetCuts.{stays-failed}
 use Rattle.amqp_model.proofs.octets.cut_changes_nothing.Goals as goal
 
 pub returns-clause-goes_on : goal.returns-clause-goes_on

@@ -17,4 +17,5 @@ pub returns-clause-read : goal.returns-clause-read
 returns-clause-read c = failed-is-read
 
 pub returns-clause-not_yet : goal.returns-clause-not_yet
-returns-clause-not_yet c = λ role config end history stands. not-failed role (entries_on 0 history) end.phase stands.phase
+returns-clause-not_yet c =
+    λ role config end history stands. not-failed role (entries_on 0 history) end.phase stands.phase

@@ -1,5 +1,6 @@
 -- Each clause is a lemma on histories.
-use Rattle.amqp_model.proofs.SentTelling.{tells-what-is-acted-on, fault-tells-nothing, says-what-is-sent, nothing-of-channel-0}
+use Rattle.amqp_model.proofs.SentTelling.{tells-what-is-acted-on, fault-tells-nothing, says-what-is-sent}
+use Rattle.amqp_model.proofs.SentTelling.{nothing-of-channel-0}
 use Rattle.amqp_model.proofs.two_ends.items_are_told_and_said.Goals as goal
 
 pub returns-clause-told : goal.returns-clause-told
