@@ -6,7 +6,7 @@ use Rattle.amqp_model.specs.End.Asks.{Ask, Refusal, BadChannel, NotSendable, Sen
 use Rattle.amqp_model.specs.End.Channels.{End}
 use Rattle.amqp_model.specs.End.Closes.{method_frame}
 use Rattle.amqp_model.specs.Wire.Contents as contents
-use Rattle.amqp_model.specs.Wire.Contents.{Payload, first_pieces, pieces, room_in}
+use Rattle.amqp_model.specs.Wire.Contents.{first_pieces, pieces, room_in}
 use Rattle.amqp_model.specs.End.Events.{Message, Plain, Whole, method_of}
 use Rattle.amqp_model.specs.Laws.FittingLaws.{AllWithin}
 use Rattle.amqp_model.specs.Wire.Frame.{Frame}

@@ -15,7 +15,7 @@ use Rattle.amqp_model.specs.End.Channels.{End, Phase, Handshake, Running, Closin
 use Rattle.amqp_model.specs.End.Closes.{frame_of}
 use Rattle.amqp_model.specs.End.EndVerdict.{end_puts, end_verdict, facts_at, takes_frames, takes_octets}
 use Rattle.amqp_model.specs.Stream.Endpoint as model
-use Rattle.amqp_model.specs.Stream.Endpoint.{Feeding, Outcome, Unfinished, Finished, Found, Whole, Wrong, after_feed, after_judged, awaits_opening, fault_told, goes_on_with, outcome_of, owed_at_fault}
+use Rattle.amqp_model.specs.Stream.Endpoint.{Feeding, Outcome, Found, after_feed, awaits_opening, fault_told, outcome_of, owed_at_fault}
 use Rattle.amqp_model.specs.End.Fitting.{ConfigWrites, IfAgreedFits}
 use Rattle.amqp_model.specs.Laws.FittingLaws.{AgreedStaysWithin}
 use Rattle.amqp_model.specs.Wire.Frame.{Frame}

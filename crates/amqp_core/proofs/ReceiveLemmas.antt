@@ -27,7 +27,6 @@ use Rattle.amqp_core.specs.Connection.Outcomes.{ended_by, owed_by, told_by, Same
 use Rattle.amqp_core.specs.Config.Settings.{config_view, role_for}
 use Rattle.amqp_core.specs.Connection.Stages.{leaves}
 use Rattle.amqp_core.specs.Connection.Verdicts.{content_of, end_left, ended_if, event_by, fault_by, noticed, outcome_with, verdict_here, verdict_view, FitsEventOf, FitsVerdict, FrameRules, StepsFrom}
-use Rattle.amqp_core.specs.declared.faults.CoreFault.{CoreFault}
 use Rattle.amqp_core.specs.declared.settings.Settings.{Settings}
 use Rattle.amqp_core.specs.declared.verdict.Notice.TheVariants as notice
 use Rattle.amqp_core.specs.Connection.Rulings.{Ruling, OnChannel, OnConnection}

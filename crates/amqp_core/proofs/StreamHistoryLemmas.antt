@@ -5,7 +5,7 @@ use Rattle.std.proofs.Math.Logic.{∥∥₁_map}
 use Rattle.amqp_model.specs.End.Answers.{gathered, kept_by, kept_in}
 use Rattle.amqp_model.specs.End.Asks.{Ask, Puts, ask_verdict, frames_asked, refused_or_put}
 use Rattle.amqp_model.specs.End.Channels as channels
-use Rattle.amqp_model.specs.End.Channels.{Agreed, Channel, End, Phase, Handshake, Running, Closed, Failed, Free, Opening, Closing}
+use Rattle.amqp_model.specs.End.Channels.{Channel, End, Phase, Handshake, Running, Closed, Failed, Free, Opening, Closing}
 use Rattle.amqp_model.specs.End.Controls.{Control}
 use Rattle.amqp_model.specs.End.EndVerdict.{takes_octets}
 use Rattle.amqp_model.specs.End.Fitting.{ConfigWrites, IfAgreedFits}

@@ -16,7 +16,7 @@ use Rattle.amqp_frame.specs.declared.splitting.Place.{Place}
 use Rattle.amqp_frame.specs.declared.splitting.Place.TheVariants as places
 use Rattle.amqp_model.specs.End.Bounds.{ChannelIsWithin, FrameStaysWithin, KeepsPart, most_requests}
 use Rattle.amqp_model.specs.End.Channels as channels
-use Rattle.amqp_model.specs.End.Channels.{Channel, End, Free, Opening, Closing, Failed, Life}
+use Rattle.amqp_model.specs.End.Channels.{Channel, End, Free, Opening, Closing, Failed}
 use Rattle.amqp_model.specs.End.EndVerdict.{end_puts, end_verdict, facts_at, takes_octets}
 use Rattle.amqp_model.specs.End.Events.{AlreadyClosed, AlreadyFailed, Event, Quiet}
 use Rattle.amqp_model.specs.End.Fitting.{IfAgreedFits}

@@ -4,7 +4,7 @@ use Rattle.std.proofs.lemmas.Bool.{false≢true}
 use Rattle.std.proofs.lemmas.List.{append-nil, append_assoc}
 use Rattle.amqp_model.specs.End.Channels.{End}
 use Rattle.amqp_model.specs.End.Closes as closes
-use Rattle.amqp_model.specs.End.Closes.{AllReadBack, frame_of, method_frame}
+use Rattle.amqp_model.specs.End.Closes.{AllReadBack, frame_of}
 use Rattle.amqp_model.specs.Laws.EndLaws.{VerdictOfHistory}
 use Rattle.amqp_model.specs.End.EndVerdict.{end_puts, end_verdict, facts_at, goes_on}
 use Rattle.amqp_model.specs.Stream.Endpoint.{outcome_of}

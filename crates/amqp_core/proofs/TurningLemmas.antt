@@ -2,7 +2,7 @@
 use Rattle.std.proofs.Common.{◌≡◌, Bool, true, false, cond, ℕ, List, refl, ap, sym, ◌∙◌, subst}
 use Rattle.std.proofs.lemmas.Bool.{true≢false, false≢true}
 use Rattle.amqp_model.specs.End.Channels as channels
-use Rattle.amqp_model.specs.End.Channels.{Channel, End, Free, Opening, Closing, Life}
+use Rattle.amqp_model.specs.End.Channels.{Channel, End, Free, Opening, Closing}
 use Rattle.amqp_model.specs.End.FrameVerdict.{is_gathering}
 use Rattle.amqp_model.specs.History.Histories.{History}
 use Rattle.amqp_model.specs.History.Negotiation.{Config}

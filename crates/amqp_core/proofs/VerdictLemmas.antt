@@ -43,7 +43,7 @@ use Rattle.amqp_core.specs.declared.settings.Settings.{Settings}
 use Rattle.amqp_core.specs.declared.stage.Stage.{Stage}
 use Rattle.amqp_core.specs.declared.stage.Stage.TheVariants as stages
 use Rattle.amqp_core.specs.declared.verdict.Notice.TheVariants as notice
-use Rattle.amqp_core.specs.Connection.Rulings.{Ruling, OnChannel, OnConnection}
+use Rattle.amqp_core.specs.Connection.Rulings.{OnChannel, OnConnection}
 use Rattle.amqp_core.specs.declared.verdict.Verdict.TheVariants.{Proceeds, Faults}
 use Rattle.amqp_core.proofs.ConnectionLemmas.{above_stays, beat_verdict, drops_above, drops_unread, unread_faults, unread_stays}
 use Rattle.amqp_core.proofs.EntryLemmas.{with_channel, taken_above, agreed_above, nothing_stays, IsNoCall}

@@ -22,7 +22,8 @@ use Rattle.amqp_core.specs.declared.verdict.Notice.TheVariants as notice
 abbrev pub reason_ref_view : ReasonRef → events.Reason
 reason_ref_view reason = record { code = reason.code; text = reason.text.now }
 
-abbrev reason_ref_there : Option ReasonRef → Option events.Reason
+-- the reason of a close, if it has one
+abbrev pub reason_ref_there : Option ReasonRef → Option events.Reason
 reason_ref_there None = None
 reason_ref_there (Some reason) = Some (reason_ref_view reason)
 

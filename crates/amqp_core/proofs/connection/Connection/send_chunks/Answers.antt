@@ -1,14 +1,11 @@
-use Rattle.std.proofs.Common.{refl, sym, subst}
+use Rattle.std.proofs.Common.{refl}
 use Rattle.std.proofs.lemmas.Result.{err_from_is_err_and}
 use Rattle.amqp_method.specs.HeaderView.{properties_view}
 use Rattle.amqp_method.specs.MethodView.{method_view}
 use Rattle.amqp_method.specs.Messages.{letter_with}
 use Rattle.amqp_channel.specs.Channels.ChannelsView.{channels_view}
 use Rattle.amqp_channel.specs.Events.EventView.{message_of}
-use Rattle.amqp_core.specs.Asks.Asked.{content_asked}
-use Rattle.amqp_core.specs.Connection.View.{connection_end}
-use Rattle.amqp_core.proofs.AskLemmas.{all_are_put, carries_if, dropped, message_put, refused_late}
-use Rattle.amqp_core.proofs.ContentLemmas.{no_request}
+use Rattle.amqp_core.proofs.AskLemmas.{all_are_put, carries_if, message_put}
 use Rattle.amqp_core.proofs.connection.Connection.send_chunks.Goals as goal
 
 pub returns-clause-accepted : goal.returns-clause-accepted
