@@ -1,15 +1,12 @@
--- What a feed of an end behind a handle does whose events lend. Read before: what a feed of such an end does (`Lends` of
--- `amqp_core`).
+-- What a feed of an end behind a handle does whose events lend. Read before: what a feed of such an end does (`Lends`
+-- of `amqp_core`).
 use Rattle.std.specs.Prelude.{◌≡◌, ℕ, List, Bool, true, false, Option, Some, None, Result, Ok, Err}
 use Rattle.amqp_method.specs.Encoding.{EncodesMethod}
 use Rattle.amqp_method.specs.Properties.{header, EncodesHeader}
 use Rattle.amqp_model.specs.End.Events as events
 use Rattle.amqp_model.specs.Lent.Alike.{LentEvent, WithoutContent, Begins, Heads, Part, Other}
-use Rattle.amqp_core.specs.Stream.EventRefView.{event_ref_view}
 use Rattle.amqp_core.specs.Stream.Lending.{LentSeen}
 use Rattle.amqp_core.specs.Stream.Lends.{Lends}
-use Rattle.amqp_core.specs.declared.event_ref.EventRef.TheVariants as lent
-use Rattle.amqp_core.specs.declared.event_ref.ReasonRef.{ReasonRef}
 use Rattle.amqp_core.specs.declared.faults.CoreFault.{CoreFault}
 use Rattle.amqp_core.specs.declared.roles.Role.{Ghosts}
 use Rattle.amqp_core.specs.declared.stream.StreamEnd.{StreamEnd}
@@ -23,14 +20,6 @@ use Rattle.meadowtray.specs.declared.ends.feeding.FedEnd.{FedEnd}
 
 -- ---- what is told
 
-abbrev reason_told : LentEvent → Option events.Reason
-reason_told (Other (events.ConnectionClosed reason)) = reason
-reason_told event = None
-
--- the reason that a close lends, if it has one
-abbrev pub reason_lent : Option ReasonRef → Option events.Reason
-reason_lent reason = reason_told (event_ref_view (lent.ConnectionClosed reason))
-
 -- the reason of the other end's close
 abbrev pub TellsReason : Option events.Reason → SeenEvent → Type 0
 TellsReason None out = out.holds ≡ false
@@ -39,12 +28,14 @@ TellsReason (Some reason) out = (out.holds ≡ true) × (out.code ≡ reason.cod
 -- an event of which no content is a part
 abbrev pub TellsOther : events.Event → SeenEvent → Type 0
 TellsOther (events.Negotiated agreed) out =
-    (out.kind ≡ 1) × (out.channel_max ≡ agreed.channel_max) × (out.frame_max ≡ agreed.frame_max) × (out.heartbeat ≡ agreed.heartbeat)
+    (out.kind ≡ 1) × (out.channel_max ≡ agreed.channel_max) × (out.frame_max ≡ agreed.frame_max)
+    × (out.heartbeat ≡ agreed.heartbeat)
 TellsOther (events.Opened channel) out = (out.kind ≡ 2) × (out.channel ≡ channel)
 TellsOther (events.Told channel message) out = ⊥
 TellsOther (events.Flow channel active) out = (out.kind ≡ 4) × (out.channel ≡ channel) × (out.holds ≡ active)
 TellsOther (events.FlowOk channel active) out = (out.kind ≡ 5) × (out.channel ≡ channel) × (out.holds ≡ active)
-TellsOther (events.ChannelClosed channel reason) out = (out.kind ≡ 6) × (out.channel ≡ channel) × TellsReason reason out
+TellsOther (events.ChannelClosed channel reason) out =
+    (out.kind ≡ 6) × (out.channel ≡ channel) × TellsReason reason out
 TellsOther (events.ConnectionClosed reason) out = (out.kind ≡ 7) × TellsReason reason out
 TellsOther (events.Discarded channel) out = (out.kind ≡ 8) × (out.channel ≡ channel)
 TellsOther (events.Blocked reason) out = (out.kind ≡ 9) × (out.text.now ≡ reason)
@@ -56,11 +47,15 @@ TellsOther events.OpenAsked out = out.kind ≡ 14
 
 -- an event, with the octets as they came
 abbrev pub TellsEvent : LentEvent → SeenEvent → Type 0
-TellsEvent (WithoutContent channel method) out = (out.kind ≡ 3) × (out.channel ≡ channel) × EncodesMethod method out.method.now
-TellsEvent (Begins channel method) out = (out.kind ≡ 15) × (out.channel ≡ channel) × EncodesMethod method out.method.now
+TellsEvent (WithoutContent channel method) out =
+    (out.kind ≡ 3) × (out.channel ≡ channel) × EncodesMethod method out.method.now
+TellsEvent (Begins channel method) out =
+    (out.kind ≡ 15) × (out.channel ≡ channel) × EncodesMethod method out.method.now
 TellsEvent (Heads channel size properties whole) out =
-    (out.kind ≡ 16) × (out.channel ≡ channel) × EncodesHeader (header size properties) out.header.now × (out.holds ≡ whole)
-TellsEvent (Part channel octets whole) out = (out.kind ≡ 17) × (out.channel ≡ channel) × (out.body.now ≡ octets) × (out.holds ≡ whole)
+    (out.kind ≡ 16) × (out.channel ≡ channel) × EncodesHeader (header size properties) out.header.now
+    × (out.holds ≡ whole)
+TellsEvent (Part channel octets whole) out =
+    (out.kind ≡ 17) × (out.channel ≡ channel) × (out.body.now ≡ octets) × (out.holds ≡ whole)
 TellsEvent (Other event) out = TellsOther event out
 
 -- the event, if there is one
@@ -76,13 +71,15 @@ TellsLent (Err fault) status fed out = (status ≡ core_status fault) × TellsCo
 -- ---- what the end does
 
 -- the end is fed the piece, answers this, and its places stay
-pub record LendsKept {R H : Type 0} {G : Ghosts R H} (old : Kept (StreamEnd R H G)) (piece : List ℕ) (seen : Result LentSeen CoreFault)
+pub record LendsKept {R H : Type 0} {G : Ghosts R H} (old : Kept (StreamEnd R H G)) (piece : List ℕ)
+    (seen : Result LentSeen CoreFault)
     (new : Kept (StreamEnd R H G)) : Type 0 where
   pub lends : Lends old.end.value piece seen new.end.value
   pub places : new.places ≡ old.places
 
 -- this is what an end answers to a piece
-pub record LentAnswer {R H : Type 0} {G : Ghosts R H} (old : StreamEnd R H G) (piece : List ℕ) (seen : Result LentSeen CoreFault) : Type 0 where
+pub record LentAnswer {R H : Type 0} {G : Ghosts R H} (old : StreamEnd R H G) (piece : List ℕ)
+    (seen : Result LentSeen CoreFault) : Type 0 where
   -- the end that is left
   pub new : StreamEnd R H G
   pub lends : Lends old piece seen new

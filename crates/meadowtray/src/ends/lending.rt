@@ -2,11 +2,11 @@
 ghost use Rattle.std.specs.Prelude.{◌≡◌, true, is_some};
 ghost use Rattle.std.specs.Borrow.{sem};
 ghost use Rattle.std.specs.Io.BufRead.{Rests};
-ghost use Rattle.amqp_core.specs.Stream.EventRefView.{event_ref_there, event_ref_view};
+ghost use Rattle.amqp_core.specs.Stream.EventRefView.{event_ref_there, event_ref_view, reason_ref_there};
 ghost use Rattle.amqp_core.specs.Stream.View.{taken_seen};
 ghost use Rattle.amqp_core.specs.contracts.stream.StreamEnd as stream_row;
 ghost use Rattle.amqp_handle.specs.contracts.kept.Kept as kept_row;
-ghost use Rattle.meadowtray.specs.LentEvents.{FeedsLent, is_lending, LendsKept, LentAnswer, LentOf, TellsEvent, TellsLent, TellsReason, reason_lent};
+ghost use Rattle.meadowtray.specs.LentEvents.{FeedsLent, is_lending, LendsKept, LentAnswer, LentOf, TellsEvent, TellsLent, TellsReason};
 
 use crate::ends::events::{SeenEvent, of_kind};
 use crate::ends::feeding::{FedEnd, tell_fault};
@@ -22,7 +22,7 @@ const HEADS: u8 = 16;
 const PART: u8 = 17;
 
 fn show_reason<'a>(kind: u8, reason: Option<ReasonRef<'a>>) -> SeenEvent<'a>
-    ensures reason { TellsReason (reason_lent reason.entry) result }
+    ensures reason { TellsReason (reason_ref_there reason.entry) result }
     ensures kind { result.kind ≡ kind }
 {
     let mut out = of_kind(kind);
