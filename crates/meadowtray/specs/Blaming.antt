@@ -100,8 +100,10 @@ abbrev pub WritesLine : List ℕ → Result ℕ WriteFault → List ℕ → Type
 WritesLine old written new = Writes (λ octets. Unit {0}) ⊥ (λ fault. ⊥) old written new
 
 -- nothing is blamed, and the room stays; or something is, and its line is written
-pub data WritesLineOf (counters : Counters) (old : List ℕ) (status : ℕ) (out : Written) (new : List ℕ) : Type 0 where
-  faultless : counters.tally.blame ≡ None → status ≡ 8 → new ≡ old → WritesLineOf counters old status out new
+pub data WritesLineOf (counters : Counters) (old : List ℕ) (status : ℕ) (out : Written)
+    (new : List ℕ) : Type 0 where
+  faultless : counters.tally.blame ≡ None → status ≡ 8 → new ≡ old
+      → WritesLineOf counters old status out new
   blamed :
       (blame : Blame) → counters.tally.blame ≡ Some (blame_view blame) → (written : Result ℕ WriteFault)
       → WritesLine old written new → ToldWrite written status out → WritesLineOf counters old status out new
@@ -109,4 +111,5 @@ pub data WritesLineOf (counters : Counters) (old : List ℕ) (status : ℕ) (out
 -- the end of an open handle, which stays as it is
 abbrev pub LineOfEnd : Option HeldEnd → List ℕ → ℕ → Written → List ℕ → Option HeldEnd → Type 0
 LineOfEnd old room status out now new =
-    Answers status (λ E of end. WritesLineOf (of.counters end) room status out now) old new × (old ≡ None → now ≡ room)
+    Answers status (λ E of end. WritesLineOf (of.counters end) room status out now) old new
+    × (old ≡ None → now ≡ room)

@@ -1,4 +1,5 @@
--- Closes that C asks of an end behind a handle, each for a method. Read before: what an ask of an end does (`Asked` of `amqp_core`).
+-- Closes that C asks of an end behind a handle, each for a method. Read before: what an ask of an end does (`Asked` of
+-- `amqp_core`).
 use Rattle.std.specs.Prelude.{◌≡◌, ℕ, if◌then◌else◌, Option, Some, None, Result, ◌⊎◌}
 use Rattle.amqp_method.specs.declared.kinds.Kind.{Kind}
 use Rattle.amqp_model.specs.End.Asks as asks
@@ -41,7 +42,8 @@ NotClose given (Unread fault) = ⊥
 NotClose given Misfit = (close_given given ≡ None) ⊎ IsTooLong given.text.now
 NotClose given OutOfMemory = Unit {0}
 
-pub record ClosedKept {E : Type 0} (of : Ghosts E) (old : Kept E) (close : Ask) (status : ℕ) (new : Kept E) : Type 0 where
+pub record ClosedKept {E : Type 0} (of : Ghosts E) (old : Kept E) (close : Ask) (status : ℕ)
+    (new : Kept E) : Type 0 where
   -- the end is asked, answers this, and is left so
   pub answer : Result (Unit {0}) AskFault
   pub asked : of.asked old.end.value close answer new.end.value
@@ -51,9 +53,12 @@ pub record ClosedKept {E : Type 0} (of : Ghosts E) (old : Kept E) (close : Ask) 
   pub places : new.places ≡ old.places
 
 -- C means no close, and the end stays as it is; or it means one, and the end is asked it
-pub data ClosesKept {E : Type 0} (of : Ghosts E) (old : Kept E) (given : GivenClose) (status : ℕ) (new : Kept E) : Type 0 where
-  unmade : (fault : Unmade) → NotClose given fault → status ≡ unmade_status fault → new ≡ old → ClosesKept of old given status new
-  made : (close : Ask) → close_given given ≡ Some close → ClosedKept of old close status new → ClosesKept of old given status new
+pub data ClosesKept {E : Type 0} (of : Ghosts E) (old : Kept E) (given : GivenClose) (status : ℕ)
+    (new : Kept E) : Type 0 where
+  unmade : (fault : Unmade) → NotClose given fault → status ≡ unmade_status fault → new ≡ old
+      → ClosesKept of old given status new
+  made : (close : Ask) → close_given given ≡ Some close → ClosedKept of old close status new
+      → ClosesKept of old given status new
 
 abbrev pub ClosesEnd : Option HeldEnd → GivenClose → ℕ → Option HeldEnd → Type 0
 ClosesEnd old given status new = Does status (λ E of kept now. ClosesKept of kept given status now) old new

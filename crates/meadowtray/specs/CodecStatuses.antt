@@ -3,7 +3,8 @@ use Rattle.std.specs.Prelude.{ℕ, ◌+◌}
 use Rattle.amqp_value.specs.Faults.{fault_number}
 use Rattle.amqp_value.specs.declared.fault.ValueFaultKind.{ValueFaultKind}
 use Rattle.amqp_method.specs.declared.faults.MethodFaultKind.{MethodFaultKind}
-use Rattle.amqp_method.specs.declared.faults.MethodFaultKind.TheVariants.{UnknownMethod, Value, Trailing, BadWeight, BadFlags, OutOfMemory}
+use Rattle.amqp_method.specs.declared.faults.MethodFaultKind.TheVariants.{UnknownMethod, Value, Trailing, BadWeight}
+use Rattle.amqp_method.specs.declared.faults.MethodFaultKind.TheVariants.{BadFlags, OutOfMemory}
 
 -- 301 to 306
 abbrev pub value_status : ValueFaultKind → ℕ

@@ -21,7 +21,8 @@ use Rattle.meadowtray.specs.declared.ends.any_end.AnyEnd.{Ghosts}
 abbrev pub ToldAgreed : Option Agreed → AgreedLimits → Type 0
 ToldAgreed None limits = (limits.frame_max ≡ 0) × (limits.channel_max ≡ 0) × (limits.heartbeat ≡ 0)
 ToldAgreed (Some agreed) limits =
-    (limits.frame_max ≡ agreed.frame_max) × (limits.channel_max ≡ agreed.channel_max) × (limits.heartbeat ≡ agreed.heartbeat)
+    (limits.frame_max ≡ agreed.frame_max) × (limits.channel_max ≡ agreed.channel_max)
+    × (limits.heartbeat ≡ agreed.heartbeat)
 
 pub record LooksAt {E : Type 0} (of : Ghosts E) (end : E) (look : EndLook) : Type 0 where
   -- the phase
@@ -62,10 +63,12 @@ pub record ToldChannel (end : End) (channel : ℕ) (out : ChannelTold) : Type 0 
   pub due : out.reply_due ≡ kind_told (reply_due end channel)
 
 abbrev pub ChannelOfEnd : Option HeldEnd → ℕ → ℕ → ChannelTold → Option HeldEnd → Type 0
-ChannelOfEnd old channel status out new = Answers status (λ E of end. (status ≡ 0) × ToldChannel (of.endpoint end).end channel out) old new
+ChannelOfEnd old channel status out new =
+    Answers status (λ E of end. (status ≡ 0) × ToldChannel (of.endpoint end).end channel out) old new
 
 abbrev pub WaitsOnEnd : Option HeldEnd → ℕ → ℕ → ℕ → Option HeldEnd → Type 0
-WaitsOnEnd old channel status out new = Answers status (λ E of end. (status ≡ 0) × (out ≡ waiting_on channel (of.endpoint end).output)) old new
+WaitsOnEnd old channel status out new =
+    Answers status (λ E of end. (status ≡ 0) × (out ≡ waiting_on channel (of.endpoint end).output)) old new
 
 -- ---- the output
 
@@ -74,7 +77,8 @@ abbrev pub IsOutputOf : Option HeldEnd → List ℕ → Type 0
 IsOutputOf held octets = Of 0 (λ E of end. octets ≡ output_octets (of.endpoint end).output) held
 
 abbrev pub OutputOfEnd : Option HeldEnd → ℕ → List ℕ → Type 0
-OutputOfEnd held status octets = Of status (λ E of end. (status ≡ 0) × (octets ≡ output_octets (of.endpoint end).output)) held
+OutputOfEnd held status octets =
+    Of status (λ E of end. (status ≡ 0) × (octets ≡ output_octets (of.endpoint end).output)) held
 
 -- so many octets were sent, or the output has fewer, and the end stays as it is
 abbrev pub WritesKept : {E : Type 0} → Ghosts E → (old : Kept E) → ℕ → ℕ → (new : Kept E) → Type 0

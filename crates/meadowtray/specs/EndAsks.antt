@@ -1,6 +1,7 @@
 -- What C asks of an end behind a handle, and what comes of it. Read before: what an ask of an end does (`Asked` of
 -- `amqp_core`), and what a decision does (`Controlled`).
-use Rattle.std.specs.Prelude.{◌≡◌, ℕ, List, length, false, nat_eq, nat_lt, if◌then◌else◌, Option, Some, None, Result, Ok, Err, ◌⊎◌, unwrap_or}
+use Rattle.std.specs.Prelude.{◌≡◌, ℕ, List, length, false, nat_eq, nat_lt, if◌then◌else◌, Option, Some}
+use Rattle.std.specs.Prelude.{None, Result, Ok, Err, ◌⊎◌, unwrap_or}
 use Rattle.amqp_model.specs.End.Asks.{Ask, Open, Flow, CloseChannel, Close, Blocked, Unblocked}
 use Rattle.amqp_model.specs.End.Closes.{no_cause}
 use Rattle.amqp_model.specs.End.Controls.{Control, Beat, Admit, Refuse, AnswerStart}
@@ -50,7 +51,8 @@ abbrev pub ToldAsked : Result (Option ℕ) AskFault → ℕ → ℕ → Type 0
 ToldAsked (Ok number) status channel = (status ≡ 0) × (channel ≡ unwrap_or number 0)
 ToldAsked (Err fault) status channel = status ≡ ask_status fault
 
-pub record AskedKept {E : Type 0} (of : Ghosts E) (old : Kept E) (ask : Ask) (status channel : ℕ) (new : Kept E) : Type 0 where
+pub record AskedKept {E : Type 0} (of : Ghosts E) (old : Kept E) (ask : Ask) (status channel : ℕ)
+    (new : Kept E) : Type 0 where
   -- the end is asked, answers this, and is left so
   pub answer : Result (Option ℕ) AskFault
   pub asked : of.answered old.end.value ask answer new.end.value
@@ -60,9 +62,12 @@ pub record AskedKept {E : Type 0} (of : Ghosts E) (old : Kept E) (ask : Ask) (st
   pub places : new.places ≡ old.places
 
 -- C means no ask, and the end stays as it is; or it means one, and the end is asked it
-pub data AsksOne {E : Type 0} (of : Ghosts E) (old : Kept E) (given : GivenAsk) (status channel : ℕ) (new : Kept E) : Type 0 where
-  unmade : (fault : Unmade) → NotAsk given fault → status ≡ unmade_status fault → new ≡ old → AsksOne of old given status channel new
-  made : (ask : Ask) → ask_given given ≡ Some ask → AskedKept of old ask status channel new → AsksOne of old given status channel new
+pub data AsksOne {E : Type 0} (of : Ghosts E) (old : Kept E) (given : GivenAsk) (status channel : ℕ)
+    (new : Kept E) : Type 0 where
+  unmade : (fault : Unmade) → NotAsk given fault → status ≡ unmade_status fault → new ≡ old
+      → AsksOne of old given status channel new
+  made : (ask : Ask) → ask_given given ≡ Some ask → AskedKept of old ask status channel new
+      → AsksOne of old given status channel new
 
 abbrev pub AsksEnd : Option HeldEnd → GivenAsk → ℕ → ℕ → Option HeldEnd → Type 0
 AsksEnd old given status channel new = Does status (λ E of kept now. AsksOne of kept given status channel now) old new
@@ -84,7 +89,8 @@ NotControl given (Unread fault) = ⊥
 NotControl given Misfit = (control_given given ≡ None) ⊎ (IsTooLong given.text.now ⊎ IsTooLong given.locale.now)
 NotControl given OutOfMemory = Unit {0}
 
-pub record ControlledKept {E : Type 0} (of : Ghosts E) (old : Kept E) (control : Control) (status : ℕ) (new : Kept E) : Type 0 where
+pub record ControlledKept {E : Type 0} (of : Ghosts E) (old : Kept E) (control : Control) (status : ℕ)
+    (new : Kept E) : Type 0 where
   -- the end answers this, and is left so
   pub answer : Result (Unit {0}) AskFault
   pub controlled : of.controlled old.end.value control answer new.end.value
@@ -94,12 +100,15 @@ pub record ControlledKept {E : Type 0} (of : Ghosts E) (old : Kept E) (control :
   pub places : new.places ≡ old.places
 
 -- C means none, and the end stays as it is; or it means one, which is done
-pub data ControlsOne {E : Type 0} (of : Ghosts E) (control : Option Control) (Not : Unmade → Type 0) (old : Kept E) (status : ℕ)
-    (new : Kept E) : Type 0 where
-  unmade : (fault : Unmade) → Not fault → status ≡ unmade_status fault → new ≡ old → ControlsOne of control Not old status new
-  made : (meant : Control) → control ≡ Some meant → ControlledKept of old meant status new → ControlsOne of control Not old status new
+pub data ControlsOne {E : Type 0} (of : Ghosts E) (control : Option Control)
+    (Not : Unmade → Type 0) (old : Kept E) (status : ℕ) (new : Kept E) : Type 0 where
+  unmade : (fault : Unmade) → Not fault → status ≡ unmade_status fault → new ≡ old
+      → ControlsOne of control Not old status new
+  made : (meant : Control) → control ≡ Some meant → ControlledKept of old meant status new
+      → ControlsOne of control Not old status new
 
-abbrev pub ControlsKept : {E : Type 0} → Ghosts E → (old : Kept E) → GivenControl → ℕ → (new : Kept E) → Type 0
+abbrev pub ControlsKept : {E : Type 0} → Ghosts E → (old : Kept E) → GivenControl → ℕ
+    → (new : Kept E) → Type 0
 ControlsKept of old given status new = ControlsOne of (control_given given) (NotControl given) old status new
 
 abbrev pub ControlsEnd : Option HeldEnd → GivenControl → ℕ → Option HeldEnd → Type 0

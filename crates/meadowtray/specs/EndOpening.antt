@@ -1,5 +1,6 @@
 -- A handle opened with an end: what C says of it, what the end is then set up with, and why it isn't opened.
-use Rattle.std.specs.Prelude.{true, false, ◌≡◌, ◌<◌, ℕ, List, [], ◌∷◌, ◌++◌, length, Option, Some, None, ◌⊎◌}
+use Rattle.std.specs.Prelude.{true, false, ◌≡◌, ◌<◌, ℕ, List, [], ◌∷◌, ◌++◌, length, Option, Some}
+use Rattle.std.specs.Prelude.{None, ◌⊎◌}
 use Rattle.amqp_value.specs.Whole.{table_encoded}
 use Rattle.amqp_model.specs.End.Fitting.{config_fault}
 use Rattle.amqp_model.specs.History.Negotiation as model
@@ -29,7 +30,8 @@ use Rattle.meadowtray.specs.declared.ends.opening.OpenFault.TheVariants.{Given, 
 -- what a client says of itself, and what it is set up with
 abbrev pub client_said : ClientSettings → model.Hello Role.Client
 client_said given =
-    model.OfClient (table_encoded given.properties.now) given.mechanism.now given.response.now given.locale.now given.virtual_host.now
+    model.OfClient (table_encoded given.properties.now) given.mechanism.now given.response.now
+    given.locale.now given.virtual_host.now
 
 abbrev pub client_set_up : ClientSettings → (role : Role) × model.Config role
 client_set_up given = (
@@ -62,7 +64,8 @@ server_set_up given = (
 )
 
 -- a new end, in the words of the model
-pub record BeginsAs {R H : Type 0} {G : Ghosts R H} (set_up : (role : Role) × model.Config role) (end : End R H G) : Type 0 where
+pub record BeginsAs {R H : Type 0} {G : Ghosts R H} (set_up : (role : Role) × model.Config role)
+    (end : End R H G) : Type 0 where
   -- its settings are what it is set up with
   pub settings : Settings
   pub set_up_is : set_up_as settings ≡ set_up
@@ -70,12 +73,14 @@ pub record BeginsAs {R H : Type 0} {G : Ghosts R H} (set_up : (role : Role) × m
   pub begins : IsNewEnd settings end
 
 -- an end that begins so, without a place for an event
-pub record Gathers {R H : Type 0} {G : Ghosts R H} (set_up : (role : Role) × model.Config role) (kept : Kept (End R H G)) : Type 0 where
+pub record Gathers {R H : Type 0} {G : Ghosts R H} (set_up : (role : Role) × model.Config role)
+    (kept : Kept (End R H G)) : Type 0 where
   pub begins : BeginsAs set_up kept.end.value
   pub places : kept.places.items ≡ []
 
 -- one that such an end turns into, which lends
-pub record Lends {R H : Type 0} {G : Ghosts R H} (set_up : (role : Role) × model.Config role) (kept : Kept (StreamEnd R H G)) : Type 0 where
+pub record Lends {R H : Type 0} {G : Ghosts R H} (set_up : (role : Role) × model.Config role)
+    (kept : Kept (StreamEnd R H G)) : Type 0 where
   pub end : End R H G
   pub begins : BeginsAs set_up end
   pub turns : TurnsLending end kept.end.value
@@ -123,7 +128,8 @@ HoldsServer given (Client kept) = ⊥
 HoldsServer given (LendingClient kept) = ⊥
 
 -- a closed handle is opened with this, or stays closed; an open one stays as it is
-abbrev pub Opens : (HeldEnd → Type 0) → (OpenFault → Type 0) → (old : Option HeldEnd) → ℕ → (new : Option HeldEnd) → Type 0
+abbrev pub Opens : (HeldEnd → Type 0) → (OpenFault → Type 0) → (old : Option HeldEnd) → ℕ
+    → (new : Option HeldEnd) → Type 0
 Opens Holds Not None status (Some held) = (status ≡ 0) × Holds held
 Opens Holds Not None status None = StaysClosed Not status
 Opens Holds Not (Some held) status new = (status ≡ 2) × (new ≡ Some held)
@@ -139,7 +145,8 @@ pub data MakesPlace (old : List Place) (place status : ℕ) (new : List Place) :
   -- it was there
   there : status ≡ 0 → place < length old → new ≡ old → MakesPlace old place status new
   -- it is the next, and is made, without an event
-  made : (next : Place) → status ≡ 0 → place ≡ length old → next.event ≡ None → new ≡ old ++ (next ∷ []) → MakesPlace old place status new
+  made : (next : Place) → status ≡ 0 → place ≡ length old → next.event ≡ None
+      → new ≡ old ++ (next ∷ []) → MakesPlace old place status new
   -- memory is refused
   refused : status ≡ 4 → new ≡ old → MakesPlace old place status new
   -- it isn't the next

@@ -1,5 +1,6 @@
 -- Events as C reads them, and the octets that are made of a message for it.
-use Rattle.std.specs.Prelude.{◌≡◌, ◌≤◌, ℕ, List, length, true, false, Option, Some, None, Result, Ok, Err, slice_get}
+use Rattle.std.specs.Prelude.{◌≡◌, ◌≤◌, ℕ, List, length, true, false, Option, Some, None, Result, Ok, Err}
+use Rattle.std.specs.Prelude.{slice_get}
 use Rattle.amqp_method.specs.Arguments.{Argument}
 use Rattle.amqp_method.specs.MessageView.{message_view}
 use Rattle.amqp_method.specs.Messages.{Letter}
@@ -30,7 +31,8 @@ pub record AreOctetsOf (letter : Letter) (method_octets header_octets : List ℕ
 
 -- the octets of a message stand at its place
 abbrev pub WritesEvent : Option Event → (method_octets header_octets : List ℕ) → Type 0
-WritesEvent (Some (events.Told channel message)) method_octets header_octets = AreOctetsOf (message_view message) method_octets header_octets
+WritesEvent (Some (events.Told channel message)) method_octets header_octets =
+    AreOctetsOf (message_view message) method_octets header_octets
 WritesEvent event method_octets header_octets = Unit {0}
 
 abbrev pub WritesPlace : Place → Type 0
@@ -42,7 +44,8 @@ WritesPlace place = WritesEvent place.event place.method.items place.header.item
 abbrev pub ShowsContent : Option (List (Option Argument)) → (body : List ℕ) → SeenEvent → Type 0
 ShowsContent None body out = out.holds ≡ false
 ShowsContent (Some properties) body out =
-    (out.holds ≡ true) × (out.header.now ≡ plain_header (header (length body) properties)) × (out.body.now ≡ body)
+    (out.holds ≡ true) × (out.header.now ≡ plain_header (header (length body) properties))
+    × (out.body.now ≡ body)
 
 pub record ShowsMessage (letter : Letter) (out : SeenEvent) : Type 0 where
   pub method_is : out.method.now ≡ plain_method letter.call
@@ -57,9 +60,11 @@ ShowsReason (Some reason) out = (out.holds ≡ true) × (out.code ≡ reason.cod
 abbrev pub ShowsParts : Option Event → SeenEvent → Type 0
 ShowsParts None out = Unit {0}
 ShowsParts (Some (events.Negotiated agreed)) out =
-    (out.channel_max ≡ agreed.channel_max) × (out.frame_max ≡ agreed.frame_max) × (out.heartbeat ≡ agreed.heartbeat)
+    (out.channel_max ≡ agreed.channel_max) × (out.frame_max ≡ agreed.frame_max)
+    × (out.heartbeat ≡ agreed.heartbeat)
 ShowsParts (Some (events.Opened channel)) out = out.channel ≡ channel
-ShowsParts (Some (events.Told channel message)) out = (out.channel ≡ channel) × ShowsMessage (message_view message) out
+ShowsParts (Some (events.Told channel message)) out =
+    (out.channel ≡ channel) × ShowsMessage (message_view message) out
 ShowsParts (Some (events.Flow channel active)) out = (out.channel ≡ channel) × (out.holds ≡ active)
 ShowsParts (Some (events.FlowOk channel active)) out = (out.channel ≡ channel) × (out.holds ≡ active)
 ShowsParts (Some (events.ChannelClosed channel reason)) out = (out.channel ≡ channel) × ShowsReason reason out
@@ -83,7 +88,8 @@ pub data ShowsPlace (event : Option Event) (answer : Result SeenEvent ℕ) : Typ
 
 -- what stands at a place is shown, if there is that place
 pub data ShowsAt (places : List Place) (place : ℕ) (answer : Result SeenEvent ℕ) : Type 0 where
-  there : (here : Place) → slice_get places place ≡ Some here → ShowsPlace here.event answer → ShowsAt places place answer
+  there : (here : Place) → slice_get places place ≡ Some here → ShowsPlace here.event answer
+      → ShowsAt places place answer
   missing : length places ≤ place → answer ≡ Err 7 → ShowsAt places place answer
 
 -- what stands at a place of an end
@@ -102,7 +108,11 @@ ToldSeen (Err fault) status out = status ≡ fault
 -- the end of an open handle shows it; one that isn't open is refused
 abbrev pub ShowsEnd : Option HeldEnd → ℕ → ℕ → SeenEvent → Type 0
 ShowsEnd None place status out = status ≡ 1
-ShowsEnd (Some (Client kept)) place status out = (answer : Result SeenEvent ℕ) × ShowsAt kept.places.items place answer × ToldSeen answer status out
-ShowsEnd (Some (LendingClient kept)) place status out = (answer : Result SeenEvent ℕ) × ShowsAt kept.places.items place answer × ToldSeen answer status out
-ShowsEnd (Some (LendingServer kept)) place status out = (answer : Result SeenEvent ℕ) × ShowsAt kept.places.items place answer × ToldSeen answer status out
-ShowsEnd (Some (Server kept)) place status out = (answer : Result SeenEvent ℕ) × ShowsAt kept.places.items place answer × ToldSeen answer status out
+ShowsEnd (Some (Client kept)) place status out =
+    (answer : Result SeenEvent ℕ) × ShowsAt kept.places.items place answer × ToldSeen answer status out
+ShowsEnd (Some (LendingClient kept)) place status out =
+    (answer : Result SeenEvent ℕ) × ShowsAt kept.places.items place answer × ToldSeen answer status out
+ShowsEnd (Some (LendingServer kept)) place status out =
+    (answer : Result SeenEvent ℕ) × ShowsAt kept.places.items place answer × ToldSeen answer status out
+ShowsEnd (Some (Server kept)) place status out =
+    (answer : Result SeenEvent ℕ) × ShowsAt kept.places.items place answer × ToldSeen answer status out

@@ -1,5 +1,6 @@
 -- What a feed of an end behind a handle does. Read before: what a feed of an end does (`Feeds` of `amqp_core`).
-use Rattle.std.specs.Prelude.{◌≡◌, ◌≤◌, ℕ, List, length, Option, Some, None, Result, Ok, Err, ◌⊎◌, slice_get, slice_set}
+use Rattle.std.specs.Prelude.{◌≡◌, ◌≤◌, ℕ, List, length, Option, Some, None, Result, Ok, Err, ◌⊎◌}
+use Rattle.std.specs.Prelude.{slice_get, slice_set}
 use Rattle.amqp_model.specs.End.Closes.{number_of}
 use Rattle.amqp_channel.specs.Events.Closes.{code_view}
 use Rattle.amqp_channel.specs.declared.events.Event.{Event}
@@ -30,10 +31,13 @@ pub record KeepsAt (old : List Place) (place : ℕ) (event : Option Event) (new 
 -- an answer, as it is told, and what is kept of it
 abbrev pub ToldFed : Result Taken CoreFault → ℕ → FedEnd → List Place → ℕ → List Place → Type 0
 ToldFed (Ok taken) status out old place new =
-    (status ≡ 0) × (out.taken ≡ taken.octets) × (out.kind ≡ event_number taken.event) × KeepsAt old place taken.event new
-ToldFed (Err fault) status out old place new = (status ≡ core_status fault) × TellsCode fault out.code × (new ≡ old)
+    (status ≡ 0) × (out.taken ≡ taken.octets) × (out.kind ≡ event_number taken.event)
+    × KeepsAt old place taken.event new
+ToldFed (Err fault) status out old place new =
+    (status ≡ core_status fault) × TellsCode fault out.code × (new ≡ old)
 
-pub record FeedsKept {R H : Type 0} {G : Ghosts R H} (old : Kept (End R H G)) (place : ℕ) (piece : List ℕ) (status : ℕ) (out : FedEnd)
+pub record FeedsKept {R H : Type 0} {G : Ghosts R H} (old : Kept (End R H G)) (place : ℕ) (piece : List ℕ)
+    (status : ℕ) (out : FedEnd)
     (new : Kept (End R H G)) : Type 0 where
   -- the end is fed the piece, and this is its answer
   pub answer : Result Taken CoreFault
@@ -42,9 +46,11 @@ pub record FeedsKept {R H : Type 0} {G : Ghosts R H} (old : Kept (End R H G)) (p
   pub told : ToldFed answer status out old.places.items place new.places.items
 
 -- an end that hasn't the place isn't fed
-abbrev pub FeedsOne : {R H : Type 0} {G : Ghosts R H} → (old : Kept (End R H G)) → ℕ → List ℕ → ℕ → FedEnd → (new : Kept (End R H G)) → Type 0
+abbrev pub FeedsOne : {R H : Type 0} {G : Ghosts R H} → (old : Kept (End R H G)) → ℕ → List ℕ → ℕ
+    → FedEnd → (new : Kept (End R H G)) → Type 0
 FeedsOne old place piece status out new =
-    ((status ≡ 7) × (length old.places.items ≤ place) × (new ≡ old)) ⊎ FeedsKept old place piece status out new
+    ((status ≡ 7) × (length old.places.items ≤ place) × (new ≡ old))
+    ⊎ FeedsKept old place piece status out new
 
 -- one that lends is fed by another call
 abbrev pub FeedsEnd : Option HeldEnd → ℕ → List ℕ → ℕ → FedEnd → Option HeldEnd → Type 0

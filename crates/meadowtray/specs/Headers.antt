@@ -1,5 +1,6 @@
 -- What is told of a content header that is read.
-use Rattle.std.specs.Prelude.{◌≡◌, ℕ, ◌<◌, List, length, map, take, drop, Option, Some, None, Result, Ok, Err, ◌⊎◌}
+use Rattle.std.specs.Prelude.{◌≡◌, ℕ, ◌<◌, List, length, map, take, drop, Option, Some, None, Result, Ok}
+use Rattle.std.specs.Prelude.{Err, ◌⊎◌}
 use Rattle.std.specs.Borrow.{Bor}
 use Rattle.amqp_value.specs.Lent.{table_ref_view}
 use Rattle.amqp_value.specs.declared.table_ref.TableRef.{TableRef}
@@ -33,7 +34,8 @@ long_long_there None = None
 abbrev pub ToldHeader : Result ContentHeader MethodFault → List Value → ℕ → List Value → HeaderRead → Type 0
 ToldHeader (Ok h) old status new out =
     (out.body_size ≡ h.body_size) × (out.flags ≡ flags_of h.properties)
-    × (((status ≡ 0) × (map argument_there (take 14 new) ≡ h.properties) × (drop 14 new ≡ drop 14 old)) ⊎ ((status ≡ 7) × (length old < 14)))
+    × (((status ≡ 0) × (map argument_there (take 14 new) ≡ h.properties) × (drop 14 new ≡ drop 14 old))
+    ⊎ ((status ≡ 7) × (length old < 14)))
 ToldHeader (Err e) old status new out = (status ≡ method_status e.kind) × (out.at ≡ e.at) × (new ≡ old)
 
 abbrev pub ReadsHeader : List ℕ → List Value → ℕ → List Value → HeaderRead → Type 0

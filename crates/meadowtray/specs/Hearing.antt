@@ -32,7 +32,8 @@ WritesKind None heard old status out new = (status ≡ 201) × (new ≡ old)
 WritesKind (Some kind) heard old status out new = WritesHeard (kept_of_kind kind heard) old status out new
 
 -- of the end of an open handle, which stays as it is
-abbrev pub HearsEnd : Option HeldEnd → (kind : ℕ) → List ℕ → ℕ → Written → List ℕ → Option HeldEnd → Type 0
+abbrev pub HearsEnd : Option HeldEnd → (kind : ℕ) → List ℕ → ℕ → Written → List ℕ
+    → Option HeldEnd → Type 0
 HearsEnd old kind room status out now new =
     Answers status (λ E of end. WritesKind (kind_numbered kind) (of.said end).methods room status out now) old new
     × (old ≡ None → now ≡ room)
@@ -47,7 +48,8 @@ ForgetsEnd old status new = Does status (λ E of kept now. (status ≡ 0) × For
 -- what the last close was about, if there was one
 abbrev pub TellsCause : Option Cause → ℕ → CauseTold → Type 0
 TellsCause None status out = status ≡ 8
-TellsCause (Some cause) status out = (status ≡ 0) × (out.class_id ≡ cause.class_id) × (out.method_id ≡ cause.method_id)
+TellsCause (Some cause) status out =
+    (status ≡ 0) × (out.class_id ≡ cause.class_id) × (out.method_id ≡ cause.method_id)
 
 -- of the end of an open handle, which stays as it is
 abbrev pub CausesEnd : Option HeldEnd → ℕ → CauseTold → Option HeldEnd → Type 0

@@ -50,7 +50,8 @@ of_stream =
     }
 
 -- a call does this with the end of an open handle; one that isn't open is refused, and stays so
-abbrev pub Does : ℕ → ((E : Type 0) → Ghosts E → (old new : Kept E) → Type 0) → (old new : Option HeldEnd) → Type 0
+abbrev pub Does : ℕ → ((E : Type 0) → Ghosts E → (old new : Kept E) → Type 0)
+    → (old new : Option HeldEnd) → Type 0
 Does status R None new = (status ≡ 1) × (new ≡ None)
 Does status R (Some (Client kept)) (Some (Client now)) = R _ of_end kept now
 Does status R (Some (Client kept)) new = ⊥

@@ -1,5 +1,6 @@
 -- Messages that C gives by their octets, and why octets aren't one.
-use Rattle.std.specs.Prelude.{◌≡◌, ◌≢◌, ℕ, List, [], length, Bool, true, false, Option, Some, None, ◌⊎◌}
+use Rattle.std.specs.Prelude.{◌≡◌, ◌≢◌, ℕ, List, [], length, Bool, true, false, Option, Some, None}
+use Rattle.std.specs.Prelude.{◌⊎◌}
 use Rattle.amqp_method.specs.Arguments.{Argument, Call}
 use Rattle.amqp_method.specs.FirstFault.{FirstFaultOfHeader, FirstFaultOfMethod}
 use Rattle.amqp_method.specs.Kinds.{has_content}
@@ -30,9 +31,11 @@ abbrev pub unread_as : MethodFault → Unmade
 unread_as fault = unread_by fault.kind fault
 
 -- with a content exactly where the method has one
-abbrev pub IsContent : Option (List (Option Argument)) → (follows : Bool) → (header_octets body : List ℕ) → Type 0
+abbrev pub IsContent : Option (List (Option Argument)) → (follows : Bool)
+    → (header_octets body : List ℕ) → Type 0
 IsContent None follows header_octets body = (follows ≡ false) × (header_octets ≡ []) × (body ≡ [])
-IsContent (Some properties) follows header_octets body = (follows ≡ true) × EncodesHeader (header (length body) properties) header_octets
+IsContent (Some properties) follows header_octets body =
+    (follows ≡ true) × EncodesHeader (header (length body) properties) header_octets
 
 -- a message whose method is one of these, of the octets of its header, and its body
 pub record IsLetter (IsCall : Call → Type 0) (header_octets body : List ℕ) (letter : Letter) : Type 0 where
@@ -60,6 +63,7 @@ NotContent header_octets body OutOfMemory = Unit {0}
 
 -- why these octets aren't a message
 abbrev pub NotLetter : (method_octets header_octets body : List ℕ) → Unmade → Type 0
-NotLetter method_octets header_octets body (Unread fault) = FirstFaultOfMethod method_octets fault ⊎ FirstFaultOfHeader header_octets fault
+NotLetter method_octets header_octets body (Unread fault) =
+    FirstFaultOfMethod method_octets fault ⊎ FirstFaultOfHeader header_octets fault
 NotLetter method_octets header_octets body Misfit = NotContent header_octets body Misfit
 NotLetter method_octets header_octets body OutOfMemory = Unit {0}

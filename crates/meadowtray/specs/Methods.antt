@@ -1,5 +1,6 @@
 -- What is told of a method that is read.
-use Rattle.std.specs.Prelude.{◌≡◌, ℕ, ◌+◌, ◌*◌, ◌<◌, List, length, map, take, drop, Option, Some, None, Result, Ok, Err, ◌⊎◌}
+use Rattle.std.specs.Prelude.{◌≡◌, ℕ, ◌+◌, ◌*◌, ◌<◌, List, length, map, take, drop, Option, Some}
+use Rattle.std.specs.Prelude.{None, Result, Ok, Err, ◌⊎◌}
 use Rattle.amqp_method.specs.Arguments.{Call}
 use Rattle.amqp_method.specs.Kinds.{class_of, id_of}
 use Rattle.amqp_method.specs.Reading.{method_at}
@@ -29,7 +30,8 @@ pub record ToldFields (c : Call) (old new : List Value) (out : MethodRead) : Typ
 -- what reading gives is told, or there is no room for it
 abbrev pub ToldMethod : Result Call MethodFault → List Value → ℕ → List Value → MethodRead → Type 0
 ToldMethod (Ok c) old status new out =
-    ((status ≡ 0) × ToldFields c old new out) ⊎ ((status ≡ 7) × (length old < length c.args) × (out.kind ≡ kind_number c.kind))
+    ((status ≡ 0) × ToldFields c old new out)
+    ⊎ ((status ≡ 7) × (length old < length c.args) × (out.kind ≡ kind_number c.kind))
 ToldMethod (Err e) old status new out = (status ≡ method_status e.kind) × (out.at ≡ e.at) × (new ≡ old)
 
 abbrev pub ReadsMethod : List ℕ → List Value → ℕ → List Value → MethodRead → Type 0

@@ -1,4 +1,5 @@
--- Messages that C sends through an end behind a handle. Read before: what an ask of an end does (`Asked` of `amqp_core`).
+-- Messages that C sends through an end behind a handle. Read before: what an ask of an end does (`Asked` of
+-- `amqp_core`).
 use Rattle.std.specs.Prelude.{◌≡◌, ◌≢◌, ℕ, List, length, Option, Result}
 use Rattle.amqp_method.specs.Arguments.{Call}
 use Rattle.amqp_method.specs.Encoding.{EncodesMethod}
@@ -16,7 +17,8 @@ use Rattle.meadowtray.specs.declared.ends.any_end.AnyEnd.{Ghosts}
 use Rattle.meadowtray.specs.declared.ends.messages.Unmade.{Unmade}
 
 -- an end is asked to send a message
-pub record SentKept {E : Type 0} (of : Ghosts E) (old : Kept E) (channel : ℕ) (letter : Letter) (status : ℕ) (new : Kept E) : Type 0 where
+pub record SentKept {E : Type 0} (of : Ghosts E) (old : Kept E) (channel : ℕ) (letter : Letter) (status : ℕ)
+    (new : Kept E) : Type 0 where
   -- it answers this, and is left so
   pub answer : Result (Unit {0}) AskFault
   pub asked : of.asked old.end.value (Send channel (message_of letter)) answer new.end.value
@@ -26,16 +28,19 @@ pub record SentKept {E : Type 0} (of : Ghosts E) (old : Kept E) (channel : ℕ) 
   pub places : new.places ≡ old.places
 
 -- a header that says another size than the body's is no such message's, and the end stays as it is; any other is sent
-pub data SizedOne {E : Type 0} (of : Ghosts E) (old : Kept E) (channel : ℕ) (call : Call) (h : ContentHeader) (body : List ℕ)
+pub data SizedOne {E : Type 0} (of : Ghosts E) (old : Kept E) (channel : ℕ) (call : Call)
+    (h : ContentHeader) (body : List ℕ)
     (status : ℕ) (new : Kept E) : Type 0 where
-  other : h.body_size ≢ length body → status ≡ 9 → new ≡ old → SizedOne of old channel call h body status new
+  other : h.body_size ≢ length body → status ≡ 9 → new ≡ old
+      → SizedOne of old channel call h body status new
   sized :
       h.body_size ≡ length body → SentKept of old channel (letter_with call h.properties body) status new
       → SizedOne of old channel call h body status new
 
 -- the octets aren't a message, and the end stays as it is; or they are, and it is sent
-pub data SendsOne {E : Type 0} (of : Ghosts E) (IsCall : Call → Type 0) (Not : Unmade → Type 0) (old : Kept E) (channel : ℕ)
-    (header_octets body : List ℕ) (status : ℕ) (new : Kept E) : Type 0 where
+pub data SendsOne {E : Type 0} (of : Ghosts E) (IsCall : Call → Type 0)
+    (Not : Unmade → Type 0) (old : Kept E) (channel : ℕ) (header_octets body : List ℕ) (status : ℕ)
+    (new : Kept E) : Type 0 where
   unmade :
       (fault : Unmade) → Not fault → status ≡ unmade_status fault → new ≡ old
       → SendsOne of IsCall Not old channel header_octets body status new
@@ -44,14 +49,19 @@ pub data SendsOne {E : Type 0} (of : Ghosts E) (IsCall : Call → Type 0) (Not :
       → SendsOne of IsCall Not old channel header_octets body status new
 
 -- a message with this method
-abbrev pub SendsCall : {E : Type 0} → Ghosts E → (old : Kept E) → ℕ → Call → (header_octets body : List ℕ) → ℕ → (new : Kept E) → Type 0
+abbrev pub SendsCall : {E : Type 0} → Ghosts E → (old : Kept E) → ℕ → Call → (header_octets body : List ℕ)
+    → ℕ → (new : Kept E) → Type 0
 SendsCall of old channel call header_octets body status new =
     SendsOne of (λ (c : Call). c ≡ call) (NotContent header_octets body) old channel header_octets body status new
 
 -- a message with the method of these octets
-abbrev pub SendsKept : {E : Type 0} → Ghosts E → (old : Kept E) → ℕ → (method_octets header_octets body : List ℕ) → ℕ → (new : Kept E) → Type 0
+abbrev pub SendsKept : {E : Type 0} → Ghosts E → (old : Kept E) → ℕ
+    → (method_octets header_octets body : List ℕ) → ℕ → (new : Kept E) → Type 0
 SendsKept of old channel method_octets header_octets body status new =
-    SendsOne of (λ (c : Call). EncodesMethod c method_octets) (NotLetter method_octets header_octets body) old channel header_octets body status new
+    SendsOne of (λ (c : Call). EncodesMethod c method_octets) (NotLetter method_octets header_octets body) old channel
+    header_octets body status new
 
-abbrev pub SendsEnd : Option HeldEnd → ℕ → (method_octets header_octets body : List ℕ) → ℕ → Option HeldEnd → Type 0
-SendsEnd old channel method header body status new = Does status (λ E of kept now. SendsKept of kept channel method header body status now) old new
+abbrev pub SendsEnd : Option HeldEnd → ℕ → (method_octets header_octets body : List ℕ) → ℕ
+    → Option HeldEnd → Type 0
+SendsEnd old channel method header body status new =
+    Does status (λ E of kept now. SendsKept of kept channel method header body status now) old new

@@ -1,11 +1,14 @@
 -- What a splitter behind a handle does with a piece.
-use Rattle.std.specs.Prelude.{◌≡◌, ◌≢◌, ℕ, ◌<◌, ◌≤◌, List, [], length, take, Option, Some, None, Result, Ok, Err, IsOk, IfOk, IfErr, IfSome, IfNone, if◌then◌else◌, nat_eq, ◌⊎◌}
+use Rattle.std.specs.Prelude.{◌≡◌, ◌≢◌, ℕ, ◌<◌, ◌≤◌, List, [], length, take, Option, Some, None}
+use Rattle.std.specs.Prelude.{Result, Ok, Err, IsOk, IfOk, IfErr, IfSome, IfNone, if◌then◌else◌, nat_eq}
+use Rattle.std.specs.Prelude.{◌⊎◌}
 use Rattle.amqp_frame.specs.Frame.{lent}
 use Rattle.amqp_frame.specs.Splitter.{Completes, Waits, Faults, LacksMemoryIfNeeded, HasFrameAtStart}
 use Rattle.amqp_frame.specs.Stream.{Stream}
 use Rattle.amqp_frame.specs.declared.faults.FrameFault.{FrameFault}
 use Rattle.amqp_frame.specs.declared.faults.FrameFaultKind.{FrameFaultKind}
-use Rattle.amqp_frame.specs.declared.faults.FrameFaultKind.TheVariants.{UnknownType, TooLarge, BadEnd, OutOfMemory, Failed}
+use Rattle.amqp_frame.specs.declared.faults.FrameFaultKind.TheVariants.{UnknownType, TooLarge, BadEnd, OutOfMemory}
+use Rattle.amqp_frame.specs.declared.faults.FrameFaultKind.TheVariants.{Failed}
 use Rattle.amqp_frame.specs.declared.frames.FrameKind.TheVariants.{Method, Header, Body, Heartbeat}
 use Rattle.amqp_frame.specs.declared.frames.FrameRef.{FrameRef}
 use Rattle.amqp_frame.specs.declared.splitting.FedRef.{FedRef}
@@ -67,8 +70,8 @@ OfSplitter (Some (Splitter s)) P status = P s
 abbrev pub SetsLimit : Option Held → ℕ → ℕ → Option Held → Type 0
 SetsLimit None limit status new = (status ≡ 1) × (new ≡ None)
 SetsLimit (Some (Splitter s)) limit status new =
-    ((status ≡ 0) × (s.pending ≡ []) × (8 ≤ limit) × (new ≡ Some (Splitter (record s { limit = limit })))) ⊎
-    ((status ≡ 5) × ((s.pending ≢ []) ⊎ (limit < 8)) × (new ≡ Some (Splitter s)))
+    ((status ≡ 0) × (s.pending ≡ []) × (8 ≤ limit) × (new ≡ Some (Splitter (record s { limit = limit }))))
+    ⊎ ((status ≡ 5) × ((s.pending ≢ []) ⊎ (limit < 8)) × (new ≡ Some (Splitter s)))
 
 -- a splitter as it begins
 abbrev pub new_stream : ℕ → Stream

@@ -1,5 +1,6 @@
 -- What is told of a table or an array that is read.
-use Rattle.std.specs.Prelude.{◌≡◌, ℕ, ◌<◌, ◌++◌, List, [], length, map, take, drop, Option, Some, None, Result, Ok, Err, ◌⊎◌}
+use Rattle.std.specs.Prelude.{◌≡◌, ℕ, ◌<◌, ◌++◌, List, [], length, map, take, drop, Option, Some, None}
+use Rattle.std.specs.Prelude.{Result, Ok, Err, ◌⊎◌}
 use Rattle.amqp_value.specs.Pairs.{value_named}
 use Rattle.amqp_value.specs.Reading.{elements, value_at, table_at}
 use Rattle.amqp_value.specs.Values.{Datum, Pairs, pairs_of}
@@ -18,8 +19,8 @@ pair_there p = (p.name.now, datum_there p.value)
 abbrev pub named_there : List (List ℕ × Datum) → List (List ℕ × Option Datum)
 named_there pairs = map (λ (p : List ℕ × Datum). (p.0, Some p.1)) pairs
 
--- The table has these pairs, the first of them stand in their places, and nothing behind them is changed. Without a fault all
--- have a place, and otherwise each place is taken, and some pairs are left.
+-- The table has these pairs, the first of them stand in their places, and nothing behind them is changed. Without a
+-- fault all have a place, and otherwise each place is taken, and some pairs are left.
 pub record ToldPairs (table : Pairs) (size : ℕ) (old new : List Pair) (status : ℕ) (out : TableRead) : Type 0 where
   pub all : List (List ℕ × Datum)
   pub left : List (List ℕ × Datum)
@@ -28,7 +29,8 @@ pub record ToldPairs (table : Pairs) (size : ℕ) (old new : List Pair) (status 
   pub count_is : out.count ≡ length all
   pub pairs_are : map pair_there (take out.placed new) ++ named_there left ≡ named_there all
   pub others : drop out.placed new ≡ drop out.placed old
-  pub room : ((status ≡ 0) × (left ≡ []) × (out.placed ≡ out.count)) ⊎ ((status ≡ 7) × (out.placed ≡ length old) × (out.placed < out.count))
+  pub room : ((status ≡ 0) × (left ≡ []) × (out.placed ≡ out.count))
+      ⊎ ((status ≡ 7) × (out.placed ≡ length old) × (out.placed < out.count))
 
 abbrev pub ToldTable : Result (Pairs × ℕ) ValueFault → List Pair → ℕ → List Pair → TableRead → Type 0
 ToldTable (Ok x) old status new out = ToldPairs x.0 x.1 old new status out
@@ -38,20 +40,24 @@ abbrev pub ReadsTable : List ℕ → List Pair → ℕ → List Pair → TableRe
 ReadsTable octets old status new out = ToldTable (table_at octets) old status new out
 
 -- the same of an array
-pub record ToldItems (all : List Datum) (size : ℕ) (old new : List Value) (status : ℕ) (out : TableRead) : Type 0 where
+pub record ToldItems (all : List Datum) (size : ℕ) (old new : List Value) (status : ℕ)
+    (out : TableRead) : Type 0 where
   pub left : List Datum
   pub length_is : out.length ≡ size
   pub count_is : out.count ≡ length all
   pub values_are : map datum_there (take out.placed new) ++ all_data left ≡ all_data all
   pub others : drop out.placed new ≡ drop out.placed old
-  pub room : ((status ≡ 0) × (left ≡ []) × (out.placed ≡ out.count)) ⊎ ((status ≡ 7) × (out.placed ≡ length old) × (out.placed < out.count))
+  pub room : ((status ≡ 0) × (left ≡ []) × (out.placed ≡ out.count))
+      ⊎ ((status ≡ 7) × (out.placed ≡ length old) × (out.placed < out.count))
 
-abbrev pub ToldArray : Result (List Datum) ValueFault → ℕ → List Value → ℕ → List Value → TableRead → Type 0
+abbrev pub ToldArray : Result (List Datum) ValueFault → ℕ → List Value → ℕ
+    → List Value → TableRead → Type 0
 ToldArray (Ok all) size old status new out = ToldItems all size old new status out
 ToldArray (Err e) size old status new out = (status ≡ value_status e.kind) × (out.at ≡ e.at) × (new ≡ old)
 
 abbrev pub ReadsArray : List ℕ → List Value → ℕ → List Value → TableRead → Type 0
-ReadsArray octets old status new out = ToldArray (elements (value_at 31) (length octets) octets) (length octets) old status new out
+ReadsArray octets old status new out =
+    ToldArray (elements (value_at 31) (length octets) octets) (length octets) old status new out
 
 -- the value under a name, or there is none
 abbrev pub ToldValue : Option Datum → ℕ → Value → Type 0

@@ -2,7 +2,10 @@
 use Rattle.std.specs.Prelude.{ℤ, List, map, not, Option, Some, None, if◌then◌else◌, nat_eq}
 use Rattle.std.specs.Int.{w64, cast_signed}
 use Rattle.byteorder.specs.Endian.{big_bytes}
-use Rattle.amqp_value.specs.Values.{boolean, short_short_int, short_short_uint, errata_short_int, short_int, short_uint, long_int, long_uint, errata_long_long_int, long_long_int, float, double, decimal, timestamp, void, Datum, scalar, long_string as long_string_datum, byte_array, array, items_of, table as table_datum}
+use Rattle.amqp_value.specs.Values.{boolean, short_short_int, short_short_uint, errata_short_int, short_int, short_uint}
+use Rattle.amqp_value.specs.Values.{long_int, long_uint, errata_long_long_int, long_long_int, float, double, decimal}
+use Rattle.amqp_value.specs.Values.{timestamp, void, Datum, scalar, long_string as long_string_datum, byte_array, array}
+use Rattle.amqp_value.specs.Values.{items_of, table as table_datum}
 use Rattle.amqp_value.specs.Whole.{items_encoded, table_encoded}
 use Rattle.amqp_method.specs.Arguments.{Argument, bit, octet, short, long, long_long, short_string, long_string, table}
 use Rattle.meadowtray.specs.declared.codec.values.Value.{Value}

@@ -1,5 +1,7 @@
 -- What is told of a write, and which values can be written.
-use Rattle.std.specs.Prelude.{◌≡◌, ℕ, zero, suc, ◌+◌, ◌/◌, ◌%◌, ◌<◌, ◌≤◌, List, [], ◌∷◌, length, map, take, drop, Bool, true, false, Option, Some, None, Result, Ok, Err, ◌⊎◌, if◌then◌else◌, nat_eq, nat_lt}
+use Rattle.std.specs.Prelude.{◌≡◌, ℕ, zero, suc, ◌+◌, ◌/◌, ◌%◌, ◌<◌, ◌≤◌, List, []}
+use Rattle.std.specs.Prelude.{◌∷◌, length, map, take, drop, Bool, true, false, Option, Some, None, Result, Ok}
+use Rattle.std.specs.Prelude.{Err, ◌⊎◌, if◌then◌else◌, nat_eq, nat_lt}
 use Rattle.amqp_value.specs.Reading.{table_at}
 use Rattle.amqp_value.specs.Values.{Pairs}
 use Rattle.amqp_value.specs.declared.fault.ValueFault.{ValueFault}
@@ -15,7 +17,8 @@ use Rattle.meadowtray.specs.declared.codec.owned.ArgFault.{ArgFault}
 use Rattle.meadowtray.specs.declared.codec.owned.ArgFault.TheVariants as arg
 use Rattle.meadowtray.specs.declared.codec.values.Value.{Value}
 use Rattle.meadowtray.specs.declared.codec.writing.WriteFault.{WriteFault}
-use Rattle.meadowtray.specs.declared.codec.writing.WriteFault.TheVariants.{UnknownKind, Misfit, Inside, Room, TooLong, OutOfMemory}
+use Rattle.meadowtray.specs.declared.codec.writing.WriteFault.TheVariants.{UnknownKind, Misfit, Inside, Room, TooLong}
+use Rattle.meadowtray.specs.declared.codec.writing.WriteFault.TheVariants.{OutOfMemory}
 use Rattle.meadowtray.specs.declared.codec.writing.Written.{Written}
 
 -- the status of an answer, and what stands beside it
@@ -23,7 +26,8 @@ abbrev pub ToldWrite : Result ℕ WriteFault → ℕ → Written → Type 0
 ToldWrite (Ok n) status out = (status ≡ 0) × (out.length ≡ n)
 ToldWrite (Err UnknownKind) status out = status ≡ 201
 ToldWrite (Err (Misfit place)) status out = (status ≡ 9) × (out.value ≡ place)
-ToldWrite (Err (Inside place fault)) status out = (status ≡ value_status fault.kind) × (out.value ≡ place) × (out.at ≡ fault.at)
+ToldWrite (Err (Inside place fault)) status out =
+    (status ≡ value_status fault.kind) × (out.value ≡ place) × (out.at ≡ fault.at)
 ToldWrite (Err Room) status out = status ≡ 7
 ToldWrite (Err TooLong) status out = status ≡ 306
 ToldWrite (Err OutOfMemory) status out = status ≡ 4
@@ -104,25 +108,32 @@ field_number kinds.ShortStr = 6
 field_number kinds.LongStr = 7
 field_number kinds.Table = 8
 
--- the first place at which the values aren't of these kinds: one is of another kind, or there is one too few or too many
+-- the first place at which the values aren't of these kinds: one is of another kind, or there is one too few or too
+-- many
 abbrev pub first_unlike : List FieldKind → List Value → ℕ
 first_unlike [] values = 0
 first_unlike (kind ∷ kinds) [] = 0
-first_unlike (kind ∷ kinds) (v ∷ values) = if nat_eq v.kind (field_number kind) then suc (first_unlike kinds values) else 0
+first_unlike (kind ∷ kinds) (v ∷ values) =
+    if nat_eq v.kind (field_number kind) then suc (first_unlike kinds values) else 0
 
--- from a place on, the first of the values is that of the field, and others begin at the next place; or it is of another kind, or there is none
+-- from a place on, the first of the values is that of the field, and others begin at the next place; or it is of
+-- another kind, or there is none
 abbrev pub PastValue : Bool → FieldKind → List FieldKind → List Value → ℕ → Option ℕ → Type 0
 PastValue reserved kind kinds values place (Some next) = (next ≤ length values) × (place ≤ next)
-    × (place + first_unlike (wanted_kind reserved kind kinds) (drop place values) ≡ next + first_unlike kinds (drop next values))
-PastValue reserved kind kinds values place None = first_unlike (wanted_kind reserved kind kinds) (drop place values) ≡ 0
+    × (place + first_unlike (wanted_kind reserved kind kinds) (drop place values)
+    ≡ next + first_unlike kinds (drop next values))
+PastValue reserved kind kinds values place None =
+    first_unlike (wanted_kind reserved kind kinds) (drop place values) ≡ 0
 
 -- the values are the arguments of this method
 abbrev pub IsMethod : ℕ → List Value → Call → Type 0
-IsMethod number values c = (kind_numbered number ≡ Some c.kind) × (map argument_there values ≡ all_there c.args) × Fits c
+IsMethod number values c =
+    (kind_numbered number ≡ Some c.kind) × (map argument_there values ≡ all_there c.args) × Fits c
 
 -- the values are of other kinds than the method's fields
 abbrev pub Unlike : ℕ → List Value → ℕ → Type 0
-Unlike number values place = (kind : Kind) × (kind_numbered number ≡ Some kind) × (place ≡ first_unlike (wanted (fields_of kind)) values)
+Unlike number values place =
+    (kind : Kind) × (kind_numbered number ≡ Some kind) × (place ≡ first_unlike (wanted (fields_of kind)) values)
     × ((args : List Argument) → map argument_there values ≡ all_there args → Fits (call kind args) → ⊥)
 
 -- why there is no such method
@@ -147,8 +158,10 @@ NotEncoded c OutOfMemory = Unit {0}
 abbrev pub WritesMethod : ℕ → List Value → List ℕ → Result ℕ WriteFault → List ℕ → Type 0
 WritesMethod number values old (Ok n) new = (c : Call) × IsMethod number values c × (n ≡ length (plain_method c))
     × (take n new ≡ plain_method c) × (drop n new ≡ drop n old)
-WritesMethod number values old (Err Room) new = (new ≡ old) × (c : Call) × IsMethod number values c × (length old < length (plain_method c))
-WritesMethod number values old (Err TooLong) new = (new ≡ old) × (c : Call) × IsMethod number values c × (CountsAllFit c.args → ⊥)
+WritesMethod number values old (Err Room) new =
+    (new ≡ old) × (c : Call) × IsMethod number values c × (length old < length (plain_method c))
+WritesMethod number values old (Err TooLong) new =
+    (new ≡ old) × (c : Call) × IsMethod number values c × (CountsAllFit c.args → ⊥)
 WritesMethod number values old (Err UnknownKind) new = (new ≡ old) × NotMethod number values UnknownKind
 WritesMethod number values old (Err (Misfit place)) new = (new ≡ old) × NotMethod number values (Misfit place)
 WritesMethod number values old (Err (Inside place e)) new = (new ≡ old) × NotMethod number values (Inside place e)
@@ -156,11 +169,15 @@ WritesMethod number values old (Err OutOfMemory) new = new ≡ old
 
 -- ---- anything that octets encode
 
--- The octets are written at the start of the room, and nothing behind them is changed; or the room is as it was, and it has too
--- few octets, a count in what was to be written is too long, or nothing could be made of the values.
-abbrev pub Writes : (List ℕ → Type 0) → Type 0 → (WriteFault → Type 0) → List ℕ → Result ℕ WriteFault → List ℕ → Type 0
-Writes Encode Long Not old (Ok n) new = (octets : List ℕ) × Encode octets × (n ≡ length octets) × (take n new ≡ octets) × (drop n new ≡ drop n old)
-Writes Encode Long Not old (Err Room) new = (new ≡ old) × (octets : List ℕ) × Encode octets × (length old < length octets)
+-- The octets are written at the start of the room, and nothing behind them is changed; or the room is as it was, and it
+-- has too few octets, a count in what was to be written is too long, or nothing could be made of the values.
+abbrev pub Writes : (List ℕ → Type 0) → Type 0 → (WriteFault → Type 0) → List ℕ
+    → Result ℕ WriteFault → List ℕ → Type 0
+Writes Encode Long Not old (Ok n) new =
+    (octets : List ℕ) × Encode octets × (n ≡ length octets) × (take n new ≡ octets)
+    × (drop n new ≡ drop n old)
+Writes Encode Long Not old (Err Room) new =
+    (new ≡ old) × (octets : List ℕ) × Encode octets × (length old < length octets)
 Writes Encode Long Not old (Err TooLong) new = (new ≡ old) × Long
 Writes Encode Long Not old (Err UnknownKind) new = (new ≡ old) × Not UnknownKind
 Writes Encode Long Not old (Err (Misfit place)) new = (new ≡ old) × Not (Misfit place)

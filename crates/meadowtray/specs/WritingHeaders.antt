@@ -1,5 +1,6 @@
 -- What is told of a content header that is written.
-use Rattle.std.specs.Prelude.{◌≡◌, ◌≢◌, ◌||◌, ◌&&◌, ℕ, List, length, map, Bool, false, Option, Some, None, Result, Err, ◌⊎◌, nat_eq}
+use Rattle.std.specs.Prelude.{◌≡◌, ◌≢◌, ◌||◌, ◌&&◌, ℕ, List, length, map, Bool, false, Option}
+use Rattle.std.specs.Prelude.{Some, None, Result, Err, ◌⊎◌, nat_eq}
 use Rattle.amqp_value.specs.Reading.{table_at}
 use Rattle.amqp_method.specs.Arguments.{Argument, kind_of}
 use Rattle.amqp_method.specs.HeaderChecking.{kind_at}
@@ -13,7 +14,8 @@ use Rattle.meadowtray.specs.declared.codec.owned.ArgFault.{ArgFault}
 use Rattle.meadowtray.specs.declared.codec.owned.ArgFault.TheVariants as arg
 use Rattle.meadowtray.specs.declared.codec.values.Value.{Value}
 use Rattle.meadowtray.specs.declared.codec.writing.WriteFault.{WriteFault}
-use Rattle.meadowtray.specs.declared.codec.writing.WriteFault.TheVariants.{UnknownKind, Misfit, Inside, Room, TooLong, OutOfMemory}
+use Rattle.meadowtray.specs.declared.codec.writing.WriteFault.TheVariants.{UnknownKind, Misfit, Inside, Room, TooLong}
+use Rattle.meadowtray.specs.declared.codec.writing.WriteFault.TheVariants.{OutOfMemory}
 
 -- a property that is there is of this kind
 abbrev pub OfKind : Option Argument → FieldKind → Type 0
@@ -41,7 +43,8 @@ NotProperty kind v arg.OutOfMemory = Unit {0}
 abbrev pub NotHeader : List Value → WriteFault → Type 0
 NotHeader values UnknownKind = ⊥
 NotHeader values (Misfit place) =
-    ((place ≡ length values) × (length values ≢ 14)) ⊎ At place values (λ v. fits_property (kind_at place) v ≡ false)
+    ((place ≡ length values) × (length values ≢ 14))
+    ⊎ At place values (λ v. fits_property (kind_at place) v ≡ false)
 NotHeader values (Inside place e) = At place values (λ v. (v.kind ≡ 8) × (table_at v.octets.now ≡ Err e))
 NotHeader values Room = ⊥
 NotHeader values TooLong = ⊥
@@ -55,7 +58,8 @@ bit_for (Some value) bit = bit
 -- the octets are those of the header of these properties, each of the kind of its place
 abbrev pub IsHeader : ℕ → List Value → List ℕ → Type 0
 IsHeader size values octets =
-    HaveKinds (map argument_there values) property_kinds × (octets ≡ plain_header (header size (map argument_there values)))
+    HaveKinds (map argument_there values) property_kinds
+    × (octets ≡ plain_header (header size (map argument_there values)))
 
 -- the header of these properties is written
 abbrev pub WritesHeader : ℕ → List Value → List ℕ → Result ℕ WriteFault → List ℕ → Type 0

@@ -1,5 +1,7 @@
 -- What is told of a table that is written, and which values can stand in it.
-use Rattle.std.specs.Prelude.{◌≡◌, ◌<◌, ◌&&◌, ℕ, zero, suc, ℤ, pos, negsuc, List, [], ◌∷◌, length, map, Bool, true, false, Option, Some, Result, Err, ◌⊎◌, if◌then◌else◌, nat_eq, nat_lt, int_le}
+use Rattle.std.specs.Prelude.{◌≡◌, ◌<◌, ◌&&◌, ℕ, zero, suc, ℤ, pos, negsuc, List, [], ◌∷◌}
+use Rattle.std.specs.Prelude.{length, map, Bool, true, false, Option, Some, Result, Err, ◌⊎◌, if◌then◌else◌}
+use Rattle.std.specs.Prelude.{nat_eq, nat_lt, int_le}
 use Rattle.amqp_value.specs.Plain.{plain_table, CountsFit}
 use Rattle.amqp_value.specs.Reading.{elements, value_at, table_at}
 use Rattle.amqp_value.specs.Faults.{fault_at}
@@ -14,7 +16,8 @@ use Rattle.meadowtray.specs.declared.codec.owned.ArgFault.TheVariants as arg
 use Rattle.meadowtray.specs.declared.codec.tables.Pair.{Pair}
 use Rattle.meadowtray.specs.declared.codec.values.Value.{Value}
 use Rattle.meadowtray.specs.declared.codec.writing.WriteFault.{WriteFault}
-use Rattle.meadowtray.specs.declared.codec.writing.WriteFault.TheVariants.{UnknownKind, Misfit, Inside, Room, TooLong, OutOfMemory}
+use Rattle.meadowtray.specs.declared.codec.writing.WriteFault.TheVariants.{UnknownKind, Misfit, Inside, Room, TooLong}
+use Rattle.meadowtray.specs.declared.codec.writing.WriteFault.TheVariants.{OutOfMemory}
 
 abbrev pub within : ℤ → ℤ → ℤ → Bool
 within least greatest n = int_le least n && int_le n greatest
@@ -45,7 +48,9 @@ fits_tag v =
 
 -- the octets of a value aren't an array, or a table
 abbrev pub FaultInside : Value → ValueFault → Type 0
-FaultInside v e = ((v.kind ≡ 65) × (elements (value_at 31) (length v.octets.now) v.octets.now ≡ Err e)) ⊎ ((v.kind ≡ 70) × (table_at v.octets.now ≡ Err e))
+FaultInside v e =
+    ((v.kind ≡ 65) × (elements (value_at 31) (length v.octets.now) v.octets.now ≡ Err e))
+    ⊎ ((v.kind ≡ 70) × (table_at v.octets.now ≡ Err e))
 
 -- the octets aren't an array
 abbrev pub NotArray : List ℕ → ArgFault → Type 0
@@ -90,12 +95,14 @@ NotPairs pairs OutOfMemory = Unit {0}
 
 -- the table has these pairs
 abbrev pub IsTable : List Pair → Pairs → Type 0
-IsTable pairs table = (named : List (List ℕ × Datum)) × (map pair_there pairs ≡ named_there named) × (table ≡ pairs_of named)
+IsTable pairs table =
+    (named : List (List ℕ × Datum)) × (map pair_there pairs ≡ named_there named) × (table ≡ pairs_of named)
 
 -- the pairs nest too deep
 abbrev pub TooDeepFor : List Pair → ℕ → ValueFault → Type 0
 TooDeepFor pairs place e = (place ≡ length pairs) × (e ≡ fault_at 0 TooDeep)
-    × (named : List (List ℕ × Datum)) × (map pair_there pairs ≡ named_there named) × (32 < table_depth (pairs_of named))
+    × (named : List (List ℕ × Datum)) × (map pair_there pairs ≡ named_there named)
+    × (32 < table_depth (pairs_of named))
 
 abbrev pub NotTableOf : List Pair → WriteFault → Type 0
 NotTableOf pairs UnknownKind = ⊥
