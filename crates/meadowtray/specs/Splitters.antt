@@ -66,21 +66,44 @@ abbrev pub OfSplitter : Option Held → (Stream → Type 0) → (status : ℕ) �
 OfSplitter None P status = status ≡ 1
 OfSplitter (Some (Splitter s)) P status = P s
 
+-- the limit is set: between two frames, and with room for one
+abbrev LimitIsSet : Stream → (limit status : ℕ) → (new : Option Held) → Type 0
+LimitIsSet s limit status new =
+    (status ≡ 0) × (s.pending ≡ []) × (8 ≤ limit) × (new ≡ Some (Splitter (record s { limit = limit })))
+
+-- the limit stays: a frame is begun, or the new one leaves no room for a frame
+abbrev LimitStays : Stream → (limit status : ℕ) → (new : Option Held) → Type 0
+LimitStays s limit status new =
+    (status ≡ 5) × ((s.pending ≢ []) ⊎ (limit < 8)) × (new ≡ Some (Splitter s))
+
 -- a limit is set between two frames, and only one that leaves room for a frame
 abbrev pub SetsLimit : Option Held → ℕ → ℕ → Option Held → Type 0
 SetsLimit None limit status new = (status ≡ 1) × (new ≡ None)
-SetsLimit (Some (Splitter s)) limit status new =
-    ((status ≡ 0) × (s.pending ≡ []) × (8 ≤ limit) × (new ≡ Some (Splitter (record s { limit = limit }))))
-    ⊎ ((status ≡ 5) × ((s.pending ≢ []) ⊎ (limit < 8)) × (new ≡ Some (Splitter s)))
+SetsLimit (Some (Splitter s)) limit status new = LimitIsSet s limit status new ⊎ LimitStays s limit status new
 
 -- a splitter as it begins
 abbrev pub new_stream : ℕ → Stream
 new_stream limit = record { pending = []; limit = limit; taken = 0; fault = None; taken_to_fault = 0; given = None }
 
+-- a closed handle is opened with a new splitter
+abbrev IsOpened : (old : Option Held) → (limit status : ℕ) → (new : Option Held) → Type 0
+IsOpened old limit status new =
+    (status ≡ 0) × (old ≡ None) × (8 ≤ limit) × (new ≡ Some (Splitter (new_stream limit)))
+
+-- it was open, and stays as it is
+abbrev WasOpen : (old : Option Held) → (status : ℕ) → (new : Option Held) → Type 0
+WasOpen old status new = (status ≡ 2) × (old ≢ None) × (new ≡ old)
+
+-- memory is refused
+abbrev MemoryIsRefused : (old : Option Held) → (status : ℕ) → (new : Option Held) → Type 0
+MemoryIsRefused old status new = (status ≡ 4) × (old ≡ None) × (new ≡ old)
+
+-- the limit leaves no room for a frame
+abbrev NoRoomForFrame : (old : Option Held) → (limit status : ℕ) → (new : Option Held) → Type 0
+NoRoomForFrame old limit status new = (status ≡ 5) × (limit < 8) × (new ≡ old)
+
 -- a closed handle is opened with a new splitter, unless the limit leaves no room for a frame or memory is refused
 abbrev pub OpensSplitter : Option Held → ℕ → ℕ → Option Held → Type 0
 OpensSplitter old limit status new =
-    ((status ≡ 0) × (old ≡ None) × (8 ≤ limit) × (new ≡ Some (Splitter (new_stream limit)))) ⊎
-    (((status ≡ 2) × (old ≢ None) × (new ≡ old)) ⊎
-    (((status ≡ 4) × (old ≡ None) × (new ≡ old)) ⊎
-    ((status ≡ 5) × (limit < 8) × (new ≡ old))))
+    IsOpened old limit status new
+    ⊎ (WasOpen old status new ⊎ (MemoryIsRefused old status new ⊎ NoRoomForFrame old limit status new))

@@ -39,6 +39,10 @@ abbrev pub is_whole : Result (Pairs × ℕ) ValueFault → ℕ → Bool
 is_whole (Ok x) size = nat_eq x.1 size
 is_whole (Err e) size = false
 
+-- the octets are those of a table, all of them
+abbrev pub is_table : List ℕ → Bool
+is_table octets = is_whole (table_at octets) (length octets)
+
 -- a value is one for a field of its kind: a number or a count fits, and a table's octets are all of a table
 abbrev pub fits_field : Value → Bool
 fits_field v =
@@ -49,12 +53,12 @@ fits_field v =
     else (if nat_eq v.kind 5 then true
     else (if nat_eq v.kind 6 then nat_lt (length v.octets.now) 256
     else (if nat_eq v.kind 7 then nat_lt (length v.octets.now) 4294967296
-    else (if nat_eq v.kind 8 then is_whole (table_at v.octets.now) (length v.octets.now)
+    else (if nat_eq v.kind 8 then is_table v.octets.now
     else false)))))))
 
 -- the octets aren't a table
 abbrev pub NotTable : List ℕ → ArgFault → Type 0
-NotTable octets arg.Misfit = is_whole (table_at octets) (length octets) ≡ false
+NotTable octets arg.Misfit = is_table octets ≡ false
 NotTable octets (arg.Inside e) = table_at octets ≡ Err e
 NotTable octets arg.OutOfMemory = Unit {0}
 
@@ -64,10 +68,14 @@ NotCounted limit octets arg.Misfit = nat_lt (length octets) limit ≡ false
 NotCounted limit octets (arg.Inside e) = ⊥
 NotCounted limit octets arg.OutOfMemory = Unit {0}
 
+-- the value is to be a table, and its octets have this fault
+abbrev pub TableFault : Value → ValueFault → Type 0
+TableFault v e = (v.kind ≡ 8) × (table_at v.octets.now ≡ Err e)
+
 -- the value isn't one for any field
 abbrev pub NotOwned : Value → ArgFault → Type 0
 NotOwned v arg.Misfit = fits_field v ≡ false
-NotOwned v (arg.Inside e) = (v.kind ≡ 8) × (table_at v.octets.now ≡ Err e)
+NotOwned v (arg.Inside e) = TableFault v e
 NotOwned v arg.OutOfMemory = Unit {0}
 
 -- ---- values, each at its place
@@ -87,7 +95,7 @@ fault_of place arg.OutOfMemory = OutOfMemory
 abbrev pub NotAllOwned : List Value → WriteFault → Type 0
 NotAllOwned values UnknownKind = ⊥
 NotAllOwned values (Misfit place) = At place values (λ v. fits_field v ≡ false)
-NotAllOwned values (Inside place e) = At place values (λ v. (v.kind ≡ 8) × (table_at v.octets.now ≡ Err e))
+NotAllOwned values (Inside place e) = At place values (λ v. TableFault v e)
 NotAllOwned values Room = ⊥
 NotAllOwned values TooLong = ⊥
 NotAllOwned values OutOfMemory = Unit {0}
@@ -116,12 +124,16 @@ first_unlike (kind ∷ kinds) [] = 0
 first_unlike (kind ∷ kinds) (v ∷ values) =
     if nat_eq v.kind (field_number kind) then suc (first_unlike kinds values) else 0
 
+-- the first place from this one on at which the values aren't of these kinds
+abbrev unlike_from : List FieldKind → (place : ℕ) → List Value → ℕ
+unlike_from kinds place values = place + first_unlike kinds (drop place values)
+
 -- from a place on, the first of the values is that of the field, and others begin at the next place; or it is of
 -- another kind, or there is none
 abbrev pub PastValue : Bool → FieldKind → List FieldKind → List Value → ℕ → Option ℕ → Type 0
-PastValue reserved kind kinds values place (Some next) = (next ≤ length values) × (place ≤ next)
-    × (place + first_unlike (wanted_kind reserved kind kinds) (drop place values)
-    ≡ next + first_unlike kinds (drop next values))
+PastValue reserved kind kinds values place (Some next) =
+    (next ≤ length values) × (place ≤ next)
+    × (unlike_from (wanted_kind reserved kind kinds) place values ≡ unlike_from kinds next values)
 PastValue reserved kind kinds values place None =
     first_unlike (wanted_kind reserved kind kinds) (drop place values) ≡ 0
 
@@ -140,7 +152,7 @@ Unlike number values place =
 abbrev pub NotMethod : ℕ → List Value → WriteFault → Type 0
 NotMethod number values UnknownKind = kind_numbered number ≡ None
 NotMethod number values (Misfit place) = At place values (λ v. fits_field v ≡ false) ⊎ Unlike number values place
-NotMethod number values (Inside place e) = At place values (λ v. (v.kind ≡ 8) × (table_at v.octets.now ≡ Err e))
+NotMethod number values (Inside place e) = At place values (λ v. TableFault v e)
 NotMethod number values Room = ⊥
 NotMethod number values TooLong = ⊥
 NotMethod number values OutOfMemory = Unit {0}

@@ -1,7 +1,6 @@
 -- What is told of a content header that is written.
 use Rattle.std.specs.Prelude.{◌≡◌, ◌≢◌, ◌||◌, ◌&&◌, ℕ, List, length, map, Bool, false, Option}
-use Rattle.std.specs.Prelude.{Some, None, Result, Err, ◌⊎◌, nat_eq}
-use Rattle.amqp_value.specs.Reading.{table_at}
+use Rattle.std.specs.Prelude.{Some, None, Result, ◌⊎◌, nat_eq}
 use Rattle.amqp_method.specs.Arguments.{Argument, kind_of}
 use Rattle.amqp_method.specs.HeaderChecking.{kind_at}
 use Rattle.amqp_method.specs.Plain.{plain_header}
@@ -9,7 +8,7 @@ use Rattle.amqp_method.specs.Properties.{header, property_kinds, HaveKinds}
 use Rattle.amqp_method.specs.declared.fields.FieldKind.{FieldKind}
 use Rattle.amqp_method.specs.declared.fields.FieldKind.TheVariants as kinds
 use Rattle.meadowtray.specs.Values.{argument_there}
-use Rattle.meadowtray.specs.Writing.{fits_field, At, Writes}
+use Rattle.meadowtray.specs.Writing.{fits_field, At, TableFault, Writes}
 use Rattle.meadowtray.specs.declared.codec.owned.ArgFault.{ArgFault}
 use Rattle.meadowtray.specs.declared.codec.owned.ArgFault.TheVariants as arg
 use Rattle.meadowtray.specs.declared.codec.values.Value.{Value}
@@ -36,7 +35,7 @@ fits_property kinds.LongStr v = nat_eq v.kind 0
 -- the value isn't a property of this kind
 abbrev pub NotProperty : FieldKind → Value → ArgFault → Type 0
 NotProperty kind v arg.Misfit = fits_property kind v ≡ false
-NotProperty kind v (arg.Inside e) = (v.kind ≡ 8) × (table_at v.octets.now ≡ Err e)
+NotProperty kind v (arg.Inside e) = TableFault v e
 NotProperty kind v arg.OutOfMemory = Unit {0}
 
 -- there aren't fourteen values, or one of them is no property of the kind at its place
@@ -45,7 +44,7 @@ NotHeader values UnknownKind = ⊥
 NotHeader values (Misfit place) =
     ((place ≡ length values) × (length values ≢ 14))
     ⊎ At place values (λ v. fits_property (kind_at place) v ≡ false)
-NotHeader values (Inside place e) = At place values (λ v. (v.kind ≡ 8) × (table_at v.octets.now ≡ Err e))
+NotHeader values (Inside place e) = At place values (λ v. TableFault v e)
 NotHeader values Room = ⊥
 NotHeader values TooLong = ⊥
 NotHeader values OutOfMemory = Unit {0}

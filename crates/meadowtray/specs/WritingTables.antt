@@ -10,7 +10,7 @@ use Rattle.amqp_value.specs.declared.fault.ValueFault.{ValueFault}
 use Rattle.amqp_value.specs.declared.fault.ValueFaultKind.TheVariants.{TooDeep}
 use Rattle.meadowtray.specs.Tables.{pair_there, named_there}
 use Rattle.meadowtray.specs.Values.{signed_number}
-use Rattle.meadowtray.specs.Writing.{is_whole, Writes}
+use Rattle.meadowtray.specs.Writing.{is_table, Writes}
 use Rattle.meadowtray.specs.declared.codec.owned.ArgFault.{ArgFault}
 use Rattle.meadowtray.specs.declared.codec.owned.ArgFault.TheVariants as arg
 use Rattle.meadowtray.specs.declared.codec.tables.Pair.{Pair}
@@ -43,7 +43,7 @@ fits_tag v =
     else (if nat_eq v.kind 83 then nat_lt (length v.octets.now) 4294967296
     else (if nat_eq v.kind 120 then nat_lt (length v.octets.now) 4294967296
     else (if nat_eq v.kind 65 then true
-    else (if nat_eq v.kind 70 then is_whole (table_at v.octets.now) (length v.octets.now)
+    else (if nat_eq v.kind 70 then is_table v.octets.now
     else false))))))))))))))))))
 
 -- the octets of a value aren't an array, or a table
