@@ -1,5 +1,6 @@
 //! The messages of one channel that wait for their turn.
 ghost use Rattle.std.specs.Prelude.{◌≡◌, ◌==◌, ◌+◌, ◌++◌, ◌∷◌, [], length, drop, option_to_list, true, false, IfOk, IfErr, OnOk, OnErr, None};
+ghost use Rattle.amqp_turns.specs.Advancing.{SendsInTurn};
 ghost use Rattle.amqp_turns.specs.Sends.{Advances, IsNoReasonToWait, IsReasonToWait, IsRefusedFirst, Rests};
 ghost use Rattle.amqp_turns.specs.TurnsView.{standing, waiting_in};
 
@@ -82,11 +83,7 @@ impl Turns {
     /// content. A message that is refused for any other reason stays first: [`Turns::take_next`] takes it out. What was
     /// sent before it has been sent.
     pub fn advance<R: Role>(&mut self, end: &mut End<R>) -> Result<usize, AskFault>
-        ensures advances { Advances (standing self.old end.old) (standing self.new end.new) }
-        ensures count { IfOk result (λ count. count + length (waiting_in self.new) ≡ length (waiting_in self.old)) }
-        ensures rests { OnOk result (Rests (standing self.new end.new)) }
-        ensures refused { IfErr result (λ fault. IsRefusedFirst fault (standing self.new end.new)) }
-        ensures no_wait { IfErr result (λ fault. IsNoReasonToWait fault) }
+        ensures { SendsInTurn (standing self.old end.old) result (standing self.new end.new) }
     {
         let mut sent = 0;
         while self.send_next(end)? {

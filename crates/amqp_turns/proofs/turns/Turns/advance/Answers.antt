@@ -1,5 +1,5 @@
 -- Each turn of the loop sends one message more, and the last none.
-use Rattle.std.proofs.Common.{arith}
+use Rattle.std.proofs.Common.{arith, rules}
 use Rattle.amqp_turns.specs.Sends.{none_sent}
 use Rattle.amqp_turns.proofs.SendLemmas.{advances_on}
 use Rattle.amqp_turns.proofs.turns.Turns.advance.Goals as goal
@@ -7,8 +7,15 @@ use Rattle.amqp_turns.proofs.turns.Turns.advance.Goals as goal
 pub loop-sent-init : goal.loop-sent-init
 loop-sent-init g c = record { advances = none_sent; count = omega arith }
 
-pub returns-in_err-send_next-clause-advances : goal.returns-in_err-send_next-clause-advances
-returns-in_err-send_next-clause-advances g c = advances_on _ _ _ c.loop-sent.invariant.advances c.send_next.ensures.advances
+pub returns-in_err-send_next : goal.returns-in_err-send_next
+returns-in_err-send_next g c =
+    record {
+      advances = advances_on _ _ _ c.loop-sent.invariant.advances c.send_next.ensures.advances;
+      count = search rules;
+      rests = search rules;
+      refused = search rules;
+      no_wait = search rules;
+    }
 
 pub loop-sent-preserved : goal.loop-sent-preserved
 loop-sent-preserved g c =
@@ -17,5 +24,12 @@ loop-sent-preserved g c =
       count = omega (arith, c.in_ok-send_next.ensures.one c.if-branch.true, c.loop-sent.invariant.count);
     }
 
-pub returns-clause-advances : goal.returns-clause-advances
-returns-clause-advances g c = advances_on _ _ _ c.loop-sent.invariant.advances c.send_next.ensures.advances
+pub returns : goal.returns
+returns g c =
+    record {
+      advances = advances_on _ _ _ c.loop-sent.invariant.advances c.send_next.ensures.advances;
+      count = search rules;
+      rests = search rules;
+      refused = search rules;
+      no_wait = search rules;
+    }
