@@ -4,6 +4,9 @@ pub mod Splitting
 pub mod Writing
 pub mod Stream
 pub mod Splitter
+pub mod Beginning
+pub mod Advances
+pub mod Feeds
 pub mod Judged
 pub mod Judging
 pub mod Laws

@@ -1,9 +1,8 @@
 //! A stream of octets, cut into pieces anywhere, split into its frames.
-ghost use Rattle.std.specs.Prelude.{◌≡◌, ◌≢◌, ◌+◌, ◌<◌, ◌≤◌, [], ◌++◌, length, take, None, IsOk, IfOk, IfErr, IfSome, IfNone};
+ghost use Rattle.std.specs.Prelude.{◌≡◌, ◌≢◌, ◌<◌, ◌≤◌, [], length, take, None, IsOk, IfOk, IfErr, IfSome, IfNone};
 ghost use Rattle.std.specs.Borrow.{sem};
-ghost use Rattle.amqp_frame.specs.Frame.{owned, lent};
 ghost use Rattle.amqp_frame.specs.Judging.{lent_of};
-ghost use Rattle.amqp_frame.specs.Splitter.{Completes, Waits, Faults, LacksMemoryIfNeeded, HasFrameAtStart, OfGiven, LiesAt, after_advance, after_feed, LeavesAfter};
+ghost use Rattle.amqp_frame.specs.Splitter.{Completes, Waits, Faults, LacksMemoryIfNeeded, HasFrameAtStart, OfGiven, LiesAt, after_advance};
 
 use crate::faults::{FrameFault, FrameFaultKind};
 use crate::frames::{FrameRef, OVERHEAD, RawFrame};
@@ -78,15 +77,15 @@ impl Model for Splitter {
 }
 
 impl Splitter {
+    ghost use Rattle.amqp_frame.specs.Advances.{Advances};
+    ghost use Rattle.amqp_frame.specs.Beginning.{IsNewSplitter};
+    ghost use Rattle.amqp_frame.specs.Feeds.{Feeds, FeedsLent};
+    ghost use Rattle.amqp_frame.specs.Splitter.{LeavesAfter};
+
     /// A splitter at the beginning of a stream. The limit counts all octets of a frame.
     pub fn new(alloc: Global, limit: u32) -> Splitter
         requires { 8 ≤ limit }
-        ensures pending { result.pending ≡ [] }
-        ensures limit { result.limit ≡ limit }
-        ensures taken { result.taken ≡ 0 }
-        ensures fault { result.fault ≡ None }
-        ensures taken_to_fault { result.taken_to_fault ≡ 0 }
-        ensures given { result.given ≡ None }
+        ensures { IsNewSplitter limit result }
     {
         Splitter {
             alloc,
@@ -143,24 +142,7 @@ impl Splitter {
     /// frame. After a fault each call answers [`FrameFaultKind::Failed`].
     #[inline(always)]
     pub fn advance<'a>(&mut self, piece: &'a [u8]) -> Result<Advanced<'a>, FrameFault>
-        // With a frame, the octets pending and taken are that frame, no longer than the limit.
-        ensures frame { IfOk result (λ advanced. IfSome advanced.place
-            (λ place. OfGiven place self.new.given (Completes self.old (take advanced.taken piece.now)))) }
-        // Without one, all was taken, and what is pending now is a rest that shows no fault.
-        ensures rest { IfOk result (λ advanced. IfNone advanced.place (Waits self.old piece.now advanced.taken)) }
-        // A fault is reported by the stream, at the first octet that shows it, or it is out of memory.
-        ensures fault { IfErr result (λ fault. Faults self.old.fault self.old piece.now fault) }
-        // Memory is refused only where an octet has to be kept, and never in place of a fault.
-        ensures memory { IfErr result (λ fault. LacksMemoryIfNeeded fault.kind self.old piece.now) }
-        // After a fault there is no other answer.
-        ensures running { IsOk result → self.old.fault ≡ None }
-
-        ensures within { IfOk result (λ advanced. advanced.taken ≤ length piece.now) }
-        ensures progress { IfOk result (λ advanced. piece.now ≢ [] → 0 < advanced.taken) }
-        ensures lies { IfOk result (λ advanced. IfSome advanced.place (LiesAt self.old.pending)) }
-        ensures in_place { self.old.fault ≡ None → self.old.pending ≡ []
-            → HasFrameAtStart self.old.limit piece.now → IsOk result }
-        ensures after { self.new ≡ after_advance self.old piece.now result }
+        ensures { Advances self.old piece.now result self.new }
     {
         if is_between_frames(self.fault, self.held, &self.buffer) {
             match judge(piece, self.limit) {
@@ -268,22 +250,7 @@ impl Splitter {
     /// piece gives no frame. After a fault each call answers [`FrameFaultKind::Failed`].
     #[inline]
     pub fn feed_ref<'a>(&'a mut self, piece: &'a [u8]) -> Result<FedRef<'a>, FrameFault>
-        // With a frame, the octets pending and taken are that frame, no longer than the limit.
-        ensures frame { IfOk result (λ fed. IfSome fed.frame
-            (λ f. Completes self.old (take fed.taken piece.now) (lent f))) }
-        // Without one, all was taken, and what is pending now is a rest that shows no fault.
-        ensures rest { IfOk result (λ fed. IfNone fed.frame (Waits self.old piece.now fed.taken)) }
-        // A fault is reported by the stream, at the first octet that shows it, or it is out of memory.
-        ensures fault { IfErr result (λ fault. Faults self.old.fault self.old piece.now fault) }
-        // Memory is refused only where an octet has to be kept, and never in place of a fault.
-        ensures memory { IfErr result (λ fault. LacksMemoryIfNeeded fault.kind self.old piece.now) }
-        // After a fault there is no other answer.
-        ensures running { IsOk result → self.old.fault ≡ None }
-
-        ensures within { IfOk result (λ fed. fed.taken ≤ length piece.now) }
-        ensures progress { IfOk result (λ fed. piece.now ≢ [] → 0 < fed.taken) }
-        ensures in_place { self.old.fault ≡ None → self.old.pending ≡ []
-            → HasFrameAtStart self.old.limit piece.now → IsOk result }
+        ensures feeds { FeedsLent self.old piece.now result }
         ensures* after { sem 𝓛 (LeavesAfter self.entry piece.now result) }
     {
         let advanced = self.advance(piece)?;
@@ -303,16 +270,7 @@ impl Splitter {
 
     /// Takes octets as [`Splitter::feed_ref`] does, and gives the frame with a payload of its own.
     pub fn feed(&mut self, piece: &[u8]) -> Result<Fed, FrameFault>
-        ensures frame { IfOk result (λ fed. IfSome fed.frame
-            (λ f. Completes self.old (take fed.taken piece.now) (owned f))) }
-        ensures rest { IfOk result (λ fed. IfNone fed.frame (Waits self.old piece.now fed.taken)) }
-        ensures fault { IfErr result (λ fault. Faults self.old.fault self.old piece.now fault) }
-        ensures memory { IfErr result (λ fault. LacksMemoryIfNeeded fault.kind self.old piece.now) }
-        ensures running { IsOk result → self.old.fault ≡ None }
-
-        ensures within { IfOk result (λ fed. fed.taken ≤ length piece.now) }
-        ensures progress { IfOk result (λ fed. piece.now ≢ [] → 0 < fed.taken) }
-        ensures after { self.new ≡ after_feed self.old piece.now result }
+        ensures { Feeds self.old piece.now result self.new }
     {
         let alloc = self.alloc;
         let start = self.taken;

@@ -43,7 +43,7 @@ returns-in_default-clause-fed c =
     let none : old.heard ≡ 0 = c.requires.sound.fields.opened (reads (role_at old) (connection_end old.connection).phase c.requires.reads).opened in
     let by = fed_by (role_at old) (connection_end old.connection) old.heard old.splitter old.outbox.output c.args.piece.now c.requires.reads c.requires.sound.fields c.requires.sound.holds (λ i. omega (arith, c.type_inv.piece i)) in
     let after = after_rest old.splitter c.args.piece.now c.feed_ref.result c.in-Ok.fed c.feed_ref.follows.lender-at-none c.feed_ref.follows.holds-at-none c.in-Ok.is c.in_default.is in
-    let waits : Waits old.splitter c.args.piece.now c.in-Ok.fed.taken = subst (λ o. IfNone o (Waits old.splitter c.args.piece.now c.in-Ok.fed.taken)) c.in_default.is c.in-Ok.ensures.rest in
+    let waits : Waits old.splitter c.args.piece.now c.in-Ok.fed.taken = subst (λ o. IfNone o (Waits old.splitter c.args.piece.now c.in-Ok.fed.taken)) c.in_default.is c.in-Ok.ensures.feeds.rest in
     rest_fed (role_at old) (config_view old.connection.settings) (endpoint_view old) old.splitter c.args.piece.now c.in-Ok.fed.taken (parts_there c.args.account.now.parts) (unfinished_of old.heard c.feed_ref.follows.lender-at-none.pending) (c.pieces_are_split.ensures.rest (role_at old) (config_view old.connection.settings) (endpoint_view old) old.splitter c.args.piece.now c.in-Ok.fed.taken) by waits
     (rest_unfinished old.heard (place_after old.splitter.taken c.in-Ok.fed.taken) old.splitter c.feed_ref.follows.lender-at-none c.args.piece.now none after) (ap parts_there c.requires.fresh.parts)
 
@@ -66,10 +66,10 @@ returns-clause-fed c =
     let none : old.heard ≡ 0 = c.requires.sound.fields.opened (reads (role_at old) (connection_end old.connection).phase c.requires.reads).opened in
     let by = fed_by (role_at old) (connection_end old.connection) old.heard old.splitter old.outbox.output c.args.piece.now c.requires.reads c.requires.sound.fields c.requires.sound.holds (λ i. omega (arith, c.type_inv.piece i)) in
     let after = after_frame old.splitter c.args.piece.now c.feed_ref.result c.in-Ok.fed c.in-Some.frame c.feed_ref.follows.lender-at-none c.feed_ref.follows.holds-at-none c.in-Ok.is c.in-Some.is in
-    let completes : Completes old.splitter (take c.in-Ok.fed.taken c.args.piece.now) (lent c.in-Some.frame) = subst (λ o. IfSome o (λ f. Completes old.splitter (take c.in-Ok.fed.taken c.args.piece.now) (lent f))) c.in-Some.is c.in-Ok.ensures.frame in
+    let completes : Completes old.splitter (take c.in-Ok.fed.taken c.args.piece.now) (lent c.in-Some.frame) = subst (λ o. IfSome o (λ f. Completes old.splitter (take c.in-Ok.fed.taken c.args.piece.now) (lent f))) c.in-Some.is c.in-Ok.ensures.feeds.frame in
     let pending : c.tune.new.splitter.pending ≡ [] = ap (λ (s : Stream). s.pending) c.tune.ensures ∙ ap (λ (s : Stream). s.pending) after in
     frame_fed (role_at old) (config_view old.connection.settings) (endpoint_view old) old.splitter c.args.piece.now c.in-Ok.fed.taken c.receive-answer.new.account.octets (lent c.in-Some.frame) c.receive-answer.result (parts_there c.receive-answer.new.account.parts) (connection_end c.receive-answer.new.self) (unfinished_of old.heard c.tune.new.splitter.pending) c.receive-answer.new.outbox
-    (c.pieces_are_split.ensures.frame (role_at old) (config_view old.connection.settings) (endpoint_view old) old.splitter c.args.piece.now c.in-Ok.fed.taken (lent c.in-Some.frame)) by c.in-Ok.ensures.within completes c.receive-answer.ensures.octets c.receive-answer.ensures.said c.receive-answer.ensures.end (none_unfinished old.heard c.tune.new.splitter.pending none pending) c.receive-answer.ensures.output
+    (c.pieces_are_split.ensures.frame (role_at old) (config_view old.connection.settings) (endpoint_view old) old.splitter c.args.piece.now c.in-Ok.fed.taken (lent c.in-Some.frame)) by c.in-Ok.ensures.feeds.within completes c.receive-answer.ensures.octets c.receive-answer.ensures.said c.receive-answer.ensures.end (none_unfinished old.heard c.tune.new.splitter.pending none pending) c.receive-answer.ensures.output
 
 pub returns-clause-sound : goal.returns-clause-sound
 returns-clause-sound c =
@@ -92,7 +92,7 @@ returns-in-Err-clause-fed c =
     let pending = after_stop old.splitter c.args.piece.now c.feed_ref.result c.in-Err.fault c.feed_ref.follows.lender-at-none c.feed_ref.follows.holds-at-none c.in-Err.is in
     fault_fed (role_at old) (config_view old.connection.settings) (endpoint_view old) old.splitter c.args.piece.now c.in-Err.fault.kind c.in-Err.fault.at c.stop-answer.result (connection_end c.stop-answer.new.self) (unfinished_of old.heard c.feed_ref.follows.lender-at-none.pending) c.stop-answer.new.outbox
     (c.pieces_are_split.ensures.fault (role_at old) (config_view old.connection.settings) (endpoint_view old) old.splitter c.args.piece.now c.in-Err.fault.kind c.in-Err.fault.at) by
-    (first_fault old.splitter c.args.piece.now c.in-Err.fault (c.requires.sound.fields.ready r.octets).running c.in-Err.ensures.fault) c.stop-answer.ensures.memory c.stop-answer.ensures.said c.stop-answer.ensures.end (none_unfinished old.heard c.feed_ref.follows.lender-at-none.pending none pending) c.stop-answer.ensures.output
+    (first_fault old.splitter c.args.piece.now c.in-Err.fault (c.requires.sound.fields.ready r.octets).running c.in-Err.ensures.feeds.fault) c.stop-answer.ensures.memory c.stop-answer.ensures.said c.stop-answer.ensures.end (none_unfinished old.heard c.feed_ref.follows.lender-at-none.pending none pending) c.stop-answer.ensures.output
 
 pub returns-in-Err-clause-sound : goal.returns-in-Err-clause-sound
 returns-in-Err-clause-sound c =
@@ -109,7 +109,7 @@ returns-in-Err-clause-sound c =
 pub returns-clause-in_place : goal.returns-clause-in_place
 returns-clause-in_place c = λ drops.
     let old = c.args.self.now in
-    let completes : Completes old.splitter (take c.in-Ok.fed.taken c.args.piece.now) (lent c.in-Some.frame) = subst (λ o. IfSome o (λ f. Completes old.splitter (take c.in-Ok.fed.taken c.args.piece.now) (lent f))) c.in-Some.is c.in-Ok.ensures.frame in
+    let completes : Completes old.splitter (take c.in-Ok.fed.taken c.args.piece.now) (lent c.in-Some.frame) = subst (λ o. IfSome o (λ f. Completes old.splitter (take c.in-Ok.fed.taken c.args.piece.now) (lent f))) c.in-Some.is c.in-Ok.ensures.feeds.frame in
     let none = none_pending (role_at old) (connection_end old.connection) old.heard old.splitter old.outbox.output c.args.piece.now c.requires.sound.fields drops in
     c.receive-answer.ensures.alone (given_dropped (role_at old) (endpoint_view old) old.splitter c.args.piece.now c.in-Ok.fed.taken (lent c.in-Some.frame) c.one_frame_at_start.ensures drops none completes)
 
@@ -118,13 +118,13 @@ returns-in-Err-clause-in_place c = λ drops.
     let old = c.args.self.now in
     let none = none_pending (role_at old) (connection_end old.connection) old.heard old.splitter old.outbox.output c.args.piece.now c.requires.sound.fields drops in
     let running = (c.requires.sound.fields.ready (reads (role_at old) (connection_end old.connection).phase c.requires.reads).octets).running in
-    absurd (false≢true (subst (λ r. IsOk r) c.in-Err.is (c.feed_ref.ensures.in_place running none (frame_there (role_at old) (connection_end old.connection) old.heard old.splitter old.outbox.output c.args.piece.now c.requires.sound.fields drops))))
+    absurd (false≢true (subst (λ r. IsOk r) c.in-Err.is (c.feed_ref.ensures.feeds.in_place running none (frame_there (role_at old) (connection_end old.connection) old.heard old.splitter old.outbox.output c.args.piece.now c.requires.sound.fields drops))))
 
 pub returns-in_default-clause-account : goal.returns-in_default-clause-account
 returns-in_default-clause-account c = λ ran.
     let old = c.args.self.now in
     let by = fed_by (role_at old) (connection_end old.connection) old.heard old.splitter old.outbox.output c.args.piece.now c.requires.reads c.requires.sound.fields c.requires.sound.holds (λ i. omega (arith, c.type_inv.piece i)) in
-    let waits : Waits old.splitter c.args.piece.now c.in-Ok.fed.taken = subst (λ o. IfNone o (Waits old.splitter c.args.piece.now c.in-Ok.fed.taken)) c.in_default.is c.in-Ok.ensures.rest in
+    let waits : Waits old.splitter c.args.piece.now c.in-Ok.fed.taken = subst (λ o. IfNone o (Waits old.splitter c.args.piece.now c.in-Ok.fed.taken)) c.in_default.is c.in-Ok.ensures.feeds.rest in
     account_of_rest (role_at old) (config_view old.connection.settings) (endpoint_view old) c.args.piece.now _ c.in-Ok.fed.taken _ _ c.judged_is_said.ensures.one c.requires.reads
     (c.pieces_are_split.ensures.rest (role_at old) (config_view old.connection.settings) (endpoint_view old) old.splitter c.args.piece.now c.in-Ok.fed.taken by waits) waits.all
     (rest_of old.splitter (endpoint_view old) c.args.piece.now c.in-Ok.fed.taken by.splits waits) refl (came_fresh old.connection.settings c.args.account.now (parts_there c.args.account.now.parts) c.requires.fresh (ap parts_there c.requires.fresh.parts))
@@ -133,12 +133,12 @@ pub returns-clause-account : goal.returns-clause-account
 returns-clause-account c = λ ran.
     let old = c.args.self.now in
     let by = fed_by (role_at old) (connection_end old.connection) old.heard old.splitter old.outbox.output c.args.piece.now c.requires.reads c.requires.sound.fields c.requires.sound.holds (λ i. omega (arith, c.type_inv.piece i)) in
-    let completes : Completes old.splitter (take c.in-Ok.fed.taken c.args.piece.now) (lent c.in-Some.frame) = subst (λ o. IfSome o (λ f. Completes old.splitter (take c.in-Ok.fed.taken c.args.piece.now) (lent f))) c.in-Some.is c.in-Ok.ensures.frame in
+    let completes : Completes old.splitter (take c.in-Ok.fed.taken c.args.piece.now) (lent c.in-Some.frame) = subst (λ o. IfSome o (λ f. Completes old.splitter (take c.in-Ok.fed.taken c.args.piece.now) (lent f))) c.in-Some.is c.in-Ok.ensures.feeds.frame in
     let item = item_is c.receive-answer.result c.receive-answer.new.account.octets (parts_there c.receive-answer.new.account.parts)
     (outcome_of (facts_at (config_view old.connection.settings) (connection_end old.connection) (lent c.in-Some.frame).channel) (end_verdict (config_view old.connection.settings) (connection_end old.connection) (lent c.in-Some.frame)))
     c.receive-answer.ensures.said ran in
     account_of_frame (role_at old) (config_view old.connection.settings) (endpoint_view old) c.args.piece.now _ c.in-Ok.fed.taken _ (lent c.in-Some.frame) _ c.judged_is_said.ensures.one c.requires.reads
-    (c.pieces_are_split.ensures.frame (role_at old) (config_view old.connection.settings) (endpoint_view old) old.splitter c.args.piece.now c.in-Ok.fed.taken (lent c.in-Some.frame) by c.in-Ok.ensures.within completes)
+    (c.pieces_are_split.ensures.frame (role_at old) (config_view old.connection.settings) (endpoint_view old) old.splitter c.args.piece.now c.in-Ok.fed.taken (lent c.in-Some.frame) by c.in-Ok.ensures.feeds.within completes)
     (whole_of old.splitter (endpoint_view old) (take c.in-Ok.fed.taken c.args.piece.now) (lent c.in-Some.frame) by.splits completes) c.receive-answer.ensures.octets
     (λ i. record { took = c.receive-answer.ensures.took i; item = item i; owed = c.receive-answer.ensures.owed ran i })
 
@@ -157,7 +157,7 @@ returns-in-Err-clause-account c = λ ran.
     let after = ap (λ (s : Stream). s.taken_to_fault) (c.feed_ref.follows.holds-at-none ∙ ap (after_feed_ref old.splitter c.args.piece.now) c.in-Err.is) in
     account_of_stop (role_at old) (config_view old.connection.settings) (endpoint_view old) old.splitter c.args.piece.now c.in-Err.fault.kind c.in-Err.fault.at _ _ c.judged_is_said.ensures.one
     (c.pieces_are_split.ensures.fault (role_at old) (config_view old.connection.settings) (endpoint_view old) (record old.splitter { taken = 0 }) c.args.piece.now) c.faults_are_judged.ensures.judged by short (λ e. false≢true (sym ran ∙ c.stop-answer.ensures.memory e))
-    (first_fault old.splitter c.args.piece.now c.in-Err.fault (c.requires.sound.fields.ready r.octets).running c.in-Err.ensures.fault) (c.stop-answer.ensures.octets ∙ (c.taken_to_fault-octets.ensures ∙ after))
+    (first_fault old.splitter c.args.piece.now c.in-Err.fault (c.requires.sound.fields.ready r.octets).running c.in-Err.ensures.feeds.fault) (c.stop-answer.ensures.octets ∙ (c.taken_to_fault-octets.ensures ∙ after))
     (λ i. record { took = (ap note_there c.stop-answer.ensures.took ∙ ap note_there c.requires.fresh.took) i; item = None; owed = c.stop-answer.ensures.owed ran i })
 
 pub returns-in-Err-clause-grows : goal.returns-in-Err-clause-grows
@@ -181,7 +181,7 @@ pub returns-in_default-clause-tally : goal.returns-in_default-clause-tally
 returns-in_default-clause-tally c =
     let old = c.args.self.now in
     let by = fed_by (role_at old) (connection_end old.connection) old.heard old.splitter old.outbox.output c.args.piece.now c.requires.reads c.requires.sound.fields c.requires.sound.holds (λ i. omega (arith, c.type_inv.piece i)) in
-    let waits : Waits old.splitter c.args.piece.now c.in-Ok.fed.taken = subst (λ o. IfNone o (Waits old.splitter c.args.piece.now c.in-Ok.fed.taken)) c.in_default.is c.in-Ok.ensures.rest in
+    let waits : Waits old.splitter c.args.piece.now c.in-Ok.fed.taken = subst (λ o. IfNone o (Waits old.splitter c.args.piece.now c.in-Ok.fed.taken)) c.in_default.is c.in-Ok.ensures.feeds.rest in
     blames_of_rest (role_at old) _ (endpoint_view old) c.args.piece.now _ c.in-Ok.fed.taken _ _ c.judged_is_said.ensures.one c.requires.reads
     (c.pieces_are_split.ensures.rest (role_at old) (config_view old.connection.settings) (endpoint_view old) old.splitter c.args.piece.now c.in-Ok.fed.taken by waits) waits.all
     (rest_of old.splitter (endpoint_view old) c.args.piece.now c.in-Ok.fed.taken by.splits waits) refl c.count.ensures
@@ -190,9 +190,9 @@ pub returns-clause-tally : goal.returns-clause-tally
 returns-clause-tally c =
     let old = c.args.self.now in
     let by = fed_by (role_at old) (connection_end old.connection) old.heard old.splitter old.outbox.output c.args.piece.now c.requires.reads c.requires.sound.fields c.requires.sound.holds (λ i. omega (arith, c.type_inv.piece i)) in
-    let completes : Completes old.splitter (take c.in-Ok.fed.taken c.args.piece.now) (lent c.in-Some.frame) = subst (λ o. IfSome o (λ f. Completes old.splitter (take c.in-Ok.fed.taken c.args.piece.now) (lent f))) c.in-Some.is c.in-Ok.ensures.frame in
+    let completes : Completes old.splitter (take c.in-Ok.fed.taken c.args.piece.now) (lent c.in-Some.frame) = subst (λ o. IfSome o (λ f. Completes old.splitter (take c.in-Ok.fed.taken c.args.piece.now) (lent f))) c.in-Some.is c.in-Ok.ensures.feeds.frame in
     blames_of_frame (role_at old) (config_view old.connection.settings) c.receive-answer.result (endpoint_view old) c.args.piece.now _ c.in-Ok.fed.taken (lent c.in-Some.frame) _ _ _ c.judged_is_said.ensures.one c.requires.reads
-    (c.pieces_are_split.ensures.frame (role_at old) (config_view old.connection.settings) (endpoint_view old) old.splitter c.args.piece.now c.in-Ok.fed.taken (lent c.in-Some.frame) by c.in-Ok.ensures.within completes)
+    (c.pieces_are_split.ensures.frame (role_at old) (config_view old.connection.settings) (endpoint_view old) old.splitter c.args.piece.now c.in-Ok.fed.taken (lent c.in-Some.frame) by c.in-Ok.ensures.feeds.within completes)
     (whole_of old.splitter (endpoint_view old) (take c.in-Ok.fed.taken c.args.piece.now) (lent c.in-Some.frame) by.splits completes) c.count.ensures c.receive-answer.ensures.tally
 
 pub blame_octets-requires : goal.blame_octets-requires
@@ -216,9 +216,9 @@ returns-clause-heard c =
     let octets = c.in-Ok.fed.taken in
     let frame = lent c.in-Some.frame in
     let by = fed_by role (connection_end old.connection) old.heard old.splitter old.outbox.output piece c.requires.reads c.requires.sound.fields c.requires.sound.holds (λ i. omega (arith, c.type_inv.piece i)) in
-    let completes : Completes old.splitter (take octets piece) frame = subst (λ o. IfSome o (λ f. Completes old.splitter (take octets piece) (lent f))) c.in-Some.is c.in-Ok.ensures.frame in
+    let completes : Completes old.splitter (take octets piece) frame = subst (λ o. IfSome o (λ f. Completes old.splitter (take octets piece) (lent f))) c.in-Some.is c.in-Ok.ensures.feeds.frame in
     frame_heard role config c.receive-answer.result (endpoint_view old) piece _ octets frame _ _ c.judged_is_said.ensures.one c.requires.reads
-    (c.pieces_are_split.ensures.frame role config (endpoint_view old) old.splitter piece octets frame by c.in-Ok.ensures.within completes)
+    (c.pieces_are_split.ensures.frame role config (endpoint_view old) old.splitter piece octets frame by c.in-Ok.ensures.feeds.within completes)
     (whole_of old.splitter (endpoint_view old) (take octets piece) frame by.splits completes)
     c.receive-answer.ensures.heard c.receive-answer.ensures.at_fault
 
@@ -230,7 +230,7 @@ returns-in_default-clause-heard c =
     let piece = c.args.piece.now in
     let octets = c.in-Ok.fed.taken in
     let by = fed_by role (connection_end old.connection) old.heard old.splitter old.outbox.output piece c.requires.reads c.requires.sound.fields c.requires.sound.holds (λ i. omega (arith, c.type_inv.piece i)) in
-    let waits : Waits old.splitter piece octets = subst (λ o. IfNone o (Waits old.splitter piece octets)) c.in_default.is c.in-Ok.ensures.rest in
+    let waits : Waits old.splitter piece octets = subst (λ o. IfNone o (Waits old.splitter piece octets)) c.in_default.is c.in-Ok.ensures.feeds.rest in
     rest_heard role config _ (endpoint_view old) piece _ octets _ c.judged_is_said.ensures.one c.requires.reads
     (c.pieces_are_split.ensures.rest role config (endpoint_view old) old.splitter piece octets by waits)
     (ap (λ xs. (endpoint_view old).unfinished ++ xs) (sym (ap (λ n. take n piece) waits.all ∙ take-length piece)))

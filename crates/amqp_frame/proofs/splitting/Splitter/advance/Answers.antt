@@ -1,4 +1,4 @@
-use Rattle.std.proofs.Common.{sym, ◌∙◌}
+use Rattle.std.proofs.Common.{sym, ◌∙◌, rules}
 use Rattle.std.proofs.lemmas.Bool.{false≢true}
 use Rattle.amqp_frame.proofs.SplitterLemmas.{begun_without_frame, told_without_frame}
 use Rattle.amqp_frame.proofs.splitting.Splitter.advance.Goals as goal
@@ -14,12 +14,24 @@ advance_buffer-requires c = λ none empty here. elim c.if-is_between_frames.bran
       false≢true (sym w.if-is_between_frames.false ∙ is_between)
 ]
 
-pub returns-clause-in_place : goal.returns-clause-in_place
-returns-clause-in_place c = λ none empty here. elim c.if-is_between_frames.branch [
-  | then-is_between_frames+in-Wrong w ↦
-      absurd (told_without_frame _ c.args.piece.now w.in-Wrong.field-0 w.in-Wrong.field-1 w.in-Wrong.ensures.is (rw (← c.self.view_is) at here))
-  | then-is_between_frames+in-Begun w ↦ absurd (begun_without_frame _ c.args.piece.now w.in-Begun.ensures.is (rw (← c.self.view_is) at here))
-  | else-is_between_frames w ↦
-      let is_between = c.is_between_frames.ensures.otherwise (rw (← c.self.view_is) at none) (rw (← c.self.view_is) at empty) in
-      absurd (false≢true (sym w.if-is_between_frames.false ∙ is_between))
-]
+pub returns : goal.returns
+returns c =
+    record {
+      frame = search rules;
+      rest = search rules;
+      fault = search rules;
+      memory = search rules;
+      running = search rules;
+      within = search rules;
+      progress = search rules;
+      lies = search rules;
+      in_place = λ none empty here. elim c.if-is_between_frames.branch [
+        | then-is_between_frames+in-Wrong w ↦
+            absurd (told_without_frame _ c.args.piece.now w.in-Wrong.field-0 w.in-Wrong.field-1 w.in-Wrong.ensures.is (rw (← c.self.view_is) at here))
+        | then-is_between_frames+in-Begun w ↦ absurd (begun_without_frame _ c.args.piece.now w.in-Begun.ensures.is (rw (← c.self.view_is) at here))
+        | else-is_between_frames w ↦
+            let is_between = c.is_between_frames.ensures.otherwise (rw (← c.self.view_is) at none) (rw (← c.self.view_is) at empty) in
+            absurd (false≢true (sym w.if-is_between_frames.false ∙ is_between))
+      ];
+      after = search rules;
+    }
