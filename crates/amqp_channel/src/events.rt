@@ -1,16 +1,12 @@
 //! What an end tells its application, and the closes that it puts of itself.
 ghost use Rattle.std.specs.Prelude.{◌≡◌, Some, IfOk};
-ghost use Rattle.amqp_method.specs.Arguments.{kind_of};
-ghost use Rattle.amqp_method.specs.Views.{arg_view, args_view};
-ghost use Rattle.amqp_method.specs.Places.{number_in, octets_in};
 ghost use Rattle.amqp_model.specs.Wire.Methods.{octets_at};
 ghost use Rattle.amqp_method.specs.MethodRefView.{lent_call};
-ghost use Rattle.amqp_method.specs.MethodView.{method_view};
 ghost use Rattle.amqp_model.specs.End.Events.{reason_in};
 ghost use Rattle.amqp_channel.specs.Events.EventView.{event_view, reason_there};
-ghost use Rattle.amqp_channel.specs.Events.Closes.{reason_view, IsClose, AreOfClose, BeginsWithText};
+ghost use Rattle.amqp_channel.specs.Events.Closes.{reason_view, IsClose};
 
-use amqp_method::{Arg, FieldKind, Kind, Message, Method, MethodRef, OutOfMemory};
+use amqp_method::{Kind, Message, MethodRef, OutOfMemory};
 use amqp_value::ShortStr;
 use std::alloc::Global;
 
@@ -119,83 +115,43 @@ impl Event {
     }
 }
 
+/// The text of these octets, which are those of a short string: it fails for memory alone.
+fn text_of(alloc: Global, octets: &[u8]) -> Result<ShortStr, OutOfMemory>
+    ensures { IfOk result (λ text. text ≡ octets.now) }
+{
+    match ShortStr::new(alloc, octets) {
+        Ok(text) => Ok(text),
+        Err(_) => Err(OutOfMemory),
+    }
+}
+
 /// The reason in a close that lies in its payload.
+#[tactic(auto, using(crate::proofs::ArgumentLemmas::of_close))]
 pub fn lent_reason(alloc: Global, method: MethodRef<'_>) -> Result<Reason, OutOfMemory>
     requires { IsClose (lent_call method).kind }
     ensures { IfOk result (λ r. reason_view r ≡ reason_in (lent_call method.entry)) }
 {
-    let method = method.to_owned(alloc)?;
-    reason_of(&method)
+    // The arguments are of the kinds of their fields: a number of 16 bits and a short string come first.
+    let _args = method.args();
+    let Some(code) = method.short_at(0) else {
+        unreachable!()
+    };
+    let Some(octets) = method.short_str_at(1) else {
+        unreachable!()
+    };
+    let text = text_of(alloc, octets)?;
+    Ok(Reason { text, code })
 }
 
 /// The reason in a connection.blocked that lies in its payload.
+#[tactic(auto, using(crate::proofs::ArgumentLemmas::of_blocked))]
 pub fn lent_blocked_reason(alloc: Global, method: MethodRef<'_>) -> Result<ShortStr, OutOfMemory>
     requires { (lent_call method).kind ≡ Kind.ConnectionBlocked }
     ensures { IfOk result (λ text. text ≡ octets_at 0 (lent_call method.entry)) }
 {
-    let method = method.to_owned(alloc)?;
-    blocked_reason(&method)
-}
-
-/// The number that an argument of 16 bits is.
-fn held_short(arg: &Arg) -> u16
-    requires { kind_of (arg_view arg.now) ≡ FieldKind.Short }
-    ensures { result ≡ number_in (Some (arg_view arg.now)) }
-{
-    match arg {
-        Arg::Short(number) => *number,
-        _ => unreachable!(),
-    }
-}
-
-/// The text that an argument of the kind short string is.
-fn held_text(arg: &Arg) -> &ShortStr
-    requires { kind_of (arg_view arg.now) ≡ FieldKind.ShortStr }
-    ensures { result.now ≡ octets_in (Some (arg_view arg.now)) }
-{
-    match arg {
-        Arg::ShortStr(text) => text,
-        _ => unreachable!(),
-    }
-}
-
-/// The arguments of a close of a channel or of the connection: code and text come first.
-fn close_args(method: &Method) -> &[Arg]
-    requires { IsClose (method_view method.now).kind }
-    ensures args { args_view result.now ≡ (method_view method.now).args }
-    ensures close { AreOfClose result.now }
-{
-    method.args()
-}
-
-/// The reason in a close of a channel or of the connection.
-#[tactic(auto, using(crate::proofs::ArgumentLemmas::arguments))]
-fn reason_of(method: &Method) -> Result<Reason, OutOfMemory>
-    requires { IsClose (method_view method.now).kind }
-    ensures { IfOk result (λ r. reason_view r ≡ reason_in (method_view method.now)) }
-{
-    let args = close_args(method);
-    let code = held_short(&args[0]);
-    let text = held_text(&args[1]).copy()?;
-    Ok(Reason { code, text })
-}
-
-/// The arguments of connection.blocked: the reason comes first.
-fn blocked_args(method: &Method) -> &[Arg]
-    requires { (method_view method.now).kind ≡ Kind.ConnectionBlocked }
-    ensures args { args_view result.now ≡ (method_view method.now).args }
-    ensures text { BeginsWithText result.now }
-{
-    method.args()
-}
-
-/// The reason in connection.blocked.
-#[tactic(auto, using(crate::proofs::ArgumentLemmas::arguments))]
-fn blocked_reason(method: &Method) -> Result<ShortStr, OutOfMemory>
-    requires { (method_view method.now).kind ≡ Kind.ConnectionBlocked }
-    ensures { IfOk result (λ text. text ≡ octets_at 0 (method_view method.now)) }
-{
-    let args = blocked_args(method);
-    let text = held_text(&args[0]).copy()?;
-    Ok(text)
+    let _args = method.args();
+    let Some(octets) = method.short_str_at(0) else {
+        unreachable!()
+    };
+    text_of(alloc, octets)
 }

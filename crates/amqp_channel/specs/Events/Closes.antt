@@ -1,10 +1,5 @@
--- The codes and the reasons of closes, in the words of the model, and the arguments in which they lie: `amqp0-9-1.xml`,
--- the constants, channel.close and connection.close. Read before: the model's `End.Closes`.
-use Rattle.std.specs.Prelude.{◌≡◌, ◌<◌, List, length, slice_index_or}
-use Rattle.amqp_method.specs.Arguments.{kind_of}
-use Rattle.amqp_method.specs.Views.{arg_view}
-use Rattle.amqp_method.specs.declared.fields.Arg.{Arg}
-use Rattle.amqp_method.specs.declared.fields.FieldKind.TheVariants.{Short, ShortStr}
+-- The codes and the reasons of closes, in the words of the model: `amqp0-9-1.xml`, the constants, channel.close and
+-- connection.close. Read before: the model's `End.Closes`.
 use Rattle.amqp_method.specs.declared.kinds.Kind.TheVariants as kinds
 use Rattle.amqp_model.specs.End.Closes as model
 use Rattle.amqp_model.specs.End.Events as events
@@ -33,14 +28,3 @@ abbrev pub IsClose : MethodKind → Type 0
 IsClose kinds.ChannelClose = Unit {0}
 IsClose kinds.ConnectionClose = Unit {0}
 IsClose kind = ⊥
-
--- the arguments of a close begin with a number of 16 bits and a short string
-pub record AreOfClose (args : List Arg) : Type 0 where
-  pub many : 1 < length args
-  pub code : (other : Arg) → kind_of (arg_view (slice_index_or args 0 other)) ≡ Short
-  pub text : (other : Arg) → kind_of (arg_view (slice_index_or args 1 other)) ≡ ShortStr
-
--- the arguments begin with a short string
-pub record BeginsWithText (args : List Arg) : Type 0 where
-  pub many : 0 < length args
-  pub text : (other : Arg) → kind_of (arg_view (slice_index_or args 0 other)) ≡ ShortStr
