@@ -126,6 +126,9 @@ alike_itself Opening = tt
 alike_itself Closing = tt
 alike_itself (Open life) = record { content = refl; paused = refl; awaits = refl; requests = refl }
 
+pub alike_same : (channel other : Channel) → channel ≡ other → AlikeChannels other channel
+alike_same channel other same = rw (sym same) (alike_itself channel)
+
 -- a part that fits the content under way fits how far it has come
 body_due : (octets : List ℕ) (content : Gathering) → LeavesDue content (BodyOf octets)
     → FitsProgress (BodyOf octets) told.Continued (streamed content)

@@ -9,3 +9,4 @@ pub mod UnderWayLemmas
 pub mod SumLemmas
 pub mod HeaderLemmas
 pub mod AmountLemmas
+pub mod StayLemmas

@@ -22,6 +22,7 @@ use crate::free_numbers::FreeNumbers;
 use crate::reading::Reading;
 use crate::side::Side;
 use crate::site::Site;
+use crate::standing::leaves_channel;
 use crate::verdict::Verdict;
 use amqp_method::{Content, OutOfMemory};
 use indexmap::IndexMap;
@@ -244,6 +245,9 @@ impl Channels {
         match self.place_of(number) {
             Some(place) => {
                 self.last = place;
+                if leaves_channel(side, reading, verdict) {
+                    return Ok(None);
+                }
                 let channel = &mut self.used[place];
                 let before = channel.amount();
                 let answer = channel.apply(alloc, side, reading, verdict);
@@ -282,6 +286,7 @@ impl Channels {
     /// Leaves the channel of a frame as its verdict does, where contents are lent: of one under way is kept how far it has
     /// come, and the channel is otherwise as `apply` leaves it. Memory is taken for a channel that is opened, and for the
     /// requests that a server keeps. Out of memory, the channel stays as it was.
+    #[tactic(auto, using(crate::proofs::LentLemmas::alike_same))]
     pub fn apply_lent(
         &mut self,
         alloc: Global,
@@ -297,6 +302,9 @@ impl Channels {
         match self.place_of(number) {
             Some(place) => {
                 self.last = place;
+                if leaves_channel(side, reading, verdict) {
+                    return Ok(());
+                }
                 let channel = &mut self.used[place];
                 let before = channel.amount();
                 let answer = channel.apply_lent(alloc, side, reading, verdict);

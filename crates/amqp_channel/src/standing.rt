@@ -3,11 +3,12 @@
 //!
 //! A connection has up to tens of thousands of channels, most of them idle. So the marks stand in each variant, beside its tag,
 //! and the requests in a box, which is there from the first request on.
-ghost use Rattle.std.specs.Prelude.{◌≡◌, ◌++◌, ◌∷◌, false, [], drop, length, IfOk, IsOk, OnOk, OnErr};
+ghost use Rattle.std.specs.Prelude.{◌≡◌, ◌++◌, ◌∷◌, true, false, [], drop, length, None, IfOk, IsOk, OnOk, OnErr};
 ghost use Rattle.amqp_method.specs.MethodRefView.{lent_call};
 ghost use Rattle.amqp_method.specs.MethodView.{method_view};
 ghost use Rattle.amqp_method.specs.Requests.{is_request};
 ghost use Rattle.amqp_model.specs.End.Answers.{first_of};
+ghost use Rattle.amqp_model.specs.End.Channels as model;
 ghost use Rattle.amqp_model.specs.End.Channels.{Open};
 ghost use Rattle.amqp_model.specs.End.FrameVerdict.{answers_first};
 ghost use Rattle.amqp_model.specs.End.Machine.{channel_after};
@@ -21,11 +22,11 @@ ghost use Rattle.amqp_channel.specs.Channel.LifeView.{life_on, IsOther};
 ghost use Rattle.amqp_channel.specs.ReadingView.{reading_view};
 ghost use Rattle.amqp_channel.specs.Roles.{role_of};
 ghost use Rattle.amqp_channel.specs.Channel.StandingView.{awaits_in, paused_in, requests_in};
-ghost use Rattle.amqp_channel.specs.Verdict.VerdictView.{asked_with, replies_in, told_in};
+ghost use Rattle.amqp_channel.specs.Verdict.VerdictView.{asked_with, goes_on, handed_out, left_by, replies_in, told_in};
 
 use crate::reading::Reading;
 use crate::side::Side;
-use crate::verdict::Told;
+use crate::verdict::{Told, Verdict};
 use amqp_method::{Kind, Method, MethodRef, OutOfMemory};
 use std::alloc::Global;
 use std::collections::VecDeque;
@@ -300,4 +301,32 @@ impl Standing {
         }
         Ok(())
     }
+}
+
+/// Whether a method without content leaves each channel as it was: at a client one that is no reply, and at a server
+/// one that is no request.
+#[tactic(auto, using(crate::proofs::StayLemmas::no_reply, crate::proofs::StayLemmas::no_request))]
+fn leaves_requests(side: Side, method: MethodRef<'_>) -> bool
+    ensures { result ≡ true → (channel : model.Channel)
+        → channel ≡ goes_on (role_of side) (Calls (lent_call method.entry)) Told.Method channel }
+{
+    match side {
+        Side::Client => !method.kind().is_reply(),
+        Side::Server => !method.is_request(),
+    }
+}
+
+/// Whether a frame with this verdict is known to leave each channel as it was, and to make no content whole: most methods
+/// without content do.
+#[inline(always)]
+pub(crate) fn leaves_channel(side: Side, reading: Reading<'_>, verdict: Verdict) -> bool
+    ensures left { result ≡ true → (channel : model.Channel)
+        → channel ≡ left_by (role_of side) (reading_view reading.entry) verdict channel }
+    ensures content { result ≡ true → (channel : model.Channel)
+        → None ≡ handed_out channel (reading_view reading.entry) verdict }
+{
+    if let (Verdict::Proceeds(Told::Method, _), Reading::Method(method)) = (verdict, reading) {
+        return leaves_requests(side, method);
+    }
+    false
 }

@@ -14,8 +14,8 @@ after-self-requires c =
     is_part self.used self.amounts self.counts_headers self.counts_bodies self.bodies_fit c.args.number c.requires.above (search rules) c.amount-before.result
     (c.amount-before.ensures.header ∙ sym (ap header_octets_on here)) (c.amount-before.ensures.body ∙ sym (ap body_octets_on here))
 
-pub invariant_of-self-clause-counts_headers : goal.invariant_of-self-clause-counts_headers
-invariant_of-self-clause-counts_headers c =
+pub invariant_of-self-in-Some-clause-counts_headers : goal.invariant_of-self-in-Some-clause-counts_headers
+invariant_of-self-in-Some-clause-counts_headers c =
     let self = c.args.self.now in
     let channel = c.apply-answer.new.self in
     let written = with_value_at self.used c.in-Some.place channel in
@@ -29,8 +29,8 @@ invariant_of-self-clause-counts_headers c =
     (c.tidy.ensures.gathered c.args.number ∙ now_here written c.args.number c.requires.above channel (c.in-Some.ensures.put channel)) c.amount-left.ensures.header c.amount-left.ensures.body (search rules)
     c.after-self.ensures
 
-pub invariant_of-self-clause-counts_bodies : goal.invariant_of-self-clause-counts_bodies
-invariant_of-self-clause-counts_bodies c =
+pub invariant_of-self-in-Some-clause-counts_bodies : goal.invariant_of-self-in-Some-clause-counts_bodies
+invariant_of-self-in-Some-clause-counts_bodies c =
     let self = c.args.self.now in
     let channel = c.apply-answer.new.self in
     let written = with_value_at self.used c.in-Some.place channel in
@@ -44,8 +44,8 @@ invariant_of-self-clause-counts_bodies c =
     (c.tidy.ensures.gathered c.args.number ∙ now_here written c.args.number c.requires.above channel (c.in-Some.ensures.put channel)) c.amount-left.ensures.header c.amount-left.ensures.body (search rules)
     c.after-self.ensures
 
-pub invariant_of-self-clause-bodies_fit : goal.invariant_of-self-clause-bodies_fit
-invariant_of-self-clause-bodies_fit c =
+pub invariant_of-self-in-Some-clause-bodies_fit : goal.invariant_of-self-in-Some-clause-bodies_fit
+invariant_of-self-in-Some-clause-bodies_fit c =
     let self = c.args.self.now in
     let channel = c.apply-answer.new.self in
     let written = with_value_at self.used c.in-Some.place channel in
@@ -59,8 +59,8 @@ invariant_of-self-clause-bodies_fit c =
     (c.tidy.ensures.gathered c.args.number ∙ now_here written c.args.number c.requires.above channel (c.in-Some.ensures.put channel)) c.amount-left.ensures.header c.amount-left.ensures.body (search rules)
     c.after-self.ensures
 
-pub returns-in-Some : goal.returns-in-Some
-returns-in-Some c = record {
+pub returns-else-leaves_channel : goal.returns-else-leaves_channel
+returns-else-leaves_channel c = record {
   left = search rules;
   content = search rules;
   err = search rules;

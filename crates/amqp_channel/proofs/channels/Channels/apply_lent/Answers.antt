@@ -10,8 +10,8 @@ after-self-requires c =
     is_part self.used self.amounts self.counts_headers self.counts_bodies self.bodies_fit c.args.number c.requires.above (search rules) c.amount-before.result
     (search rules) (search rules)
 
-pub invariant_of-self-clause-counts_headers : goal.invariant_of-self-clause-counts_headers
-invariant_of-self-clause-counts_headers c =
+pub invariant_of-self-in-Some-clause-counts_headers : goal.invariant_of-self-in-Some-clause-counts_headers
+invariant_of-self-in-Some-clause-counts_headers c =
     let self = c.args.self.now in
     let channel = c.apply_lent-answer.new.self in
     let written = with_value_at self.used c.in-Some.place channel in
@@ -22,8 +22,8 @@ invariant_of-self-clause-counts_headers c =
     (c.tidy.ensures.gathered c.args.number ∙ now_here written c.args.number c.requires.above channel (c.in-Some.ensures.put channel)) c.amount-left.ensures.header c.amount-left.ensures.body (search rules)
     c.after-self.ensures
 
-pub invariant_of-self-clause-counts_bodies : goal.invariant_of-self-clause-counts_bodies
-invariant_of-self-clause-counts_bodies c =
+pub invariant_of-self-in-Some-clause-counts_bodies : goal.invariant_of-self-in-Some-clause-counts_bodies
+invariant_of-self-in-Some-clause-counts_bodies c =
     let self = c.args.self.now in
     let channel = c.apply_lent-answer.new.self in
     let written = with_value_at self.used c.in-Some.place channel in
@@ -34,8 +34,8 @@ invariant_of-self-clause-counts_bodies c =
     (c.tidy.ensures.gathered c.args.number ∙ now_here written c.args.number c.requires.above channel (c.in-Some.ensures.put channel)) c.amount-left.ensures.header c.amount-left.ensures.body (search rules)
     c.after-self.ensures
 
-pub invariant_of-self-clause-bodies_fit : goal.invariant_of-self-clause-bodies_fit
-invariant_of-self-clause-bodies_fit c =
+pub invariant_of-self-in-Some-clause-bodies_fit : goal.invariant_of-self-in-Some-clause-bodies_fit
+invariant_of-self-in-Some-clause-bodies_fit c =
     let self = c.args.self.now in
     let channel = c.apply_lent-answer.new.self in
     let written = with_value_at self.used c.in-Some.place channel in
