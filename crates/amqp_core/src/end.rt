@@ -65,7 +65,7 @@ use crate::taken::Taken;
 use amqp_channel::{Agreed, ChannelState, Side};
 use amqp_method::{Kind, Message, Method, Properties};
 use amqp_model::{answers, arrangement, bounds, fitting, heard, octets, one_end, replies, traces};
-use amqp_outbox::Chunks;
+use amqp_outbox::{Chunks, HandOverFault, SendQueue};
 use amqp_value::ShortStr;
 use std::alloc::Global;
 use std::marker::PhantomData;
@@ -124,7 +124,7 @@ impl<R: Role> End<R> {
     ghost use Rattle.amqp_core.specs.Faults.Overs.{IsOver};
     ghost use Rattle.amqp_core.specs.End.Queries.{AgreedOfHistory, DueOfHistory, GatheredOfHistory, HeartbeatOfHistory};
     ghost use Rattle.amqp_core.specs.End.Queries.{OutputIsInOrder, PendingOfHistory, PhaseOfHistory, StateOfHistory};
-    ghost use Rattle.amqp_core.specs.End.Writes.{Wrote};
+    ghost use Rattle.amqp_core.specs.End.Writes.{HandsOver, Wrote};
 
     /// An end as it begins. A client has the protocol header to write, a server nothing.
     pub fn new(alloc: Global, config: Config<R>) -> Result<End<R>, ConfigFault>
@@ -279,6 +279,31 @@ impl<R: Role> End<R> {
         arrangement::output_follows();
         self.inner.wrote(octets);
         self.octets_written = self.octets_written.saturating_add(octets as u64);
+    }
+
+    /// Adds what waits to a queue, and counts it as sent here: all of it, or nothing.
+    ///
+    /// The output is one slice, so a put that goes before others moves octets. In the queue it moves none: an end that
+    /// sends beside much that waits hands its output over after each call that puts. What the queue has is what is to
+    /// be sent then.
+    ///
+    ///     end.send(channel, &message)?;
+    ///     end.hand_over(&mut queue)?;
+    ///     let mut pieces = queue.pieces();
+    ///     while let Some(piece) = pieces.next_piece() {
+    ///         socket.write_all(piece)?;
+    ///     }
+    ///
+    /// The frames leave the queue in the fair order, from the frame that was begun there most recently. Where the
+    /// answer is `Begun`, send what the queue has and then [`End::output`]: so it is with the protocol header of a
+    /// client.
+    pub fn hand_over(&mut self, queue: &mut SendQueue) -> Result<(), HandOverFault>
+        ensures { HandsOver self.old queue.old result self.new queue.new }
+    {
+        self.inner.outbox.copy_into(queue)?;
+        let octets = self.waiting_in_all();
+        self.wrote(octets);
+        Ok(())
     }
 
     /// How far the connection is.
