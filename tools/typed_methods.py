@@ -1,6 +1,6 @@
 #!/usr/bin/env python3
 """Writes the files of the crate amqp_typed that restate the table of methods in docs/PROTOCOL.md: a struct for each method, its
-borrowed forms, the enum of all, and the definitions of their calls.
+borrowed forms, the enum of a class's methods and that of the classes, and the definitions of their calls.
 
     tools/typed_methods.py            writes the files
     tools/typed_methods.py --check    writes nothing, names each file that would change, and answers 1 if there is one
@@ -507,10 +507,13 @@ def class_file(name, all_methods):
             items += alias_of(method)
         else:
             items += struct_of(method) + impl_of(method) + ref_of(method) + view_of(method)
+    items += any_of_class(name, of_class)
     code = "\n".join(items[:-1])
     clauses = "\n".join(line for line in items if "ensures" in line or line.startswith("            "))
     prelude = ["◌≡◌", "◌↔◌"]
-    own = with_fields(name, all_methods)
+    own = [method for method in of_class if not method.is_bare()]
+    if not own:
+        prelude.remove("◌↔◌")
     for word in ("IfOk", "IfErr", "IfSome", "IsOk", "IsOkAnd", "IsSome", "false"):
         if word != "false" and re.search(rf"\b{word}\b", clauses):
             prelude.append(word)
@@ -520,8 +523,7 @@ def class_file(name, all_methods):
         prelude += ["◌∷◌", "[]"]
     lines = [f"//! The methods of the class {name} (`amqp0-9-1.xml`, class {of_class[0].class_id})."]
     lines += HEAD.rstrip().split("\n")
-    if own:
-        lines.append(f"ghost use Rattle.std.specs.Prelude.{{{', '.join(prelude)}}};")
+    lines.append(f"ghost use Rattle.std.specs.Prelude.{{{', '.join(prelude)}}};")
     if "table_view" in clauses:
         lines.append("ghost use Rattle.amqp_value.specs.Tables.{table_view};")
     if "no_pairs" in clauses:
@@ -533,16 +535,18 @@ def class_file(name, all_methods):
         lines.append("ghost use Rattle.amqp_method.specs.HeaderView.{properties_view};")
         lines.append("ghost use Rattle.amqp_method.specs.MessageView.{message_view};")
         lines.append("ghost use Rattle.amqp_method.specs.Messages.{letter_with};")
+    lines.append("ghost use Rattle.amqp_method.specs.MethodRefView.{lent_call};")
+    lines.append("ghost use Rattle.amqp_method.specs.MethodView.{method_view};")
+    lines.append("ghost use Rattle.amqp_method.specs.Methods.{row};")
     if own:
-        lines.append("ghost use Rattle.amqp_method.specs.MethodRefView.{lent_call};")
-        lines.append("ghost use Rattle.amqp_method.specs.MethodView.{method_view};")
         kinds = ", ".join(method.kind for method in own)
         lines.append(f"ghost use Rattle.amqp_method.specs.declared.kinds.Kind.TheVariants.{{{kinds}}};")
-        calls = [method.snake + "_call" for method in own]
-        calls += [method.snake + "_ref_call" for method in own if not method.is_plain()]
-        calls += [method.snake + "_view_call" for method in own if not method.is_plain()]
-        lines.append(f"ghost use Rattle.amqp_typed.specs.{camel(name)}.{{{', '.join(calls)}}};")
-        lines.append("")
+    calls = [method.snake + "_call" for method in own]
+    calls += [method.snake + "_ref_call" for method in own if not method.is_plain()]
+    calls += [method.snake + "_view_call" for method in own if not method.is_plain()]
+    calls += ["any_call"] if is_plain(of_class) else ["any_call", "any_view_call"]
+    lines.append(f"ghost use Rattle.amqp_typed.specs.{camel(name)}.{{{', '.join(calls)}}};")
+    lines.append("")
     helpers = sorted(word for word in [row[3] for row in KINDS.values()] + [row[3] + "_at" for row in KINDS.values()] + list(COUNTS.values()) + ["bare_method", "is_kind", "method_of", "own_args"] if re.search(rf"(?<![\w.:]){word}(\(|::<)", code))
     if helpers:
         lines += use_lines("crate::args", helpers)
@@ -563,9 +567,75 @@ def class_file(name, all_methods):
     values = [word for word in ("ShortStr", "Table", "TableRef") if re.search(rf"(?<!Arg::)\b{word}\b", code)]
     if values:
         lines += use_lines("amqp_value", values)
-    if own:
-        lines.append("use std::alloc::Global;")
+    lines.append("use std::alloc::Global;")
+    lines.append("use std::fmt;")
     return "\n".join(lines) + "\n\n" + code + "\n"
+
+
+def is_plain(of_class):
+    """Whether all methods of the class are numbers and bits alone, so that its enum has no form of its own in payloads."""
+    return all(method.is_plain() for method in of_class)
+
+
+def any_of_class(name, of_class):
+    """The enum of a class, and its form in payloads."""
+    plain = is_plain(of_class)
+    lines = [f"/// A method of the class {name}.", "#[derive(Clone, Copy)]" if plain else "#[derive(Drop)]", "pub enum AnyMethod {"]
+    lines += [f"    {method.name}({method.name})," for method in of_class]
+    lines += ["}", "", "impl AnyMethod {"]
+    lines += kind_of_class("AnyMethod", "&self", "(any_call self.now)", of_class) + [""]
+    lines += ["    /// What a method of the class says.", "    pub fn from_method(method: Method) -> AnyMethod"]
+    lines.append(f"        requires {{ (row (method_view method).kind).class ≡ {of_class[0].class_id} }}")
+    lines.append(clause("", "any_call result ≡ method_view method"))
+    lines += read_of_class("AnyMethod", "from_method", [(method, method.name) for method in of_class]) + [""]
+    lines.append("    /// The method with these arguments.")
+    lines.append("    pub fn into_method(self, alloc: Global) -> Result<Method, OutOfMemory>")
+    lines.append(clause("", "IfOk result (λ m. method_view m ≡ any_call self)"))
+    lines += ["    {"] + each_method("AnyMethod", "method.into_method(alloc)", of_class) + ["    }"]
+    if plain:
+        lines += [""] + view_of_class("AnyMethod", "any_call", "'_", of_class)
+    lines += ["}", "", "/// Prints what the struct prints.", "impl fmt::Debug for AnyMethod {"]
+    lines.append("    fn fmt<W: fmt::Write>(&self, f: &mut fmt::Formatter<W>) -> fmt::Result {")
+    lines += each_method("AnyMethod", "fmt::Debug::fmt(method, f)", of_class) + ["    }", "}", ""]
+    return lines if plain else lines + any_view_of_class(of_class)
+
+
+def any_view_of_class(of_class):
+    lines = ["/// [`AnyMethod`], as it lies in its payload.", "#[derive(Clone, Copy)]", "pub enum AnyMethodView<'a> {"]
+    lines += [f"    {method.name}({method.in_payload()})," for method in of_class]
+    lines += ["}", "", "impl<'a> AnyMethodView<'a> {"]
+    lines += kind_of_class("AnyMethodView", "self", "(any_view_call self.entry)", of_class) + [""]
+    return lines + view_of_class("AnyMethodView", "any_view_call", "'a", of_class) + ["}", ""]
+
+
+def each_method(enum, value, of_class):
+    lines = ["        match self {"]
+    for method in of_class:
+        lines += arm(f"{enum}::{method.name}(method)", value, "            ")
+    return lines + ["        }"]
+
+
+def kind_of_class(enum, receiver, said, of_class):
+    lines = [f"    pub fn kind({receiver}) -> Kind", clause("", f"result ≡ {said}.kind"), "    {", "        match self {"]
+    for method in of_class:
+        lines += arm(f"{enum}::{method.name}(_)", f"Kind::{method.kind}", "            ")
+    return lines + ["        }", "    }"]
+
+
+def view_of_class(enum, call, lifetime, of_class):
+    result = enum if lifetime == "'_" else f"{enum}<{lifetime}>"
+    lines = ["    /// What a method of the class says.", f"    pub fn from_view(method: MethodRef<{lifetime}>) -> {result}"]
+    lines.append(f"        requires {{ (row (lent_call method).kind).class ≡ {of_class[0].class_id} }}")
+    lines.append(clause("", f"{call} result ≡ lent_call method.entry"))
+    return lines + read_of_class(enum, "from_view", [(method, method.in_payload().split("<")[0]) for method in of_class])
+
+
+def read_of_class(enum, read, structs):
+    """A body that reads the method as the struct of its kind."""
+    lines = ["    {", "        match method.kind() {"]
+    for method, struct in structs:
+        lines += arm(f"Kind::{method.kind}", f"{enum}::{method.name}({struct}::{read}(method).unwrap())", "            ")
+    return lines + ["            _ => unreachable!(),", "        }", "    }"]
 
 
 def use_lines(path, names):
@@ -575,10 +645,6 @@ def use_lines(path, names):
     if len(one) <= 100:
         return [one]
     return [f"use {path}::{{"] + wrapped("    ", [word + "," for word in names], "", "    ", 99) + ["};"]
-
-
-def with_fields(name, all_methods):
-    return [method for method in all_methods if method.class_name == name and not method.is_bare()]
 
 
 def bare_kinds_file(all_methods):
@@ -611,17 +677,19 @@ def bare_kinds_file(all_methods):
 
 
 def class_spec(name, all_methods):
-    of_class = with_fields(name, all_methods)
+    of_class = [method for method in all_methods if method.class_name == name]
+    own = [method for method in of_class if not method.is_bare()]
     body = []
-    for method in of_class:
+    for method in own:
         body += spec_of(method, method.name, method.snake + "_call", False)
         if not method.is_plain():
             body += spec_of(method, method.name + "Ref", method.snake + "_ref_call", True)
             body += spec_of(method, method.name + "View", method.snake + "_view_call", True, True)
+    body += any_spec_of(of_class)
     text = "\n".join(body)
     lines = [f"-- What the structs of the class {name} stand for: each the call of its method, with the fields as arguments in the order of the table."]
     lines += ["-- " + line[3:] for line in HEAD.rstrip().split("\n")]
-    lines.append("use Rattle.std.specs.Prelude.{[], ◌∷◌}")
+    lines.append(f"use Rattle.std.specs.Prelude.{{[]{', ◌∷◌' if own else ''}}}")
     if "table_view" in text:
         lines.append("use Rattle.amqp_value.specs.Lent.{table_ref_view}")
         lines.append("use Rattle.amqp_value.specs.Tables.{table_view}")
@@ -629,11 +697,14 @@ def class_spec(name, all_methods):
     lines.append(f"use Rattle.amqp_method.specs.Arguments.{{{', '.join(['Call', 'call'] + arguments)}}}")
     kinds = ", ".join(method.kind for method in of_class)
     lines.append(f"use Rattle.amqp_method.specs.declared.kinds.Kind.TheVariants.{{{kinds}}}")
-    for method in of_class:
+    for method in own:
         lines.append(f"use Rattle.amqp_typed.specs.declared.{name}.{method.name}.{{{method.name}}}")
         if not method.is_plain():
             lines.append(f"use Rattle.amqp_typed.specs.declared.{name}.{method.name}Ref.{{{method.name}Ref}}")
             lines.append(f"use Rattle.amqp_typed.specs.declared.{name}.{method.name}View.{{{method.name}View}}")
+    for enum, variants in (("AnyMethod", "any"), ("AnyMethodView", "view"))[: 1 if is_plain(of_class) else 2]:
+        lines.append(f"use Rattle.amqp_typed.specs.declared.{name}.{enum}.{{{enum}}}")
+        lines.append(f"use Rattle.amqp_typed.specs.declared.{name}.{enum}.TheVariants as {variants}")
     return "\n".join(lines) + "\n\n" + text.rstrip() + "\n"
 
 
@@ -646,6 +717,22 @@ def spec_of(method, struct, call, lent, in_payload=False):
     words = list_words(terms)
     words[0] = "(" + words[0]
     return lines + [f"{call} m =", f"    call {method.kind}"] + wrapped("    ", words, ")", "    ") + [""]
+
+
+def any_spec_of(of_class):
+    """The call of a method of the class, whichever it is."""
+    lines = ["abbrev pub any_call : AnyMethod → Call"]
+    for method in of_class:
+        of = f"call {method.kind} []" if method.is_bare() else f"{method.snake}_call m"
+        lines.append(f"any_call (any.{method.name} m) = {of}")
+    if is_plain(of_class):
+        return lines + [""]
+    lines += ["", "abbrev pub any_view_call : AnyMethodView → Call"]
+    for method in of_class:
+        words = method.snake + ("_call" if method.is_plain() else "_view_call")
+        of = f"call {method.kind} []" if method.is_bare() else f"{words} m"
+        lines.append(f"any_view_call (view.{method.name} m) = {of}")
+    return lines + [""]
 
 
 # ---- answers
@@ -718,11 +805,11 @@ def owned_answer(method):
     return "\n".join(lines) + "\n"
 
 
-def any_answer(module, function, read, of_class):
+def any_answer(name, enum, read, of_class):
     """That each method is read, being of its kind, and that its struct stands for it."""
     lines = [
         "use Rattle.std.proofs.Common.{sym, ◌∙◌}",
-        f"use Rattle.amqp_typed.proofs.{module}.{function}.Goals as goal",
+        f"use Rattle.amqp_typed.proofs.{name}.{enum}.{read}.Goals as goal",
     ]
     for place, method in enumerate(of_class):
         arm, step = f"in-{method.kind}", f"-in-{method.kind}" if place else ""
@@ -757,9 +844,9 @@ def answers(all_methods):
     found = {}
     for name in CLASSES:
         of_class = [method for method in all_methods if method.class_name == name]
-        for module, read in (("any_method", "from_method"), ("any_method_view", "from_view")):
-            path = CRATE / "proofs" / module / f"any_{name}" / "Answers.antt"
-            found[path] = any_answer(module, f"any_{name}", read, of_class)
+        in_payload = "AnyMethod" if is_plain(of_class) else "AnyMethodView"
+        for enum, read in (("AnyMethod", "from_method"), (in_payload, "from_view")):
+            found[CRATE / "proofs" / name / enum / read / "Answers.antt"] = any_answer(name, enum, read, of_class)
     for method in all_methods:
         if not method.fields:
             continue
@@ -782,116 +869,72 @@ def answers(all_methods):
 
 
 def any_file(all_methods):
-    lines = ["//! Every method, as one of the structs."]
+    lines = ["//! Every method, by its class."]
     lines += HEAD.rstrip().split("\n")
     lines.append("ghost use Rattle.std.specs.Prelude.{◌≡◌, IfOk};")
-    lines.append("ghost use Rattle.amqp_method.specs.Methods.{row};")
+    lines.append("ghost use Rattle.amqp_method.specs.MethodRefView.{lent_call};")
     lines.append("ghost use Rattle.amqp_method.specs.MethodView.{method_view};")
-    lines.append("ghost use Rattle.amqp_typed.specs.AnyMethod.{any_call};")
-    lines.append("")
-    lines.append(f"use crate::{{{', '.join(sorted(CLASSES))}}};")
-    lines += use_lines("amqp_method", ["Kind", "Method", "OutOfMemory"])
-    lines.append("use std::alloc::Global;")
-    lines.append("use std::fmt;")
-    lines.append("")
-    lines.append("/// A method of any kind. The variants have the names of [`Kind`]'s.")
-    lines.append("#[derive(Drop)]")
-    lines.append("pub enum AnyMethod {")
-    lines += [f"    {method.kind}({method.class_name}::{method.name})," for method in all_methods]
-    lines += ["}", ""]
-    for name in CLASSES:
-        of_class = [method for method in all_methods if method.class_name == name]
-        lines += any_of_class(name, of_class)
-    lines += ["impl AnyMethod {", "    pub fn kind(&self) -> Kind"]
+    lines.append("ghost use Rattle.amqp_typed.specs.AnyMethod.{any_call, any_view_call};")
+    lines += ["", f"use crate::{{{', '.join(sorted(CLASSES))}}};"]
+    lines += use_lines("amqp_method", ["Kind", "Method", "MethodRef", "OutOfMemory"])
+    lines += ["use std::alloc::Global;", "use std::fmt;", ""]
+    lines += ["/// A method of any kind, by its class.", "#[derive(Drop)]", "pub enum AnyMethod {"]
+    lines += [f"    {camel(name)}({name}::AnyMethod)," for name in CLASSES]
+    lines += ["}", "", "impl AnyMethod {", "    pub fn kind(&self) -> Kind"]
     lines.append(clause("", "result ≡ (any_call self.now).kind"))
-    lines += ["    {", "        match self {"]
-    for method in all_methods:
-        lines += arm(f"AnyMethod::{method.kind}(_)", f"Kind::{method.kind}", "            ")
-    lines += ["        }", "    }", ""]
+    lines += each_class("AnyMethod", "method.kind()") + [""]
     lines += ["    /// What a method says.", "    pub fn from_method(method: Method) -> AnyMethod"]
     lines.append(clause("", "any_call result ≡ method_view method"))
-    lines += by_class("method.kind()", lambda name: f"any_{name}(method)", all_methods) + [""]
+    lines += by_class("AnyMethod", "method.kind()", "from_method", all_methods) + [""]
     lines.append("    /// The method with these arguments.")
     lines.append("    pub fn into_method(self, alloc: Global) -> Result<Method, OutOfMemory>")
     lines.append(clause("", "IfOk result (λ m. method_view m ≡ any_call self)"))
-    lines += ["    {", "        match self {"]
-    for method in all_methods:
-        lines += arm(f"AnyMethod::{method.kind}(method)", "method.into_method(alloc)", "            ")
-    lines += ["        }", "    }", "}", ""]
-    lines += debug_of_any(all_methods)
-    return "\n".join(lines) + "\n"
-
-
-def by_class(kind, call, all_methods):
-    """A body that calls the function of the class."""
-    numbers = {method.class_name: method.class_id for method in all_methods}
-    lines = ["    {", f"        match {kind}.class_id() {{"]
-    lines += [f"            {numbers[name]} => {call(name)}," for name in CLASSES[:-1]]
-    return lines + [f"            _ => {call(CLASSES[-1])},", "        }", "    }"]
-
-
-def debug_of_any(all_methods):
-    lines = ["fn write_struct<W: fmt::Write>(f: &mut fmt::Formatter<W>, method: &AnyMethod) -> fmt::Result {", "    match method {"]
-    for method in all_methods:
-        lines += arm(f"AnyMethod::{method.kind}(method)", "fmt::Debug::fmt(method, f)", "        ")
-    lines += ["    }", "}", "", "/// Prints the kind, and in parentheses what the struct prints.", "impl fmt::Debug for AnyMethod {"]
-    lines.append("    fn fmt<W: fmt::Write>(&self, f: &mut fmt::Formatter<W>) -> fmt::Result {")
-    lines += ["        let kind = self.kind();", '        write!(f, "{kind:?}(")?;', "        write_struct(f, self)?;"]
-    return lines + ['        f.write_str(")")', "    }", "}"]
-
-
-def any_view_file(all_methods):
-    lines = ["//! Every method as it lies in its payload, as one of the structs."]
-    lines += HEAD.rstrip().split("\n")
-    lines.append("ghost use Rattle.std.specs.Prelude.{◌≡◌};")
-    lines.append("ghost use Rattle.amqp_method.specs.Methods.{row};")
-    lines.append("ghost use Rattle.amqp_method.specs.MethodRefView.{lent_call};")
-    lines.append("ghost use Rattle.amqp_typed.specs.AnyMethodView.{any_view_call};")
-    lines.append("")
-    lines.append(f"use crate::{{{', '.join(sorted(CLASSES))}}};")
-    lines += use_lines("amqp_method", ["Kind", "MethodRef"])
-    lines.append("")
-    lines.append("/// A method of any kind, as it lies in its payload. The variants have the names of [`Kind`]'s.")
-    lines += ["#[derive(Clone, Copy)]", "pub enum AnyMethodView<'a> {"]
-    lines += [f"    {method.kind}({method.class_name}::{method.in_payload()})," for method in all_methods]
-    lines += ["}", ""]
-    for name in CLASSES:
-        lines += any_view_of_class(name, [method for method in all_methods if method.class_name == name])
-    lines += ["impl<'a> AnyMethodView<'a> {", "    pub fn kind(self) -> Kind"]
+    lines += each_class("AnyMethod", "method.into_method(alloc)") + ["}", ""]
+    lines += debug_of_any()
+    lines += ["/// [`AnyMethod`], as it lies in its payload.", "#[derive(Clone, Copy)]", "pub enum AnyMethodView<'a> {"]
+    lines += [f"    {camel(name)}({name}::{in_payload(name, all_methods)})," for name in CLASSES]
+    lines += ["}", "", "impl<'a> AnyMethodView<'a> {", "    pub fn kind(self) -> Kind"]
     lines.append(clause("", "result ≡ (any_view_call self.entry).kind"))
-    lines += ["    {", "        match self {"]
-    for method in all_methods:
-        lines += arm(f"AnyMethodView::{method.kind}(_)", f"Kind::{method.kind}", "            ")
-    lines += ["        }", "    }", ""]
+    lines += each_class("AnyMethodView", "method.kind()") + [""]
     lines += ["    /// What a method says.", "    pub fn from_view(method: MethodRef<'a>) -> AnyMethodView<'a>"]
     lines.append(clause("", "any_view_call result ≡ lent_call method.entry"))
-    lines += by_class("method", lambda name: f"any_{name}(method)", all_methods)
+    lines += by_class("AnyMethodView", "method", "from_view", all_methods)
     return "\n".join(lines + ["}"]) + "\n"
 
 
-def any_view_of_class(name, of_class):
-    lines = [f"/// What a method of the class {name} says."]
-    lines.append(f"fn any_{name}<'a>(method: MethodRef<'a>) -> AnyMethodView<'a>")
-    lines.append(f"    requires {{ (row (lent_call method).kind).class ≡ {of_class[0].class_id} }}")
-    lines.append(clause("", "any_view_call result ≡ lent_call method.entry", "    "))
-    lines += ["{", "    match method.kind() {"]
-    for method in of_class:
-        struct = method.in_payload().split("<")[0]
-        value = f"AnyMethodView::{method.kind}({name}::{struct}::from_view(method).unwrap())"
-        lines += arm(f"Kind::{method.kind}", value, "        ")
-    return lines + ["        _ => unreachable!(),", "    }", "}", ""]
+def in_payload(name, all_methods):
+    """The enum of a class that is read from a payload."""
+    plain = is_plain([method for method in all_methods if method.class_name == name])
+    return "AnyMethod" if plain else "AnyMethodView<'a>"
 
 
-def any_of_class(name, of_class):
-    lines = [f"/// What a method of the class {name} says."]
-    lines.append(f"fn any_{name}(method: Method) -> AnyMethod")
-    lines.append(f"    requires {{ (row (method_view method).kind).class ≡ {of_class[0].class_id} }}")
-    lines.append(clause("", "any_call result ≡ method_view method", "    "))
-    lines += ["{", "    match method.kind() {"]
-    for method in of_class:
-        value = f"AnyMethod::{method.kind}({name}::{method.name}::from_method(method).unwrap())"
-        lines += arm(f"Kind::{method.kind}", value, "        ")
-    return lines + ["        _ => unreachable!(),", "    }", "}", ""]
+def each_class(enum, value):
+    """A body that asks the method of its class."""
+    lines = ["    {", "        match self {"]
+    for name in CLASSES:
+        lines += arm(f"{enum}::{camel(name)}(method)", value, "            ")
+    return lines + ["        }", "    }"]
+
+
+def by_class(enum, kind, read, all_methods):
+    """A body that reads the method by its class."""
+    numbers = {method.class_name: method.class_id for method in all_methods}
+    lines = ["    {", f"        match {kind}.class_id() {{"]
+    for name in CLASSES:
+        of_class = "AnyMethod" if read == "from_method" else in_payload(name, all_methods).split("<")[0]
+        pattern = "_" if name == CLASSES[-1] else numbers[name]
+        lines += arm(pattern, f"{enum}::{camel(name)}({name}::{of_class}::{read}(method))", "            ")
+    return lines + ["        }", "    }"]
+
+
+def debug_of_any():
+    lines = ["fn write_struct<W: fmt::Write>(f: &mut fmt::Formatter<W>, method: &AnyMethod) -> fmt::Result {", "    match method {"]
+    for name in CLASSES:
+        lines += arm(f"AnyMethod::{camel(name)}(method)", "fmt::Debug::fmt(method, f)", "        ")
+    lines += ["    }", "}", "", "/// Prints the kind, and in parentheses what the struct prints.", "impl fmt::Debug for AnyMethod {"]
+    lines.append("    fn fmt<W: fmt::Write>(&self, f: &mut fmt::Formatter<W>) -> fmt::Result {")
+    lines += ["        let kind = self.kind();", '        write!(f, "{kind:?}(")?;', "        write_struct(f, self)?;"]
+    return lines + ['        f.write_str(")")', "    }", "}", ""]
 
 
 def arm(pattern, value, indent):
@@ -902,36 +945,19 @@ def arm(pattern, value, indent):
 
 
 def any_spec(all_methods):
-    lines = ["-- What a method of any kind stands for."]
+    lines = ["-- What a method of any kind stands for, and one that lies in its payload."]
     lines += ["-- " + line[3:] for line in HEAD.rstrip().split("\n")]
-    lines.append("use Rattle.std.specs.Prelude.{[]}")
-    lines.append("use Rattle.amqp_method.specs.Arguments.{Call, call}")
-    lines.append("use Rattle.amqp_method.specs.declared.kinds.Kind.TheVariants as kind")
-    lines.append("use Rattle.amqp_typed.specs.declared.any_method.AnyMethod.{AnyMethod}")
-    lines.append("use Rattle.amqp_typed.specs.declared.any_method.AnyMethod.TheVariants as any")
-    lines += [f"use Rattle.amqp_typed.specs.{camel(name)} as {name}" for name in CLASSES if with_fields(name, all_methods)]
+    lines.append("use Rattle.amqp_method.specs.Arguments.{Call}")
+    for enum, variants in (("AnyMethod", "any"), ("AnyMethodView", "view")):
+        lines.append(f"use Rattle.amqp_typed.specs.declared.any_method.{enum}.{{{enum}}}")
+        lines.append(f"use Rattle.amqp_typed.specs.declared.any_method.{enum}.TheVariants as {variants}")
+    lines += [f"use Rattle.amqp_typed.specs.{camel(name)} as {name}" for name in CLASSES]
     lines += ["", "abbrev pub any_call : AnyMethod → Call"]
-    for method in all_methods:
-        of = f"call kind.{method.kind} []" if method.is_bare() else f"{method.class_name}.{method.snake}_call m"
-        lines.append(f"any_call (any.{method.kind} m) = {of}")
-    return "\n".join(lines) + "\n"
-
-
-def any_view_spec(all_methods):
-    lines = ["-- What a method of any kind, as it lies in its payload, stands for."]
-    lines += ["-- " + line[3:] for line in HEAD.rstrip().split("\n")]
-    lines.append("use Rattle.std.specs.Prelude.{[]}")
-    lines.append("use Rattle.amqp_method.specs.Arguments.{Call, call}")
-    lines.append("use Rattle.amqp_method.specs.declared.kinds.Kind.TheVariants as kind")
-    lines.append("use Rattle.amqp_typed.specs.declared.any_method_view.AnyMethodView.{AnyMethodView}")
-    lines.append("use Rattle.amqp_typed.specs.declared.any_method_view.AnyMethodView.TheVariants as any")
-    own = [name for name in CLASSES if with_fields(name, all_methods)]
-    lines += [f"use Rattle.amqp_typed.specs.{camel(name)} as {name}" for name in own]
+    lines += [f"any_call (any.{camel(name)} m) = {name}.any_call m" for name in CLASSES]
     lines += ["", "abbrev pub any_view_call : AnyMethodView → Call"]
-    for method in all_methods:
-        words = method.snake + ("_call" if method.is_plain() else "_view_call")
-        of = f"call kind.{method.kind} []" if method.is_bare() else f"{method.class_name}.{words} m"
-        lines.append(f"any_view_call (any.{method.kind} m) = {of}")
+    for name in CLASSES:
+        call = "any_call" if in_payload(name, all_methods) == "AnyMethod" else "any_view_call"
+        lines.append(f"any_view_call (view.{camel(name)} m) = {name}.{call} m")
     return "\n".join(lines) + "\n"
 
 
@@ -943,13 +969,10 @@ def files():
     found = answers(all_methods)
     for name in CLASSES:
         found[CRATE / "src" / f"{name}.rt"] = class_file(name, all_methods)
-        if with_fields(name, all_methods):
-            found[CRATE / "specs" / f"{camel(name)}.antt"] = class_spec(name, all_methods)
+        found[CRATE / "specs" / f"{camel(name)}.antt"] = class_spec(name, all_methods)
     found[CRATE / "src" / "bare_kinds.rt"] = bare_kinds_file(all_methods)
     found[CRATE / "src" / "any_method.rt"] = any_file(all_methods)
     found[CRATE / "specs" / "AnyMethod.antt"] = any_spec(all_methods)
-    found[CRATE / "src" / "any_method_view.rt"] = any_view_file(all_methods)
-    found[CRATE / "specs" / "AnyMethodView.antt"] = any_view_spec(all_methods)
     return found
 
 

@@ -4,7 +4,7 @@ use Rattle.std.specs.Prelude.{[], ◌∷◌}
 use Rattle.amqp_value.specs.Lent.{table_ref_view}
 use Rattle.amqp_value.specs.Tables.{table_view}
 use Rattle.amqp_method.specs.Arguments.{Call, call, bit, short, long, long_long, short_string, table}
-use Rattle.amqp_method.specs.declared.kinds.Kind.TheVariants.{BasicQos, BasicConsume, BasicConsumeOk, BasicCancel, BasicCancelOk, BasicPublish, BasicReturn, BasicDeliver, BasicGet, BasicGetOk, BasicAck, BasicReject, BasicRecoverAsync, BasicRecover, BasicNack}
+use Rattle.amqp_method.specs.declared.kinds.Kind.TheVariants.{BasicQos, BasicQosOk, BasicConsume, BasicConsumeOk, BasicCancel, BasicCancelOk, BasicPublish, BasicReturn, BasicDeliver, BasicGet, BasicGetOk, BasicGetEmpty, BasicAck, BasicReject, BasicRecoverAsync, BasicRecover, BasicRecoverOk, BasicNack}
 use Rattle.amqp_typed.specs.declared.basic.Qos.{Qos}
 use Rattle.amqp_typed.specs.declared.basic.Consume.{Consume}
 use Rattle.amqp_typed.specs.declared.basic.ConsumeRef.{ConsumeRef}
@@ -38,6 +38,10 @@ use Rattle.amqp_typed.specs.declared.basic.Reject.{Reject}
 use Rattle.amqp_typed.specs.declared.basic.RecoverAsync.{RecoverAsync}
 use Rattle.amqp_typed.specs.declared.basic.Recover.{Recover}
 use Rattle.amqp_typed.specs.declared.basic.Nack.{Nack}
+use Rattle.amqp_typed.specs.declared.basic.AnyMethod.{AnyMethod}
+use Rattle.amqp_typed.specs.declared.basic.AnyMethod.TheVariants as any
+use Rattle.amqp_typed.specs.declared.basic.AnyMethodView.{AnyMethodView}
+use Rattle.amqp_typed.specs.declared.basic.AnyMethodView.TheVariants as view
 
 abbrev pub qos_call : Qos → Call
 qos_call m = call BasicQos (long m.prefetch_size ∷ short m.prefetch_count ∷ bit m.global ∷ [])
@@ -181,3 +185,43 @@ recover_call m = call BasicRecover (bit m.requeue ∷ [])
 
 abbrev pub nack_call : Nack → Call
 nack_call m = call BasicNack (long_long m.delivery_tag ∷ bit m.multiple ∷ bit m.requeue ∷ [])
+
+abbrev pub any_call : AnyMethod → Call
+any_call (any.Qos m) = qos_call m
+any_call (any.QosOk m) = call BasicQosOk []
+any_call (any.Consume m) = consume_call m
+any_call (any.ConsumeOk m) = consume_ok_call m
+any_call (any.Cancel m) = cancel_call m
+any_call (any.CancelOk m) = cancel_ok_call m
+any_call (any.Publish m) = publish_call m
+any_call (any.Return m) = return_call m
+any_call (any.Deliver m) = deliver_call m
+any_call (any.Get m) = get_call m
+any_call (any.GetOk m) = get_ok_call m
+any_call (any.GetEmpty m) = call BasicGetEmpty []
+any_call (any.Ack m) = ack_call m
+any_call (any.Reject m) = reject_call m
+any_call (any.RecoverAsync m) = recover_async_call m
+any_call (any.Recover m) = recover_call m
+any_call (any.RecoverOk m) = call BasicRecoverOk []
+any_call (any.Nack m) = nack_call m
+
+abbrev pub any_view_call : AnyMethodView → Call
+any_view_call (view.Qos m) = qos_call m
+any_view_call (view.QosOk m) = call BasicQosOk []
+any_view_call (view.Consume m) = consume_view_call m
+any_view_call (view.ConsumeOk m) = consume_ok_view_call m
+any_view_call (view.Cancel m) = cancel_view_call m
+any_view_call (view.CancelOk m) = cancel_ok_view_call m
+any_view_call (view.Publish m) = publish_view_call m
+any_view_call (view.Return m) = return_view_call m
+any_view_call (view.Deliver m) = deliver_view_call m
+any_view_call (view.Get m) = get_view_call m
+any_view_call (view.GetOk m) = get_ok_view_call m
+any_view_call (view.GetEmpty m) = call BasicGetEmpty []
+any_view_call (view.Ack m) = ack_call m
+any_view_call (view.Reject m) = reject_call m
+any_view_call (view.RecoverAsync m) = recover_async_call m
+any_view_call (view.Recover m) = recover_call m
+any_view_call (view.RecoverOk m) = call BasicRecoverOk []
+any_view_call (view.Nack m) = nack_call m

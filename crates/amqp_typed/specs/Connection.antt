@@ -4,7 +4,7 @@ use Rattle.std.specs.Prelude.{[], ◌∷◌}
 use Rattle.amqp_value.specs.Lent.{table_ref_view}
 use Rattle.amqp_value.specs.Tables.{table_view}
 use Rattle.amqp_method.specs.Arguments.{Call, call, octet, short, long, short_string, long_string, table}
-use Rattle.amqp_method.specs.declared.kinds.Kind.TheVariants.{ConnectionStart, ConnectionStartOk, ConnectionSecure, ConnectionSecureOk, ConnectionTune, ConnectionTuneOk, ConnectionOpen, ConnectionClose, ConnectionBlocked}
+use Rattle.amqp_method.specs.declared.kinds.Kind.TheVariants.{ConnectionStart, ConnectionStartOk, ConnectionSecure, ConnectionSecureOk, ConnectionTune, ConnectionTuneOk, ConnectionOpen, ConnectionOpenOk, ConnectionClose, ConnectionCloseOk, ConnectionBlocked, ConnectionUnblocked}
 use Rattle.amqp_typed.specs.declared.connection.Start.{Start}
 use Rattle.amqp_typed.specs.declared.connection.StartRef.{StartRef}
 use Rattle.amqp_typed.specs.declared.connection.StartView.{StartView}
@@ -28,6 +28,10 @@ use Rattle.amqp_typed.specs.declared.connection.CloseView.{CloseView}
 use Rattle.amqp_typed.specs.declared.connection.Blocked.{Blocked}
 use Rattle.amqp_typed.specs.declared.connection.BlockedRef.{BlockedRef}
 use Rattle.amqp_typed.specs.declared.connection.BlockedView.{BlockedView}
+use Rattle.amqp_typed.specs.declared.connection.AnyMethod.{AnyMethod}
+use Rattle.amqp_typed.specs.declared.connection.AnyMethod.TheVariants as any
+use Rattle.amqp_typed.specs.declared.connection.AnyMethodView.{AnyMethodView}
+use Rattle.amqp_typed.specs.declared.connection.AnyMethodView.TheVariants as view
 
 abbrev pub start_call : Start → Call
 start_call m =
@@ -123,3 +127,31 @@ blocked_ref_call m = call ConnectionBlocked (short_string m.reason.now ∷ [])
 
 abbrev pub blocked_view_call : BlockedView → Call
 blocked_view_call m = call ConnectionBlocked (short_string m.reason.now ∷ [])
+
+abbrev pub any_call : AnyMethod → Call
+any_call (any.Start m) = start_call m
+any_call (any.StartOk m) = start_ok_call m
+any_call (any.Secure m) = secure_call m
+any_call (any.SecureOk m) = secure_ok_call m
+any_call (any.Tune m) = tune_call m
+any_call (any.TuneOk m) = tune_ok_call m
+any_call (any.Open m) = open_call m
+any_call (any.OpenOk m) = call ConnectionOpenOk []
+any_call (any.Close m) = close_call m
+any_call (any.CloseOk m) = call ConnectionCloseOk []
+any_call (any.Blocked m) = blocked_call m
+any_call (any.Unblocked m) = call ConnectionUnblocked []
+
+abbrev pub any_view_call : AnyMethodView → Call
+any_view_call (view.Start m) = start_view_call m
+any_view_call (view.StartOk m) = start_ok_view_call m
+any_view_call (view.Secure m) = secure_view_call m
+any_view_call (view.SecureOk m) = secure_ok_view_call m
+any_view_call (view.Tune m) = tune_call m
+any_view_call (view.TuneOk m) = tune_ok_call m
+any_view_call (view.Open m) = open_view_call m
+any_view_call (view.OpenOk m) = call ConnectionOpenOk []
+any_view_call (view.Close m) = close_view_call m
+any_view_call (view.CloseOk m) = call ConnectionCloseOk []
+any_view_call (view.Blocked m) = blocked_view_call m
+any_view_call (view.Unblocked m) = call ConnectionUnblocked []

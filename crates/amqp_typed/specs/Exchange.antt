@@ -4,7 +4,7 @@ use Rattle.std.specs.Prelude.{[], ◌∷◌}
 use Rattle.amqp_value.specs.Lent.{table_ref_view}
 use Rattle.amqp_value.specs.Tables.{table_view}
 use Rattle.amqp_method.specs.Arguments.{Call, call, bit, short_string, table}
-use Rattle.amqp_method.specs.declared.kinds.Kind.TheVariants.{ExchangeDeclare, ExchangeDelete, ExchangeBind, ExchangeUnbind}
+use Rattle.amqp_method.specs.declared.kinds.Kind.TheVariants.{ExchangeDeclare, ExchangeDeclareOk, ExchangeDelete, ExchangeDeleteOk, ExchangeBind, ExchangeBindOk, ExchangeUnbind, ExchangeUnbindOk}
 use Rattle.amqp_typed.specs.declared.exchange.Declare.{Declare}
 use Rattle.amqp_typed.specs.declared.exchange.DeclareRef.{DeclareRef}
 use Rattle.amqp_typed.specs.declared.exchange.DeclareView.{DeclareView}
@@ -17,6 +17,10 @@ use Rattle.amqp_typed.specs.declared.exchange.BindView.{BindView}
 use Rattle.amqp_typed.specs.declared.exchange.Unbind.{Unbind}
 use Rattle.amqp_typed.specs.declared.exchange.UnbindRef.{UnbindRef}
 use Rattle.amqp_typed.specs.declared.exchange.UnbindView.{UnbindView}
+use Rattle.amqp_typed.specs.declared.exchange.AnyMethod.{AnyMethod}
+use Rattle.amqp_typed.specs.declared.exchange.AnyMethod.TheVariants as any
+use Rattle.amqp_typed.specs.declared.exchange.AnyMethodView.{AnyMethodView}
+use Rattle.amqp_typed.specs.declared.exchange.AnyMethodView.TheVariants as view
 
 abbrev pub declare_call : Declare → Call
 declare_call m =
@@ -84,3 +88,23 @@ unbind_view_call m =
     call ExchangeUnbind
     (short_string m.destination.now ∷ short_string m.source.now ∷ short_string m.routing_key.now
     ∷ bit m.no_wait ∷ table (table_ref_view m.arguments) ∷ [])
+
+abbrev pub any_call : AnyMethod → Call
+any_call (any.Declare m) = declare_call m
+any_call (any.DeclareOk m) = call ExchangeDeclareOk []
+any_call (any.Delete m) = delete_call m
+any_call (any.DeleteOk m) = call ExchangeDeleteOk []
+any_call (any.Bind m) = bind_call m
+any_call (any.BindOk m) = call ExchangeBindOk []
+any_call (any.Unbind m) = unbind_call m
+any_call (any.UnbindOk m) = call ExchangeUnbindOk []
+
+abbrev pub any_view_call : AnyMethodView → Call
+any_view_call (view.Declare m) = declare_view_call m
+any_view_call (view.DeclareOk m) = call ExchangeDeclareOk []
+any_view_call (view.Delete m) = delete_view_call m
+any_view_call (view.DeleteOk m) = call ExchangeDeleteOk []
+any_view_call (view.Bind m) = bind_view_call m
+any_view_call (view.BindOk m) = call ExchangeBindOk []
+any_view_call (view.Unbind m) = unbind_view_call m
+any_view_call (view.UnbindOk m) = call ExchangeUnbindOk []

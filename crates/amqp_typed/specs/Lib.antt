@@ -3,7 +3,7 @@ pub mod Channel
 pub mod Exchange
 pub mod Queue
 pub mod Basic
+pub mod Tx
 pub mod Confirm
 pub mod AnyMethod
-pub mod AnyMethodView
 pub mod Kinds

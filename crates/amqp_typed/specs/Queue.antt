@@ -4,7 +4,7 @@ use Rattle.std.specs.Prelude.{[], ◌∷◌}
 use Rattle.amqp_value.specs.Lent.{table_ref_view}
 use Rattle.amqp_value.specs.Tables.{table_view}
 use Rattle.amqp_method.specs.Arguments.{Call, call, bit, long, short_string, table}
-use Rattle.amqp_method.specs.declared.kinds.Kind.TheVariants.{QueueDeclare, QueueDeclareOk, QueueBind, QueueUnbind, QueuePurge, QueuePurgeOk, QueueDelete, QueueDeleteOk}
+use Rattle.amqp_method.specs.declared.kinds.Kind.TheVariants.{QueueDeclare, QueueDeclareOk, QueueBind, QueueBindOk, QueueUnbind, QueueUnbindOk, QueuePurge, QueuePurgeOk, QueueDelete, QueueDeleteOk}
 use Rattle.amqp_typed.specs.declared.queue.Declare.{Declare}
 use Rattle.amqp_typed.specs.declared.queue.DeclareRef.{DeclareRef}
 use Rattle.amqp_typed.specs.declared.queue.DeclareView.{DeclareView}
@@ -25,6 +25,10 @@ use Rattle.amqp_typed.specs.declared.queue.Delete.{Delete}
 use Rattle.amqp_typed.specs.declared.queue.DeleteRef.{DeleteRef}
 use Rattle.amqp_typed.specs.declared.queue.DeleteView.{DeleteView}
 use Rattle.amqp_typed.specs.declared.queue.DeleteOk.{DeleteOk}
+use Rattle.amqp_typed.specs.declared.queue.AnyMethod.{AnyMethod}
+use Rattle.amqp_typed.specs.declared.queue.AnyMethod.TheVariants as any
+use Rattle.amqp_typed.specs.declared.queue.AnyMethodView.{AnyMethodView}
+use Rattle.amqp_typed.specs.declared.queue.AnyMethodView.TheVariants as view
 
 abbrev pub declare_call : Declare → Call
 declare_call m =
@@ -124,3 +128,27 @@ delete_view_call m =
 
 abbrev pub delete_ok_call : DeleteOk → Call
 delete_ok_call m = call QueueDeleteOk (long m.message_count ∷ [])
+
+abbrev pub any_call : AnyMethod → Call
+any_call (any.Declare m) = declare_call m
+any_call (any.DeclareOk m) = declare_ok_call m
+any_call (any.Bind m) = bind_call m
+any_call (any.BindOk m) = call QueueBindOk []
+any_call (any.Unbind m) = unbind_call m
+any_call (any.UnbindOk m) = call QueueUnbindOk []
+any_call (any.Purge m) = purge_call m
+any_call (any.PurgeOk m) = purge_ok_call m
+any_call (any.Delete m) = delete_call m
+any_call (any.DeleteOk m) = delete_ok_call m
+
+abbrev pub any_view_call : AnyMethodView → Call
+any_view_call (view.Declare m) = declare_view_call m
+any_view_call (view.DeclareOk m) = declare_ok_view_call m
+any_view_call (view.Bind m) = bind_view_call m
+any_view_call (view.BindOk m) = call QueueBindOk []
+any_view_call (view.Unbind m) = unbind_view_call m
+any_view_call (view.UnbindOk m) = call QueueUnbindOk []
+any_view_call (view.Purge m) = purge_view_call m
+any_view_call (view.PurgeOk m) = purge_ok_call m
+any_view_call (view.Delete m) = delete_view_call m
+any_view_call (view.DeleteOk m) = delete_ok_call m

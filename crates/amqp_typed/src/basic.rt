@@ -8,8 +8,9 @@ ghost use Rattle.amqp_method.specs.MessageView.{message_view};
 ghost use Rattle.amqp_method.specs.Messages.{letter_with};
 ghost use Rattle.amqp_method.specs.MethodRefView.{lent_call};
 ghost use Rattle.amqp_method.specs.MethodView.{method_view};
+ghost use Rattle.amqp_method.specs.Methods.{row};
 ghost use Rattle.amqp_method.specs.declared.kinds.Kind.TheVariants.{BasicQos, BasicConsume, BasicConsumeOk, BasicCancel, BasicCancelOk, BasicPublish, BasicReturn, BasicDeliver, BasicGet, BasicGetOk, BasicAck, BasicReject, BasicRecoverAsync, BasicRecover, BasicNack};
-ghost use Rattle.amqp_typed.specs.Basic.{qos_call, consume_call, consume_ok_call, cancel_call, cancel_ok_call, publish_call, return_call, deliver_call, get_call, get_ok_call, ack_call, reject_call, recover_async_call, recover_call, nack_call, consume_ref_call, consume_ok_ref_call, cancel_ref_call, cancel_ok_ref_call, publish_ref_call, return_ref_call, deliver_ref_call, get_ref_call, get_ok_ref_call, consume_view_call, consume_ok_view_call, cancel_view_call, cancel_ok_view_call, publish_view_call, return_view_call, deliver_view_call, get_view_call, get_ok_view_call};
+ghost use Rattle.amqp_typed.specs.Basic.{qos_call, consume_call, consume_ok_call, cancel_call, cancel_ok_call, publish_call, return_call, deliver_call, get_call, get_ok_call, ack_call, reject_call, recover_async_call, recover_call, nack_call, consume_ref_call, consume_ok_ref_call, cancel_ref_call, cancel_ok_ref_call, publish_ref_call, return_ref_call, deliver_ref_call, get_ref_call, get_ok_ref_call, consume_view_call, consume_ok_view_call, cancel_view_call, cancel_ok_view_call, publish_view_call, return_view_call, deliver_view_call, get_view_call, get_ok_view_call, any_call, any_view_call};
 
 use crate::args::{
     bit, bit_at, five, four, is_kind, long, long_at, long_long, long_long_at, method_of, one,
@@ -22,6 +23,7 @@ use crate::views::{bit_in, is_view_of, long_in, long_long_in, short_in, short_st
 use amqp_method::{Arg, Kind, Message, Method, MethodRef, OutOfMemory, Properties};
 use amqp_value::{ShortStr, Table, TableRef};
 use std::alloc::Global;
+use std::fmt;
 
 /// Limits what the server sends ahead of acknowledgements. `basic.qos`, class 60, method 10.
 #[derive(Clone, Copy, PartialEq, Eq, Debug)]
@@ -1473,5 +1475,221 @@ impl Nack {
             multiple: bit_in(method, 1),
             requeue: bit_in(method, 2),
         })
+    }
+}
+
+/// A method of the class basic.
+#[derive(Drop)]
+pub enum AnyMethod {
+    Qos(Qos),
+    QosOk(QosOk),
+    Consume(Consume),
+    ConsumeOk(ConsumeOk),
+    Cancel(Cancel),
+    CancelOk(CancelOk),
+    Publish(Publish),
+    Return(Return),
+    Deliver(Deliver),
+    Get(Get),
+    GetOk(GetOk),
+    GetEmpty(GetEmpty),
+    Ack(Ack),
+    Reject(Reject),
+    RecoverAsync(RecoverAsync),
+    Recover(Recover),
+    RecoverOk(RecoverOk),
+    Nack(Nack),
+}
+
+impl AnyMethod {
+    pub fn kind(&self) -> Kind
+        ensures { result ≡ (any_call self.now).kind }
+    {
+        match self {
+            AnyMethod::Qos(_) => Kind::BasicQos,
+            AnyMethod::QosOk(_) => Kind::BasicQosOk,
+            AnyMethod::Consume(_) => Kind::BasicConsume,
+            AnyMethod::ConsumeOk(_) => Kind::BasicConsumeOk,
+            AnyMethod::Cancel(_) => Kind::BasicCancel,
+            AnyMethod::CancelOk(_) => Kind::BasicCancelOk,
+            AnyMethod::Publish(_) => Kind::BasicPublish,
+            AnyMethod::Return(_) => Kind::BasicReturn,
+            AnyMethod::Deliver(_) => Kind::BasicDeliver,
+            AnyMethod::Get(_) => Kind::BasicGet,
+            AnyMethod::GetOk(_) => Kind::BasicGetOk,
+            AnyMethod::GetEmpty(_) => Kind::BasicGetEmpty,
+            AnyMethod::Ack(_) => Kind::BasicAck,
+            AnyMethod::Reject(_) => Kind::BasicReject,
+            AnyMethod::RecoverAsync(_) => Kind::BasicRecoverAsync,
+            AnyMethod::Recover(_) => Kind::BasicRecover,
+            AnyMethod::RecoverOk(_) => Kind::BasicRecoverOk,
+            AnyMethod::Nack(_) => Kind::BasicNack,
+        }
+    }
+
+    /// What a method of the class says.
+    pub fn from_method(method: Method) -> AnyMethod
+        requires { (row (method_view method).kind).class ≡ 60 }
+        ensures { any_call result ≡ method_view method }
+    {
+        match method.kind() {
+            Kind::BasicQos => AnyMethod::Qos(Qos::from_method(method).unwrap()),
+            Kind::BasicQosOk => AnyMethod::QosOk(QosOk::from_method(method).unwrap()),
+            Kind::BasicConsume => AnyMethod::Consume(Consume::from_method(method).unwrap()),
+            Kind::BasicConsumeOk => AnyMethod::ConsumeOk(ConsumeOk::from_method(method).unwrap()),
+            Kind::BasicCancel => AnyMethod::Cancel(Cancel::from_method(method).unwrap()),
+            Kind::BasicCancelOk => AnyMethod::CancelOk(CancelOk::from_method(method).unwrap()),
+            Kind::BasicPublish => AnyMethod::Publish(Publish::from_method(method).unwrap()),
+            Kind::BasicReturn => AnyMethod::Return(Return::from_method(method).unwrap()),
+            Kind::BasicDeliver => AnyMethod::Deliver(Deliver::from_method(method).unwrap()),
+            Kind::BasicGet => AnyMethod::Get(Get::from_method(method).unwrap()),
+            Kind::BasicGetOk => AnyMethod::GetOk(GetOk::from_method(method).unwrap()),
+            Kind::BasicGetEmpty => AnyMethod::GetEmpty(GetEmpty::from_method(method).unwrap()),
+            Kind::BasicAck => AnyMethod::Ack(Ack::from_method(method).unwrap()),
+            Kind::BasicReject => AnyMethod::Reject(Reject::from_method(method).unwrap()),
+            Kind::BasicRecoverAsync => {
+                AnyMethod::RecoverAsync(RecoverAsync::from_method(method).unwrap())
+            }
+            Kind::BasicRecover => AnyMethod::Recover(Recover::from_method(method).unwrap()),
+            Kind::BasicRecoverOk => AnyMethod::RecoverOk(RecoverOk::from_method(method).unwrap()),
+            Kind::BasicNack => AnyMethod::Nack(Nack::from_method(method).unwrap()),
+            _ => unreachable!(),
+        }
+    }
+
+    /// The method with these arguments.
+    pub fn into_method(self, alloc: Global) -> Result<Method, OutOfMemory>
+        ensures { IfOk result (λ m. method_view m ≡ any_call self) }
+    {
+        match self {
+            AnyMethod::Qos(method) => method.into_method(alloc),
+            AnyMethod::QosOk(method) => method.into_method(alloc),
+            AnyMethod::Consume(method) => method.into_method(alloc),
+            AnyMethod::ConsumeOk(method) => method.into_method(alloc),
+            AnyMethod::Cancel(method) => method.into_method(alloc),
+            AnyMethod::CancelOk(method) => method.into_method(alloc),
+            AnyMethod::Publish(method) => method.into_method(alloc),
+            AnyMethod::Return(method) => method.into_method(alloc),
+            AnyMethod::Deliver(method) => method.into_method(alloc),
+            AnyMethod::Get(method) => method.into_method(alloc),
+            AnyMethod::GetOk(method) => method.into_method(alloc),
+            AnyMethod::GetEmpty(method) => method.into_method(alloc),
+            AnyMethod::Ack(method) => method.into_method(alloc),
+            AnyMethod::Reject(method) => method.into_method(alloc),
+            AnyMethod::RecoverAsync(method) => method.into_method(alloc),
+            AnyMethod::Recover(method) => method.into_method(alloc),
+            AnyMethod::RecoverOk(method) => method.into_method(alloc),
+            AnyMethod::Nack(method) => method.into_method(alloc),
+        }
+    }
+}
+
+/// Prints what the struct prints.
+impl fmt::Debug for AnyMethod {
+    fn fmt<W: fmt::Write>(&self, f: &mut fmt::Formatter<W>) -> fmt::Result {
+        match self {
+            AnyMethod::Qos(method) => fmt::Debug::fmt(method, f),
+            AnyMethod::QosOk(method) => fmt::Debug::fmt(method, f),
+            AnyMethod::Consume(method) => fmt::Debug::fmt(method, f),
+            AnyMethod::ConsumeOk(method) => fmt::Debug::fmt(method, f),
+            AnyMethod::Cancel(method) => fmt::Debug::fmt(method, f),
+            AnyMethod::CancelOk(method) => fmt::Debug::fmt(method, f),
+            AnyMethod::Publish(method) => fmt::Debug::fmt(method, f),
+            AnyMethod::Return(method) => fmt::Debug::fmt(method, f),
+            AnyMethod::Deliver(method) => fmt::Debug::fmt(method, f),
+            AnyMethod::Get(method) => fmt::Debug::fmt(method, f),
+            AnyMethod::GetOk(method) => fmt::Debug::fmt(method, f),
+            AnyMethod::GetEmpty(method) => fmt::Debug::fmt(method, f),
+            AnyMethod::Ack(method) => fmt::Debug::fmt(method, f),
+            AnyMethod::Reject(method) => fmt::Debug::fmt(method, f),
+            AnyMethod::RecoverAsync(method) => fmt::Debug::fmt(method, f),
+            AnyMethod::Recover(method) => fmt::Debug::fmt(method, f),
+            AnyMethod::RecoverOk(method) => fmt::Debug::fmt(method, f),
+            AnyMethod::Nack(method) => fmt::Debug::fmt(method, f),
+        }
+    }
+}
+
+/// [`AnyMethod`], as it lies in its payload.
+#[derive(Clone, Copy)]
+pub enum AnyMethodView<'a> {
+    Qos(Qos),
+    QosOk(QosOk),
+    Consume(ConsumeView<'a>),
+    ConsumeOk(ConsumeOkView<'a>),
+    Cancel(CancelView<'a>),
+    CancelOk(CancelOkView<'a>),
+    Publish(PublishView<'a>),
+    Return(ReturnView<'a>),
+    Deliver(DeliverView<'a>),
+    Get(GetView<'a>),
+    GetOk(GetOkView<'a>),
+    GetEmpty(GetEmpty),
+    Ack(Ack),
+    Reject(Reject),
+    RecoverAsync(RecoverAsync),
+    Recover(Recover),
+    RecoverOk(RecoverOk),
+    Nack(Nack),
+}
+
+impl<'a> AnyMethodView<'a> {
+    pub fn kind(self) -> Kind
+        ensures { result ≡ (any_view_call self.entry).kind }
+    {
+        match self {
+            AnyMethodView::Qos(_) => Kind::BasicQos,
+            AnyMethodView::QosOk(_) => Kind::BasicQosOk,
+            AnyMethodView::Consume(_) => Kind::BasicConsume,
+            AnyMethodView::ConsumeOk(_) => Kind::BasicConsumeOk,
+            AnyMethodView::Cancel(_) => Kind::BasicCancel,
+            AnyMethodView::CancelOk(_) => Kind::BasicCancelOk,
+            AnyMethodView::Publish(_) => Kind::BasicPublish,
+            AnyMethodView::Return(_) => Kind::BasicReturn,
+            AnyMethodView::Deliver(_) => Kind::BasicDeliver,
+            AnyMethodView::Get(_) => Kind::BasicGet,
+            AnyMethodView::GetOk(_) => Kind::BasicGetOk,
+            AnyMethodView::GetEmpty(_) => Kind::BasicGetEmpty,
+            AnyMethodView::Ack(_) => Kind::BasicAck,
+            AnyMethodView::Reject(_) => Kind::BasicReject,
+            AnyMethodView::RecoverAsync(_) => Kind::BasicRecoverAsync,
+            AnyMethodView::Recover(_) => Kind::BasicRecover,
+            AnyMethodView::RecoverOk(_) => Kind::BasicRecoverOk,
+            AnyMethodView::Nack(_) => Kind::BasicNack,
+        }
+    }
+
+    /// What a method of the class says.
+    pub fn from_view(method: MethodRef<'a>) -> AnyMethodView<'a>
+        requires { (row (lent_call method).kind).class ≡ 60 }
+        ensures { any_view_call result ≡ lent_call method.entry }
+    {
+        match method.kind() {
+            Kind::BasicQos => AnyMethodView::Qos(Qos::from_view(method).unwrap()),
+            Kind::BasicQosOk => AnyMethodView::QosOk(QosOk::from_view(method).unwrap()),
+            Kind::BasicConsume => AnyMethodView::Consume(ConsumeView::from_view(method).unwrap()),
+            Kind::BasicConsumeOk => {
+                AnyMethodView::ConsumeOk(ConsumeOkView::from_view(method).unwrap())
+            }
+            Kind::BasicCancel => AnyMethodView::Cancel(CancelView::from_view(method).unwrap()),
+            Kind::BasicCancelOk => {
+                AnyMethodView::CancelOk(CancelOkView::from_view(method).unwrap())
+            }
+            Kind::BasicPublish => AnyMethodView::Publish(PublishView::from_view(method).unwrap()),
+            Kind::BasicReturn => AnyMethodView::Return(ReturnView::from_view(method).unwrap()),
+            Kind::BasicDeliver => AnyMethodView::Deliver(DeliverView::from_view(method).unwrap()),
+            Kind::BasicGet => AnyMethodView::Get(GetView::from_view(method).unwrap()),
+            Kind::BasicGetOk => AnyMethodView::GetOk(GetOkView::from_view(method).unwrap()),
+            Kind::BasicGetEmpty => AnyMethodView::GetEmpty(GetEmpty::from_view(method).unwrap()),
+            Kind::BasicAck => AnyMethodView::Ack(Ack::from_view(method).unwrap()),
+            Kind::BasicReject => AnyMethodView::Reject(Reject::from_view(method).unwrap()),
+            Kind::BasicRecoverAsync => {
+                AnyMethodView::RecoverAsync(RecoverAsync::from_view(method).unwrap())
+            }
+            Kind::BasicRecover => AnyMethodView::Recover(Recover::from_view(method).unwrap()),
+            Kind::BasicRecoverOk => AnyMethodView::RecoverOk(RecoverOk::from_view(method).unwrap()),
+            Kind::BasicNack => AnyMethodView::Nack(Nack::from_view(method).unwrap()),
+            _ => unreachable!(),
+        }
     }
 }

@@ -4,8 +4,9 @@ ghost use Rattle.std.specs.Prelude.{◌≡◌, ◌↔◌, IfOk, IfErr, IfSome, I
 ghost use Rattle.amqp_method.specs.Arguments.{call, bit, short, short_string};
 ghost use Rattle.amqp_method.specs.MethodRefView.{lent_call};
 ghost use Rattle.amqp_method.specs.MethodView.{method_view};
+ghost use Rattle.amqp_method.specs.Methods.{row};
 ghost use Rattle.amqp_method.specs.declared.kinds.Kind.TheVariants.{ChannelFlow, ChannelFlowOk, ChannelClose};
-ghost use Rattle.amqp_typed.specs.Channel.{flow_call, flow_ok_call, close_call, close_ref_call, close_view_call};
+ghost use Rattle.amqp_typed.specs.Channel.{flow_call, flow_ok_call, close_call, close_ref_call, close_view_call, any_call, any_view_call};
 
 use crate::args::{
     bit_at, four, is_kind, method_of, own_args, short, short_at, short_str, short_str_at,
@@ -16,6 +17,7 @@ use crate::views::{bit_in, is_view_of, short_in, short_str_in};
 use amqp_method::{Arg, Kind, Method, MethodRef, OutOfMemory};
 use amqp_value::ShortStr;
 use std::alloc::Global;
+use std::fmt;
 
 /// Opens the channel. `channel.open`, class 20, method 10.
 pub type Open = Bare<ChannelOpen>;
@@ -259,3 +261,115 @@ impl<'a> CloseView<'a> {
 
 /// Confirms that the channel is closed. `channel.close-ok`, class 20, method 41.
 pub type CloseOk = Bare<ChannelCloseOk>;
+
+/// A method of the class channel.
+#[derive(Drop)]
+pub enum AnyMethod {
+    Open(Open),
+    OpenOk(OpenOk),
+    Flow(Flow),
+    FlowOk(FlowOk),
+    Close(Close),
+    CloseOk(CloseOk),
+}
+
+impl AnyMethod {
+    pub fn kind(&self) -> Kind
+        ensures { result ≡ (any_call self.now).kind }
+    {
+        match self {
+            AnyMethod::Open(_) => Kind::ChannelOpen,
+            AnyMethod::OpenOk(_) => Kind::ChannelOpenOk,
+            AnyMethod::Flow(_) => Kind::ChannelFlow,
+            AnyMethod::FlowOk(_) => Kind::ChannelFlowOk,
+            AnyMethod::Close(_) => Kind::ChannelClose,
+            AnyMethod::CloseOk(_) => Kind::ChannelCloseOk,
+        }
+    }
+
+    /// What a method of the class says.
+    pub fn from_method(method: Method) -> AnyMethod
+        requires { (row (method_view method).kind).class ≡ 20 }
+        ensures { any_call result ≡ method_view method }
+    {
+        match method.kind() {
+            Kind::ChannelOpen => AnyMethod::Open(Open::from_method(method).unwrap()),
+            Kind::ChannelOpenOk => AnyMethod::OpenOk(OpenOk::from_method(method).unwrap()),
+            Kind::ChannelFlow => AnyMethod::Flow(Flow::from_method(method).unwrap()),
+            Kind::ChannelFlowOk => AnyMethod::FlowOk(FlowOk::from_method(method).unwrap()),
+            Kind::ChannelClose => AnyMethod::Close(Close::from_method(method).unwrap()),
+            Kind::ChannelCloseOk => AnyMethod::CloseOk(CloseOk::from_method(method).unwrap()),
+            _ => unreachable!(),
+        }
+    }
+
+    /// The method with these arguments.
+    pub fn into_method(self, alloc: Global) -> Result<Method, OutOfMemory>
+        ensures { IfOk result (λ m. method_view m ≡ any_call self) }
+    {
+        match self {
+            AnyMethod::Open(method) => method.into_method(alloc),
+            AnyMethod::OpenOk(method) => method.into_method(alloc),
+            AnyMethod::Flow(method) => method.into_method(alloc),
+            AnyMethod::FlowOk(method) => method.into_method(alloc),
+            AnyMethod::Close(method) => method.into_method(alloc),
+            AnyMethod::CloseOk(method) => method.into_method(alloc),
+        }
+    }
+}
+
+/// Prints what the struct prints.
+impl fmt::Debug for AnyMethod {
+    fn fmt<W: fmt::Write>(&self, f: &mut fmt::Formatter<W>) -> fmt::Result {
+        match self {
+            AnyMethod::Open(method) => fmt::Debug::fmt(method, f),
+            AnyMethod::OpenOk(method) => fmt::Debug::fmt(method, f),
+            AnyMethod::Flow(method) => fmt::Debug::fmt(method, f),
+            AnyMethod::FlowOk(method) => fmt::Debug::fmt(method, f),
+            AnyMethod::Close(method) => fmt::Debug::fmt(method, f),
+            AnyMethod::CloseOk(method) => fmt::Debug::fmt(method, f),
+        }
+    }
+}
+
+/// [`AnyMethod`], as it lies in its payload.
+#[derive(Clone, Copy)]
+pub enum AnyMethodView<'a> {
+    Open(Open),
+    OpenOk(OpenOk),
+    Flow(Flow),
+    FlowOk(FlowOk),
+    Close(CloseView<'a>),
+    CloseOk(CloseOk),
+}
+
+impl<'a> AnyMethodView<'a> {
+    pub fn kind(self) -> Kind
+        ensures { result ≡ (any_view_call self.entry).kind }
+    {
+        match self {
+            AnyMethodView::Open(_) => Kind::ChannelOpen,
+            AnyMethodView::OpenOk(_) => Kind::ChannelOpenOk,
+            AnyMethodView::Flow(_) => Kind::ChannelFlow,
+            AnyMethodView::FlowOk(_) => Kind::ChannelFlowOk,
+            AnyMethodView::Close(_) => Kind::ChannelClose,
+            AnyMethodView::CloseOk(_) => Kind::ChannelCloseOk,
+        }
+    }
+
+    /// What a method of the class says.
+    pub fn from_view(method: MethodRef<'a>) -> AnyMethodView<'a>
+        requires { (row (lent_call method).kind).class ≡ 20 }
+        ensures { any_view_call result ≡ lent_call method.entry }
+    {
+        match method.kind() {
+            Kind::ChannelOpen => AnyMethodView::Open(Open::from_view(method).unwrap()),
+            Kind::ChannelOpenOk => AnyMethodView::OpenOk(OpenOk::from_view(method).unwrap()),
+            Kind::ChannelFlow => AnyMethodView::Flow(Flow::from_view(method).unwrap()),
+            Kind::ChannelFlowOk => AnyMethodView::FlowOk(FlowOk::from_view(method).unwrap()),
+            Kind::ChannelClose => AnyMethodView::Close(CloseView::from_view(method).unwrap()),
+            Kind::ChannelCloseOk => AnyMethodView::CloseOk(CloseOk::from_view(method).unwrap()),
+            _ => unreachable!(),
+        }
+    }
+}

@@ -4,8 +4,9 @@ ghost use Rattle.std.specs.Prelude.{◌≡◌, ◌↔◌, IfOk, IfErr, IfSome, I
 ghost use Rattle.amqp_method.specs.Arguments.{call, bit};
 ghost use Rattle.amqp_method.specs.MethodRefView.{lent_call};
 ghost use Rattle.amqp_method.specs.MethodView.{method_view};
+ghost use Rattle.amqp_method.specs.Methods.{row};
 ghost use Rattle.amqp_method.specs.declared.kinds.Kind.TheVariants.{ConfirmSelect};
-ghost use Rattle.amqp_typed.specs.Confirm.{select_call};
+ghost use Rattle.amqp_typed.specs.Confirm.{select_call, any_call};
 
 use crate::args::{bit_at, is_kind, method_of};
 use crate::bare::Bare;
@@ -13,6 +14,7 @@ use crate::bare_kinds::ConfirmSelectOk;
 use crate::views::{bit_in, is_view_of};
 use amqp_method::{Arg, Kind, Method, MethodRef, OutOfMemory};
 use std::alloc::Global;
+use std::fmt;
 
 /// Asks the server to confirm what is published on the channel. `confirm.select`, class 85, method 10.
 #[derive(Clone, Copy, PartialEq, Eq, Debug)]
@@ -77,3 +79,65 @@ impl Select {
 
 /// Confirms that the channel uses confirms. `confirm.select-ok`, class 85, method 11.
 pub type SelectOk = Bare<ConfirmSelectOk>;
+
+/// A method of the class confirm.
+#[derive(Clone, Copy)]
+pub enum AnyMethod {
+    Select(Select),
+    SelectOk(SelectOk),
+}
+
+impl AnyMethod {
+    pub fn kind(&self) -> Kind
+        ensures { result ≡ (any_call self.now).kind }
+    {
+        match self {
+            AnyMethod::Select(_) => Kind::ConfirmSelect,
+            AnyMethod::SelectOk(_) => Kind::ConfirmSelectOk,
+        }
+    }
+
+    /// What a method of the class says.
+    pub fn from_method(method: Method) -> AnyMethod
+        requires { (row (method_view method).kind).class ≡ 85 }
+        ensures { any_call result ≡ method_view method }
+    {
+        match method.kind() {
+            Kind::ConfirmSelect => AnyMethod::Select(Select::from_method(method).unwrap()),
+            Kind::ConfirmSelectOk => AnyMethod::SelectOk(SelectOk::from_method(method).unwrap()),
+            _ => unreachable!(),
+        }
+    }
+
+    /// The method with these arguments.
+    pub fn into_method(self, alloc: Global) -> Result<Method, OutOfMemory>
+        ensures { IfOk result (λ m. method_view m ≡ any_call self) }
+    {
+        match self {
+            AnyMethod::Select(method) => method.into_method(alloc),
+            AnyMethod::SelectOk(method) => method.into_method(alloc),
+        }
+    }
+
+    /// What a method of the class says.
+    pub fn from_view(method: MethodRef<'_>) -> AnyMethod
+        requires { (row (lent_call method).kind).class ≡ 85 }
+        ensures { any_call result ≡ lent_call method.entry }
+    {
+        match method.kind() {
+            Kind::ConfirmSelect => AnyMethod::Select(Select::from_view(method).unwrap()),
+            Kind::ConfirmSelectOk => AnyMethod::SelectOk(SelectOk::from_view(method).unwrap()),
+            _ => unreachable!(),
+        }
+    }
+}
+
+/// Prints what the struct prints.
+impl fmt::Debug for AnyMethod {
+    fn fmt<W: fmt::Write>(&self, f: &mut fmt::Formatter<W>) -> fmt::Result {
+        match self {
+            AnyMethod::Select(method) => fmt::Debug::fmt(method, f),
+            AnyMethod::SelectOk(method) => fmt::Debug::fmt(method, f),
+        }
+    }
+}

@@ -5,8 +5,9 @@ ghost use Rattle.amqp_value.specs.Values.{no_pairs};
 ghost use Rattle.amqp_method.specs.Arguments.{call, octet, short, long, short_string, long_string, table};
 ghost use Rattle.amqp_method.specs.MethodRefView.{lent_call};
 ghost use Rattle.amqp_method.specs.MethodView.{method_view};
+ghost use Rattle.amqp_method.specs.Methods.{row};
 ghost use Rattle.amqp_method.specs.declared.kinds.Kind.TheVariants.{ConnectionStart, ConnectionStartOk, ConnectionSecure, ConnectionSecureOk, ConnectionTune, ConnectionTuneOk, ConnectionOpen, ConnectionClose, ConnectionBlocked};
-ghost use Rattle.amqp_typed.specs.Connection.{start_call, start_ok_call, secure_call, secure_ok_call, tune_call, tune_ok_call, open_call, close_call, blocked_call, start_ref_call, start_ok_ref_call, secure_ref_call, secure_ok_ref_call, open_ref_call, close_ref_call, blocked_ref_call, start_view_call, start_ok_view_call, secure_view_call, secure_ok_view_call, open_view_call, close_view_call, blocked_view_call};
+ghost use Rattle.amqp_typed.specs.Connection.{start_call, start_ok_call, secure_call, secure_ok_call, tune_call, tune_ok_call, open_call, close_call, blocked_call, start_ref_call, start_ok_ref_call, secure_ref_call, secure_ok_ref_call, open_ref_call, close_ref_call, blocked_ref_call, start_view_call, start_ok_view_call, secure_view_call, secure_ok_view_call, open_view_call, close_view_call, blocked_view_call, any_call, any_view_call};
 
 use crate::args::{
     five, four, is_kind, long_at, long_str, long_str_at, method_of, octet, octet_at, one, own_args,
@@ -18,6 +19,7 @@ use crate::views::{is_view_of, long_in, long_str_in, octet_in, short_in, short_s
 use amqp_method::{Arg, Kind, Method, MethodRef, OutOfMemory};
 use amqp_value::{ShortStr, Table, TableRef};
 use std::alloc::Global;
+use std::fmt;
 
 /// Begins the negotiation: names the server, and the mechanisms and locales that it has. `connection.start`, class 10, method 10.
 #[derive(Debug, Drop, PartialEq, Eq)]
@@ -859,3 +861,173 @@ impl<'a> BlockedView<'a> {
 
 /// Says that the server takes messages again. `connection.unblocked`, class 10, method 61.
 pub type Unblocked = Bare<ConnectionUnblocked>;
+
+/// A method of the class connection.
+#[derive(Drop)]
+pub enum AnyMethod {
+    Start(Start),
+    StartOk(StartOk),
+    Secure(Secure),
+    SecureOk(SecureOk),
+    Tune(Tune),
+    TuneOk(TuneOk),
+    Open(Open),
+    OpenOk(OpenOk),
+    Close(Close),
+    CloseOk(CloseOk),
+    Blocked(Blocked),
+    Unblocked(Unblocked),
+}
+
+impl AnyMethod {
+    pub fn kind(&self) -> Kind
+        ensures { result ≡ (any_call self.now).kind }
+    {
+        match self {
+            AnyMethod::Start(_) => Kind::ConnectionStart,
+            AnyMethod::StartOk(_) => Kind::ConnectionStartOk,
+            AnyMethod::Secure(_) => Kind::ConnectionSecure,
+            AnyMethod::SecureOk(_) => Kind::ConnectionSecureOk,
+            AnyMethod::Tune(_) => Kind::ConnectionTune,
+            AnyMethod::TuneOk(_) => Kind::ConnectionTuneOk,
+            AnyMethod::Open(_) => Kind::ConnectionOpen,
+            AnyMethod::OpenOk(_) => Kind::ConnectionOpenOk,
+            AnyMethod::Close(_) => Kind::ConnectionClose,
+            AnyMethod::CloseOk(_) => Kind::ConnectionCloseOk,
+            AnyMethod::Blocked(_) => Kind::ConnectionBlocked,
+            AnyMethod::Unblocked(_) => Kind::ConnectionUnblocked,
+        }
+    }
+
+    /// What a method of the class says.
+    pub fn from_method(method: Method) -> AnyMethod
+        requires { (row (method_view method).kind).class ≡ 10 }
+        ensures { any_call result ≡ method_view method }
+    {
+        match method.kind() {
+            Kind::ConnectionStart => AnyMethod::Start(Start::from_method(method).unwrap()),
+            Kind::ConnectionStartOk => AnyMethod::StartOk(StartOk::from_method(method).unwrap()),
+            Kind::ConnectionSecure => AnyMethod::Secure(Secure::from_method(method).unwrap()),
+            Kind::ConnectionSecureOk => AnyMethod::SecureOk(SecureOk::from_method(method).unwrap()),
+            Kind::ConnectionTune => AnyMethod::Tune(Tune::from_method(method).unwrap()),
+            Kind::ConnectionTuneOk => AnyMethod::TuneOk(TuneOk::from_method(method).unwrap()),
+            Kind::ConnectionOpen => AnyMethod::Open(Open::from_method(method).unwrap()),
+            Kind::ConnectionOpenOk => AnyMethod::OpenOk(OpenOk::from_method(method).unwrap()),
+            Kind::ConnectionClose => AnyMethod::Close(Close::from_method(method).unwrap()),
+            Kind::ConnectionCloseOk => AnyMethod::CloseOk(CloseOk::from_method(method).unwrap()),
+            Kind::ConnectionBlocked => AnyMethod::Blocked(Blocked::from_method(method).unwrap()),
+            Kind::ConnectionUnblocked => {
+                AnyMethod::Unblocked(Unblocked::from_method(method).unwrap())
+            }
+            _ => unreachable!(),
+        }
+    }
+
+    /// The method with these arguments.
+    pub fn into_method(self, alloc: Global) -> Result<Method, OutOfMemory>
+        ensures { IfOk result (λ m. method_view m ≡ any_call self) }
+    {
+        match self {
+            AnyMethod::Start(method) => method.into_method(alloc),
+            AnyMethod::StartOk(method) => method.into_method(alloc),
+            AnyMethod::Secure(method) => method.into_method(alloc),
+            AnyMethod::SecureOk(method) => method.into_method(alloc),
+            AnyMethod::Tune(method) => method.into_method(alloc),
+            AnyMethod::TuneOk(method) => method.into_method(alloc),
+            AnyMethod::Open(method) => method.into_method(alloc),
+            AnyMethod::OpenOk(method) => method.into_method(alloc),
+            AnyMethod::Close(method) => method.into_method(alloc),
+            AnyMethod::CloseOk(method) => method.into_method(alloc),
+            AnyMethod::Blocked(method) => method.into_method(alloc),
+            AnyMethod::Unblocked(method) => method.into_method(alloc),
+        }
+    }
+}
+
+/// Prints what the struct prints.
+impl fmt::Debug for AnyMethod {
+    fn fmt<W: fmt::Write>(&self, f: &mut fmt::Formatter<W>) -> fmt::Result {
+        match self {
+            AnyMethod::Start(method) => fmt::Debug::fmt(method, f),
+            AnyMethod::StartOk(method) => fmt::Debug::fmt(method, f),
+            AnyMethod::Secure(method) => fmt::Debug::fmt(method, f),
+            AnyMethod::SecureOk(method) => fmt::Debug::fmt(method, f),
+            AnyMethod::Tune(method) => fmt::Debug::fmt(method, f),
+            AnyMethod::TuneOk(method) => fmt::Debug::fmt(method, f),
+            AnyMethod::Open(method) => fmt::Debug::fmt(method, f),
+            AnyMethod::OpenOk(method) => fmt::Debug::fmt(method, f),
+            AnyMethod::Close(method) => fmt::Debug::fmt(method, f),
+            AnyMethod::CloseOk(method) => fmt::Debug::fmt(method, f),
+            AnyMethod::Blocked(method) => fmt::Debug::fmt(method, f),
+            AnyMethod::Unblocked(method) => fmt::Debug::fmt(method, f),
+        }
+    }
+}
+
+/// [`AnyMethod`], as it lies in its payload.
+#[derive(Clone, Copy)]
+pub enum AnyMethodView<'a> {
+    Start(StartView<'a>),
+    StartOk(StartOkView<'a>),
+    Secure(SecureView<'a>),
+    SecureOk(SecureOkView<'a>),
+    Tune(Tune),
+    TuneOk(TuneOk),
+    Open(OpenView<'a>),
+    OpenOk(OpenOk),
+    Close(CloseView<'a>),
+    CloseOk(CloseOk),
+    Blocked(BlockedView<'a>),
+    Unblocked(Unblocked),
+}
+
+impl<'a> AnyMethodView<'a> {
+    pub fn kind(self) -> Kind
+        ensures { result ≡ (any_view_call self.entry).kind }
+    {
+        match self {
+            AnyMethodView::Start(_) => Kind::ConnectionStart,
+            AnyMethodView::StartOk(_) => Kind::ConnectionStartOk,
+            AnyMethodView::Secure(_) => Kind::ConnectionSecure,
+            AnyMethodView::SecureOk(_) => Kind::ConnectionSecureOk,
+            AnyMethodView::Tune(_) => Kind::ConnectionTune,
+            AnyMethodView::TuneOk(_) => Kind::ConnectionTuneOk,
+            AnyMethodView::Open(_) => Kind::ConnectionOpen,
+            AnyMethodView::OpenOk(_) => Kind::ConnectionOpenOk,
+            AnyMethodView::Close(_) => Kind::ConnectionClose,
+            AnyMethodView::CloseOk(_) => Kind::ConnectionCloseOk,
+            AnyMethodView::Blocked(_) => Kind::ConnectionBlocked,
+            AnyMethodView::Unblocked(_) => Kind::ConnectionUnblocked,
+        }
+    }
+
+    /// What a method of the class says.
+    pub fn from_view(method: MethodRef<'a>) -> AnyMethodView<'a>
+        requires { (row (lent_call method).kind).class ≡ 10 }
+        ensures { any_view_call result ≡ lent_call method.entry }
+    {
+        match method.kind() {
+            Kind::ConnectionStart => AnyMethodView::Start(StartView::from_view(method).unwrap()),
+            Kind::ConnectionStartOk => {
+                AnyMethodView::StartOk(StartOkView::from_view(method).unwrap())
+            }
+            Kind::ConnectionSecure => AnyMethodView::Secure(SecureView::from_view(method).unwrap()),
+            Kind::ConnectionSecureOk => {
+                AnyMethodView::SecureOk(SecureOkView::from_view(method).unwrap())
+            }
+            Kind::ConnectionTune => AnyMethodView::Tune(Tune::from_view(method).unwrap()),
+            Kind::ConnectionTuneOk => AnyMethodView::TuneOk(TuneOk::from_view(method).unwrap()),
+            Kind::ConnectionOpen => AnyMethodView::Open(OpenView::from_view(method).unwrap()),
+            Kind::ConnectionOpenOk => AnyMethodView::OpenOk(OpenOk::from_view(method).unwrap()),
+            Kind::ConnectionClose => AnyMethodView::Close(CloseView::from_view(method).unwrap()),
+            Kind::ConnectionCloseOk => AnyMethodView::CloseOk(CloseOk::from_view(method).unwrap()),
+            Kind::ConnectionBlocked => {
+                AnyMethodView::Blocked(BlockedView::from_view(method).unwrap())
+            }
+            Kind::ConnectionUnblocked => {
+                AnyMethodView::Unblocked(Unblocked::from_view(method).unwrap())
+            }
+            _ => unreachable!(),
+        }
+    }
+}

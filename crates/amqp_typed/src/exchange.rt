@@ -5,8 +5,9 @@ ghost use Rattle.amqp_value.specs.Values.{no_pairs};
 ghost use Rattle.amqp_method.specs.Arguments.{call, bit, short_string, table};
 ghost use Rattle.amqp_method.specs.MethodRefView.{lent_call};
 ghost use Rattle.amqp_method.specs.MethodView.{method_view};
+ghost use Rattle.amqp_method.specs.Methods.{row};
 ghost use Rattle.amqp_method.specs.declared.kinds.Kind.TheVariants.{ExchangeDeclare, ExchangeDelete, ExchangeBind, ExchangeUnbind};
-ghost use Rattle.amqp_typed.specs.Exchange.{declare_call, delete_call, bind_call, unbind_call, declare_ref_call, delete_ref_call, bind_ref_call, unbind_ref_call, declare_view_call, delete_view_call, bind_view_call, unbind_view_call};
+ghost use Rattle.amqp_typed.specs.Exchange.{declare_call, delete_call, bind_call, unbind_call, declare_ref_call, delete_ref_call, bind_ref_call, unbind_ref_call, declare_view_call, delete_view_call, bind_view_call, unbind_view_call, any_call, any_view_call};
 
 use crate::args::{
     bit, bit_at, eight, five, is_kind, method_of, own_args, short_str, short_str_at, table,
@@ -18,6 +19,7 @@ use crate::views::{bit_in, is_view_of, short_str_in, table_in};
 use amqp_method::{Arg, Kind, Method, MethodRef, OutOfMemory};
 use amqp_value::{ShortStr, Table, TableRef};
 use std::alloc::Global;
+use std::fmt;
 
 /// Creates an exchange if it doesn't exist yet. `exchange.declare`, class 40, method 10.
 #[derive(Debug, Drop, PartialEq, Eq)]
@@ -539,3 +541,137 @@ impl<'a> UnbindView<'a> {
 
 /// Confirms that the binding is gone. `exchange.unbind-ok`, class 40, method 51.
 pub type UnbindOk = Bare<ExchangeUnbindOk>;
+
+/// A method of the class exchange.
+#[derive(Drop)]
+pub enum AnyMethod {
+    Declare(Declare),
+    DeclareOk(DeclareOk),
+    Delete(Delete),
+    DeleteOk(DeleteOk),
+    Bind(Bind),
+    BindOk(BindOk),
+    Unbind(Unbind),
+    UnbindOk(UnbindOk),
+}
+
+impl AnyMethod {
+    pub fn kind(&self) -> Kind
+        ensures { result ≡ (any_call self.now).kind }
+    {
+        match self {
+            AnyMethod::Declare(_) => Kind::ExchangeDeclare,
+            AnyMethod::DeclareOk(_) => Kind::ExchangeDeclareOk,
+            AnyMethod::Delete(_) => Kind::ExchangeDelete,
+            AnyMethod::DeleteOk(_) => Kind::ExchangeDeleteOk,
+            AnyMethod::Bind(_) => Kind::ExchangeBind,
+            AnyMethod::BindOk(_) => Kind::ExchangeBindOk,
+            AnyMethod::Unbind(_) => Kind::ExchangeUnbind,
+            AnyMethod::UnbindOk(_) => Kind::ExchangeUnbindOk,
+        }
+    }
+
+    /// What a method of the class says.
+    pub fn from_method(method: Method) -> AnyMethod
+        requires { (row (method_view method).kind).class ≡ 40 }
+        ensures { any_call result ≡ method_view method }
+    {
+        match method.kind() {
+            Kind::ExchangeDeclare => AnyMethod::Declare(Declare::from_method(method).unwrap()),
+            Kind::ExchangeDeclareOk => {
+                AnyMethod::DeclareOk(DeclareOk::from_method(method).unwrap())
+            }
+            Kind::ExchangeDelete => AnyMethod::Delete(Delete::from_method(method).unwrap()),
+            Kind::ExchangeDeleteOk => AnyMethod::DeleteOk(DeleteOk::from_method(method).unwrap()),
+            Kind::ExchangeBind => AnyMethod::Bind(Bind::from_method(method).unwrap()),
+            Kind::ExchangeBindOk => AnyMethod::BindOk(BindOk::from_method(method).unwrap()),
+            Kind::ExchangeUnbind => AnyMethod::Unbind(Unbind::from_method(method).unwrap()),
+            Kind::ExchangeUnbindOk => AnyMethod::UnbindOk(UnbindOk::from_method(method).unwrap()),
+            _ => unreachable!(),
+        }
+    }
+
+    /// The method with these arguments.
+    pub fn into_method(self, alloc: Global) -> Result<Method, OutOfMemory>
+        ensures { IfOk result (λ m. method_view m ≡ any_call self) }
+    {
+        match self {
+            AnyMethod::Declare(method) => method.into_method(alloc),
+            AnyMethod::DeclareOk(method) => method.into_method(alloc),
+            AnyMethod::Delete(method) => method.into_method(alloc),
+            AnyMethod::DeleteOk(method) => method.into_method(alloc),
+            AnyMethod::Bind(method) => method.into_method(alloc),
+            AnyMethod::BindOk(method) => method.into_method(alloc),
+            AnyMethod::Unbind(method) => method.into_method(alloc),
+            AnyMethod::UnbindOk(method) => method.into_method(alloc),
+        }
+    }
+}
+
+/// Prints what the struct prints.
+impl fmt::Debug for AnyMethod {
+    fn fmt<W: fmt::Write>(&self, f: &mut fmt::Formatter<W>) -> fmt::Result {
+        match self {
+            AnyMethod::Declare(method) => fmt::Debug::fmt(method, f),
+            AnyMethod::DeclareOk(method) => fmt::Debug::fmt(method, f),
+            AnyMethod::Delete(method) => fmt::Debug::fmt(method, f),
+            AnyMethod::DeleteOk(method) => fmt::Debug::fmt(method, f),
+            AnyMethod::Bind(method) => fmt::Debug::fmt(method, f),
+            AnyMethod::BindOk(method) => fmt::Debug::fmt(method, f),
+            AnyMethod::Unbind(method) => fmt::Debug::fmt(method, f),
+            AnyMethod::UnbindOk(method) => fmt::Debug::fmt(method, f),
+        }
+    }
+}
+
+/// [`AnyMethod`], as it lies in its payload.
+#[derive(Clone, Copy)]
+pub enum AnyMethodView<'a> {
+    Declare(DeclareView<'a>),
+    DeclareOk(DeclareOk),
+    Delete(DeleteView<'a>),
+    DeleteOk(DeleteOk),
+    Bind(BindView<'a>),
+    BindOk(BindOk),
+    Unbind(UnbindView<'a>),
+    UnbindOk(UnbindOk),
+}
+
+impl<'a> AnyMethodView<'a> {
+    pub fn kind(self) -> Kind
+        ensures { result ≡ (any_view_call self.entry).kind }
+    {
+        match self {
+            AnyMethodView::Declare(_) => Kind::ExchangeDeclare,
+            AnyMethodView::DeclareOk(_) => Kind::ExchangeDeclareOk,
+            AnyMethodView::Delete(_) => Kind::ExchangeDelete,
+            AnyMethodView::DeleteOk(_) => Kind::ExchangeDeleteOk,
+            AnyMethodView::Bind(_) => Kind::ExchangeBind,
+            AnyMethodView::BindOk(_) => Kind::ExchangeBindOk,
+            AnyMethodView::Unbind(_) => Kind::ExchangeUnbind,
+            AnyMethodView::UnbindOk(_) => Kind::ExchangeUnbindOk,
+        }
+    }
+
+    /// What a method of the class says.
+    pub fn from_view(method: MethodRef<'a>) -> AnyMethodView<'a>
+        requires { (row (lent_call method).kind).class ≡ 40 }
+        ensures { any_view_call result ≡ lent_call method.entry }
+    {
+        match method.kind() {
+            Kind::ExchangeDeclare => {
+                AnyMethodView::Declare(DeclareView::from_view(method).unwrap())
+            }
+            Kind::ExchangeDeclareOk => {
+                AnyMethodView::DeclareOk(DeclareOk::from_view(method).unwrap())
+            }
+            Kind::ExchangeDelete => AnyMethodView::Delete(DeleteView::from_view(method).unwrap()),
+            Kind::ExchangeDeleteOk => AnyMethodView::DeleteOk(DeleteOk::from_view(method).unwrap()),
+            Kind::ExchangeBind => AnyMethodView::Bind(BindView::from_view(method).unwrap()),
+            Kind::ExchangeBindOk => AnyMethodView::BindOk(BindOk::from_view(method).unwrap()),
+            Kind::ExchangeUnbind => AnyMethodView::Unbind(UnbindView::from_view(method).unwrap()),
+            Kind::ExchangeUnbindOk => AnyMethodView::UnbindOk(UnbindOk::from_view(method).unwrap()),
+            _ => unreachable!(),
+        }
+    }
+}

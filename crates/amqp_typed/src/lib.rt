@@ -11,14 +11,14 @@
 //! - `basic::DeliverView` and its like lie in the payload of a [`MethodRef`](amqp_method::MethodRef): strings are lent as
 //!   octets, tables as [`TableRef`](amqp_value::TableRef). Structs of numbers and bits alone have a `from_view`.
 //! - The methods without arguments are one struct, [`Bare`], with a type for each kind: [`tx::Select`] is one of these.
-//! - [`AnyMethod`] is a method of any kind, for a `match` over all of them, and [`AnyMethodView`] one in its payload.
+//! - [`AnyMethod`] is a method of any kind, for a `match` over all of them: an enum of the classes, each an enum of its
+//!   methods, as in `AnyMethod::Basic(basic::AnyMethod::Ack(ack))`. [`AnyMethodView`] is one in its payload.
 //! - The four methods that a content follows have `message`, which makes the message with its properties and its body.
 //!
 //! The definitions of `specs/` give the call that each struct stands for: what the functions are proved to make and to read.
 #![tactic(auto)]
 
 mod any_method;
-mod any_method_view;
 mod args;
 mod bare;
 mod bare_kinds;
@@ -34,6 +34,5 @@ pub mod queue;
 pub mod tx;
 mod views;
 
-pub use crate::any_method::AnyMethod;
-pub use crate::any_method_view::AnyMethodView;
+pub use crate::any_method::{AnyMethod, AnyMethodView};
 pub use crate::bare::{Bare, BareKind};

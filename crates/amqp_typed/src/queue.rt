@@ -5,8 +5,9 @@ ghost use Rattle.amqp_value.specs.Values.{no_pairs};
 ghost use Rattle.amqp_method.specs.Arguments.{call, bit, long, short_string, table};
 ghost use Rattle.amqp_method.specs.MethodRefView.{lent_call};
 ghost use Rattle.amqp_method.specs.MethodView.{method_view};
+ghost use Rattle.amqp_method.specs.Methods.{row};
 ghost use Rattle.amqp_method.specs.declared.kinds.Kind.TheVariants.{QueueDeclare, QueueDeclareOk, QueueBind, QueueUnbind, QueuePurge, QueuePurgeOk, QueueDelete, QueueDeleteOk};
-ghost use Rattle.amqp_typed.specs.Queue.{declare_call, declare_ok_call, bind_call, unbind_call, purge_call, purge_ok_call, delete_call, delete_ok_call, declare_ref_call, declare_ok_ref_call, bind_ref_call, unbind_ref_call, purge_ref_call, delete_ref_call, declare_view_call, declare_ok_view_call, bind_view_call, unbind_view_call, purge_view_call, delete_view_call};
+ghost use Rattle.amqp_typed.specs.Queue.{declare_call, declare_ok_call, bind_call, unbind_call, purge_call, purge_ok_call, delete_call, delete_ok_call, declare_ref_call, declare_ok_ref_call, bind_ref_call, unbind_ref_call, purge_ref_call, delete_ref_call, declare_view_call, declare_ok_view_call, bind_view_call, unbind_view_call, purge_view_call, delete_view_call, any_call, any_view_call};
 
 use crate::args::{
     bit, bit_at, five, four, is_kind, long, long_at, method_of, own_args, seven, short_str,
@@ -18,6 +19,7 @@ use crate::views::{bit_in, is_view_of, long_in, short_str_in, table_in};
 use amqp_method::{Arg, Kind, Method, MethodRef, OutOfMemory};
 use amqp_value::{ShortStr, Table, TableRef};
 use std::alloc::Global;
+use std::fmt;
 
 /// Creates a queue if it doesn't exist yet. `queue.declare`, class 50, method 10.
 #[derive(Debug, Drop, PartialEq, Eq)]
@@ -821,5 +823,151 @@ impl DeleteOk {
         Some(DeleteOk {
             message_count: long_in(method, 0),
         })
+    }
+}
+
+/// A method of the class queue.
+#[derive(Drop)]
+pub enum AnyMethod {
+    Declare(Declare),
+    DeclareOk(DeclareOk),
+    Bind(Bind),
+    BindOk(BindOk),
+    Unbind(Unbind),
+    UnbindOk(UnbindOk),
+    Purge(Purge),
+    PurgeOk(PurgeOk),
+    Delete(Delete),
+    DeleteOk(DeleteOk),
+}
+
+impl AnyMethod {
+    pub fn kind(&self) -> Kind
+        ensures { result ≡ (any_call self.now).kind }
+    {
+        match self {
+            AnyMethod::Declare(_) => Kind::QueueDeclare,
+            AnyMethod::DeclareOk(_) => Kind::QueueDeclareOk,
+            AnyMethod::Bind(_) => Kind::QueueBind,
+            AnyMethod::BindOk(_) => Kind::QueueBindOk,
+            AnyMethod::Unbind(_) => Kind::QueueUnbind,
+            AnyMethod::UnbindOk(_) => Kind::QueueUnbindOk,
+            AnyMethod::Purge(_) => Kind::QueuePurge,
+            AnyMethod::PurgeOk(_) => Kind::QueuePurgeOk,
+            AnyMethod::Delete(_) => Kind::QueueDelete,
+            AnyMethod::DeleteOk(_) => Kind::QueueDeleteOk,
+        }
+    }
+
+    /// What a method of the class says.
+    pub fn from_method(method: Method) -> AnyMethod
+        requires { (row (method_view method).kind).class ≡ 50 }
+        ensures { any_call result ≡ method_view method }
+    {
+        match method.kind() {
+            Kind::QueueDeclare => AnyMethod::Declare(Declare::from_method(method).unwrap()),
+            Kind::QueueDeclareOk => AnyMethod::DeclareOk(DeclareOk::from_method(method).unwrap()),
+            Kind::QueueBind => AnyMethod::Bind(Bind::from_method(method).unwrap()),
+            Kind::QueueBindOk => AnyMethod::BindOk(BindOk::from_method(method).unwrap()),
+            Kind::QueueUnbind => AnyMethod::Unbind(Unbind::from_method(method).unwrap()),
+            Kind::QueueUnbindOk => AnyMethod::UnbindOk(UnbindOk::from_method(method).unwrap()),
+            Kind::QueuePurge => AnyMethod::Purge(Purge::from_method(method).unwrap()),
+            Kind::QueuePurgeOk => AnyMethod::PurgeOk(PurgeOk::from_method(method).unwrap()),
+            Kind::QueueDelete => AnyMethod::Delete(Delete::from_method(method).unwrap()),
+            Kind::QueueDeleteOk => AnyMethod::DeleteOk(DeleteOk::from_method(method).unwrap()),
+            _ => unreachable!(),
+        }
+    }
+
+    /// The method with these arguments.
+    pub fn into_method(self, alloc: Global) -> Result<Method, OutOfMemory>
+        ensures { IfOk result (λ m. method_view m ≡ any_call self) }
+    {
+        match self {
+            AnyMethod::Declare(method) => method.into_method(alloc),
+            AnyMethod::DeclareOk(method) => method.into_method(alloc),
+            AnyMethod::Bind(method) => method.into_method(alloc),
+            AnyMethod::BindOk(method) => method.into_method(alloc),
+            AnyMethod::Unbind(method) => method.into_method(alloc),
+            AnyMethod::UnbindOk(method) => method.into_method(alloc),
+            AnyMethod::Purge(method) => method.into_method(alloc),
+            AnyMethod::PurgeOk(method) => method.into_method(alloc),
+            AnyMethod::Delete(method) => method.into_method(alloc),
+            AnyMethod::DeleteOk(method) => method.into_method(alloc),
+        }
+    }
+}
+
+/// Prints what the struct prints.
+impl fmt::Debug for AnyMethod {
+    fn fmt<W: fmt::Write>(&self, f: &mut fmt::Formatter<W>) -> fmt::Result {
+        match self {
+            AnyMethod::Declare(method) => fmt::Debug::fmt(method, f),
+            AnyMethod::DeclareOk(method) => fmt::Debug::fmt(method, f),
+            AnyMethod::Bind(method) => fmt::Debug::fmt(method, f),
+            AnyMethod::BindOk(method) => fmt::Debug::fmt(method, f),
+            AnyMethod::Unbind(method) => fmt::Debug::fmt(method, f),
+            AnyMethod::UnbindOk(method) => fmt::Debug::fmt(method, f),
+            AnyMethod::Purge(method) => fmt::Debug::fmt(method, f),
+            AnyMethod::PurgeOk(method) => fmt::Debug::fmt(method, f),
+            AnyMethod::Delete(method) => fmt::Debug::fmt(method, f),
+            AnyMethod::DeleteOk(method) => fmt::Debug::fmt(method, f),
+        }
+    }
+}
+
+/// [`AnyMethod`], as it lies in its payload.
+#[derive(Clone, Copy)]
+pub enum AnyMethodView<'a> {
+    Declare(DeclareView<'a>),
+    DeclareOk(DeclareOkView<'a>),
+    Bind(BindView<'a>),
+    BindOk(BindOk),
+    Unbind(UnbindView<'a>),
+    UnbindOk(UnbindOk),
+    Purge(PurgeView<'a>),
+    PurgeOk(PurgeOk),
+    Delete(DeleteView<'a>),
+    DeleteOk(DeleteOk),
+}
+
+impl<'a> AnyMethodView<'a> {
+    pub fn kind(self) -> Kind
+        ensures { result ≡ (any_view_call self.entry).kind }
+    {
+        match self {
+            AnyMethodView::Declare(_) => Kind::QueueDeclare,
+            AnyMethodView::DeclareOk(_) => Kind::QueueDeclareOk,
+            AnyMethodView::Bind(_) => Kind::QueueBind,
+            AnyMethodView::BindOk(_) => Kind::QueueBindOk,
+            AnyMethodView::Unbind(_) => Kind::QueueUnbind,
+            AnyMethodView::UnbindOk(_) => Kind::QueueUnbindOk,
+            AnyMethodView::Purge(_) => Kind::QueuePurge,
+            AnyMethodView::PurgeOk(_) => Kind::QueuePurgeOk,
+            AnyMethodView::Delete(_) => Kind::QueueDelete,
+            AnyMethodView::DeleteOk(_) => Kind::QueueDeleteOk,
+        }
+    }
+
+    /// What a method of the class says.
+    pub fn from_view(method: MethodRef<'a>) -> AnyMethodView<'a>
+        requires { (row (lent_call method).kind).class ≡ 50 }
+        ensures { any_view_call result ≡ lent_call method.entry }
+    {
+        match method.kind() {
+            Kind::QueueDeclare => AnyMethodView::Declare(DeclareView::from_view(method).unwrap()),
+            Kind::QueueDeclareOk => {
+                AnyMethodView::DeclareOk(DeclareOkView::from_view(method).unwrap())
+            }
+            Kind::QueueBind => AnyMethodView::Bind(BindView::from_view(method).unwrap()),
+            Kind::QueueBindOk => AnyMethodView::BindOk(BindOk::from_view(method).unwrap()),
+            Kind::QueueUnbind => AnyMethodView::Unbind(UnbindView::from_view(method).unwrap()),
+            Kind::QueueUnbindOk => AnyMethodView::UnbindOk(UnbindOk::from_view(method).unwrap()),
+            Kind::QueuePurge => AnyMethodView::Purge(PurgeView::from_view(method).unwrap()),
+            Kind::QueuePurgeOk => AnyMethodView::PurgeOk(PurgeOk::from_view(method).unwrap()),
+            Kind::QueueDelete => AnyMethodView::Delete(DeleteView::from_view(method).unwrap()),
+            Kind::QueueDeleteOk => AnyMethodView::DeleteOk(DeleteOk::from_view(method).unwrap()),
+            _ => unreachable!(),
+        }
     }
 }

@@ -1,7 +1,16 @@
 //! The methods of the class tx (`amqp0-9-1.xml`, class 90).
 // Written by `tools/typed_methods.py` from the table of methods in `docs/PROTOCOL.md`: change those and run it again.
+ghost use Rattle.std.specs.Prelude.{◌≡◌, IfOk};
+ghost use Rattle.amqp_method.specs.MethodRefView.{lent_call};
+ghost use Rattle.amqp_method.specs.MethodView.{method_view};
+ghost use Rattle.amqp_method.specs.Methods.{row};
+ghost use Rattle.amqp_typed.specs.Tx.{any_call};
+
 use crate::bare::Bare;
 use crate::bare_kinds::{TxCommit, TxCommitOk, TxRollback, TxRollbackOk, TxSelect, TxSelectOk};
+use amqp_method::{Kind, Method, MethodRef, OutOfMemory};
+use std::alloc::Global;
+use std::fmt;
 
 /// Puts the channel into transactions. `tx.select`, class 90, method 10.
 pub type Select = Bare<TxSelect>;
@@ -20,3 +29,89 @@ pub type Rollback = Bare<TxRollback>;
 
 /// Confirms the rollback. `tx.rollback-ok`, class 90, method 31.
 pub type RollbackOk = Bare<TxRollbackOk>;
+
+/// A method of the class tx.
+#[derive(Clone, Copy)]
+pub enum AnyMethod {
+    Select(Select),
+    SelectOk(SelectOk),
+    Commit(Commit),
+    CommitOk(CommitOk),
+    Rollback(Rollback),
+    RollbackOk(RollbackOk),
+}
+
+impl AnyMethod {
+    pub fn kind(&self) -> Kind
+        ensures { result ≡ (any_call self.now).kind }
+    {
+        match self {
+            AnyMethod::Select(_) => Kind::TxSelect,
+            AnyMethod::SelectOk(_) => Kind::TxSelectOk,
+            AnyMethod::Commit(_) => Kind::TxCommit,
+            AnyMethod::CommitOk(_) => Kind::TxCommitOk,
+            AnyMethod::Rollback(_) => Kind::TxRollback,
+            AnyMethod::RollbackOk(_) => Kind::TxRollbackOk,
+        }
+    }
+
+    /// What a method of the class says.
+    pub fn from_method(method: Method) -> AnyMethod
+        requires { (row (method_view method).kind).class ≡ 90 }
+        ensures { any_call result ≡ method_view method }
+    {
+        match method.kind() {
+            Kind::TxSelect => AnyMethod::Select(Select::from_method(method).unwrap()),
+            Kind::TxSelectOk => AnyMethod::SelectOk(SelectOk::from_method(method).unwrap()),
+            Kind::TxCommit => AnyMethod::Commit(Commit::from_method(method).unwrap()),
+            Kind::TxCommitOk => AnyMethod::CommitOk(CommitOk::from_method(method).unwrap()),
+            Kind::TxRollback => AnyMethod::Rollback(Rollback::from_method(method).unwrap()),
+            Kind::TxRollbackOk => AnyMethod::RollbackOk(RollbackOk::from_method(method).unwrap()),
+            _ => unreachable!(),
+        }
+    }
+
+    /// The method with these arguments.
+    pub fn into_method(self, alloc: Global) -> Result<Method, OutOfMemory>
+        ensures { IfOk result (λ m. method_view m ≡ any_call self) }
+    {
+        match self {
+            AnyMethod::Select(method) => method.into_method(alloc),
+            AnyMethod::SelectOk(method) => method.into_method(alloc),
+            AnyMethod::Commit(method) => method.into_method(alloc),
+            AnyMethod::CommitOk(method) => method.into_method(alloc),
+            AnyMethod::Rollback(method) => method.into_method(alloc),
+            AnyMethod::RollbackOk(method) => method.into_method(alloc),
+        }
+    }
+
+    /// What a method of the class says.
+    pub fn from_view(method: MethodRef<'_>) -> AnyMethod
+        requires { (row (lent_call method).kind).class ≡ 90 }
+        ensures { any_call result ≡ lent_call method.entry }
+    {
+        match method.kind() {
+            Kind::TxSelect => AnyMethod::Select(Select::from_view(method).unwrap()),
+            Kind::TxSelectOk => AnyMethod::SelectOk(SelectOk::from_view(method).unwrap()),
+            Kind::TxCommit => AnyMethod::Commit(Commit::from_view(method).unwrap()),
+            Kind::TxCommitOk => AnyMethod::CommitOk(CommitOk::from_view(method).unwrap()),
+            Kind::TxRollback => AnyMethod::Rollback(Rollback::from_view(method).unwrap()),
+            Kind::TxRollbackOk => AnyMethod::RollbackOk(RollbackOk::from_view(method).unwrap()),
+            _ => unreachable!(),
+        }
+    }
+}
+
+/// Prints what the struct prints.
+impl fmt::Debug for AnyMethod {
+    fn fmt<W: fmt::Write>(&self, f: &mut fmt::Formatter<W>) -> fmt::Result {
+        match self {
+            AnyMethod::Select(method) => fmt::Debug::fmt(method, f),
+            AnyMethod::SelectOk(method) => fmt::Debug::fmt(method, f),
+            AnyMethod::Commit(method) => fmt::Debug::fmt(method, f),
+            AnyMethod::CommitOk(method) => fmt::Debug::fmt(method, f),
+            AnyMethod::Rollback(method) => fmt::Debug::fmt(method, f),
+            AnyMethod::RollbackOk(method) => fmt::Debug::fmt(method, f),
+        }
+    }
+}

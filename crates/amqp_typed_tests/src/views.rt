@@ -173,6 +173,22 @@ fn another_method_in_its_payload(rt: HostRuntime) -> Result<(), Fail> {
     Ok(())
 }
 
+fn is_any_delivery(method: AnyMethodView<'_>) -> bool {
+    match method {
+        AnyMethodView::Basic(basic::AnyMethodView::Deliver(deliver)) => is_delivery(deliver),
+        _ => false,
+    }
+}
+
+#[test]
+fn a_method_by_its_class(rt: HostRuntime) -> Result<(), Fail> {
+    let delivery = MethodRef::new(DELIVERY)?;
+    assert!(rt; is_any_delivery(AnyMethodView::from_view(delivery)));
+    let select = AnyMethodView::from_view(MethodRef::new(SELECT)?);
+    assert!(rt; matches!(select, AnyMethodView::Tx(tx::AnyMethod::Select(_))));
+    Ok(())
+}
+
 fn assert_kind(rt: &impl Abort, payload: &[u8]) -> Result<(), Fail> {
     let method = MethodRef::new(payload)?;
     assert!(rt; AnyMethodView::from_view(method).kind() == method.kind());

@@ -3,7 +3,7 @@ use crate::broker::Broker;
 use crate::queues::Place;
 use crate::refusal::{Done, Fault, Refusal};
 use amqp_method::{Kind, Message, Method, OutOfMemory, reply};
-use amqp_typed::{AnyMethod, basic};
+use amqp_typed::{AnyMethod, basic, confirm, exchange, queue};
 
 impl Broker {
     /// Handles a message. One that is refused closes its channel, or the connection where the error is a hard one.
@@ -52,35 +52,59 @@ impl Broker {
 
     fn handle_method(&mut self, at: Place, method: Method) -> Done {
         match AnyMethod::from_method(method) {
-            AnyMethod::ExchangeDeclare(declare) => self.declare_exchange(at, declare),
-            AnyMethod::ExchangeDelete(delete) => self.delete_exchange(at, delete),
-            AnyMethod::ExchangeBind(_) | AnyMethod::ExchangeUnbind(_) => {
+            AnyMethod::Exchange(method) => self.handle_exchange_method(at, method),
+            AnyMethod::Queue(method) => self.handle_queue_method(at, method),
+            AnyMethod::Basic(method) => self.handle_basic_method(at, method),
+            AnyMethod::Confirm(confirm::AnyMethod::Select(select)) => {
+                self.select_confirms(at, select)
+            }
+            AnyMethod::Tx(_) => Err(Refusal::NotImplemented("transactions").into()),
+            // no client sends any other
+            _ => Ok(()),
+        }
+    }
+
+    fn handle_exchange_method(&mut self, at: Place, method: exchange::AnyMethod) -> Done {
+        match method {
+            exchange::AnyMethod::Declare(declare) => self.declare_exchange(at, declare),
+            exchange::AnyMethod::Delete(delete) => self.delete_exchange(at, delete),
+            exchange::AnyMethod::Bind(_) | exchange::AnyMethod::Unbind(_) => {
                 Err(Refusal::NotImplemented("bindings between exchanges").into())
             }
-            AnyMethod::QueueDeclare(declare) => self.declare_queue(at, declare),
-            AnyMethod::QueueBind(bind) => self.bind_queue(at, bind),
-            AnyMethod::QueueUnbind(unbind) => self.unbind_queue(at, unbind),
-            AnyMethod::QueuePurge(purge) => self.purge_queue(at, purge),
-            AnyMethod::QueueDelete(delete) => self.delete_queue(at, delete),
-            AnyMethod::BasicQos(qos) => self.set_qos(at, qos),
-            AnyMethod::BasicConsume(consume) => self.consume(at, consume),
-            AnyMethod::BasicCancel(cancel) => self.cancel(at, cancel),
-            AnyMethod::BasicGet(get) => self.get(at, get),
-            AnyMethod::BasicAck(ack) => self.settle(at, ack.delivery_tag, ack.multiple, false),
-            AnyMethod::BasicReject(reject) => {
+            // no client sends any other
+            _ => Ok(()),
+        }
+    }
+
+    fn handle_queue_method(&mut self, at: Place, method: queue::AnyMethod) -> Done {
+        match method {
+            queue::AnyMethod::Declare(declare) => self.declare_queue(at, declare),
+            queue::AnyMethod::Bind(bind) => self.bind_queue(at, bind),
+            queue::AnyMethod::Unbind(unbind) => self.unbind_queue(at, unbind),
+            queue::AnyMethod::Purge(purge) => self.purge_queue(at, purge),
+            queue::AnyMethod::Delete(delete) => self.delete_queue(at, delete),
+            // no client sends any other
+            _ => Ok(()),
+        }
+    }
+
+    fn handle_basic_method(&mut self, at: Place, method: basic::AnyMethod) -> Done {
+        match method {
+            basic::AnyMethod::Qos(qos) => self.set_qos(at, qos),
+            basic::AnyMethod::Consume(consume) => self.consume(at, consume),
+            basic::AnyMethod::Cancel(cancel) => self.cancel(at, cancel),
+            basic::AnyMethod::Get(get) => self.get(at, get),
+            basic::AnyMethod::Ack(ack) => self.settle(at, ack.delivery_tag, ack.multiple, false),
+            basic::AnyMethod::Reject(reject) => {
                 self.settle(at, reject.delivery_tag, false, reject.requeue)
             }
-            AnyMethod::BasicNack(nack) => {
+            basic::AnyMethod::Nack(nack) => {
                 self.settle(at, nack.delivery_tag, nack.multiple, nack.requeue)
             }
-            AnyMethod::BasicRecoverAsync(recover) => self.recover(at, recover.requeue),
-            AnyMethod::BasicRecover(recover) => {
+            basic::AnyMethod::RecoverAsync(recover) => self.recover(at, recover.requeue),
+            basic::AnyMethod::Recover(recover) => {
                 self.recover(at, recover.requeue)?;
                 self.reply(at, false, basic::RecoverOk::new().into_method(self.alloc))
-            }
-            AnyMethod::ConfirmSelect(select) => self.select_confirms(at, select),
-            AnyMethod::TxSelect(_) | AnyMethod::TxCommit(_) | AnyMethod::TxRollback(_) => {
-                Err(Refusal::NotImplemented("transactions").into())
             }
             // no client sends any other
             _ => Ok(()),

@@ -1,0 +1,110 @@
+use Rattle.std.proofs.Common.{sym, ◌∙◌}
+use Rattle.amqp_typed.proofs.basic.AnyMethod.from_method.Goals as goal
+
+pub unwrap-requires : goal.unwrap-requires
+unwrap-requires c = c.from_method.ensures.when.1 (sym c.kind.ensures ∙ c.in-BasicQos.is)
+
+pub returns-in-BasicQos : goal.returns-in-BasicQos
+returns-in-BasicQos c = rw c.unwrap.ensures at c.from_method.ensures.args
+
+pub unwrap-requires-in-BasicQosOk : goal.unwrap-requires-in-BasicQosOk
+unwrap-requires-in-BasicQosOk c = c.from_method-in-BasicQosOk.ensures.when.1 (sym c.kind.ensures ∙ c.in-BasicQosOk.is)
+
+pub returns-in-BasicQosOk : goal.returns-in-BasicQosOk
+returns-in-BasicQosOk c = rw c.unwrap-in-BasicQosOk.ensures at c.from_method-in-BasicQosOk.ensures.args
+
+pub unwrap-requires-in-BasicConsume : goal.unwrap-requires-in-BasicConsume
+unwrap-requires-in-BasicConsume c = c.from_method-in-BasicConsume.ensures.when.1 (sym c.kind.ensures ∙ c.in-BasicConsume.is)
+
+pub returns-in-BasicConsume : goal.returns-in-BasicConsume
+returns-in-BasicConsume c = rw c.unwrap-in-BasicConsume.ensures at c.from_method-in-BasicConsume.ensures.args
+
+pub unwrap-requires-in-BasicConsumeOk : goal.unwrap-requires-in-BasicConsumeOk
+unwrap-requires-in-BasicConsumeOk c = c.from_method-in-BasicConsumeOk.ensures.when.1 (sym c.kind.ensures ∙ c.in-BasicConsumeOk.is)
+
+pub returns-in-BasicConsumeOk : goal.returns-in-BasicConsumeOk
+returns-in-BasicConsumeOk c = rw c.unwrap-in-BasicConsumeOk.ensures at c.from_method-in-BasicConsumeOk.ensures.args
+
+pub unwrap-requires-in-BasicCancel : goal.unwrap-requires-in-BasicCancel
+unwrap-requires-in-BasicCancel c = c.from_method-in-BasicCancel.ensures.when.1 (sym c.kind.ensures ∙ c.in-BasicCancel.is)
+
+pub returns-in-BasicCancel : goal.returns-in-BasicCancel
+returns-in-BasicCancel c = rw c.unwrap-in-BasicCancel.ensures at c.from_method-in-BasicCancel.ensures.args
+
+pub unwrap-requires-in-BasicCancelOk : goal.unwrap-requires-in-BasicCancelOk
+unwrap-requires-in-BasicCancelOk c = c.from_method-in-BasicCancelOk.ensures.when.1 (sym c.kind.ensures ∙ c.in-BasicCancelOk.is)
+
+pub returns-in-BasicCancelOk : goal.returns-in-BasicCancelOk
+returns-in-BasicCancelOk c = rw c.unwrap-in-BasicCancelOk.ensures at c.from_method-in-BasicCancelOk.ensures.args
+
+pub unwrap-requires-in-BasicPublish : goal.unwrap-requires-in-BasicPublish
+unwrap-requires-in-BasicPublish c = c.from_method-in-BasicPublish.ensures.when.1 (sym c.kind.ensures ∙ c.in-BasicPublish.is)
+
+pub returns-in-BasicPublish : goal.returns-in-BasicPublish
+returns-in-BasicPublish c = rw c.unwrap-in-BasicPublish.ensures at c.from_method-in-BasicPublish.ensures.args
+
+pub unwrap-requires-in-BasicReturn : goal.unwrap-requires-in-BasicReturn
+unwrap-requires-in-BasicReturn c = c.from_method-in-BasicReturn.ensures.when.1 (sym c.kind.ensures ∙ c.in-BasicReturn.is)
+
+pub returns-in-BasicReturn : goal.returns-in-BasicReturn
+returns-in-BasicReturn c = rw c.unwrap-in-BasicReturn.ensures at c.from_method-in-BasicReturn.ensures.args
+
+pub unwrap-requires-in-BasicDeliver : goal.unwrap-requires-in-BasicDeliver
+unwrap-requires-in-BasicDeliver c = c.from_method-in-BasicDeliver.ensures.when.1 (sym c.kind.ensures ∙ c.in-BasicDeliver.is)
+
+pub returns-in-BasicDeliver : goal.returns-in-BasicDeliver
+returns-in-BasicDeliver c = rw c.unwrap-in-BasicDeliver.ensures at c.from_method-in-BasicDeliver.ensures.args
+
+pub unwrap-requires-in-BasicGet : goal.unwrap-requires-in-BasicGet
+unwrap-requires-in-BasicGet c = c.from_method-in-BasicGet.ensures.when.1 (sym c.kind.ensures ∙ c.in-BasicGet.is)
+
+pub returns-in-BasicGet : goal.returns-in-BasicGet
+returns-in-BasicGet c = rw c.unwrap-in-BasicGet.ensures at c.from_method-in-BasicGet.ensures.args
+
+pub unwrap-requires-in-BasicGetOk : goal.unwrap-requires-in-BasicGetOk
+unwrap-requires-in-BasicGetOk c = c.from_method-in-BasicGetOk.ensures.when.1 (sym c.kind.ensures ∙ c.in-BasicGetOk.is)
+
+pub returns-in-BasicGetOk : goal.returns-in-BasicGetOk
+returns-in-BasicGetOk c = rw c.unwrap-in-BasicGetOk.ensures at c.from_method-in-BasicGetOk.ensures.args
+
+pub unwrap-requires-in-BasicGetEmpty : goal.unwrap-requires-in-BasicGetEmpty
+unwrap-requires-in-BasicGetEmpty c = c.from_method-in-BasicGetEmpty.ensures.when.1 (sym c.kind.ensures ∙ c.in-BasicGetEmpty.is)
+
+pub returns-in-BasicGetEmpty : goal.returns-in-BasicGetEmpty
+returns-in-BasicGetEmpty c = rw c.unwrap-in-BasicGetEmpty.ensures at c.from_method-in-BasicGetEmpty.ensures.args
+
+pub unwrap-requires-in-BasicAck : goal.unwrap-requires-in-BasicAck
+unwrap-requires-in-BasicAck c = c.from_method-in-BasicAck.ensures.when.1 (sym c.kind.ensures ∙ c.in-BasicAck.is)
+
+pub returns-in-BasicAck : goal.returns-in-BasicAck
+returns-in-BasicAck c = rw c.unwrap-in-BasicAck.ensures at c.from_method-in-BasicAck.ensures.args
+
+pub unwrap-requires-in-BasicReject : goal.unwrap-requires-in-BasicReject
+unwrap-requires-in-BasicReject c = c.from_method-in-BasicReject.ensures.when.1 (sym c.kind.ensures ∙ c.in-BasicReject.is)
+
+pub returns-in-BasicReject : goal.returns-in-BasicReject
+returns-in-BasicReject c = rw c.unwrap-in-BasicReject.ensures at c.from_method-in-BasicReject.ensures.args
+
+pub unwrap-requires-in-BasicRecoverAsync : goal.unwrap-requires-in-BasicRecoverAsync
+unwrap-requires-in-BasicRecoverAsync c = c.from_method-in-BasicRecoverAsync.ensures.when.1 (sym c.kind.ensures ∙ c.in-BasicRecoverAsync.is)
+
+pub returns-in-BasicRecoverAsync : goal.returns-in-BasicRecoverAsync
+returns-in-BasicRecoverAsync c = rw c.unwrap-in-BasicRecoverAsync.ensures at c.from_method-in-BasicRecoverAsync.ensures.args
+
+pub unwrap-requires-in-BasicRecover : goal.unwrap-requires-in-BasicRecover
+unwrap-requires-in-BasicRecover c = c.from_method-in-BasicRecover.ensures.when.1 (sym c.kind.ensures ∙ c.in-BasicRecover.is)
+
+pub returns-in-BasicRecover : goal.returns-in-BasicRecover
+returns-in-BasicRecover c = rw c.unwrap-in-BasicRecover.ensures at c.from_method-in-BasicRecover.ensures.args
+
+pub unwrap-requires-in-BasicRecoverOk : goal.unwrap-requires-in-BasicRecoverOk
+unwrap-requires-in-BasicRecoverOk c = c.from_method-in-BasicRecoverOk.ensures.when.1 (sym c.kind.ensures ∙ c.in-BasicRecoverOk.is)
+
+pub returns-in-BasicRecoverOk : goal.returns-in-BasicRecoverOk
+returns-in-BasicRecoverOk c = rw c.unwrap-in-BasicRecoverOk.ensures at c.from_method-in-BasicRecoverOk.ensures.args
+
+pub unwrap-requires-in-BasicNack : goal.unwrap-requires-in-BasicNack
+unwrap-requires-in-BasicNack c = c.from_method-in-BasicNack.ensures.when.1 (sym c.kind.ensures ∙ c.in-BasicNack.is)
+
+pub returns-in-BasicNack : goal.returns-in-BasicNack
+returns-in-BasicNack c = rw c.unwrap-in-BasicNack.ensures at c.from_method-in-BasicNack.ensures.args

@@ -1,0 +1,74 @@
+use Rattle.std.proofs.Common.{sym, ◌∙◌}
+use Rattle.amqp_typed.proofs.connection.AnyMethod.from_method.Goals as goal
+
+pub unwrap-requires : goal.unwrap-requires
+unwrap-requires c = c.from_method.ensures.when.1 (sym c.kind.ensures ∙ c.in-ConnectionStart.is)
+
+pub returns-in-ConnectionStart : goal.returns-in-ConnectionStart
+returns-in-ConnectionStart c = rw c.unwrap.ensures at c.from_method.ensures.args
+
+pub unwrap-requires-in-ConnectionStartOk : goal.unwrap-requires-in-ConnectionStartOk
+unwrap-requires-in-ConnectionStartOk c = c.from_method-in-ConnectionStartOk.ensures.when.1 (sym c.kind.ensures ∙ c.in-ConnectionStartOk.is)
+
+pub returns-in-ConnectionStartOk : goal.returns-in-ConnectionStartOk
+returns-in-ConnectionStartOk c = rw c.unwrap-in-ConnectionStartOk.ensures at c.from_method-in-ConnectionStartOk.ensures.args
+
+pub unwrap-requires-in-ConnectionSecure : goal.unwrap-requires-in-ConnectionSecure
+unwrap-requires-in-ConnectionSecure c = c.from_method-in-ConnectionSecure.ensures.when.1 (sym c.kind.ensures ∙ c.in-ConnectionSecure.is)
+
+pub returns-in-ConnectionSecure : goal.returns-in-ConnectionSecure
+returns-in-ConnectionSecure c = rw c.unwrap-in-ConnectionSecure.ensures at c.from_method-in-ConnectionSecure.ensures.args
+
+pub unwrap-requires-in-ConnectionSecureOk : goal.unwrap-requires-in-ConnectionSecureOk
+unwrap-requires-in-ConnectionSecureOk c = c.from_method-in-ConnectionSecureOk.ensures.when.1 (sym c.kind.ensures ∙ c.in-ConnectionSecureOk.is)
+
+pub returns-in-ConnectionSecureOk : goal.returns-in-ConnectionSecureOk
+returns-in-ConnectionSecureOk c = rw c.unwrap-in-ConnectionSecureOk.ensures at c.from_method-in-ConnectionSecureOk.ensures.args
+
+pub unwrap-requires-in-ConnectionTune : goal.unwrap-requires-in-ConnectionTune
+unwrap-requires-in-ConnectionTune c = c.from_method-in-ConnectionTune.ensures.when.1 (sym c.kind.ensures ∙ c.in-ConnectionTune.is)
+
+pub returns-in-ConnectionTune : goal.returns-in-ConnectionTune
+returns-in-ConnectionTune c = rw c.unwrap-in-ConnectionTune.ensures at c.from_method-in-ConnectionTune.ensures.args
+
+pub unwrap-requires-in-ConnectionTuneOk : goal.unwrap-requires-in-ConnectionTuneOk
+unwrap-requires-in-ConnectionTuneOk c = c.from_method-in-ConnectionTuneOk.ensures.when.1 (sym c.kind.ensures ∙ c.in-ConnectionTuneOk.is)
+
+pub returns-in-ConnectionTuneOk : goal.returns-in-ConnectionTuneOk
+returns-in-ConnectionTuneOk c = rw c.unwrap-in-ConnectionTuneOk.ensures at c.from_method-in-ConnectionTuneOk.ensures.args
+
+pub unwrap-requires-in-ConnectionOpen : goal.unwrap-requires-in-ConnectionOpen
+unwrap-requires-in-ConnectionOpen c = c.from_method-in-ConnectionOpen.ensures.when.1 (sym c.kind.ensures ∙ c.in-ConnectionOpen.is)
+
+pub returns-in-ConnectionOpen : goal.returns-in-ConnectionOpen
+returns-in-ConnectionOpen c = rw c.unwrap-in-ConnectionOpen.ensures at c.from_method-in-ConnectionOpen.ensures.args
+
+pub unwrap-requires-in-ConnectionOpenOk : goal.unwrap-requires-in-ConnectionOpenOk
+unwrap-requires-in-ConnectionOpenOk c = c.from_method-in-ConnectionOpenOk.ensures.when.1 (sym c.kind.ensures ∙ c.in-ConnectionOpenOk.is)
+
+pub returns-in-ConnectionOpenOk : goal.returns-in-ConnectionOpenOk
+returns-in-ConnectionOpenOk c = rw c.unwrap-in-ConnectionOpenOk.ensures at c.from_method-in-ConnectionOpenOk.ensures.args
+
+pub unwrap-requires-in-ConnectionClose : goal.unwrap-requires-in-ConnectionClose
+unwrap-requires-in-ConnectionClose c = c.from_method-in-ConnectionClose.ensures.when.1 (sym c.kind.ensures ∙ c.in-ConnectionClose.is)
+
+pub returns-in-ConnectionClose : goal.returns-in-ConnectionClose
+returns-in-ConnectionClose c = rw c.unwrap-in-ConnectionClose.ensures at c.from_method-in-ConnectionClose.ensures.args
+
+pub unwrap-requires-in-ConnectionCloseOk : goal.unwrap-requires-in-ConnectionCloseOk
+unwrap-requires-in-ConnectionCloseOk c = c.from_method-in-ConnectionCloseOk.ensures.when.1 (sym c.kind.ensures ∙ c.in-ConnectionCloseOk.is)
+
+pub returns-in-ConnectionCloseOk : goal.returns-in-ConnectionCloseOk
+returns-in-ConnectionCloseOk c = rw c.unwrap-in-ConnectionCloseOk.ensures at c.from_method-in-ConnectionCloseOk.ensures.args
+
+pub unwrap-requires-in-ConnectionBlocked : goal.unwrap-requires-in-ConnectionBlocked
+unwrap-requires-in-ConnectionBlocked c = c.from_method-in-ConnectionBlocked.ensures.when.1 (sym c.kind.ensures ∙ c.in-ConnectionBlocked.is)
+
+pub returns-in-ConnectionBlocked : goal.returns-in-ConnectionBlocked
+returns-in-ConnectionBlocked c = rw c.unwrap-in-ConnectionBlocked.ensures at c.from_method-in-ConnectionBlocked.ensures.args
+
+pub unwrap-requires-in-ConnectionUnblocked : goal.unwrap-requires-in-ConnectionUnblocked
+unwrap-requires-in-ConnectionUnblocked c = c.from_method-in-ConnectionUnblocked.ensures.when.1 (sym c.kind.ensures ∙ c.in-ConnectionUnblocked.is)
+
+pub returns-in-ConnectionUnblocked : goal.returns-in-ConnectionUnblocked
+returns-in-ConnectionUnblocked c = rw c.unwrap-in-ConnectionUnblocked.ensures at c.from_method-in-ConnectionUnblocked.ensures.args
