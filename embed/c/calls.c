@@ -125,28 +125,32 @@ static bool lies_in(const mt_frame *frame, const uint8_t *piece, size_t length)
 				      (uintptr_t)frame->payload < (uintptr_t)piece + length);
 }
 
+/* Of the frames of a piece only the first can have begun in an earlier one: all others lie in the piece. */
 uint32_t mt_splitter_feed_batch(mt_splitter *splitter, const uint8_t *piece, size_t length, mt_frame *frames,
 				size_t capacity, size_t *count, size_t *taken)
 {
-	WANTED(splitter && frames && count && taken && (piece || length == 0));
-	*count = 0;
-	*taken = 0;
-	while (*count < capacity && *taken < length) {
-		mt_frame *frame = &frames[*count];
-		uint32_t status = mt_splitter_feed(splitter, piece + *taken, length - *taken, frame);
+	const uint8_t *rest = piece;
+	size_t left = length, found = 0;
+	uint32_t status = MT_OK;
 
+	WANTED(splitter && frames && count && taken && (piece || length == 0));
+	while (found < capacity && left > 0) {
+		mt_frame *frame = &frames[found];
+
+		*frame = NO_FRAME;
+		status = proved_splitter_feed((slot *)splitter, rest, left, frame);
 		if (status != MT_OK)
-			return status;
-		if (frame->kind == MT_NO_FRAME) {
-			*taken = length;
 			break;
-		}
-		*taken += frame->taken;
-		++*count;
-		if (!lies_in(frame, piece, length))
+		rest += frame->taken;
+		left -= frame->taken;
+		if (frame->kind == MT_NO_FRAME)
+			break;
+		if (++found == 1 && !lies_in(frame, piece, length))
 			break;
 	}
-	return MT_OK;
+	*count = found;
+	*taken = length - left;
+	return status;
 }
 
 uint32_t mt_splitter_pending(mt_splitter *splitter, size_t *pending)

@@ -60,6 +60,12 @@ typedef struct seen_event {
 	bool holds;
 } seen_event;
 
+_Static_assert(sizeof(seen_event) <= offsetof(mt_event, taken), "what is shown is the first part of an event");
+_Static_assert(offsetof(seen_event, text) == offsetof(mt_event, text), "members of an event in their order");
+_Static_assert(offsetof(seen_event, frame_max) == offsetof(mt_event, frame_max), "members of an event in their order");
+_Static_assert(offsetof(seen_event, code) == offsetof(mt_event, code), "members of an event in their order");
+_Static_assert(offsetof(seen_event, holds) == offsetof(mt_event, holds), "members of an event in their order");
+
 /* What is asked. */
 enum { OPEN_CHANNEL = 1, FLOW = 2, CLOSE_CHANNEL = 3, CLOSE = 4, BLOCKED = 5, UNBLOCKED = 6 };
 
@@ -259,49 +265,40 @@ uint32_t mt_end_close(mt_end *end)
 static const mt_event NO_EVENT = {{NOTHING, 0}, {NOTHING, 0}, {NOTHING, 0}, {NOTHING, 0}, 0, 0, 0, 0, 0,
 				  MT_EVENT_NONE, false, 0};
 
-/* The same, as the proved functions show it. */
-static const seen_event NONE_SEEN = {{NOTHING, 0}, {NOTHING, 0}, {NOTHING, 0}, {NOTHING, 0}, 0, 0, 0, 0, 0,
-				     MT_EVENT_NONE, false};
-
-/* What is shown, beside what was said of the piece. */
-static void copy_seen(const seen_event *seen, mt_event *event)
+/* What the proved functions show of an event: all but what was taken of the piece. */
+static seen_event *seen_of(mt_event *event)
 {
-	event->method = seen->method;
-	event->header = seen->header;
-	event->body = seen->body;
-	event->text = seen->text;
-	event->frame_max = seen->frame_max;
-	event->channel = seen->channel;
-	event->channel_max = seen->channel_max;
-	event->heartbeat = seen->heartbeat;
-	event->code = seen->code;
-	event->kind = seen->kind;
-	event->holds = seen->holds;
+	return (seen_event *)event;
+}
+
+/* Feeds an end that keeps its events, at a place that is made where it isn't there yet. */
+static uint32_t feed_at(mt_end *end, size_t place, const uint8_t *piece, size_t length, fed_end *fed)
+{
+	uint32_t status = proved_end_feed((slot *)end, place, piece, length, fed);
+
+	if (status != MT_NO_ROOM)
+		return status;
+	status = proved_end_make_place((slot *)end, place);
+	return status == MT_OK ? proved_end_feed((slot *)end, place, piece, length, fed) : status;
 }
 
 /* Shows the event at a place. */
 static uint32_t show(mt_end *end, size_t place, mt_event *event)
 {
-	seen_event seen = NONE_SEEN;
-	uint32_t status = proved_end_event((slot *)end, place, &seen);
-
-	if (status == MT_OK)
-		copy_seen(&seen, event);
-	return status;
+	return proved_end_event((slot *)end, place, seen_of(event));
 }
 
 /* Feeds an end whose events lend. */
 static uint32_t feed_lent(mt_end *end, const uint8_t *piece, size_t length, mt_event *event)
 {
 	fed_end fed = {0, 0, MT_EVENT_NONE};
-	seen_event seen = NONE_SEEN;
-	uint32_t status = proved_end_feed_lent((slot *)end, piece, length, &fed, &seen);
+	uint32_t status;
 
 	*event = NO_EVENT;
+	status = proved_end_feed_lent((slot *)end, piece, length, &fed, seen_of(event));
 	event->taken = fed.taken;
-	event->code = fed.code;
-	if (status == MT_OK && fed.kind != MT_EVENT_NONE)
-		copy_seen(&seen, event);
+	if (status != MT_OK)
+		event->code = fed.code;
 	return status;
 }
 
@@ -312,7 +309,15 @@ static bool lie_in(mt_octets octets, const uint8_t *piece, size_t length)
 				      (uintptr_t)octets.at < (uintptr_t)piece + length);
 }
 
-/* Feeds it again and again, up to the end of what lies in the piece. */
+/* Whether all that an event lends lies in the piece. */
+static bool lies_in(const mt_event *event, const uint8_t *piece, size_t length)
+{
+	return lie_in(event->method, piece, length) && lie_in(event->header, piece, length) &&
+	       lie_in(event->body, piece, length) && lie_in(event->text, piece, length);
+}
+
+/* Feeds it again and again, up to the end of what lies in the piece: of its frames only the first can have begun in an
+ * earlier piece. */
 static uint32_t feed_lent_batch(mt_end *end, const uint8_t *piece, size_t length, mt_event *events, size_t capacity,
 				size_t *count, size_t *taken, uint16_t *code)
 {
@@ -328,9 +333,7 @@ static uint32_t feed_lent_batch(mt_end *end, const uint8_t *piece, size_t length
 			return status;
 		if (event->kind == MT_EVENT_NONE)
 			break;
-		++*count;
-		if (!lie_in(event->method, piece, length) || !lie_in(event->header, piece, length) ||
-		    !lie_in(event->body, piece, length) || !lie_in(event->text, piece, length))
+		if (++*count == 1 && !lies_in(event, piece, length))
 			break;
 	}
 	return MT_OK;
@@ -342,13 +345,10 @@ uint32_t mt_end_feed(mt_end *end, const uint8_t *piece, size_t length, mt_event 
 	uint32_t status;
 
 	WANTED(end && event && (piece || length == 0));
-	*event = NO_EVENT;
-	status = proved_end_make_place((slot *)end, 0);
+	status = feed_at(end, 0, piece ? piece : NOTHING, length, &fed);
 	if (status == MT_OTHER_KIND)
 		return feed_lent(end, piece ? piece : NOTHING, length, event);
-	if (status != MT_OK)
-		return status;
-	status = proved_end_feed((slot *)end, 0, piece ? piece : NOTHING, length, &fed);
+	*event = NO_EVENT;
 	event->taken = fed.taken;
 	event->code = fed.code;
 	event->kind = fed.kind;
@@ -382,10 +382,7 @@ uint32_t mt_end_feed_batch(mt_end *end, const uint8_t *piece, size_t length, mt_
 	while (status == MT_OK && *count < capacity && *taken < length) {
 		fed_end fed = {0, 0, MT_EVENT_NONE};
 
-		status = proved_end_make_place((slot *)end, *count);
-		if (status != MT_OK)
-			break;
-		status = proved_end_feed((slot *)end, *count, piece + *taken, length - *taken, &fed);
+		status = feed_at(end, *count, piece + *taken, length - *taken, &fed);
 		*taken += fed.taken;
 		if (code)
 			*code = fed.code;
