@@ -78,6 +78,13 @@ for source in "$c"/examples/*.c; do
 		"$made/libmeadowtray.a"
 done
 say "C examples: built"
+if printf '#include <amqp.h>\n' | "$cc" -E - >/dev/null 2>&1; then
+	"$cc" -std=c11 -D_POSIX_C_SOURCE=200112L $strict -O2 -I"$c" -o "$work/calls" "$top/bench/embed/calls.c" \
+		"$made/libmeadowtray.a" -lrabbitmq
+	say "C benchmark: built"
+else
+	say "left out the C benchmark: rabbitmq-c isn't there"
+fi
 if have "$cxx"; then
 	for source in "$c"/tests/*.cpp; do
 		"$cxx" -std=c++17 $strict -I"$c" -o "$work/cpp" "$source" "$made/libmeadowtray.a"
