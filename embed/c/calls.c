@@ -129,7 +129,7 @@ static bool lies_in(const mt_frame *frame, const uint8_t *piece, size_t length)
 uint32_t mt_splitter_feed_batch(mt_splitter *splitter, const uint8_t *piece, size_t length, mt_frame *frames,
 				size_t capacity, size_t *count, size_t *taken)
 {
-	const uint8_t *rest = piece;
+	const uint8_t *rest = OCTETS(piece);
 	size_t left = length, found = 0;
 	uint32_t status = MT_OK;
 
