@@ -19,6 +19,8 @@ BROKER = int(sys.argv[1])
 IS_RABBITMQ = "rabbitmq" in sys.argv[2:]
 HERE = pathlib.Path(__file__).parent
 WORDS = os.environ["PROXY"].split()
+# how many of them a reader gets that reads one a second
+MEGABYTES = int(os.environ.get("MEGABYTES", "20"))
 failed = 0
 
 
@@ -74,15 +76,24 @@ def tool(proxy, name, *words, data=None):
     return ran.returncode, ran.stdout
 
 
+def get_with_tool(proxy, queue):
+    """What amqp-get prints. A proxy answers a close before the broker has what was published, so it is tried again
+    for a while."""
+    for _ in range(40):
+        status, body = tool(proxy, "amqp-get", "-q", queue)
+        if status != 2:
+            break
+        time.sleep(0.25)
+    return body
+
+
 def tools():
     with Proxy() as proxy:
         says("amqp-declare-queue", (0, b"p.tools\n"), tool(proxy, "amqp-declare-queue", "-q", "p.tools"))
-        for size in (0, 1, 131_064, 1_000_000):
+        for size in (0, 1, 131_064, 1_000_000, 50_000_000):
             body = os.urandom(size)
             says(f"amqp-publish {size} octets", 0, tool(proxy, "amqp-publish", "-r", "p.tools", data=body)[0])
-            # a proxy answers the tool's close before the broker has what was published
-            time.sleep(1)
-            says(f"amqp-get {size} octets", True, tool(proxy, "amqp-get", "-q", "p.tools") == (0, body))
+            says(f"amqp-get {size} octets", True, get_with_tool(proxy, "p.tools") == body)
         says("amqp-get of an empty queue", 2, tool(proxy, "amqp-get", "-q", "p.tools")[0])
         says("amqp-get of no such queue", 1, tool(proxy, "amqp-get", "-q", "p.nowhere")[0])
         says("amqp-delete-queue", (0, b"0\n"), tool(proxy, "amqp-delete-queue", "-q", "p.tools"))
@@ -108,6 +119,54 @@ def slow_reader():
         says(f"proxy: it held {held} MB before they were read, and {most} at most", True, most < 32)
         connection.channel().queue_delete(queue)
         connection.close()
+
+
+def paced_reader():
+    """So many megabytes, each a content, to a consumer that reads one of them a second. What the kernel keeps for the
+    reader is small."""
+    body, bodies, left = bytes(range(250)) * 4_000, bytearray(), b""
+    whole = MEGABYTES * len(body)
+    with Proxy() as proxy, socket.socket() as client:
+        client.setsockopt(socket.SOL_SOCKET, socket.SO_RCVBUF, 65_536)
+        client.settimeout(60)
+        client.connect(("127.0.0.1", proxy.port))
+        log_in(client)
+        writer = proxy.connect()
+        queue = writer.channel().queue_declare("p.paced").method.queue
+        consume = b"\0\x3c\0\x14\0\0" + short(queue.encode()) + short(b"") + b"\x02\0\0\0\0"
+        client.sendall(frame(1, 1, b"\0\x14\0\x0a\0") + frame(1, 1, consume))
+        sends = threading.Thread(target=send_all, args=(writer, queue, body, MEGABYTES))
+        sends.start()
+        began, came = time.monotonic(), 0
+        while len(bodies) < whole:
+            piece = client.recv(100_000)
+            if not piece:
+                break
+            came += len(piece)
+            left = keep_bodies(left + piece, bodies)
+            time.sleep(max(0.0, began + came / 1_000_000 - time.monotonic()))
+        seconds = time.monotonic() - began
+        sends.join()
+        most = proxy.memory()
+        what = f"proxy: {MEGABYTES} MB to a reader of 1 MB a second"
+        says(f"{what}: it took {seconds:.1f} seconds", True, bodies == MEGABYTES * body and seconds > 0.99 * MEGABYTES)
+        says(f"{what}: it held {most} MB at most", True, most < 32)
+        connection = proxy.connect()
+        connection.channel().queue_delete(queue)
+        connection.close()
+
+
+def keep_bodies(octets, bodies):
+    """Keeps the parts of bodies that whole frames hold. It gives the octets after these frames."""
+    start = 0
+    while len(octets) >= start + 7:
+        kind, _, size = struct.unpack_from(">BHI", octets, start)
+        if len(octets) < start + size + 8:
+            break
+        if kind == 3:
+            bodies += octets[start + 7 : start + 7 + size]
+        start += size + 8
+    return octets[start:]
 
 
 def send_all(connection, queue, body, count):
@@ -165,18 +224,23 @@ def until(client, end):
         came += more
 
 
+def log_in(client):
+    """The handshake on a raw socket."""
+    client.sendall(b"AMQP\0\0\x09\x01")
+    until(client, b"en_US")
+    response = b"\0guest\0guest"
+    start_ok = b"\0\x0a\0\x0b\0\0\0\0" + short(b"PLAIN") + struct.pack(">I", len(response)) + response
+    client.sendall(frame(1, 0, start_ok + short(b"en_US")))
+    until(client, struct.pack(">HHHIH", 10, 30, 2047, 131_072, 0))
+    client.sendall(frame(1, 0, struct.pack(">HHHIH", 10, 31, 2047, 131_072, 0)))
+    client.sendall(frame(1, 0, b"\0\x0a\0\x28\x01/\0\0"))
+    until(client, b"\0\x0a\0\x29\0")
+
+
 def pipelined():
     """Requests that don't wait for the replies to those before them, a content after them, and a close."""
     with Proxy() as proxy, socket.create_connection(("127.0.0.1", proxy.port), timeout=30) as client:
-        client.sendall(b"AMQP\0\0\x09\x01")
-        until(client, b"en_US")
-        response = b"\0guest\0guest"
-        start_ok = b"\0\x0a\0\x0b\0\0\0\0" + short(b"PLAIN") + struct.pack(">I", len(response)) + response
-        client.sendall(frame(1, 0, start_ok + short(b"en_US")))
-        until(client, struct.pack(">HHHIH", 10, 30, 2047, 131_072, 0))
-        client.sendall(frame(1, 0, struct.pack(">HHHIH", 10, 31, 2047, 131_072, 0)))
-        client.sendall(frame(1, 0, b"\0\x0a\0\x28\x01/\0\0"))
-        until(client, b"\0\x0a\0\x29\0")
+        log_in(client)
         # all at once from here on: open, declares, a content, a close
         names = [b"p.%d" % number for number in range(50)]
         declares = [b"\0\x32\0\x0a\0\0" + short(name) + b"\0\0\0\0\0" for name in names]
@@ -265,6 +329,7 @@ PARTS = {
     "clients": clients_of_the_broker,
     "tools": tools,
     "slow": slow_reader,
+    "paced": paced_reader,
     "frames": small_frames,
     "numbers": channels,
     "pipelined": pipelined,
