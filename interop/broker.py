@@ -463,6 +463,14 @@ def with_py_amqp():
         except amqp.NotFound as error:
             found = error.code, error.method_sig
         says("py-amqp: passive declare of no such queue, and the close says for which method", (404, (50, 10)), found)
+    connection = amqp.Connection(f"127.0.0.1:{PORT}")
+    connection.connect()
+    try:
+        connection.channel().exchange_declare("b.odd", "odd")
+        found = None
+    except amqp.exceptions.ConnectionError as error:
+        found = error.code, error.method_sig
+    says("py-amqp: an unknown exchange type, and the connection's close says for which method", (503, (40, 10)), found)
 
 
 def error_of(action):

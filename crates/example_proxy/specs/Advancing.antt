@@ -1,10 +1,11 @@
 -- Asks that go to an end in turn: what waits, what one after another makes of the end, and why it stops.
-use Rattle.std.specs.Prelude.{◌≡◌, ◌≢◌, ℕ, List, [], ◌∷◌, Option, None}
-use Rattle.amqp_model.specs.End.Asks.{Ask, CloseChannel, Close, refusal}
+use Rattle.std.specs.Prelude.{◌≡◌, ◌≢◌, cond, ℕ, List, [], ◌∷◌, Option, None}
+use Rattle.amqp_model.specs.End.Asks.{Ask, refusal}
 use Rattle.amqp_model.specs.Stream.Endpoint.{Endpoint}
 use Rattle.amqp_core.specs.Asks.Asking.{AcceptsAsk}
 use Rattle.amqp_core.specs.Config.Settings.{config_view, role_for}
 use Rattle.amqp_core.specs.declared.settings.Settings.{Settings}
+use Rattle.example_proxy.specs.AskingView.{closes}
 
 -- the asks that wait, the oldest first, and the end that is to take them
 pub record Standing : Type 0 where
@@ -39,6 +40,4 @@ Rests standing = HasToWait standing standing.waiting
 
 -- With a close a channel loses its partner: what is said on it from then on is not passed on.
 abbrev pub partner_after : Ask → Option ℕ → Option ℕ
-partner_after (CloseChannel channel code text cause) partner = None
-partner_after (Close code text cause) partner = None
-partner_after ask partner = partner
+partner_after ask partner = cond (closes ask) None partner

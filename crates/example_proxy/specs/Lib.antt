@@ -1,4 +1,5 @@
 pub mod Advancing
+pub mod AskingView
 pub mod ChannelView
 pub mod Passing
 pub mod PassingView

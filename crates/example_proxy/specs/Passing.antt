@@ -6,7 +6,8 @@ use Rattle.amqp_model.specs.End.Events as events
 use Rattle.amqp_model.specs.End.Events.{Plain, Whole}
 use Rattle.amqp_model.specs.Lent.Alike.{LentEvent, WithoutContent, Begins, Heads, Part, Other}
 use Rattle.amqp_model.specs.Wire.Contents.{Content}
-use Rattle.amqp_model.specs.Wire.Methods.{Method, Properties}
+use Rattle.amqp_model.specs.Wire.Methods.{Method, MethodKind, Properties}
+use Rattle.example_proxy.specs.AskingView.{cause_by}
 
 -- the content that a method begins: nothing but the method is there
 abbrev pub begun : Method → Option Content
@@ -45,17 +46,19 @@ abbrev pub method_alone : (partner : ℕ) → Method → Option Ask
 method_alone partner method = Some (Send partner (Plain method))
 
 -- What an event asks: a method is sent, a content once it is whole; a flow is asked for. A channel or connection that
--- the other end closed is closed with its code and its text, and so is a channel on which a content was refused.
-abbrev pub asked : (partner : ℕ) → Option Content → LentEvent → Option Ask
-asked partner content (WithoutContent number method) = method_alone partner method
-asked partner content (Heads number size properties whole) = sent partner whole (with_properties properties content)
-asked partner content (Part number octets whole) = sent partner whole (with_part octets content)
-asked partner content (Other (events.Flow number active)) = Some (Flow partner active)
-asked partner content (Other (events.ChannelClosed number (Some reason))) =
-    Some (CloseChannel partner reason.code reason.text no_cause)
-asked partner content (Other (events.Discarded number)) = Some
+-- the other end closed is closed with its code and its text, for the method that its close is about. A channel on which
+-- a content was refused is closed too.
+abbrev pub asked : (partner : ℕ) (about : Option MethodKind) → Option Content → LentEvent → Option Ask
+asked partner about content (WithoutContent number method) = method_alone partner method
+asked partner about content (Heads number size properties whole) = sent partner whole (with_properties properties content)
+asked partner about content (Part number octets whole) = sent partner whole (with_part octets content)
+asked partner about content (Other (events.Flow number active)) = Some (Flow partner active)
+asked partner about content (Other (events.ChannelClosed number (Some reason))) =
+    Some (CloseChannel partner reason.code reason.text (cause_by about))
+asked partner about content (Other (events.Discarded number)) = Some
     (CloseChannel partner 311 (codes "CONTENT_TOO_LARGE") no_cause)
-asked partner content (Other (events.ConnectionClosed (Some reason))) = Some (Close reason.code reason.text no_cause)
-asked partner content (Other (events.Blocked reason)) = Some (Blocked reason)
-asked partner content (Other events.Unblocked) = Some Unblocked
-asked partner content event = None
+asked partner about content (Other (events.ConnectionClosed (Some reason))) =
+    Some (Close reason.code reason.text (cause_by about))
+asked partner about content (Other (events.Blocked reason)) = Some (Blocked reason)
+asked partner about content (Other events.Unblocked) = Some Unblocked
+asked partner about content event = None

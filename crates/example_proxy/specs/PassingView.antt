@@ -6,8 +6,8 @@ use Rattle.amqp_method.specs.HeaderView.{properties_view}
 use Rattle.amqp_method.specs.declared.contents.Content.{Content}
 use Rattle.amqp_model.specs.End.Asks as asks
 use Rattle.amqp_model.specs.Wire.Contents as contents
-use Rattle.amqp_core.specs.Asks.View.{ask_view}
-use Rattle.amqp_core.specs.declared.asks.Ask.{Ask}
+use Rattle.example_proxy.specs.AskingView.{asking_view}
+use Rattle.example_proxy.specs.declared.asking.Asking.{Asking}
 
 abbrev content_view : Content → contents.Content
 content_view content = record {
@@ -20,6 +20,6 @@ abbrev pub coming_view : Option (Box Content) → Option contents.Content
 coming_view (Some content) = Some (content_view content.value)
 coming_view None = None
 
-abbrev pub ask_there : Option Ask → Option asks.Ask
-ask_there (Some ask) = Some (ask_view ask)
+abbrev pub ask_there : Option Asking → Option asks.Ask
+ask_there (Some asking) = Some (asking_view asking)
 ask_there None = None

@@ -1,16 +1,14 @@
 //! A channel of one side, and what waits to be asked on it.
 ghost use Rattle.std.specs.Prelude.{◌≡◌, ◌≢◌, ◌+◌, ◌++◌, ◌∷◌, [], Some, None, drop, length, true, false, IfOk, OnOk};
-ghost use Rattle.amqp_core.specs.Asks.View.{ask_view};
 ghost use Rattle.amqp_core.specs.Faults.Numbers.{refusal_view};
 ghost use Rattle.example_proxy.specs.Advancing.{Advances, Rests, partner_after};
+ghost use Rattle.example_proxy.specs.AskingView.{asking_view};
 
+use crate::asking::Asking;
 use crate::content::Coming;
-use amqp_core::{Ask, AskFault, Role, StreamEnd};
+use amqp_core::{AskFault, Role, StreamEnd};
 use std::alloc::{AllocError, Global};
 use std::collections::VecDeque;
-
-/// For so many octets an ask without a body counts.
-const LEAST: usize = 256;
 
 /// A channel of one side. Number 0 stands for the connection.
 #[derive(Drop)]
@@ -21,7 +19,7 @@ pub struct Channel {
     pub coming: Coming,
     /// what its end is still to be asked, the oldest first: a request after one without a reply, a content while the
     /// channel is paused, anything before it is open
-    waiting: VecDeque<Ask>,
+    waiting: VecDeque<Asking>,
 }
 
 impl Channel {
@@ -39,12 +37,12 @@ impl Channel {
     }
 
     /// Puts an ask after those that wait. With a close the channel loses its partner.
-    pub fn push(&mut self, ask: Ask) -> Result<(), AllocError>
-        ensures last { OnOk result (waiting_in self.new ≡ waiting_in self.old ++ ask_view ask ∷ []) }
-        ensures partner { OnOk result (self.new.partner ≡ partner_after (ask_view ask) self.old.partner) }
+    pub fn push(&mut self, asking: Asking) -> Result<(), AllocError>
+        ensures last { OnOk result (waiting_in self.new ≡ waiting_in self.old ++ asking_view asking ∷ []) }
+        ensures partner { OnOk result (self.new.partner ≡ partner_after (asking_view asking) self.old.partner) }
     {
-        let closes = matches!(&ask, Ask::CloseChannel(..) | Ask::Close(..));
-        self.waiting.push_back(ask)?;
+        let closes = asking.closes();
+        self.waiting.push_back(asking)?;
         if closes {
             self.partner = None;
         }
@@ -52,15 +50,13 @@ impl Channel {
     }
 
     /// The oldest that waits.
-    pub fn first(&self) -> Option<&Ask> {
+    pub fn first(&self) -> Option<&Asking> {
         self.waiting.front()
     }
 
     /// About how many octets wait.
     pub fn octets(&self) -> usize {
-        self.waiting
-            .iter()
-            .fold(0, |sum: usize, ask| sum.saturating_add(octets_of(ask)))
+        self.waiting.iter().fold(0, |sum: usize, asking| sum.saturating_add(asking.octets()))
     }
 
     /// Asks what waits, in order, until the end refuses an ask for now or none is left.
@@ -82,8 +78,8 @@ impl Channel {
         let Some(next) = self.waiting.front() else {
             return Ok(false);
         };
-        match end.ask(next) {
-            Ok(_) => {
+        match next.put(end) {
+            Ok(()) => {
                 drop_first(&mut self.waiting);
                 Ok(true)
             }
@@ -104,18 +100,8 @@ fn may_go_later(fault: AskFault) -> bool
     }
 }
 
-fn drop_first(asks: &mut VecDeque<Ask>)
+fn drop_first(asks: &mut VecDeque<Asking>)
     ensures { asks.new.items ≡ drop 1 asks.old.items }
 {
     let _ = asks.pop_front();
-}
-
-/// Most of the memory of an ask is a body's.
-fn octets_of(ask: &Ask) -> usize {
-    match ask {
-        Ask::Send(_, message) => message
-            .content_parts()
-            .map_or(LEAST, |(_, body)| body.len().saturating_add(LEAST)),
-        _ => LEAST,
-    }
 }

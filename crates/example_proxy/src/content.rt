@@ -8,8 +8,9 @@ ghost use Rattle.amqp_core.specs.Stream.EventRefView.{event_ref_view};
 ghost use Rattle.example_proxy.specs.Passing.{after, asked, begun, left, method_alone, sent, with_part, with_properties};
 ghost use Rattle.example_proxy.specs.PassingView.{ask_there, coming_view};
 
+use crate::asking::Asking;
 use amqp_core::{Ask, AskFault, EventRef};
-use amqp_method::{Carrier, Content, HeaderRef, Message, MethodRef, reply};
+use amqp_method::{Carrier, Content, HeaderRef, Kind, Message, MethodRef, reply};
 use amqp_value::ShortStr;
 use std::alloc::Global;
 
@@ -17,11 +18,18 @@ use std::alloc::Global;
 pub type Coming = Option<Box<Content>>;
 
 /// What the other side is asked, if anything is.
-pub type Asked = anyhow::Result<Option<Ask>>;
+pub type Asked = anyhow::Result<Option<Asking>>;
 
-/// What an event asks of the other side, where its channel has this number there.
-pub fn asked_by(alloc: Global, coming: &mut Coming, partner: u16, event: EventRef<'_>) -> Asked
-    ensures asked { IfOk result (λ ask. ask_there ask ≡ asked partner (coming_view coming.old)
+/// What an event asks of the other side, where its channel has this number there, and where a close is about a method
+/// of this kind.
+pub fn asked_by(
+    alloc: Global,
+    coming: &mut Coming,
+    partner: u16,
+    about: Option<Kind>,
+    event: EventRef<'_>,
+) -> Asked
+    ensures asked { IfOk result (λ ask. ask_there ask ≡ asked partner about (coming_view coming.old)
         (event_ref_view event.entry)) }
     ensures after { OnOk result (coming_view coming.new ≡ after (coming_view coming.old) (event_ref_view event.entry)) }
 {
@@ -36,22 +44,28 @@ pub fn asked_by(alloc: Global, coming: &mut Coming, partner: u16, event: EventRe
             add(coming, octets)?;
             Ok(finish(coming, partner, whole))
         }
-        EventRef::Flow(_, active) => Ok(Some(Ask::Flow(partner, active))),
+        EventRef::Flow(_, active) => Ok(Some(Asking::of(Ask::Flow(partner, active)))),
         EventRef::ChannelClosed(_, Some(reason)) => {
             let text = ShortStr::new(alloc, reason.text)?;
-            Ok(Some(Ask::CloseChannel(partner, reason.code, text)))
+            let ask = Ask::CloseChannel(partner, reason.code, text);
+            Ok(Some(Asking { ask, about }))
         }
         // an end closes a channel of itself where a content is too large
         EventRef::Discarded(_) => {
             let text = ShortStr::new(alloc, b"CONTENT_TOO_LARGE")?;
-            Ok(Some(Ask::CloseChannel(partner, reply::CONTENT_TOO_LARGE, text)))
+            let ask = Ask::CloseChannel(partner, reply::CONTENT_TOO_LARGE, text);
+            Ok(Some(Asking::of(ask)))
         }
         EventRef::ConnectionClosed(Some(reason)) => {
             let text = ShortStr::new(alloc, reason.text)?;
-            Ok(Some(Ask::Close(reason.code, text)))
+            let ask = Ask::Close(reason.code, text);
+            Ok(Some(Asking { ask, about }))
         }
-        EventRef::Blocked(reason) => Ok(Some(Ask::Blocked(ShortStr::new(alloc, reason)?))),
-        EventRef::Unblocked => Ok(Some(Ask::Unblocked)),
+        EventRef::Blocked(reason) => {
+            let reason = ShortStr::new(alloc, reason)?;
+            Ok(Some(Asking::of(Ask::Blocked(reason))))
+        }
+        EventRef::Unblocked => Ok(Some(Asking::of(Ask::Unblocked))),
         EventRef::AnswerAsked | EventRef::LoginAsked | EventRef::OpenAsked => Ok(None),
         EventRef::Negotiated(_) | EventRef::Opened(_) | EventRef::FlowOk(_, _) => Ok(None),
         EventRef::ChannelClosed(_, None) | EventRef::ConnectionClosed(None) => Ok(None),
@@ -63,7 +77,7 @@ fn plain(alloc: Global, partner: u16, method: MethodRef<'_>) -> Asked
     ensures { IfOk result (λ ask. ask_there ask ≡ method_alone partner (lent_call method.entry)) }
 {
     match Message::try_plain(method.to_owned(alloc)?) {
-        Ok(message) => Ok(Some(Ask::Send(partner, message))),
+        Ok(message) => Ok(Some(Asking::of(Ask::Send(partner, message)))),
         Err(_) => Err(AskFault::NotSendable.into()),
     }
 }
@@ -100,7 +114,7 @@ fn add(coming: &mut Coming, octets: &[u8]) -> anyhow::Result<()>
 }
 
 /// A content that is whole is sent.
-fn finish(coming: &mut Coming, partner: u16, whole: bool) -> Option<Ask>
+fn finish(coming: &mut Coming, partner: u16, whole: bool) -> Option<Asking>
     ensures sent { ask_there result ≡ sent partner whole (coming_view coming.old) }
     ensures left { coming_view coming.new ≡ left whole (coming_view coming.old) }
 {
@@ -108,5 +122,5 @@ fn finish(coming: &mut Coming, partner: u16, whole: bool) -> Option<Ask>
         return None;
     }
     let content = coming.take()?;
-    Some(Ask::Send(partner, Message::gathered(content)))
+    Some(Asking::of(Ask::Send(partner, Message::gathered(content))))
 }

@@ -1,6 +1,7 @@
 //! A proxy of AMQP 0-9-1: it takes clients, connects to a broker for each, and passes on what both say, in one thread.
 #![tactic(auto)]
 
+mod asking;
 mod channel;
 mod content;
 mod hello;

@@ -1,10 +1,11 @@
 //! One side of a relay, the client or the broker: its socket, its end and its channels.
 ghost use Rattle.std.specs.Prelude.{◌≡◌, ◌≤◌, IfErr, IfOk, length};
 
+use crate::asking::Asking;
 use crate::channel::Channel;
 use crate::content::asked_by;
-use amqp_core::{Ask, EventRef, Phase, Role, StreamEnd};
-use amqp_method::reply;
+use amqp_core::{Ask, Cause, EventRef, Phase, Role, StreamEnd};
+use amqp_method::{Kind, reply};
 use amqp_value::ShortStr;
 use mio::net::TcpStream;
 use std::alloc::Global;
@@ -109,18 +110,18 @@ impl<R: Role> Peer<R> {
     /// Closes the connection, as soon as it can, unless it is closed already.
     pub fn close(&mut self, code: u16, text: &[u8]) {
         if let Ok(text) = ShortStr::new(self.alloc, text) {
-            drop(self.ask(0, Ask::Close(code, text)));
+            drop(self.ask(0, Asking::of(Ask::Close(code, text))));
         }
     }
 
     /// Asks something on a channel, after what waits there. After a close nothing is.
-    fn ask(&mut self, number: u16, ask: Ask) -> Done {
+    fn ask(&mut self, number: u16, asking: Asking) -> Done {
         if self.is_over() {
             return Ok(());
         }
         if let Some(channel) = self.channels.get_mut(&number) {
             if channel.partner.is_some() {
-                channel.push(ask)?;
+                channel.push(asking)?;
             }
         }
         self.advance(number)
@@ -156,7 +157,7 @@ impl<R: Role> Peer<R> {
             return;
         }
         let first = self.channels.get(&0).and_then(Channel::first);
-        if let Some(Ask::Close(code, text)) = first {
+        if let Some(Ask::Close(code, text)) = first.map(|asking| &asking.ask) {
             drop(self.end.refuse(*code, text));
         }
     }
@@ -183,14 +184,14 @@ impl<R: Role> Peer<R> {
     ) -> anyhow::Result<usize>
         ensures { IfOk result (λ taken. taken ≤ length piece.now) }
     {
-        let taken = self.end.feed_ref(piece)?;
-        let octets = taken.octets;
+        let step = self.end.advance(piece)?;
         let mut number = 0;
-        if let Some(event) = taken.event {
-            number = other.hear_of(rt, self.log, &mut self.channels, event)?;
+        if let Some(event) = self.end.event(step) {
+            let about = self.end.closed_for().and_then(Cause::kind);
+            number = other.hear_of(rt, self.log, &mut self.channels, about, event)?;
         }
         self.advance(number)?;
-        Ok(octets)
+        Ok(step.octets)
     }
 
     /// What is said on a channel of the other side is passed on to this. It answers the channel's number there.
@@ -199,6 +200,7 @@ impl<R: Role> Peer<R> {
         rt: &impl Print,
         log: Log,
         channels: &mut Channels,
+        about: Option<Kind>,
         event: EventRef<'_>,
     ) -> anyhow::Result<u16> {
         let is_content = matches!(event, EventRef::Heads(..) | EventRef::Part(..));
@@ -210,8 +212,9 @@ impl<R: Role> Peer<R> {
         let number = number_of(event);
         if let Some(channel) = channels.get_mut(&number) {
             if let Some(partner) = channel.partner {
-                if let Some(ask) = asked_by(self.alloc, &mut channel.coming, partner, event)? {
-                    self.ask(partner, ask)?;
+                let coming = &mut channel.coming;
+                if let Some(asking) = asked_by(self.alloc, coming, partner, about, event)? {
+                    self.ask(partner, asking)?;
                 }
             }
         } else if let EventRef::Opened(_) = event {
