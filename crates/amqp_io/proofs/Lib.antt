@@ -1,3 +1,4 @@
 pub mod StreamLemmas
 pub mod FeedingLemmas
 pub mod TurnLemmas
+pub mod VectoredLemmas

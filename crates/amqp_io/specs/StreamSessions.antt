@@ -1,7 +1,10 @@
 -- What a session whose end lends reads and writes. Read before: what one read gives (`Refilling`), what a push makes of
 -- the output (`Sessions`), and when a stream's marks change (`Streams`).
-use Rattle.std.specs.Prelude.{◌≡◌, ◌≤◌, ◌<◌, ℕ, List, length, Result, Ok, Err}
+use Rattle.std.specs.Prelude.{◌≡◌, ◌≤◌, ◌<◌, ℕ, List, length, take, Result, Ok, Err}
 use Rattle.std.specs.Borrow.{Bor}
+use Rattle.std.specs.Io.KnownBytes.{append_known}
+use Rattle.amqp_model.specs.Output.Outputs.{after_writing, output_octets}
+use Rattle.amqp_outbox.specs.OutboxView.{Outgoing, with_output}
 use Rattle.amqp_core.specs.Stream.View.{endpoint_of, settings_at}
 use Rattle.amqp_core.specs.declared.roles.Role.{Ghosts}
 use Rattle.amqp_io.specs.Refilling.{AreRead}
@@ -47,3 +50,31 @@ pub record Pushed {R H S : Type 0} {G : Ghosts R H} (of : stream.Ghosts S) (limi
   pub failure : Marks (result ≡ Err io.Write) (of.failures old.stream) (of.failures new.stream)
   -- The end's settings stay.
   pub settings : settings_at new.end ≡ settings_at old.end
+
+-- The stream takes n octets from the start of what waits in a queue, at least one, and the queue goes on from there.
+pub record MovesPieces (n : ℕ) (old new : Outgoing) (before after : Known) : Type 0 where
+  pub some : 0 < n
+  pub within : n ≤ length (output_octets old.output)
+  pub left : new ≡ with_output old (after_writing n old.output)
+  pub taken : after ≡ append_known before (take n (output_octets old.output))
+
+-- where the write fails, all stays
+abbrev pub PushesPieces : Result ℕ IoFault → (old new : Outgoing) → (before after : Known) → Type 0
+PushesPieces (Ok n) old new before after = MovesPieces n old new before after
+PushesPieces (Err fault) old new before after = (new ≡ old) × (after ≡ before)
+
+-- Octets of a queue are written, as one write takes them.
+pub record PushedPieces {R H S : Type 0} {G : Ghosts R H} (of : stream.Ghosts S) (old : StreamSession R S H G)
+    (queue : Outgoing) (result : Result ℕ IoFault) (new : StreamSession R S H G) (left : Outgoing) : Type 0 where
+  pub pushed :
+      0 < length (output_octets queue.output) → PushesPieces result queue left (of.taken old.stream) (of.taken new.stream)
+  -- Where nothing waits the stream isn't touched.
+  pub untouched :
+      length (output_octets queue.output) ≡ 0 → (result ≡ Ok 0) × (left ≡ queue) × (new.stream ≡ old.stream)
+  -- Nothing is read.
+  pub to_give : of.to_give new.stream ≡ of.to_give old.stream
+  pub no_end : of.ends new.stream ≡ of.ends old.stream
+  -- It fails exactly when the write does.
+  pub failure : Marks (result ≡ Err io.Write) (of.failures old.stream) (of.failures new.stream)
+  -- The end stays.
+  pub end : new.end ≡ old.end

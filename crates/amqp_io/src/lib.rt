@@ -18,6 +18,7 @@ mod socket;
 mod stream;
 mod streaming;
 mod unfed;
+mod vectored;
 mod writing;
 
 pub use crate::faults::{IoFault, OutOfMemory, StreamFailed};

@@ -1,12 +1,14 @@
 //! A stream over a TCP connection.
 ghost use Rattle.std.specs.Prelude.{◌≡◌, ◌≤◌, ◌↔◌, IsTrue, None, is_some, length, IfOk, OnErr, OnOk, IsErr};
+ghost use Rattle.std.specs.Io.Slices.{io_slices_bytes};
 ghost use Rattle.amqp_io.specs.Sockets.{HasKind};
 ghost use Rattle.amqp_io.specs.Streams.{Marks, MeetsEnd, WriteFails};
 
 use crate::faults::StreamFailed;
 use crate::marks::changed;
 use crate::stream::Stream;
-use std::io::{self, ErrorKind, Read, Write};
+use crate::vectored::first_octets;
+use std::io::{self, ErrorKind, IoSlice, Read, Write};
 use std::marker::Model;
 use std::net::TcpStream;
 
@@ -135,6 +137,31 @@ impl Stream for Socket {
         match self.stream.write(octets) {
             Ok(count) => {
                 if count == 0 && !octets.is_empty() {
+                    self.failure = None;
+                    self.failures = changed(self.failures);
+                }
+                Ok(count)
+            }
+            Err(why) => {
+                self.failure = Some(why);
+                self.failures = changed(self.failures);
+                Err(StreamFailed)
+            }
+        }
+    }
+
+    /// In one call of the system, which takes the first four slices that have octets.
+    fn write_vectored(&mut self, slices: &[IoSlice<'_>]) -> Result<usize, StreamFailed>
+        ensures within { IfOk result (λ n. n ≤ length (io_slices_bytes slices.now)) }
+        ensures failure { Marks (WriteFails result (io_slices_bytes slices.now)) self.old.failures self.new.failures }
+        ensures no_end { self.new.ends ≡ self.old.ends }
+        // And it keeps why it failed.
+        ensures reason { OnErr result (IsTrue (is_some self.new.failure)) }
+    {
+        let is_empty = first_octets(slices).is_empty();
+        match self.stream.write_vectored(slices) {
+            Ok(count) => {
+                if count == 0 && !is_empty {
                     self.failure = None;
                     self.failures = changed(self.failures);
                 }

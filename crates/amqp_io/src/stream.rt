@@ -1,9 +1,12 @@
 //! What a session reads from and writes to.
 ghost use Rattle.std.specs.Prelude.{◌≡◌, ℕ, ◌≤◌, List, length, take, Option, None, IsErr, IfOk, OnErr};
 ghost use Rattle.std.specs.Io.KnownBytes.{append_known, prepend_known};
+ghost use Rattle.std.specs.Io.Slices.{io_slices_bytes};
 ghost use Rattle.amqp_io.specs.Streams.{Marks, MeetsEnd, WriteFails};
 
 use crate::faults::StreamFailed;
+use crate::vectored::first_octets;
+use std::io::IoSlice;
 
 /// A stream of octets in each direction.
 ///
@@ -47,6 +50,23 @@ pub trait Stream {
         ensures to_give { to_give self.new ≡ to_give self.old }
         ensures failure { Marks (WriteFails result octets.now) (failures self.old) (failures self.new) }
         ensures no_end { ends self.new ≡ ends self.old };
+
+    /// Writes octets from the start of what the slices hold together, in their order, and answers how many it took. Else
+    /// it is as [`Stream::write`].
+    ///
+    /// A stream that can't write several slices at once writes of the first that has octets.
+    fn write_vectored(&mut self, slices: &[IoSlice<'_>]) -> Result<usize, StreamFailed>
+        ensures within { IfOk result (λ n. n ≤ length (io_slices_bytes slices.now)) }
+        ensures appended { IfOk result (λ n. taken self.new ≡ append_known (taken self.old)
+            (take n (io_slices_bytes slices.now))) }
+        ensures kept { OnErr result (taken self.new ≡ taken self.old) }
+        ensures to_give { to_give self.new ≡ to_give self.old }
+        ensures failure { Marks (WriteFails result (io_slices_bytes slices.now)) (failures self.old)
+            (failures self.new) }
+        ensures no_end { ends self.new ≡ ends self.old }
+    {
+        self.write(first_octets(slices))
+    }
 }
 
 impl<S: Stream> Stream for &mut S {
@@ -64,5 +84,9 @@ impl<S: Stream> Stream for &mut S {
 
     fn write(&mut self, octets: &[u8]) -> Result<usize, StreamFailed> {
         Stream::write(&mut **self, octets)
+    }
+
+    fn write_vectored(&mut self, slices: &[IoSlice<'_>]) -> Result<usize, StreamFailed> {
+        Stream::write_vectored(&mut **self, slices)
     }
 }

@@ -1,12 +1,13 @@
 //! One end of a connection whose events lend, over a stream.
 ghost use Rattle.std.specs.Prelude.{◌≡◌, ◌<◌, length};
-ghost use Rattle.amqp_io.specs.StreamSessions.{Pulled, Pushed};
+ghost use Rattle.amqp_io.specs.StreamSessions.{Pulled, Pushed, PushedPieces};
 
 use crate::faults::IoFault;
 use crate::reading::{Arrival, read_once};
 use crate::stream::Stream;
+use crate::vectored::write_pieces;
 use crate::writing::write_prefix;
-use amqp_core::{Role, StreamEnd};
+use amqp_core::{Role, SendQueue, StreamEnd};
 
 /// One end of a connection whose events lend, over a stream.
 ///
@@ -61,5 +62,24 @@ impl<R: Role, S: Stream> StreamSession<R, S> {
             return Err(IoFault::Write);
         }
         Ok(written.octets)
+    }
+
+    /// Writes octets from the start of what waits in a queue, in one write of several of its pieces. It answers how many
+    /// the stream took. Where nothing waits, no write is called.
+    ///
+    /// What the end has put is not written: [`StreamEnd::hand_over`] adds it to the queue.
+    pub fn push_pieces(&mut self, queue: &mut SendQueue) -> Result<usize, IoFault>
+        ensures { PushedPieces S.Stream self.old queue.old result self.new queue.new }
+    {
+        if queue.waiting_in_all() == 0 {
+            return Ok(0);
+        }
+        match write_pieces(&mut self.stream, queue) {
+            Ok(count) if count > 0 => {
+                queue.wrote(count);
+                Ok(count)
+            }
+            _ => Err(IoFault::Write),
+        }
     }
 }

@@ -1,8 +1,8 @@
 //! Streams over TCP.
 use crate::streams::assert_steps;
-use amqp_io::Socket;
+use amqp_io::{Socket, Stream};
 use std::alloc::Global;
-use std::io::ErrorKind;
+use std::io::{ErrorKind, IoSlice};
 use std::net::{Net, TcpListener, TcpStream};
 use std::process::Abort;
 use std::test::Fail;
@@ -37,6 +37,30 @@ fn assert_talk(
 fn octets_over_tcp(rt: HostRuntime) -> Result<(), Fail> {
     let (mut client, mut server) = connected(&rt)?;
     let outcome = assert_talk(&rt, rt.alloc(), &mut client, &mut server);
+    drop(client);
+    drop(server);
+    outcome
+}
+
+/// Slices are written in one call, those without octets too.
+fn assert_slices(
+    rt: &impl Abort,
+    alloc: Global,
+    client: &mut Socket,
+    server: &mut Socket,
+) -> Result<(), Fail> {
+    let slices = [IoSlice::new(b"AMQ"), IoSlice::new(b""), IoSlice::new(b"P")];
+    let written = client.write_vectored(&slices);
+    assert!(rt; written.ok() == Some(4));
+    let none = client.write_vectored(&[IoSlice::new(b"")]);
+    assert!(rt; none.ok() == Some(0));
+    assert_steps(rt, alloc, server, "read 16 = 414d5150")
+}
+
+#[test]
+fn slices_over_tcp(rt: HostRuntime) -> Result<(), Fail> {
+    let (mut client, mut server) = connected(&rt)?;
+    let outcome = assert_slices(&rt, rt.alloc(), &mut client, &mut server);
     drop(client);
     drop(server);
     outcome

@@ -2,8 +2,9 @@
 ghost use Rattle.std.specs.Prelude.{◌<◌, ◌≤◌, length, IfOk};
 
 use crate::ends::server;
+use crate::octets::octets_of;
 use crate::scripts::script_of;
-use amqp_core::{EventRef, Phase, Server, StreamEnd};
+use amqp_core::{EventRef, Phase, SendQueue, Server, StreamEnd};
 use amqp_io::{IoFault, Script, StreamSession};
 use std::alloc::Global;
 use std::process::Abort;
@@ -110,4 +111,55 @@ fn bodies_stream_through_any_room(rt: HostRuntime) -> Result<(), Fail> {
     assert_room(&rt, alloc, 7)?;
     assert_room(&rt, alloc, 100)?;
     assert_room(&rt, alloc, 65_536)
+}
+
+/// What a client writes up to the open of its first channel, and what a server answers: frames of 36, 20, 13 and 16
+/// octets.
+const ASKS: &str = "header start-ok tune-ok open open-channel";
+
+const REPLIES: &str = "start tune open-ok channel-opened";
+
+/// After one read the stream takes five octets, fails, takes nothing, and then all of each slice that it is given: it
+/// is a stream that writes the first slice alone.
+const TAKES: &str = "1000 5 fail 0";
+
+fn assert_pieces(
+    rt: &impl Abort,
+    alloc: Global,
+    session: &mut StreamSession<Server, Script>,
+    queue: &mut SendQueue,
+) -> Result<(), Fail> {
+    let mut room = vec![in alloc; 0; 1000]?;
+    let mut heard = Heard {
+        body: Vec::new(alloc),
+        contents: 0,
+    };
+    let piece = session.pull(&mut room)?;
+    hear(&mut session.end, piece, &mut heard)?;
+    assert!(rt; session.push_pieces(queue) == Ok(0));
+    session.end.hand_over(queue)?;
+    assert!(rt; session.end.output().is_empty());
+    assert!(rt; session.push_pieces(queue) == Ok(5));
+    assert!(rt; session.push_pieces(queue) == Err(IoFault::Write));
+    assert!(rt; session.push_pieces(queue) == Err(IoFault::Write));
+    assert!(rt; queue.waiting_in_all() == 80);
+    for count in [31, 20, 13, 16, 0] {
+        assert!(rt; session.push_pieces(queue) == Ok(count));
+    }
+    let replies = octets_of(alloc, REPLIES)?;
+    assert!(rt; session.stream.written() == replies.as_slice());
+    Ok(())
+}
+
+#[test]
+fn pieces_of_a_queue_are_written_in_parts(rt: HostRuntime) -> Result<(), Fail> {
+    let alloc = rt.alloc();
+    let stream = script_of(alloc, ASKS, TAKES)?;
+    let end = server(alloc)?.into_stream();
+    let mut session = StreamSession { end, stream };
+    let mut queue = SendQueue::new(alloc);
+    let assertion = assert_pieces(&rt, alloc, &mut session, &mut queue);
+    drop(session);
+    drop(queue);
+    assertion
 }
