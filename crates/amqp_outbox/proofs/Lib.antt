@@ -12,6 +12,7 @@ mod OutboxSlots
 mod OutboxStates
 mod OutboxTurns
 mod OutboxWaiting
+mod OutboxWoven
 mod OutboxWrites
 mod PiecesRoom
 mod PiecesRounds
@@ -30,3 +31,6 @@ mod PiecesPasses
 mod PiecesQueueLemmas
 mod ReadLemmas
 mod StagedFrames
+mod Woven
+mod WovenRows
+mod WovenSteps

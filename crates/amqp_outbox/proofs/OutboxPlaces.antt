@@ -37,11 +37,11 @@ last-frame (f ∷ frames) (s ∷ before) slot e =
     let l = last-frame frames before slot rest in
     record { prefix = f ∷ l.prefix; last = l.last; frames_are = ap (λ fs. f ∷ fs) l.frames_are; slot_is = l.slot_is }
 
-last-of : (last : ℕ) (prefix : List Frame) (g : Frame) → 0 < g.channel → last_after_all last (prefix ++ g ∷ []) ≡ g.channel
+pub last-of : (last : ℕ) (prefix : List Frame) (g : Frame) → 0 < g.channel → last_after_all last (prefix ++ g ∷ []) ≡ g.channel
 last-of last [] g h = cond-false (g.channel == 0) _ _ (ne_eqb g.channel 0 (λ e. omega arith))
 last-of last (f ∷ prefix) g h = last-of (last_after last f) prefix g h
 
-in_queue : (channel : ℕ) (f : Frame) → 0 < channel → f.channel ≡ channel → is_in (FramesOn channel) f ≡ true
+pub in_queue : (channel : ℕ) (f : Frame) → 0 < channel → f.channel ≡ channel → is_in (FramesOn channel) f ≡ true
 in_queue channel f h e = and_from (nat_lt 0 channel) (f.channel == channel) (lt-ltb 0 channel h) (eq-eqb f.channel channel e)
 
 regroup : (prefix : List Frame) (x : Frame) (a b : List Frame) → ((prefix ++ x ∷ []) ++ a) ++ b ≡ prefix ++ x ∷ (a ++ b)

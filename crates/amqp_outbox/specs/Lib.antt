@@ -1,5 +1,6 @@
 pub mod OutboxSlots
 pub mod OutboxLaps
+pub mod OutboxWeaving
 pub mod OutboxView
 pub mod OutboxFields
 pub mod OutboxFrames

@@ -17,6 +17,7 @@ mod ring;
 mod send_queue;
 mod slots;
 mod staging;
+mod weaving;
 
 pub use crate::chunks::Chunks;
 pub use crate::handing::HandOverFault;

@@ -10,11 +10,14 @@
 //! halved again and again: once where no frame of the channel waits, else some times for each doubling of how many do.
 //!
 //! `output` lends one slice, so a frame that goes before others has to move octets. Where one channel is active each
-//! frame goes last, and nothing moves. Otherwise a put moves the octets on the smaller side of its place; those before
-//! it only where as many octets were written as the frame has. So the worst is a row of many octets of which none is
-//! written, and frames that go near its beginning: each moves nearly all of the row. A write reads the slots of the
-//! frames that it begins, and moves nothing: what it wrote is dropped later, before a frame is staged.
-ghost use Rattle.std.specs.Prelude.{◌≡◌, ℕ, ◌+◌, ◌^◌, ◌<◌, ◌≤◌, ◌==◌, [], ◌∷◌, ◌++◌, ◌≢◌, length, take, drop, slice_set, IfErr, OnOk, OnErr, Err};
+//! frame goes last, and nothing moves. Where several frames of a channel are staged and go before others, their places
+//! are found first, and what waits after the first place moves once, in one pass from the end. That takes a copy of
+//! these frames while it lasts. A frame alone, or where there is no memory for the copy, moves the octets on the
+//! smaller side of its place; those before it only where as many octets were written as the frame has. So the worst is
+//! a row of many octets of which none is written, and frames that go near its beginning: each put moves nearly all of
+//! the row. A write reads the slots of the frames that it begins, and moves nothing: what it wrote is dropped later,
+//! before a frame is staged.
+ghost use Rattle.std.specs.Prelude.{◌≡◌, ℕ, ◌+◌, ◌^◌, ◌<◌, ◌≤◌, ◌==◌, [], ◌∷◌, ◌++◌, ◌≢◌, length, take, drop, slice_set, IfErr, IfSome, OnOk, OnErr, Err};
 ghost use Rattle.amqp_method.specs.HeaderView.{properties_view};
 ghost use Rattle.amqp_method.specs.MethodView.{method_view};
 ghost use Rattle.amqp_method.specs.Plain.{plain_method, plain_header, CountsAllFit, CountsPresentFit};
@@ -38,6 +41,7 @@ use crate::slots::{Waiting, begun_of, length_from, length_on, place_of};
 use crate::staging::{
     StageFault, append_body, append_header, append_heartbeat, append_method, enlist,
 };
+use crate::weaving::{Coming, find_places, length_of, weave_octets, weave_slots};
 use amqp_frame::FrameKind;
 use amqp_method::{Method, Properties};
 use amqp_model::arrangement;
@@ -68,6 +72,7 @@ const SPARED: u8 = 16;
 /// are staged. The slots are those of the frames begun, of the row, and of the frames staged.
 #[derive(Drop)]
 pub struct Outbox {
+    alloc: Global,
     octets: Vec<u8>,
     written: usize,
     begun: usize,
@@ -103,6 +108,7 @@ impl Outbox {
         ensures { result ≡ begins_with [] }
     {
         Outbox {
+            alloc,
             octets: Vec::new(alloc),
             written: 0,
             begun: 0,
@@ -471,10 +477,81 @@ impl Outbox {
         }
     }
 
+    /// The channel of the frames that are staged first, where several are staged and may go before others that wait.
+    fn between(&self) -> Option<u16>
+        ensures { IfSome result (λ channel. 0 < channel) }
+    {
+        let newest = self.slots[self.slots_begun..self.slots_arranged].last()?;
+        let staged = &self.slots[self.slots_arranged..];
+        let channel = staged.first()?.slot.channel;
+        if staged.len() > 1 && channel > 0 && newest.slot.channel != channel {
+            Some(channel)
+        } else {
+            None
+        }
+    }
+
+    /// Whether it is better that each of these frames moves what waits before it: there is room for them before that,
+    /// and by the number of frames and by what is left of a begun one, less moves than waits after them.
+    fn moves_down(&self, octets: usize, coming: &[Coming]) -> bool {
+        let (Some(first), Some(last)) = (coming.first(), coming.last()) else {
+            return true;
+        };
+        let row = self.slots_arranged.saturating_sub(self.slots_begun);
+        let ahead = self.begun.saturating_sub(self.written);
+        let waiting = self.arranged.saturating_sub(self.begun);
+        octets <= self.written
+            && last.place.saturating_mul(coming.len()) < row.saturating_sub(first.place)
+            && ahead.saturating_mul(coming.len()) < waiting
+    }
+
+    /// Puts the first frames that are staged in one pass: those of a channel that go before frames that wait.
+    ///
+    /// What waits after the first place moves once. Where as many octets were written before it, and fewer would move
+    /// if each frame made its own room, nothing is put; nor where there is no memory for a copy of the frames.
+    fn put_between(&mut self)
+        ensures { all_put self.new ≡ all_put self.old }
+    {
+        let Some(channel) = self.between() else {
+            return;
+        };
+        let row = &self.slots[self.slots_begun..self.slots_arranged];
+        let staged = &self.slots[self.slots_arranged..];
+        let Ok(coming) = find_places(self.alloc, row, staged, channel, self.lap, self.last) else {
+            return;
+        };
+        let octets = length_of(&coming);
+        if self.moves_down(octets, &coming) {
+            return;
+        }
+        let frames = &self.octets[self.arranged..self.arranged + octets];
+        let Ok(frames) = Vec::from_slice(self.alloc, frames) else {
+            return;
+        };
+        let row = &self.slots[self.slots_begun..self.slots_arranged];
+        weave_octets(
+            &mut self.octets,
+            self.begun,
+            self.arranged,
+            row,
+            &coming,
+            &frames,
+        );
+        weave_slots(
+            &mut self.slots,
+            self.slots_begun,
+            self.slots_arranged,
+            &coming,
+        );
+        self.arranged += octets;
+        self.slots_arranged += coming.len();
+    }
+
     /// Puts all that is staged, each frame in its place.
     pub fn put(&mut self)
         ensures { self.new ≡ all_put self.old }
     {
+        self.put_between();
         for _ in 0..self.staged() {
             self.put_first();
         }
