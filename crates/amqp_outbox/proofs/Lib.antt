@@ -20,6 +20,7 @@ mod PiecesRows
 mod PiecesSearch
 mod PiecesStay
 mod PiecesTurns
+mod PiecesWaiting
 mod PiecesWrites
 mod PiecesBegun
 mod PiecesCounts

@@ -199,7 +199,7 @@ pub put-leaving : LeavingIsPutLast → (last : ℕ) (f : Frame) (plain row leavi
 put-leaving law last f plain row leaving e c =
     law last f (plain ++ (row ++ leaving)) e c ∙ (append_assoc plain (row ++ leaving) (f ∷ []) ∙ ap (λ l. plain ++ l) (append_assoc row leaving (f ∷ [])))
 
-leaving-zero : (f : Frame) → IsLeavingFrame f → f.channel ≡ 0
+pub leaving-zero : (f : Frame) → IsLeavingFrame f → f.channel ≡ 0
 leaving-zero f e = eqb-true f.channel 0 (and_parts (f.channel == 0) _ e).0
 
 last-leaving : (last : ℕ) (f : Frame) → IsLeavingFrame f → last_after last f ≡ last

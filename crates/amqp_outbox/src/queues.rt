@@ -7,9 +7,10 @@
 //! passes it.
 ghost use Rattle.std.specs.Prelude.{◌≡◌, ℕ, ◌+◌, ◌^◌, ◌<◌, ◌≤◌, true, List, [], ◌∷◌, ◌++◌, length, take, drop, All, IfErr, OnOk, IfOk, IfSome, MatchOption};
 ghost use Rattle.std.specs.VecDeque.{deque_len, deque_capacity};
-ghost use Rattle.amqp_model.specs.Output.Arrangement.{last_after, placed};
+ghost use Rattle.amqp_frame.specs.Splitting.{stream};
+ghost use Rattle.amqp_model.specs.Output.Arrangement.{last_after, on, placed};
 ghost use Rattle.amqp_outbox.specs.OutboxFaults.{out_of_memory};
-ghost use Rattle.amqp_outbox.specs.PiecesQueues.{frame_of, IsChunk, IsQueue, Ascends, AreSound, on_channels, row_of, HaveRoom, HasQueue, QueuesStay, QueueTakes, QueueGives, IsUpTo, IsAfter, IsEmpty, AllEmpty, IsFirstWaiting, IsTurnOf, IsQueueOf, HasRoomOn, RoomsKept, RoomsMade};
+ghost use Rattle.amqp_outbox.specs.PiecesQueues.{frame_of, frames_of, IsChunk, IsQueue, Ascends, AreSound, on_channels, row_of, HaveRoom, HasQueue, QueuesStay, QueueTakes, QueueGives, IsUpTo, IsAfter, IsEmpty, AllEmpty, IsFirstWaiting, IsTurnOf, IsQueueOf, HasRoomOn, RoomsKept, RoomsMade};
 ghost use Rattle.amqp_outbox.specs.declared.queues.Chunk.{Chunk};
 ghost use Rattle.amqp_outbox.specs.declared.queues.Queue.{Queue};
 
@@ -106,6 +107,18 @@ impl Queues {
         push_on(&mut self.channels, chunk);
     }
 
+    /// How many octets wait of a channel.
+    pub(crate) fn waiting(&self, channel: u16) -> usize
+        requires sound { AreSound self.now }
+        requires fits { (last : ℕ) × (length (stream (row_of last self.now)) < 2 ^ 64) }
+        ensures { (last : ℕ) → result ≡ length (stream (on channel (row_of last self.now))) }
+    {
+        if channel == 0 {
+            return length_of(&self.plain) + length_of(&self.leaving);
+        }
+        length_on(&self.channels, channel)
+    }
+
     /// Takes the frame that leaves next, where `last` is LAST.
     pub(crate) fn pop(&mut self, last: u16) -> Option<Chunk>
         requires sound { AreSound self.old }
@@ -125,6 +138,36 @@ impl Queues {
         }
         self.leaving.pop_front()
     }
+}
+
+/// How many octets the frames of a queue have together.
+fn length_of(frames: &VecDeque<Chunk>) -> usize
+    requires chunks { All IsChunk frames.now.items }
+    requires fits { length (stream (frames_of frames.now.items)) < 2 ^ 64 }
+    ensures { result ≡ length (stream (frames_of frames.now.items)) }
+{
+    let mut total = 0;
+    for at in 0..frames.len() {
+        if let Some(chunk) = frames.get(at) {
+            total += chunk.octets.len();
+        }
+    }
+    total
+}
+
+/// How many octets the frames of a channel above 0 have together.
+fn length_on(queues: &[Queue], channel: u16) -> usize
+    requires queues { All IsQueue queues.now }
+    requires fits { length (stream (on_channels queues.now)) < 2 ^ 64 }
+    ensures { result ≡ length (stream (on channel (on_channels queues.now))) }
+{
+    let mut total = 0;
+    for queue in queues {
+        if queue.channel == channel {
+            total += length_of(&queue.frames);
+        }
+    }
+    total
 }
 
 /// Takes the oldest frame of a queue.

@@ -95,6 +95,18 @@ impl SendQueue {
         self.waiting
     }
 
+    /// How many octets wait of a channel: what is left of the frame that is begun, where it is the channel's, and its
+    /// other frames. Of the frames of other channels none is looked at. The protocol header counts to channel 0.
+    pub fn waiting(&self, channel: u16) -> usize
+        ensures { result ≡ waiting_on channel self.now.output }
+    {
+        let waiting = self.queues.waiting(channel);
+        if self.begun_on == channel {
+            return self.ahead.len() - self.written + waiting;
+        }
+        waiting
+    }
+
     /// So many octets of the output are written. Where none are left of more than 64 KiB, room is given back.
     pub fn wrote(&mut self, octets: usize)
         requires { octets ≤ length (output_octets self.old.output) }
