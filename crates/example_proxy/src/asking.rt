@@ -1,5 +1,6 @@
 //! What one side of a relay asks of the other.
 ghost use Rattle.std.specs.Prelude.{◌≡◌, None};
+ghost use Rattle.amqp_core.specs.Asks.View.{ask_view};
 ghost use Rattle.amqp_core.specs.Stream.Asks.{StreamAsked};
 ghost use Rattle.example_proxy.specs.AskingView.{asking_view, closes};
 
@@ -55,10 +56,19 @@ impl Asking {
                 Some(kind) => end.close_for(*code, text, kind),
                 None => end.close(*code, text),
             },
-            Ask::Open | Ask::Send(_, _) | Ask::Flow(_, _) | Ask::Blocked(_) | Ask::Unblocked => {
-                end.ask(&self.ask)?;
-                Ok(())
-            }
+            Ask::Open => put_plain(&self.ask, end),
+            Ask::Send(_, _) => put_plain(&self.ask, end),
+            Ask::Flow(_, _) => put_plain(&self.ask, end),
+            Ask::Blocked(_) => put_plain(&self.ask, end),
+            Ask::Unblocked => put_plain(&self.ask, end),
         }
     }
+}
+
+/// Asks what has no cause. An open's number is not needed: the proxy opens channels itself.
+fn put_plain<R: Role>(ask: &Ask, end: &mut StreamEnd<R>) -> Result<(), AskFault>
+    ensures { StreamAsked end.old (ask_view ask.now) result end.new }
+{
+    end.ask(ask)?;
+    Ok(())
 }
