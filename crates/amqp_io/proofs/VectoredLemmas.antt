@@ -1,7 +1,7 @@
 -- A write of the start of a row, as one of the row.
 use Rattle.std.proofs.Common.{◌≡◌, ℕ, ◌<◌, ◌≤◌, List, [], ◌∷◌, ◌++◌, length, take, Option, Result, Ok, Err, IfOk, ap, sym, subst, ◌∙◌, refl, append_assoc, arith}
 use Rattle.std.proofs.Math.Seq.{take-append_seam}
-use Rattle.std.proofs.lemmas.List.{length-take, take-take}
+use Rattle.std.proofs.lemmas.List.{take-take}
 use Rattle.std.specs.Io.KnownBytes.{append_known}
 use Rattle.amqp_io.specs.Streams.{Marks, WriteFails}
 use Rattle.amqp_io.specs.declared.faults.StreamFailed.{StreamFailed}
@@ -17,8 +17,9 @@ start_has [] row starts has = absurd (omega (arith, ap length (starts.some refl)
 start_has (x ∷ xs) row starts has = omega arith
 
 pub row_has : (start row : List ℕ) → Starts start row → 0 < length start → 0 < length row
-row_has start [] starts has = absurd (omega (arith, ap length starts.is, length-take (length start) [], has))
-row_has start (x ∷ xs) starts has = omega arith
+row_has [] row starts has = absurd (omega (arith, has))
+row_has (x ∷ xs) [] starts has = absurd (omega (arith, ap length starts.is))
+row_has (x ∷ xs) (y ∷ ys) starts has = omega arith
 
 pub take_of_start : (n : ℕ) (start row : List ℕ) → Starts start row → n ≤ length start → take n start ≡ take n row
 take_of_start n start row starts within = ap (take n) starts.is ∙ take-take n (length start) row within
