@@ -34,12 +34,6 @@ events_stay (p ∷ places) zero here now within is same = ap (λ (e : Option Eve
 events_stay (p ∷ places) (suc n) here now within is same =
     ap (λ (es : List (Option Event)). p.event ∷ es) (events_stay places n here now (omega (arith, within)) is same)
 
--- a content header is written after nothing
-pub header_written : (before items : List ℕ) (size : ℕ) (written given : List (Option Argument)) → before ≡ [] → written ≡ given
-    → items ≡ before ++ plain_header (header size written) → items ≡ plain_header (header size given)
-header_written before items size written given none same is =
-    is ∙ (ap (λ (b : List ℕ). b ++ plain_header (header size written)) none ∙ ap (λ (p : List (Option Argument)). plain_header (header size p)) same)
-
 -- a method is written after nothing
 pub method_written : (before items octets : List ℕ) → before ≡ [] → items ≡ before ++ octets → items ≡ octets
 method_written before items octets none is = is ∙ ap (λ (b : List ℕ). b ++ octets) none

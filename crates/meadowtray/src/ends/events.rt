@@ -16,7 +16,7 @@ use crate::codec::statuses::{NO_ROOM, method_fault};
 use crate::ends::numbers::event_of;
 use amqp_core::{Event, Reason};
 use amqp_handle::{EndSlot, HandleFault, HeldEnd, Kept, Place};
-use amqp_method::{Header, Message, MethodFaultKind, Properties, write_header, write_method};
+use amqp_method::{Message, MethodFaultKind, Properties, write_header_parts, write_method};
 
 /// An event as it crosses to C: its kind, and what an event of that kind has.
 ///
@@ -48,17 +48,8 @@ fn write_properties(
 ) -> Result<(), MethodFaultKind>
     ensures { OnOk result (out.new.items ≡ plain_header (header body_size (properties_view properties.now))) }
 {
-    let Ok(properties) = properties.copy() else {
-        return Err(MethodFaultKind::OutOfMemory);
-    };
     out.clear();
-    match write_header(
-        &Header {
-            body_size,
-            properties,
-        },
-        out,
-    ) {
+    match write_header_parts(body_size, properties, out) {
         Ok(()) => Ok(()),
         Err(fault) => Err(fault.kind),
     }
