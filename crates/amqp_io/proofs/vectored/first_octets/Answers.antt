@@ -15,5 +15,5 @@ returns-then-not-is_empty-clause-starts c =
     let none_before = c.loop-slice.invariant in
     let first : io_slices_bytes (take past slices) ≡ octets = grind (arith, common_steps) in
     let parts : io_slices_bytes slices ≡ octets ++ rest = ap io_slices_bytes (sym (take-append-drop past slices))
-        ∙ flat_map-append io_slice_bytes (take past slices) (drop past slices) ∙ ap (λ l. l ++ rest) first in
+    ∙ flat_map-append io_slice_bytes (take past slices) (drop past slices) ∙ ap (λ l. l ++ rest) first in
     sym (ap (take (length octets)) parts ∙ take-append_seam octets rest)
