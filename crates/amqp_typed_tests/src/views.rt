@@ -1,6 +1,6 @@
 //! Methods by name as they lie in their payloads. The octets are written from the profile's table of methods.
 use crate::samples::{BASIC, CHANNEL, CONFIRM, CONNECTION, EXCHANGE, QUEUE, Sample, TX};
-use amqp_method::MethodRef;
+use amqp_method::{Kind, MethodRef};
 use amqp_typed::{AnyMethodView, basic, connection, queue, tx};
 use amqp_value::TableRef;
 use std::alloc::Global;
@@ -180,12 +180,18 @@ fn is_any_delivery(method: AnyMethodView<'_>) -> bool {
     }
 }
 
+fn is_any_select(method: AnyMethodView<'_>) -> bool {
+    match method {
+        AnyMethodView::Tx(method) => method.kind() == Kind::TxSelect,
+        _ => false,
+    }
+}
+
 #[test]
 fn a_method_by_its_class(rt: HostRuntime) -> Result<(), Fail> {
     let delivery = MethodRef::new(DELIVERY)?;
     assert!(rt; is_any_delivery(AnyMethodView::from_view(delivery)));
-    let select = AnyMethodView::from_view(MethodRef::new(SELECT)?);
-    assert!(rt; matches!(select, AnyMethodView::Tx(tx::AnyMethod::Select(_))));
+    assert!(rt; is_any_select(AnyMethodView::from_view(MethodRef::new(SELECT)?)));
     Ok(())
 }
 
