@@ -40,3 +40,6 @@ pub mod Ids
 pub mod Requests
 pub mod Sorts
 pub mod Texts
+pub mod ReadsMethod
+pub mod ReadsHeader
+pub mod Writes

@@ -1,10 +1,8 @@
 //! Checking methods: the faults of reading, without what is read.
-ghost use Rattle.std.specs.Prelude.{◌≡◌, ◌≤◌, List, length, map, Some, IfOk, IfErr, Ok, Err};
-ghost use Rattle.amqp_method.specs.Arguments.{Argument, Call, call};
-ghost use Rattle.amqp_method.specs.Encoding.{EncodesMethod};
-ghost use Rattle.amqp_method.specs.FirstFault.{FirstFaultOfMethod};
+ghost use Rattle.std.specs.Prelude.{◌≡◌, ◌≤◌, length, map, Some, IfOk};
 ghost use Rattle.amqp_method.specs.Checking.{kind_read, past_bit as bit_past, past_field as field_past, past_fields as fields_past};
 ghost use Rattle.amqp_method.specs.Reading.{Equals, call_at, method_at};
+ghost use Rattle.amqp_method.specs.ReadsMethod.{ChecksMethod};
 ghost use Rattle.amqp_method.specs.Rows.{field_view};
 
 use crate::faults::{MethodFault, MethodFaultKind};
@@ -106,21 +104,7 @@ fn check_args(kind: Kind, octets: &[u8], end: usize) -> Result<(), MethodFault>
 /// What [`read_method`](crate::read_method) reads is what passes, and the faults are the same; but nothing is kept, and
 /// no memory taken.
 pub fn check_method(payload: &[u8]) -> Result<Kind, MethodFault>
-    // What passes is encoded so.
-    ensures found { IfOk result (λ kind. (args : List Argument) × EncodesMethod (call kind args) payload.now) }
-
-    // What is encoded so passes.
-    ensures only { (c : Call) → EncodesMethod c payload.now → result ≡ Ok c.kind }
-
-    // A fault comes where the octets encode no method.
-    ensures refused { IfErr result (λ e. (c : Call) → EncodesMethod c payload.now → ⊥) }
-
-    // It is the fault of the first field that can't be read, and that one is reported.
-    ensures fault { IfErr result (λ e. FirstFaultOfMethod payload.now e) }
-    ensures told { (e : MethodFault) → FirstFaultOfMethod payload.now e → result ≡ Err e }
-
-    // What is read, as a function of the octets.
-    ensures exact { result ≡ kind_read (method_at payload.now) }
+    ensures { ChecksMethod payload.now result }
 {
     exact_kind(payload)
 }

@@ -1,12 +1,11 @@
 //! Checking content headers: the faults of reading, without what is read.
-ghost use Rattle.std.specs.Prelude.{◌≡◌, ◌-◌, ◌≤◌, ◌<◌, ℕ, List, Option, length, drop, IfOk, IfErr, Ok, Err};
+ghost use Rattle.std.specs.Prelude.{◌≡◌, ◌-◌, ◌≤◌, ◌<◌, ℕ, List, length, drop, IfOk, Ok};
 ghost use Rattle.byteorder.specs.Endian.{big_number};
-ghost use Rattle.amqp_method.specs.Arguments.{Argument};
-ghost use Rattle.amqp_method.specs.FirstFault.{FirstFaultOfHeader};
 ghost use Rattle.amqp_method.specs.HeaderChecking.{kind_at, size_read, Starts};
 ghost use Rattle.amqp_method.specs.HeaderReading.{has_flag, optional_at, properties_at, header_at};
-ghost use Rattle.amqp_method.specs.Properties.{ContentHeader, header, EncodesHeader, property_kinds};
+ghost use Rattle.amqp_method.specs.Properties.{property_kinds};
 ghost use Rattle.amqp_method.specs.Reading.{Equals, rest_of};
+ghost use Rattle.amqp_method.specs.ReadsHeader.{ChecksHeader};
 
 use crate::checker::past_field;
 use crate::faults::MethodFault;
@@ -73,22 +72,7 @@ fn past_properties(flags: u16, octets: &[u8], end: usize) -> Result<&[u8], Metho
 /// What [`read_header`](crate::read_header) reads is what passes, and the faults are the same; but nothing is kept, and
 /// no memory taken.
 pub fn check_header(payload: &[u8]) -> Result<u64, MethodFault>
-    // What passes is encoded so.
-    ensures found { IfOk result (λ size. (properties : List (Option Argument))
-        × EncodesHeader (header size properties) payload.now) }
-
-    // What is encoded so passes.
-    ensures only { (h : ContentHeader) → EncodesHeader h payload.now → result ≡ Ok h.body_size }
-
-    // A fault comes where the octets encode no header.
-    ensures refused { IfErr result (λ e. (h : ContentHeader) → EncodesHeader h payload.now → ⊥) }
-
-    // It is the fault of the first field that can't be read, and that one is reported.
-    ensures fault { IfErr result (λ e. FirstFaultOfHeader payload.now e) }
-    ensures told { (e : MethodFault) → FirstFaultOfHeader payload.now e → result ≡ Err e }
-
-    // What is read, as a function of the octets.
-    ensures exact { result ≡ size_read (header_at payload.now) }
+    ensures { ChecksHeader payload.now result }
 {
     exact_size(payload)
 }

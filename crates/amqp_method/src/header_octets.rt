@@ -1,13 +1,15 @@
 //! Content headers as octets.
 ghost use Rattle.std.specs.Prelude.{◌≡◌, ◌<◌, ◌⊎◌, ◌++◌, ◌^◌, length, take, IfOk, IfErr, OnOk, OnErr, Ok, Err};
 ghost use Rattle.amqp_method.specs.Faults.{out_of_memory, too_long};
-ghost use Rattle.amqp_method.specs.FirstFault.{FirstFaultOfHeader};
 ghost use Rattle.amqp_method.specs.HeaderReading.{header_at};
 ghost use Rattle.amqp_method.specs.HeaderView.{header_view, properties_view};
 ghost use Rattle.amqp_method.specs.Plain.{plain_start, plain_header, CountsPresentFit};
-ghost use Rattle.amqp_method.specs.Properties.{ContentHeader, EncodesHeader, header};
+ghost use Rattle.amqp_method.specs.Properties.{header};
 ghost use Rattle.amqp_method.specs.Reading.{Gives};
+ghost use Rattle.amqp_method.specs.ReadsHeader.{ReadsHeader};
+ghost use Rattle.amqp_method.specs.Writes.{WritesHeader};
 ghost use Rattle.amqp_method.specs.Writing.{PresentFitting};
+ghost use Rattle.amqp_method.specs.declared.faults.MethodFault.{MethodFault};
 
 use crate::faults::MethodFault;
 use crate::header_ref::HeaderRef;
@@ -25,21 +27,7 @@ use std::alloc::Global;
 /// A header is large. It stands apart, so that it is moved as one piece, and not property by property.
 #[inline(never)]
 pub fn read_header(alloc: Global, octets: &[u8]) -> Result<Header, MethodFault>
-    // What is read is encoded so.
-    ensures found { IfOk result (λ h. EncodesHeader (header_view h) octets.now) }
-
-    // What is encoded so is read, unless memory runs out.
-    ensures only { (h : ContentHeader) → EncodesHeader h octets.now → Gives header_view result (Ok h) }
-
-    // Every other fault comes where the octets encode no header.
-    ensures refused { IfErr result (λ e. (e ≡ out_of_memory) ⊎ ((h : ContentHeader) → EncodesHeader h octets.now → ⊥)) }
-
-    // It is the fault of the first field that can't be read, and that one is reported whatever memory there is.
-    ensures fault { IfErr result (λ e. (e ≡ out_of_memory) ⊎ FirstFaultOfHeader octets.now e) }
-    ensures told { (e : MethodFault) → FirstFaultOfHeader octets.now e → result ≡ Err e }
-
-    // What is read, as a function of the octets.
-    ensures exact { Gives header_view result (header_at octets.now) }
+    ensures { ReadsHeader octets.now result }
 {
     exact_header(alloc, octets)
 }
@@ -78,12 +66,7 @@ pub fn read_header_into(
 /// [`TooLong`](amqp_value::ValueFaultKind::TooLong) where a count passes 4294967295. After a fault the output is as it
 /// was.
 pub fn write_header(header: &Header, out: &mut Vec<u8>) -> Result<(), MethodFault>
-    ensures ok { OnOk result (out.new.items ≡ out.old.items ++ plain_header (header_view header.now)) }
-    // What is written is read again as this header.
-    ensures encoded { OnOk result (EncodesHeader (header_view header.now) (plain_header (header_view header.now))) }
-    ensures too_long { result ≡ Err too_long → CountsPresentFit (header_view header.now).properties → ⊥ }
-    ensures err { IfErr result (λ e. (e ≡ too_long) ⊎ (e ≡ out_of_memory)) }
-    ensures same { OnErr result (out.new.items ≡ out.old.items) }
+    ensures { WritesHeader (header_view header.now) out.old.items result out.new.items }
 {
     write_header_parts(header.body_size, &header.properties, out)
 }
@@ -94,14 +77,7 @@ pub fn write_header_parts(
     properties: &Properties,
     out: &mut Vec<u8>,
 ) -> Result<(), MethodFault>
-    ensures ok { OnOk result (out.new.items ≡ out.old.items
-        ++ plain_header (header body_size (properties_view properties.now))) }
-    // What is written is read again as this header.
-    ensures encoded { OnOk result (EncodesHeader (header body_size (properties_view properties.now))
-        (plain_header (header body_size (properties_view properties.now)))) }
-    ensures too_long { result ≡ Err too_long → CountsPresentFit (properties_view properties.now) → ⊥ }
-    ensures err { IfErr result (λ e. (e ≡ too_long) ⊎ (e ≡ out_of_memory)) }
-    ensures same { OnErr result (out.new.items ≡ out.old.items) }
+    ensures { WritesHeader (header body_size (properties_view properties.now)) out.old.items result out.new.items }
 {
     let before = out.len();
     let written = append_header(body_size, properties, out);

@@ -1,12 +1,13 @@
 //! Methods as octets.
-ghost use Rattle.std.specs.Prelude.{◌⊎◌, ◌≡◌, ◌++◌, length, take, IfOk, IfErr, OnOk, OnErr, Ok, Err, Some};
-ghost use Rattle.amqp_method.specs.Arguments.{Call};
+ghost use Rattle.std.specs.Prelude.{◌⊎◌, ◌≡◌, ◌++◌, length, take, IfErr, OnOk, OnErr, Err};
+ghost use Rattle.amqp_method.specs.Encoding.{EncodesMethod};
 ghost use Rattle.amqp_method.specs.Faults.{out_of_memory, too_long};
-ghost use Rattle.amqp_method.specs.FirstFault.{FirstFaultOfMethod};
 ghost use Rattle.amqp_method.specs.MethodView.{method_view};
 ghost use Rattle.amqp_method.specs.Plain.{plain_method, CountsAllFit};
 ghost use Rattle.amqp_method.specs.Reading.{Gives, method_at};
-ghost use Rattle.amqp_method.specs.Encoding.{EncodesMethod};
+ghost use Rattle.amqp_method.specs.ReadsMethod.{ReadsMethod};
+ghost use Rattle.amqp_method.specs.Writes.{WritesMethod};
+ghost use Rattle.amqp_method.specs.declared.faults.MethodFault.{MethodFault};
 
 use crate::faults::MethodFault;
 use crate::kinds::schema;
@@ -21,21 +22,7 @@ use std::alloc::Global;
 /// Free bits and reserved fields are read in any value and dropped. A fault tells the first field that can't be read,
 /// by its first octet; for a field table, the octet in it.
 pub fn read_method(alloc: Global, octets: &[u8]) -> Result<Method, MethodFault>
-    // What is read is encoded so.
-    ensures found { IfOk result (λ m. EncodesMethod (method_view m) octets.now) }
-
-    // What is encoded so is read, unless memory runs out.
-    ensures only { (c : Call) → EncodesMethod c octets.now → Gives method_view result (Ok c) }
-
-    // Every other fault comes where the octets encode no method.
-    ensures refused { IfErr result (λ e. (e ≡ out_of_memory) ⊎ ((c : Call) → EncodesMethod c octets.now → ⊥)) }
-
-    // It is the fault of the first field that can't be read, and that one is reported whatever memory there is.
-    ensures fault { IfErr result (λ e. (e ≡ out_of_memory) ⊎ FirstFaultOfMethod octets.now e) }
-    ensures told { (e : MethodFault) → FirstFaultOfMethod octets.now e → result ≡ Err e }
-
-    // What is read, as a function of the octets.
-    ensures exact { Gives method_view result (method_at octets.now) }
+    ensures { ReadsMethod octets.now result }
 {
     exact_method(alloc, octets)
 }
@@ -56,12 +43,7 @@ fn exact_method(alloc: Global, octets: &[u8]) -> Result<Method, MethodFault>
 /// [`TooLong`](amqp_value::ValueFaultKind::TooLong) where a count passes 4294967295. After a fault the output is as it
 /// was.
 pub fn write_method(method: &Method, out: &mut Vec<u8>) -> Result<(), MethodFault>
-    ensures ok { OnOk result (out.new.items ≡ out.old.items ++ plain_method (method_view method.now)) }
-    // What is written is read again as this method.
-    ensures encoded { OnOk result (EncodesMethod (method_view method.now) (plain_method (method_view method.now))) }
-    ensures too_long { result ≡ Err too_long → CountsAllFit (method_view method.now).args → ⊥ }
-    ensures err { IfErr result (λ e. (e ≡ too_long) ⊎ (e ≡ out_of_memory)) }
-    ensures same { OnErr result (out.new.items ≡ out.old.items) }
+    ensures { WritesMethod (method_view method.now) out.old.items result out.new.items }
 {
     let before = out.len();
     let written = append_method(method, out);

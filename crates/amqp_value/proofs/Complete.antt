@@ -1,5 +1,7 @@
 -- What is encoded so is read, whatever stands after it.
-use Rattle.std.proofs.Common.{◌≡◌, ℕ, zero, suc, ◌-◌, ◌^◌, ◌≤◌, ◌<◌, ◌==◌, Bool, true, false, not, ltb, List, [], ◌∷◌, ◌++◌, length, get_or, drop, Option, Some, None, Ok, refl, sym, ap, ◌∙◌, append_assoc, arith, length-append}
+use Rattle.std.proofs.Common.{◌≡◌, ℕ, zero, suc, ◌-◌, ◌^◌, ◌≤◌, ◌<◌, ◌==◌, Bool, true, false, not, ltb, List, [], ◌∷◌}
+use Rattle.std.proofs.Common.{◌++◌, length, get_or, drop, Option, Some, None, Ok, refl, sym, ap, ◌∙◌, append_assoc}
+use Rattle.std.proofs.Common.{arith, length-append}
 use Rattle.std.specs.Int.{w8, w16, w32, w64, cast_signed}
 use Rattle.std.proofs.lemmas.Bool.{le-ltb, ne_eqb}
 use Rattle.std.proofs.lemmas.List.{take_at, drop_at}
@@ -8,7 +10,11 @@ use Rattle.byteorder.specs.Numbers.{big_number-reads_back, length-bytes_high_fir
 use Rattle.amqp_value.specs.Fields.{EncodesNumber, EncodesShortString, EncodesLongString}
 use Rattle.amqp_value.specs.Reading.{Reader, prefix_of, counted, name_at, width_of, scalar_of, elements, named, after_tag, tagged, tag_of, value_at}
 use Rattle.amqp_value.specs.Encoding.{EncodesTruth, EncodesScalar, EncodesField, EncodesItems, EncodesPairs, scalar_tag, tag_octet}
-use Rattle.amqp_value.specs.Values.{Scalar, boolean, short_short_int, short_short_uint, errata_short_int, short_int, short_uint, long_int, long_uint, errata_long_long_int, long_long_int, float, double, decimal, timestamp, void, Datum, scalar, long_string, byte_array, array, table, Items, items_of, no_items, item, Pairs, pairs_of, no_pairs, pair, depth, items_depth, pairs_depth}
+use Rattle.amqp_value.specs.Values.{Scalar, boolean, short_short_int, short_short_uint, errata_short_int, short_int}
+use Rattle.amqp_value.specs.Values.{short_uint, long_int, long_uint, errata_long_long_int, long_long_int, float, double}
+use Rattle.amqp_value.specs.Values.{decimal, timestamp, void, Datum, scalar, long_string, byte_array, array, table}
+use Rattle.amqp_value.specs.Values.{Items, items_of, no_items, item, Pairs, pairs_of, no_pairs, pair, depth}
+use Rattle.amqp_value.specs.Values.{items_depth, pairs_depth}
 use Rattle.amqp_value.specs.declared.tag.Tag.TheVariants.{Fixed}
 use Rattle.amqp_value.specs.declared.tag.ScalarTag.{ScalarTag}
 use Rattle.amqp_value.specs.declared.tag.ScalarTag.TheVariants as scalars

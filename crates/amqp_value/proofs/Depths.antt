@@ -1,5 +1,7 @@
 -- How deep lists of values nest, element by element.
-use Rattle.std.proofs.Common.{◌≡◌, inl, inr, ℕ, zero, suc, max, ◌+◌, ◌≤◌, ◌<◌, ◌↔◌, Bool, true, false, cond, IsTrue, List, [], ◌∷◌, ◌++◌, length, get_or, take, Vec, Global, refl, ap, subst, ◌∙◌, add-one, arith, rules}
+use Rattle.std.proofs.Common.{◌≡◌, inl, inr, ℕ, zero, suc, max, ◌+◌, ◌≤◌, ◌<◌, ◌↔◌, Bool, true, false, cond, IsTrue}
+use Rattle.std.proofs.Common.{List, [], ◌∷◌, ◌++◌, length, get_or, take, Vec, Global, refl, ap, subst, ◌∙◌, add-one}
+use Rattle.std.proofs.Common.{arith, rules}
 use Rattle.std.proofs.lemmas.Bool.{cases_lt, both_ways}
 use Rattle.std.proofs.lemmas.List.{take_all}
 use Rattle.amqp_value.specs.Values.{Datum, array, table, Pairs, no_pairs, pair, with_pair, depth, items_depth, pairs_depth, table_depth}

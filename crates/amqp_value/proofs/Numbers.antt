@@ -1,5 +1,6 @@
 -- The octets of a number are one list, and one list of octets is one number.
-use Rattle.std.proofs.Common.{◌≡◌, ℕ, zero, suc, ◌+◌, ◌*◌, ◌^◌, ◌<◌, List, [], ◌∷◌, ◌++◌, length, get_or, take, drop, refl, sym, ap, ◌∙◌, arith, inl, inr, length-take, ℤ}
+use Rattle.std.proofs.Common.{◌≡◌, ℕ, zero, suc, ◌+◌, ◌*◌, ◌^◌, ◌<◌, List, [], ◌∷◌, ◌++◌, length, get_or, take, drop}
+use Rattle.std.proofs.Common.{refl, sym, ap, ◌∙◌, arith, inl, inr, length-take, ℤ}
 use mir.Val.{bits}
 use Rattle.std.specs.Int.{Width, byte_len, byte_at, cast_signed, cast_unsigned}
 use Rattle.std.proofs.Math.Nat.{mod-lt, mod-eq_of_lt}

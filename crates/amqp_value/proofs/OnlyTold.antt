@@ -1,11 +1,15 @@
 -- The fault of the first element that can't be read is the one that is told, and no other.
-use Rattle.std.proofs.Common.{◌≡◌, ℕ, zero, suc, ◌-◌, ◌+◌, ◌≤◌, ◌<◌, Bool, true, false, ltb, List, [], ◌∷◌, ◌++◌, length, Option, Some, None, Result, Ok, Err, inl, inr, refl, sym, ap, subst, ◌∙◌, append_assoc, arith, length-append}
+use Rattle.std.proofs.Common.{◌≡◌, ℕ, zero, suc, ◌-◌, ◌+◌, ◌≤◌, ◌<◌, Bool, true, false, ltb, List, [], ◌∷◌, ◌++◌}
+use Rattle.std.proofs.Common.{length, Option, Some, None, Result, Ok, Err, inl, inr, refl, sym, ap, subst, ◌∙◌}
+use Rattle.std.proofs.Common.{append_assoc, arith, length-append}
 use Rattle.std.proofs.lemmas.Bool.{lt-ltb, ltb-false, ne_eqb}
 use Rattle.byteorder.specs.Endian.{big_number, big_bytes}
 use Rattle.byteorder.specs.Numbers.{length-bytes_high_first}
 use Rattle.amqp_value.specs.Faults.{fault_at}
 use Rattle.amqp_value.specs.Fields.{EncodesLongString}
-use Rattle.amqp_value.specs.FirstFault.{PassesCounted, PassesName, IsTextTag, IsNestingTag, FaultInItems, in_item, FaultInPairs, in_name, in_value, FaultInValue, no_tag, unknown_tag, too_deep, passes, text_passes, count_passes, in_array, in_table, FirstFault, ends, inside}
+use Rattle.amqp_value.specs.FirstFault.{PassesCounted, PassesName, IsTextTag, IsNestingTag, FaultInItems, in_item}
+use Rattle.amqp_value.specs.FirstFault.{FaultInPairs, in_name, in_value, FaultInValue, no_tag, unknown_tag, too_deep}
+use Rattle.amqp_value.specs.FirstFault.{passes, text_passes, count_passes, in_array, in_table, FirstFault, ends, inside}
 use Rattle.amqp_value.specs.Reading.{Gives, Reader, fault_here, counted, name_at, width_of, elements, named, after_tag, tagged, tag_of, value_at, table_at}
 use Rattle.amqp_value.specs.Encoding.{IsNoTag, EncodesItems, EncodesPairs, tag_octet}
 use Rattle.amqp_value.specs.Tables.{read_view}

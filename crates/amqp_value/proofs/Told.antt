@@ -1,12 +1,16 @@
 -- A fault that is read is that of the first element that can't be read.
-use Rattle.std.proofs.Common.{◌≡◌, ℕ, zero, suc, max, ◌-◌, ◌+◌, ◌≤◌, ◌<◌, Bool, true, false, cond, ltb, List, [], ◌∷◌, ◌++◌, length, take, drop, Option, Some, None, Result, Ok, Err, inl, inr, refl, sym, ap, subst, ◌∙◌, append_assoc, arith, length-append, length-take, length-drop}
+use Rattle.std.proofs.Common.{◌≡◌, ℕ, zero, suc, max, ◌-◌, ◌+◌, ◌≤◌, ◌<◌, Bool, true, false, cond, ltb, List, [], ◌∷◌}
+use Rattle.std.proofs.Common.{◌++◌, length, take, drop, Option, Some, None, Result, Ok, Err, inl, inr, refl, sym, ap}
+use Rattle.std.proofs.Common.{subst, ◌∙◌, append_assoc, arith, length-append, length-take, length-drop}
 use Rattle.std.specs.Prelude.{◌⊎◌, IfErr}
 use Rattle.std.proofs.lemmas.Bool.{ltb-true, ltb-false}
 use Rattle.byteorder.specs.Endian.{big_number, big_bytes}
 use Rattle.byteorder.specs.Numbers.{length-bytes_high_first}
 use Rattle.amqp_value.specs.Faults.{fault_at, out_of_memory}
 use Rattle.amqp_value.specs.Fields.{EncodesLongString}
-use Rattle.amqp_value.specs.FirstFault.{PassesCounted, PassesName, IsTextTag, FaultInItems, in_item, FaultInPairs, in_name, in_value, FaultInValue, no_tag, unknown_tag, too_deep, passes, text_passes, count_passes, in_array, in_table, FirstFault, ends, inside}
+use Rattle.amqp_value.specs.FirstFault.{PassesCounted, PassesName, IsTextTag, FaultInItems, in_item, FaultInPairs}
+use Rattle.amqp_value.specs.FirstFault.{in_name, in_value, FaultInValue, no_tag, unknown_tag, too_deep, passes}
+use Rattle.amqp_value.specs.FirstFault.{text_passes, count_passes, in_array, in_table, FirstFault, ends, inside}
 use Rattle.amqp_value.specs.Reading.{◌>>=◌, Gives, Read, Reader, fault_here, prefix_of, counted, name_at, width_of, many, elements, named, after_tag, tagged, tag_of, value_at, table_at}
 use Rattle.amqp_value.specs.Encoding.{tag_octet}
 use Rattle.amqp_value.specs.Tables.{read_view}

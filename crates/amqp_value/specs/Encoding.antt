@@ -4,7 +4,10 @@ use Rattle.std.specs.Prelude.{◌≡◌, ◌≢◌, ℕ, ◌<◌, ◌≤◌, Lis
 use Rattle.std.specs.List.{AllByRecursion}
 use Rattle.std.specs.Int.{w8, w16, w32, w64}
 use Rattle.amqp_value.specs.Fields.{EncodesNumber, EncodesSigned, EncodesOctets, EncodesShortString, EncodesLongString}
-use Rattle.amqp_value.specs.Values.{Scalar, boolean, short_short_int, short_short_uint, errata_short_int, short_int, short_uint, long_int, long_uint, errata_long_long_int, long_long_int, float, double, decimal, timestamp, void, Datum, scalar, long_string, byte_array, array, table, Items, no_items, item, Pairs, no_pairs, pair, table_depth}
+use Rattle.amqp_value.specs.Values.{Scalar, boolean, short_short_int, short_short_uint, errata_short_int, short_int}
+use Rattle.amqp_value.specs.Values.{short_uint, long_int, long_uint, errata_long_long_int, long_long_int, float, double}
+use Rattle.amqp_value.specs.Values.{decimal, timestamp, void, Datum, scalar, long_string, byte_array, array, table}
+use Rattle.amqp_value.specs.Values.{Items, no_items, item, Pairs, no_pairs, pair, table_depth}
 
 -- the ASCII code of a value's tag
 abbrev pub scalar_tag : Scalar → ℕ

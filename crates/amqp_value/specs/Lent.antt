@@ -1,7 +1,10 @@
 -- What callers see of views of octets: the values that the octets encode.
 use Rattle.std.specs.Prelude.{ℕ, List, length}
 use Rattle.std.specs.Borrow.{Bor}
-use Rattle.amqp_value.specs.Values.{boolean, short_short_int, short_short_uint, errata_short_int, short_int, short_uint, long_int, long_uint, errata_long_long_int, long_long_int, float, double, decimal, timestamp, void, Datum, scalar, long_string, byte_array, array, table, Items, items_of, Pairs}
+use Rattle.amqp_value.specs.Values.{boolean, short_short_int, short_short_uint, errata_short_int, short_int, short_uint}
+use Rattle.amqp_value.specs.Values.{long_int, long_uint, errata_long_long_int, long_long_int, float, double, decimal}
+use Rattle.amqp_value.specs.Values.{timestamp, void, Datum, scalar, long_string, byte_array, array, table, Items}
+use Rattle.amqp_value.specs.Values.{items_of, Pairs}
 use Rattle.amqp_value.specs.Whole.{items_encoded, pairs_encoded, table_encoded}
 use Rattle.amqp_value.specs.declared.array_ref.ArrayRef.{ArrayRef}
 use Rattle.amqp_value.specs.declared.items_ref.ItemsRef.{ItemsRef}

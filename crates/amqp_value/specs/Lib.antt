@@ -19,3 +19,7 @@ pub mod Whole
 pub mod Lengths
 pub mod Pairs
 pub mod Queries
+pub mod ReadsTable
+pub mod ChecksTable
+pub mod WritesTable
+pub mod SetsValue

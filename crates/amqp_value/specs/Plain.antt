@@ -4,7 +4,10 @@ use Rattle.std.specs.Int.{w8, w16, w32, w64, cast_unsigned}
 use Rattle.byteorder.specs.Endian.{big_bytes}
 use Rattle.amqp_value.specs.Fields.{plain_short_string, plain_long_string}
 use Rattle.amqp_value.specs.Encoding.{tag_octet}
-use Rattle.amqp_value.specs.Values.{Scalar, boolean, short_short_int, short_short_uint, errata_short_int, short_int, short_uint, long_int, long_uint, errata_long_long_int, long_long_int, float, double, decimal, timestamp, void, Datum, scalar, long_string, byte_array, array, table, Items, no_items, item, Pairs, no_pairs, pair}
+use Rattle.amqp_value.specs.Values.{Scalar, boolean, short_short_int, short_short_uint, errata_short_int, short_int}
+use Rattle.amqp_value.specs.Values.{short_uint, long_int, long_uint, errata_long_long_int, long_long_int, float, double}
+use Rattle.amqp_value.specs.Values.{decimal, timestamp, void, Datum, scalar, long_string, byte_array, array, table}
+use Rattle.amqp_value.specs.Values.{Items, no_items, item, Pairs, no_pairs, pair}
 
 abbrev pub plain_truth : Bool → List ℕ
 plain_truth false = 0 ∷ []

@@ -1,7 +1,9 @@
 -- What a value holds, whichever of the tags for it it has: a truth value, a whole number, octets, values, pairs.
 use Rattle.std.specs.Prelude.{ℕ, List, Bool, ℤ, pos, negsuc, Option, Some, None}
 use Rattle.amqp_value.specs.Pairs.{value_named}
-use Rattle.amqp_value.specs.Values.{Scalar, boolean, short_short_int, short_short_uint, errata_short_int, short_int, short_uint, long_int, long_uint, errata_long_long_int, long_long_int, Datum, scalar, long_string, byte_array, array, table, Items, Pairs}
+use Rattle.amqp_value.specs.Values.{Scalar, boolean, short_short_int, short_short_uint, errata_short_int, short_int}
+use Rattle.amqp_value.specs.Values.{short_uint, long_int, long_uint, errata_long_long_int, long_long_int, Datum, scalar}
+use Rattle.amqp_value.specs.Values.{long_string, byte_array, array, table, Items, Pairs}
 
 abbrev pub truth_of : Scalar → Option Bool
 truth_of (boolean holds) = Some holds

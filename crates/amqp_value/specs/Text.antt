@@ -3,7 +3,10 @@ use Rattle.std.specs.Prelude.{ℕ, zero, suc, ◌==◌, ◌&&◌, ◌||◌, nat_
 use Rattle.std.specs.Fmt.{decimal, signed_decimal}
 use Rattle.std.specs.List.{flat_map}
 use Rattle.hex.specs.Hex.{encode_lower}
-use Rattle.amqp_value.specs.Values.{Scalar, boolean, short_short_int, short_short_uint, errata_short_int, short_int, short_uint, long_int, long_uint, errata_long_long_int, long_long_int, float, double, decimal as scaled, timestamp, void, Datum, scalar, long_string, byte_array, array, table, Items, no_items, item, Pairs, no_pairs, pair}
+use Rattle.amqp_value.specs.Values.{Scalar, boolean, short_short_int, short_short_uint, errata_short_int, short_int}
+use Rattle.amqp_value.specs.Values.{short_uint, long_int, long_uint, errata_long_long_int, long_long_int, float, double}
+use Rattle.amqp_value.specs.Values.{decimal as scaled, timestamp, void, Datum, scalar, long_string, byte_array, array}
+use Rattle.amqp_value.specs.Values.{table, Items, no_items, item, Pairs, no_pairs, pair}
 
 -- two digits, lower case
 abbrev pub octet_digits : ℕ → List ℕ

@@ -1,6 +1,9 @@
 -- The datum that a `Value` stands for.
 use Rattle.std.specs.Prelude.{ℕ, List, map}
-use Rattle.amqp_value.specs.Values.{boolean, short_short_int, short_short_uint, errata_short_int, short_int, short_uint, long_int, long_uint, errata_long_long_int, long_long_int, float, double, decimal, timestamp, void, Datum, scalar, long_string, byte_array, array, table, Items, items_of, Pairs, pairs_of}
+use Rattle.amqp_value.specs.Values.{boolean, short_short_int, short_short_uint, errata_short_int, short_int, short_uint}
+use Rattle.amqp_value.specs.Values.{long_int, long_uint, errata_long_long_int, long_long_int, float, double, decimal}
+use Rattle.amqp_value.specs.Values.{timestamp, void, Datum, scalar, long_string, byte_array, array, table, Items}
+use Rattle.amqp_value.specs.Values.{items_of, Pairs, pairs_of}
 use Rattle.amqp_value.specs.declared.values.Value.{Value, fold-Value}
 use Rattle.amqp_value.specs.declared.values.Value.TheOpen.{Value-F}
 

@@ -1,12 +1,9 @@
 //! Checking a table at the start of octets: the grammar, with the first fault, and no memory.
 
-ghost use Rattle.std.specs.Prelude.{◌≡◌, ◌≤◌, ◌++◌, ℕ, List, length, take, IfOk, IfErr, Ok, Err};
+ghost use Rattle.std.specs.Prelude.{◌≡◌, ◌≤◌, length};
 ghost use Rattle.amqp_value.specs.Checking.{Equals, skipped, measured, fault_in};
-ghost use Rattle.amqp_value.specs.Encoding.{EncodesTable};
-ghost use Rattle.amqp_value.specs.FirstFault.{FirstFault};
-ghost use Rattle.amqp_value.specs.Values.{Pairs};
+ghost use Rattle.amqp_value.specs.ChecksTable.{ChecksTable};
 ghost use Rattle.amqp_value.specs.Reading.{elements, named, value_at, table_at};
-ghost use Rattle.amqp_value.specs.declared.fault.ValueFault.{ValueFault};
 
 use crate::fault::{ValueFault, ValueFaultKind};
 use crate::fields::{counted_octets, fault_here, name_octets, prefix};
@@ -105,24 +102,7 @@ fn check_pairs(body: &[u8], end: usize, levels: usize) -> Result<(), ValueFault>
 /// fewer than four, or fewer than the outer count says; inside, what doesn't fit the table or the array round it passes
 /// its end. UnknownTag and TooDeep are reported at the tag.
 pub fn check_table(octets: &[u8]) -> Result<usize, ValueFault>
-    // The octets up to that size encode a table.
-    ensures found { IfOk result (λ n. (pairs : Pairs) × EncodesTable pairs (take n octets.now)) }
-    ensures within { IfOk result (λ n. n ≤ length octets.now) }
-
-    // A table at the start is found, whatever stands after it.
-    ensures only { (pairs : Pairs) (prefix after : List ℕ) → EncodesTable pairs prefix
-        → octets.now ≡ prefix ++ after → result ≡ Ok (length prefix) }
-
-    // A fault comes where no prefix encodes a table.
-    ensures refused { IfErr result (λ e.
-        (pairs : Pairs) (prefix after : List ℕ) → EncodesTable pairs prefix → octets.now ≡ prefix ++ after → ⊥) }
-
-    // It is the fault of the first element that can't be read, and that one is reported.
-    ensures fault { IfErr result (λ e. FirstFault octets.now e) }
-    ensures told { (e : ValueFault) → FirstFault octets.now e → result ≡ Err e }
-
-    // The size or the fault, as a function of the octets.
-    ensures exact { result ≡ measured (table_at octets.now) }
+    ensures { ChecksTable octets.now result }
 {
     table_size(octets)
 }

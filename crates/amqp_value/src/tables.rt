@@ -36,7 +36,8 @@ impl Drop for Table {
 impl Table {
     ghost use Rattle.std.specs.Prelude.{◌≡◌, ◌<◌, ◌↔◌, ◌⊎◌, OnOk, OnErr, length, ◌==◌, IfOk, IfErr, IsOk, MatchOption, Some, None, Err};
     ghost use Rattle.std.specs.Slice.Iter.{iter_rest};
-    ghost use Rattle.amqp_value.specs.Pairs.{pair_count, value_named, with_value, without};
+    ghost use Rattle.amqp_value.specs.Pairs.{pair_count, value_named, without};
+    ghost use Rattle.amqp_value.specs.SetsValue.{SetsValue};
     ghost use Rattle.amqp_value.specs.Lengths.{capped};
     ghost use Rattle.amqp_value.specs.Plain.{plain_table};
     ghost use Rattle.amqp_value.specs.Faults.{fault_at, out_of_memory};
@@ -97,13 +98,7 @@ impl Table {
     /// pair after the last. TooDeep at 0 where the table would nest deeper than [`MAX_DEPTH`]; after a fault the table
     /// is as it was, and name and value are dropped.
     pub fn set(&mut self, name: ShortStr, value: Value) -> Result<Option<Value>, ValueFault>
-        ensures ok { OnOk result (table_view self.new ≡ with_value (table_view self.old) name (view value)) }
-        ensures held { IfOk result (λ held. MatchOption held (value_named name (table_view self.old) ≡ None)
-            (λ v. value_named name (table_view self.old) ≡ Some (view v))) }
-        ensures too_deep { (result ≡ Err (fault_at 0 TooDeep))
-            ↔ (32 < table_depth (with_value (table_view self.old) name (view value))) }
-        ensures err { IfErr result (λ e. (e ≡ fault_at 0 TooDeep) ⊎ (e ≡ out_of_memory)) }
-        ensures same { OnErr result (table_view self.new ≡ table_view self.old) }
+        ensures { SetsValue name (view value) (table_view self.old) result (table_view self.new) }
     {
         let fits = nests_within(&value, MAX_DEPTH - 1);
         if !fits {

@@ -6,10 +6,11 @@ ghost use Rattle.byteorder.specs.Endian.{big_bytes};
 ghost use Rattle.amqp_value.specs.Faults.{fault_at, out_of_memory};
 ghost use Rattle.amqp_value.specs.Fields.{EncodesShortString, plain_short_string, plain_long_string};
 ghost use Rattle.amqp_value.specs.Plain.{plain_value, plain_field, plain_items, plain_pairs, plain_table, CountsFit, ItemsCountsFit, PairsCountsFit};
-ghost use Rattle.amqp_value.specs.Encoding.{EncodesField, EncodesItems, EncodesPairs, EncodesTable};
+ghost use Rattle.amqp_value.specs.Encoding.{EncodesField, EncodesItems, EncodesPairs};
 ghost use Rattle.amqp_value.specs.Tables.{table_view};
 ghost use Rattle.amqp_value.specs.Values.{array, table as table_of};
 ghost use Rattle.amqp_value.specs.View.{view, items_view, pairs_view};
+ghost use Rattle.amqp_value.specs.WritesTable.{WritesTable};
 ghost use Rattle.amqp_value.specs.declared.fault.ValueFaultKind.TheVariants.{TooLong};
 
 use crate::fault::{ValueFault, ValueFaultKind};
@@ -234,11 +235,7 @@ fn put_name(out: &mut Vec<u8>, name: &ShortStr) -> Result<(), ValueFault>
 /// Appends the table's one plain encoding. TooLong at 0 where a count inside passes 4294967295; after a
 /// fault the output is as it was.
 pub fn write_table(table: &Table, out: &mut Vec<u8>) -> Result<(), ValueFault>
-    ensures ok { OnOk result (out.new.items ≡ out.old.items ++ plain_table (table_view table.now)) }
-    ensures encoded { OnOk result (EncodesTable (table_view table.now) (plain_table (table_view table.now))) }
-    ensures err { IfErr result (λ e. (e ≡ fault_at 0 TooLong) ⊎ (e ≡ out_of_memory)) }
-    ensures too_long { result ≡ Err (fault_at 0 TooLong) → CountsFit (table_of (table_view table.now)) → ⊥ }
-    ensures same { OnErr result (out.new.items ≡ out.old.items) }
+    ensures { WritesTable (table_view table.now) out.old.items result out.new.items }
 {
     let start = out.len();
     if let Err(fault) = put_outer(out, table.pairs()) {

@@ -2,17 +2,13 @@ use Rattle.std.proofs.Common.{arith}
 use Rattle.amqp_method.proofs.CheckLemmas.{check_found, check_only, check_refused, check_fault, check_told}
 use Rattle.amqp_method.proofs.checker.check_method.Goals as goal
 
-pub returns-clause-found : goal.returns-clause-found
-returns-clause-found c = check_found c.args.payload.now c.exact_kind.result (λ i. omega (arith, c.type_inv.payload i)) c.exact_kind.ensures
-
-pub returns-clause-only : goal.returns-clause-only
-returns-clause-only c = check_only c.args.payload.now c.exact_kind.result c.exact_kind.ensures
-
-pub returns-clause-refused : goal.returns-clause-refused
-returns-clause-refused c = check_refused c.args.payload.now c.exact_kind.result c.exact_kind.ensures
-
-pub returns-clause-fault : goal.returns-clause-fault
-returns-clause-fault c = check_fault c.args.payload.now c.exact_kind.result (λ i. omega (arith, c.type_inv.payload i)) c.exact_kind.ensures
-
-pub returns-clause-told : goal.returns-clause-told
-returns-clause-told c = check_told c.args.payload.now c.exact_kind.result c.exact_kind.ensures
+pub returns : goal.returns
+returns c =
+    record {
+      found = check_found c.args.payload.now c.exact_kind.result (λ i. omega (arith, c.type_inv.payload i)) c.exact_kind.ensures;
+      only = check_only c.args.payload.now c.exact_kind.result c.exact_kind.ensures;
+      refused = check_refused c.args.payload.now c.exact_kind.result c.exact_kind.ensures;
+      fault = check_fault c.args.payload.now c.exact_kind.result (λ i. omega (arith, c.type_inv.payload i)) c.exact_kind.ensures;
+      told = check_told c.args.payload.now c.exact_kind.result c.exact_kind.ensures;
+      exact = c.exact_kind.ensures;
+    }

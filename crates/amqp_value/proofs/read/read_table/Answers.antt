@@ -4,20 +4,18 @@ use Rattle.amqp_value.proofs.Told.{first_fault}
 use Rattle.amqp_value.proofs.OnlyTold.{told}
 use Rattle.amqp_value.proofs.read.read_table.Goals as goal
 
-pub returns-clause-found : goal.returns-clause-found
-returns-clause-found c = found c.args.octets.now c.table_prefix.result (λ i. omega (arith, c.type_inv.octets i)) c.table_prefix.ensures.exact
-
-pub returns-clause-within : goal.returns-clause-within
-returns-clause-within c = within c.args.octets.now c.table_prefix.result (λ i. omega (arith, c.type_inv.octets i)) c.table_prefix.ensures.exact
-
-pub returns-clause-only : goal.returns-clause-only
-returns-clause-only c = only c.args.octets.now c.table_prefix.result c.table_prefix.ensures.exact
-
-pub returns-clause-refused : goal.returns-clause-refused
-returns-clause-refused c = refused c.args.octets.now c.table_prefix.result c.table_prefix.ensures.exact
-
-pub returns-clause-fault : goal.returns-clause-fault
-returns-clause-fault c = first_fault c.args.octets.now c.table_prefix.result (λ i. omega (arith, c.type_inv.octets i)) c.table_prefix.ensures.exact
-
-pub returns-clause-told : goal.returns-clause-told
-returns-clause-told c = told c.args.octets.now c.table_prefix.result c.table_prefix.ensures.exact
+pub returns : goal.returns
+returns c =
+    let octets = c.args.octets.now in
+    let read = c.table_prefix.result in
+    let exact = c.table_prefix.ensures.exact in
+    record {
+      found = found octets read (λ i. omega (arith, c.type_inv.octets i)) exact;
+      within = within octets read (λ i. omega (arith, c.type_inv.octets i)) exact;
+      only = only octets read exact;
+      refused = refused octets read exact;
+      fault = first_fault octets read (λ i. omega (arith, c.type_inv.octets i)) exact;
+      told = told octets read exact;
+      ends = c.table_prefix.ensures.ends;
+      exact = exact;
+    }

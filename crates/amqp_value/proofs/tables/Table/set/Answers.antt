@@ -1,4 +1,4 @@
-use Rattle.std.proofs.Common.{◌≡◌, ◌≤◌, ◌<◌, ℕ, List, Option, Result, Err, None, Some, get_or, slice_set, sym, ◌∙◌, ap, subst, refl, arith}
+use Rattle.std.proofs.Common.{◌≡◌, ◌≤◌, ◌<◌, ℕ, List, Option, Result, Err, None, Some, get_or, slice_set, sym, ◌∙◌, ap, subst, refl, arith, rules}
 use Rattle.std.proofs.lemmas.Result.{err_from_is_err_and}
 use Rattle.amqp_value.specs.Faults.{fault_at, out_of_memory}
 use Rattle.amqp_value.specs.declared.fault.ValueFault.{ValueFault}
@@ -37,11 +37,18 @@ put_there pairs place was name value dest at here is =
     ∙ ap (λ v. pairs_view (slice_set pairs place ((get_or pairs place was).0, v))) is
     ∙ sym (replaced pairs place was name value at.within at.none_before (at.is_here was))
 
-pub returns-then-not-fits-clause-too_deep : goal.returns-then-not-fits-clause-too_deep
-returns-then-not-fits-clause-too_deep c =
-    let deep : 31 < depth (view c.args.value) = above_from c.nests_within-fits.result _ _ c.nests_within-fits.ensures c.if-not-fits.true in
-    let deeper = with_value-depth (table_view c.args.self.now) c.args.name (view c.args.value) in
-    (λ e. omega (arith, deeper.1), λ h. refl)
+pub returns-then-not-fits : goal.returns-then-not-fits
+returns-then-not-fits c =
+    record {
+      ok = search rules;
+      held = search rules;
+      too_deep =
+          let deep : 31 < depth (view c.args.value) = above_from c.nests_within-fits.result _ _ c.nests_within-fits.ensures c.if-not-fits.true in
+          let deeper = with_value-depth (table_view c.args.self.now) c.args.name (view c.args.value) in
+          (λ e. omega (arith, deeper.1), λ h. refl);
+      err = search rules;
+      same = search rules;
+    }
 
 pub invariant_of-self : goal.invariant_of-self
 invariant_of-self c =
@@ -58,47 +65,59 @@ invariant_of-self-in-None c =
     let fits : depth (view c.args.value) ≤ 31 = c.nests_within-fits.ensures.0 c.if-not-fits.false in
     record { depth_is_bounded = push_within c.args.self.now.pairs.items c.push.new.self.items (c.args.name, c.args.value) _ c.push.ensures.items c.args.self.now.depth_is_bounded fits }
 
-pub returns-in_err-push-in-None-clause-too_deep : goal.returns-in_err-push-in-None-clause-too_deep
-returns-in_err-push-in-None-clause-too_deep c =
-    let fits : depth (view c.args.value) ≤ 31 = c.nests_within-fits.ensures.0 c.if-not-fits.false in
-    let before = c.args.self.now.depth_is_bounded in
-    let deeper = with_value-depth (table_view c.args.self.now) c.args.name (view c.args.value) in
-    let p = err_from_is_err_and c.from_residual.result c.from_residual.ensures.1 in
-    let memory : c.from_residual.result ≡ Err out_of_memory = p.1 ∙ ap (λ e. Err e) p.2 in
-    (λ e. absurd (err_apart (sym memory ∙ e)), λ h. absurd (omega (arith, deeper.0)))
+pub returns-in_err-push-in-None : goal.returns-in_err-push-in-None
+returns-in_err-push-in-None c =
+    record {
+      ok = search rules;
+      held = search rules;
+      too_deep =
+          let fits : depth (view c.args.value) ≤ 31 = c.nests_within-fits.ensures.0 c.if-not-fits.false in
+          let before = c.args.self.now.depth_is_bounded in
+          let deeper = with_value-depth (table_view c.args.self.now) c.args.name (view c.args.value) in
+          let p = err_from_is_err_and c.from_residual.result c.from_residual.ensures.1 in
+          let memory : c.from_residual.result ≡ Err out_of_memory = p.1 ∙ ap (λ e. Err e) p.2 in
+          (λ e. absurd (err_apart (sym memory ∙ e)), λ h. absurd (omega (arith, deeper.0)));
+      err = search rules;
+      same = search rules;
+    }
 
-pub returns-in-Some-clause-ok : goal.returns-in-Some-clause-ok
-returns-in-Some-clause-ok c =
-    let items = c.args.self.now.pairs.items in
-    let at = found_at c.args.name c.as_bytes.result.now items c.deref.result.now c.in-Some.place c.as_bytes.ensures.octets c.deref.ensures.value c.in-Some.ensures in
-    put_there items c.in-Some.place c.index_mut.result.now c.args.name c.args.value c.replace.new.dest at c.index_mut.ensures.value c.replace.ensures.after
+pub returns-in-Some : goal.returns-in-Some
+returns-in-Some c =
+    record {
+      ok =
+          let items = c.args.self.now.pairs.items in
+          let at = found_at c.args.name c.as_bytes.result.now items c.deref.result.now c.in-Some.place c.as_bytes.ensures.octets c.deref.ensures.value c.in-Some.ensures in
+          put_there items c.in-Some.place c.index_mut.result.now c.args.name c.args.value c.replace.new.dest at c.index_mut.ensures.value c.replace.ensures.after;
+      held =
+          let items = c.args.self.now.pairs.items in
+          let place = c.in-Some.place in
+          let was = c.index_mut.result.now in
+          let at = found_at c.args.name c.as_bytes.result.now items c.deref.result.now place c.as_bytes.ensures.octets c.deref.ensures.value c.in-Some.ensures in
+          named-here items place was c.args.name at.within at.none_before (at.is_here was)
+          ∙ ap (λ (q : Pair). Some (view q.1)) (sym c.index_mut.ensures.value)
+          ∙ ap (λ v. Some (view v)) (sym c.replace.ensures.value);
+      too_deep =
+          let fits : depth (view c.args.value) ≤ 31 = c.nests_within-fits.ensures.0 c.if-not-fits.false in
+          let before = c.args.self.now.depth_is_bounded in
+          let deeper = with_value-depth (table_view c.args.self.now) c.args.name (view c.args.value) in
+          (λ e. absurd cc, λ h. absurd (omega (arith, deeper.0)));
+      err = search rules;
+      same = search rules;
+    }
 
-pub returns-in-Some-clause-held : goal.returns-in-Some-clause-held
-returns-in-Some-clause-held c =
-    let items = c.args.self.now.pairs.items in
-    let place = c.in-Some.place in
-    let was = c.index_mut.result.now in
-    let at = found_at c.args.name c.as_bytes.result.now items c.deref.result.now place c.as_bytes.ensures.octets c.deref.ensures.value c.in-Some.ensures in
-    named-here items place was c.args.name at.within at.none_before (at.is_here was)
-    ∙ ap (λ (q : Pair). Some (view q.1)) (sym c.index_mut.ensures.value)
-    ∙ ap (λ v. Some (view v)) (sym c.replace.ensures.value)
-
-pub returns-in-Some-clause-too_deep : goal.returns-in-Some-clause-too_deep
-returns-in-Some-clause-too_deep c =
-    let fits : depth (view c.args.value) ≤ 31 = c.nests_within-fits.ensures.0 c.if-not-fits.false in
-    let before = c.args.self.now.depth_is_bounded in
-    let deeper = with_value-depth (table_view c.args.self.now) c.args.name (view c.args.value) in
-    (λ e. absurd cc, λ h. absurd (omega (arith, deeper.0)))
-
-pub returns-in_ok-push-in-None-clause-ok : goal.returns-in_ok-push-in-None-clause-ok
-returns-in_ok-push-in-None-clause-ok c =
-    let items = c.args.self.now.pairs.items in
-    let none = not_found c.args.name c.as_bytes.result.now items c.deref.result.now c.as_bytes.ensures.octets c.deref.ensures.value c.in-None.ensures in
-    ap pairs_view c.in_ok-push-in-None.ensures.items ∙ pairs_view-push items (c.args.name, c.args.value) ∙ sym (is-pushed (pairs_view items) c.args.name (view c.args.value) none)
-
-pub returns-in_ok-push-in-None-clause-too_deep : goal.returns-in_ok-push-in-None-clause-too_deep
-returns-in_ok-push-in-None-clause-too_deep c =
-    let fits : depth (view c.args.value) ≤ 31 = c.nests_within-fits.ensures.0 c.if-not-fits.false in
-    let before = c.args.self.now.depth_is_bounded in
-    let deeper = with_value-depth (table_view c.args.self.now) c.args.name (view c.args.value) in
-    (λ e. absurd cc, λ h. absurd (omega (arith, deeper.0)))
+pub returns-in_ok-push-in-None : goal.returns-in_ok-push-in-None
+returns-in_ok-push-in-None c =
+    record {
+      ok =
+          let items = c.args.self.now.pairs.items in
+          let none = not_found c.args.name c.as_bytes.result.now items c.deref.result.now c.as_bytes.ensures.octets c.deref.ensures.value c.in-None.ensures in
+          ap pairs_view c.in_ok-push-in-None.ensures.items ∙ pairs_view-push items (c.args.name, c.args.value) ∙ sym (is-pushed (pairs_view items) c.args.name (view c.args.value) none);
+      held = search rules;
+      too_deep =
+          let fits : depth (view c.args.value) ≤ 31 = c.nests_within-fits.ensures.0 c.if-not-fits.false in
+          let before = c.args.self.now.depth_is_bounded in
+          let deeper = with_value-depth (table_view c.args.self.now) c.args.name (view c.args.value) in
+          (λ e. absurd cc, λ h. absurd (omega (arith, deeper.0)));
+      err = search rules;
+      same = search rules;
+    }
