@@ -33,5 +33,7 @@ mod PiecesQueueLemmas
 mod ReadLemmas
 mod StagedFrames
 mod Woven
+mod WovenDown
 mod WovenRows
+mod WovenSides
 mod WovenSteps

@@ -1,6 +1,6 @@
 -- Frames that are staged, put among those of the row in one pass.
-use Rattle.std.proofs.Common.{◌≡◌, ℕ, ◌+◌, ◌-◌, ◌≤◌, List, [], ◌∷◌, ◌++◌, length, map, take, drop, refl, sym, ap, ap₂, ◌∙◌, subst, arith, append_assoc, length-append, length-drop, take-append-drop}
-use Rattle.std.proofs.lemmas.List.{take_at, length-map, length-take-le, take-map, drop-map, map-append, drop-take, drop-drop}
+use Rattle.std.proofs.Common.{◌≡◌, ℕ, ◌+◌, ◌-◌, ◌≤◌, List, [], ◌∷◌, ◌++◌, length, map, take, drop, refl, sym, ap, ap₂, ◌∙◌, subst, arith, length-append, length-drop, take-append-drop}
+use Rattle.std.proofs.lemmas.List.{take_at, drop_at, length-map, length-take-le, take-map, drop-map, map-append, drop-take, drop-drop}
 use Rattle.std.proofs.lemmas.List.Elements.{All-drop}
 use Rattle.amqp_frame.specs.Frame.{Frame}
 use Rattle.amqp_frame.specs.Splitting.{stream}
@@ -9,17 +9,19 @@ use Rattle.amqp_model.specs.Output.Outputs.{Output, after_put, after_puts}
 use Rattle.amqp_outbox.specs.OutboxSlots.{slot_of, slots_in, slots_length}
 use Rattle.amqp_outbox.specs.OutboxLaps.{laps_in, laps_of}
 use Rattle.amqp_outbox.specs.OutboxView.{Outgoing, only, all_put}
-use Rattle.amqp_outbox.specs.OutboxWeaving.{woven, Follow, places_of, waiting_of, slots_of, AreWoven, ArePlaced}
+use Rattle.amqp_outbox.specs.OutboxWeaving.{woven, Follow, places_of, waiting_of, slots_of, AreWoven, ArePlaced, WeavesIn}
 use Rattle.amqp_outbox.specs.OutboxFields.{row_of, row_laps, row_slots, staged_of, outgoing_of, all_slots, all_laps, IsSound}
 use Rattle.amqp_outbox.specs.declared.slots.Slot.{Slot}
 use Rattle.amqp_outbox.specs.declared.slots.Waiting.{Waiting}
 use Rattle.amqp_outbox.specs.declared.weaving.Coming.{Coming}
+use Rattle.amqp_outbox.specs.declared.weaving.Ends.{Ends}
 use Rattle.amqp_outbox.specs.declared.outbox.Outbox.TheInside.{Inside}
 use Rattle.amqp_outbox.proofs.OutboxLists.{four, length-second}
 use Rattle.amqp_outbox.proofs.OutboxRows.{stream-append, slots_length-row}
 use Rattle.amqp_outbox.proofs.OutboxStates.{IsLaidOut, IsKept, IsInLaps, laid_out, in_laps, sound, view, outgoing}
 use Rattle.amqp_outbox.proofs.OutboxWaiting.{count-slots, slots-rest, slots-after, slots-before, laps-after, laps-before}
 use Rattle.amqp_outbox.proofs.Woven.{woven_map, woven_length}
+use Rattle.amqp_outbox.proofs.WovenSides.{stream_woven}
 
 -- the slots that are staged, as they are lent
 pub staged-lent : (x : Inside) (items : List Waiting) → IsSound x → items ≡ x.slots.items → slots_in (take (length items - x.slots_arranged) (drop x.slots_arranged items)) ≡ map slot_of (staged_of x)
@@ -73,33 +75,14 @@ are-staged x rows staged coming octets s e p count =
 
 -- what the octets and the slots become, part by part
 pub record IsPutBetween (x y : Inside) (coming : List Coming) (octets : ℕ) : Type 0 where
-  pub octets_are : (before after : List ℕ) (rows puts : List Frame) → map slot_of (row_of x) ≡ map slot_of rows → slots_of coming ≡ map slot_of puts → stream (take (length coming) (staged_of x)) ≡ stream puts → length before ≡ x.begun
-      → x.octets.items ≡ before ++ (stream rows ++ (stream puts ++ after)) → y.octets.items ≡ before ++ (stream (woven 0 (places_of coming) puts rows) ++ after)
+  pub octets_are : drop y.written y.octets.items ≡ drop x.written (take x.begun x.octets.items) ++ (stream (woven 0 (places_of coming) (take (length coming) (staged_of x)) (row_of x)) ++ stream (drop (length coming) (staged_of x)))
+  pub written : y.written ≤ length y.octets.items
+  pub begun : y.begun + x.written ≡ y.written + x.begun
+  pub arranged : y.arranged + x.written ≡ y.written + (x.arranged + octets)
   pub slots_are : (before row dropped after : List Waiting) → length before ≡ x.slots_begun → x.slots_begun + length row ≡ x.slots_arranged → length dropped ≡ length coming
       → x.slots.items ≡ before ++ (row ++ (dropped ++ after)) → y.slots.items ≡ before ++ (woven 0 (places_of coming) (waiting_of coming) row ++ after)
-  pub count : length y.octets.items ≡ length x.octets.items
-  pub written : y.written ≡ x.written
-  pub begun : y.begun ≡ x.begun
-  pub arranged : y.arranged ≡ x.arranged + octets
   pub slots_begun : y.slots_begun ≡ x.slots_begun
   pub slots_arranged : y.slots_arranged ≡ x.slots_arranged + length coming
-
-between-octets : (x y : Inside) (coming : List Coming) (octets : ℕ) → IsSound x → AreStaged x coming octets → IsPutBetween x y coming octets
-    → y.octets.items ≡ take x.written x.octets.items ++ (drop x.written (take x.begun x.octets.items) ++ (stream (woven 0 (places_of coming) (take (length coming) (staged_of x)) (row_of x)) ++ stream (drop (length coming) (staged_of x))))
-between-octets x y coming octets s a p =
-    let l = laid_out x s in
-    let gone = take x.written x.octets.items in
-    let ahead = drop x.written (take x.begun x.octets.items) in
-    let m = length coming in
-    let fs = take m (staged_of x) in
-    let later = drop m (staged_of x) in
-    let split : stream (staged_of x) ≡ stream fs ++ stream later = ap stream (sym (take-append-drop m (staged_of x))) ∙ stream-append fs later in
-    let size = length-append gone ahead in
-    let w = l.written in
-    let b = l.begun in
-    p.octets_are (gone ++ ahead) (stream later) (row_of x) fs refl a.slots_are refl (omega arith)
-    (l.octets ∙ (ap (λ os. gone ++ (ahead ++ (stream (row_of x) ++ os))) split ∙ sym (append_assoc gone ahead (stream (row_of x) ++ (stream fs ++ stream later)))))
-    ∙ append_assoc gone ahead (stream (woven 0 (places_of coming) fs (row_of x)) ++ stream later)
 
 -- the slots and their laps
 pub record SlotsBetween (x y : Inside) (coming : List Coming) : Type 0 where
@@ -140,7 +123,7 @@ slots-between x y coming octets s a p =
     }
 
 pub between-laid_out : (x y : Inside) (coming : List Coming) (octets : ℕ) → IsSound x → Follow 0 (length (row_of x)) (places_of coming) → AreStaged x coming octets → IsPutBetween x y coming octets
-    → IsLaidOut y (take x.written x.octets.items) (drop x.written (take x.begun x.octets.items)) (take x.slots_begun (all_slots x)) (woven 0 (places_of coming) (take (length coming) (staged_of x)) (row_of x)) (drop (length coming) (staged_of x))
+    → IsLaidOut y (take y.written y.octets.items) (drop x.written (take x.begun x.octets.items)) (take x.slots_begun (all_slots x)) (woven 0 (places_of coming) (take (length coming) (staged_of x)) (row_of x)) (drop (length coming) (staged_of x))
 between-laid_out x y coming octets s follow a p =
     let l = laid_out x s in
     let m = length coming in
@@ -148,10 +131,7 @@ between-laid_out x y coming octets s follow a p =
     let later = drop m (staged_of x) in
     let row = row_of x in
     let both = woven 0 (places_of coming) fs row in
-    let now = between-octets x y coming octets s a p in
     let b = slots-between x y coming octets s a p in
-    let gone = take x.written x.octets.items in
-    let ahead = drop x.written (take x.begun x.octets.items) in
     let rest : drop (x.slots_arranged + m) (all_slots x) ≡ map slot_of later =
     sym (drop-drop m x.slots_arranged (all_slots x)) ∙ (ap (drop m) (sym s.staged_described) ∙ drop-map slot_of m (staged_of x)) in
     let slots : woven 0 (places_of coming) (slots_of coming) (row_slots x) ≡ map slot_of both =
@@ -159,30 +139,22 @@ between-laid_out x y coming octets s follow a p =
     let few = length-take-le m (staged_of x) a.few in
     let many = length-map coming (λ (c : Coming). c.place) in
     let frames = woven_length 0 (places_of coming) fs row (omega arith) follow in
-    let split : stream (staged_of x) ≡ stream fs ++ stream later = ap stream (sym (take-append-drop m (staged_of x))) ∙ stream-append fs later in
-    let n1 = ap length now ∙ length-append gone (ahead ++ (stream both ++ stream later)) in
-    let n2 = length-append ahead (stream both ++ stream later) in
-    let n3 = length-append (stream both) (stream later) in
-    let o1 = ap length l.octets ∙ length-append gone (ahead ++ (stream row ++ stream (staged_of x))) in
-    let o2 = length-append ahead (stream row ++ stream (staged_of x)) in
-    let o3 = length-append (stream row) (stream (staged_of x)) in
-    let o4 = ap length split ∙ length-append (stream fs) (stream later) in
-    let count = p.count in
     let size = a.length_is in
+    let size2 = stream_woven 0 (places_of coming) fs row (omega arith) follow in
+    let none : length (stream (take 0 row)) ≡ 0 = refl in
     let c = p.written in
     let d = p.begun in
     let e = p.arranged in
     let f = p.slots_begun in
     let g = p.slots_arranged in
-    let lw = l.written in
     let lb = l.begun in
     let la = l.arranged in
     let lsb = l.slots_begun in
     let lsa = l.slots_arranged in
     record {
-      octets = now;
+      octets = sym (take-append-drop y.written y.octets.items) ∙ ap (λ os. take y.written y.octets.items ++ os) p.octets_are;
       slots = b.slots_are ∙ ap₂ (λ xs ys. take x.slots_begun (all_slots x) ++ (xs ++ ys)) slots rest;
-      written = c ∙ lw;
+      written = sym (length-take-le y.written y.octets.items c);
       begun = omega arith;
       arranged = omega arith;
       slots_begun = f ∙ lsb;
@@ -251,28 +223,40 @@ between-view x y rows coming gone past value e on last w l =
     ∙ ap all_put e))))
 
 -- what the calls say of lists that are lent, said of these lists
-pub is-put-between : (x y : Inside) (rows : List Waiting) (lent lent2 coming : List Coming) (frames : List ℕ) (octets : ℕ) → AreStaged x coming octets → slots_in rows ≡ map slot_of (row_of x) → lent ≡ coming → lent2 ≡ coming
-    → frames ≡ take octets (drop x.arranged x.octets.items)
-    → ((before after : List ℕ) (rs puts : List Frame) → slots_in rows ≡ map slot_of rs → slots_of lent ≡ map slot_of puts → frames ≡ stream puts → length before ≡ x.begun
-    → x.octets.items ≡ before ++ (stream rs ++ (stream puts ++ after)) → y.octets.items ≡ before ++ (stream (woven 0 (places_of lent) puts rs) ++ after))
+pub is-put-between : (x y : Inside) (rows : List Waiting) (lent lent2 coming : List Coming) (new : Ends) (octets : ℕ) → IsSound x → AreStaged x coming octets → slots_in rows ≡ map slot_of (row_of x) → lent ≡ coming → lent2 ≡ coming
+    → WeavesIn (record { written = x.written; begun = x.begun; arranged = x.arranged }) new rows lent octets x.octets.items y.octets.items
     → ((before row dropped after : List Waiting) → length before ≡ x.slots_begun → x.slots_begun + length row ≡ x.slots_arranged → length dropped ≡ length lent2
     → x.slots.items ≡ before ++ (row ++ (dropped ++ after)) → y.slots.items ≡ before ++ (woven 0 (places_of lent2) (waiting_of lent2) row ++ after))
-    → length y.octets.items ≡ length x.octets.items → y.written ≡ x.written → y.begun ≡ x.begun → y.arranged ≡ x.arranged + octets → y.slots_begun ≡ x.slots_begun → y.slots_arranged ≡ x.slots_arranged + length coming
+    → y.written ≡ new.written → y.begun ≡ new.begun → y.arranged ≡ new.arranged → y.slots_begun ≡ x.slots_begun → y.slots_arranged ≡ x.slots_arranged + length coming
     → IsPutBetween x y coming octets
-is-put-between x y rows lent lent2 coming frames octets a rows_are is is2 frames_are octets_said slots_said count written begun arranged slots_begun slots_arranged = record {
-  octets_are = λ before after rs puts row_is puts_are stream_is size whole.
-      octets_said before after rs puts (rows_are ∙ row_is) (ap slots_of is ∙ puts_are) (frames_are ∙ (a.octets_are ∙ stream_is)) size whole
-      ∙ ap (λ (cs : List Coming). before ++ (stream (woven 0 (places_of cs) puts rs) ++ after)) is;
-  slots_are = λ before row dropped after size whole many now.
-      slots_said before row dropped after size whole (many ∙ ap length (sym is2)) now
-      ∙ ap (λ (cs : List Coming). before ++ (woven 0 (places_of cs) (waiting_of cs) row ++ after)) is2;
-  count = count;
-  written = written;
-  begun = begun;
-  arranged = arranged;
-  slots_begun = slots_begun;
-  slots_arranged = slots_arranged;
-}
+is-put-between x y rows lent lent2 coming new octets s a rows_are is is2 w slots_said written begun arranged slots_begun slots_arranged =
+    let l = laid_out x s in
+    let ahead = drop x.written (take x.begun x.octets.items) in
+    let m = length coming in
+    let fs = take m (staged_of x) in
+    let later = drop m (staged_of x) in
+    let split : stream (staged_of x) ≡ stream fs ++ stream later = ap stream (sym (take-append-drop m (staged_of x))) ∙ stream-append fs later in
+    let whole : drop x.written x.octets.items ≡ ahead ++ (stream (row_of x) ++ (stream fs ++ stream later)) =
+    ap (drop x.written) l.octets
+    ∙ (drop_at (take x.written x.octets.items) (ahead ++ (stream (row_of x) ++ stream (staged_of x))) x.written (sym l.written)
+    ∙ ap (λ os. ahead ++ (stream (row_of x) ++ os)) split) in
+    let within = w.written in
+    let b = w.begun in
+    let c = w.arranged in
+    record {
+      octets_are =
+          ap (λ n. drop n y.octets.items) written
+          ∙ (w.octets_are ahead (stream later) (row_of x) fs rows_are (ap slots_of is ∙ a.slots_are) (sym l.begun) whole
+          ∙ ap (λ (cs : List Coming). ahead ++ (stream (woven 0 (places_of cs) fs (row_of x)) ++ stream later)) is);
+      written = omega arith;
+      begun = omega arith;
+      arranged = omega arith;
+      slots_are = λ before row dropped after size all many now.
+          slots_said before row dropped after size all (many ∙ ap length (sym is2)) now
+          ∙ ap (λ (cs : List Coming). before ++ (woven 0 (places_of cs) (waiting_of cs) row ++ after)) is2;
+      slots_begun = slots_begun;
+      slots_arranged = slots_arranged;
+    }
 
 -- so the fields are sound, and stand for what they stood for, once all is put
 pub put-between : (x y : Inside) (rows staged : List Waiting) (coming : List Coming) (octets : ℕ) (value : Outgoing) → IsSound x → outgoing_of x ≡ value

@@ -1,12 +1,14 @@
 -- Frames that are put into a row in one pass, each after so many of the row's frames.
-use Rattle.std.specs.Prelude.{◌≡◌, ℕ, ◌≤◌, List, [], ◌∷◌, ◌++◌, length, map, take, drop, All}
+use Rattle.std.specs.Prelude.{◌≡◌, ℕ, ◌+◌, ◌≤◌, List, [], ◌∷◌, ◌++◌, length, map, take, drop, All}
 use Rattle.amqp_frame.specs.Frame.{Frame}
+use Rattle.amqp_frame.specs.Splitting.{stream}
 use Rattle.amqp_model.specs.Output.Arrangement.{IsArranged, HasChannel, placed_all}
 use Rattle.amqp_outbox.specs.OutboxSlots.{slot_of, slots_in}
 use Rattle.amqp_outbox.specs.OutboxLaps.{laps_in, laps_of}
 use Rattle.amqp_outbox.specs.declared.slots.Slot.{Slot}
 use Rattle.amqp_outbox.specs.declared.slots.Waiting.{Waiting}
 use Rattle.amqp_outbox.specs.declared.weaving.Coming.{Coming}
+use Rattle.amqp_outbox.specs.declared.weaving.Ends.{Ends}
 
 -- each item stands at its place among those of a row, of which these from one on are looked at
 abbrev pub woven : {X : Type 0} → (from : ℕ) → (places : List ℕ) → (items row : List X) → List X
@@ -47,3 +49,16 @@ pub record ArePlaced (lap last : ℕ) (slots staged : List Waiting) (coming : Li
       (frames row : List Frame) → slots_in staged ≡ map slot_of frames → slots_in slots ≡ map slot_of row
       → IsArranged last row → All HasChannel row → All HasChannel frames
       → AreWoven lap last slots coming (take (length coming) frames) row
+
+-- Frames that stand after a row are put among its own: their octets, so many in all, stand at their places, and the rest
+-- of the frame that is begun still stands before the row. The octets that are written may be fewer than before.
+pub record WeavesIn (old new : Ends) (row : List Waiting) (coming : List Coming) (total : ℕ)
+    (octets result : List ℕ) : Type 0 where
+  pub written : new.written ≤ length result
+  pub begun : new.begun + old.written ≡ new.written + old.begun
+  pub arranged : new.arranged + old.written ≡ new.written + (old.arranged + total)
+  pub octets_are :
+      (ahead after : List ℕ) (rows puts : List Frame)
+      → slots_in row ≡ map slot_of rows → slots_of coming ≡ map slot_of puts → old.written + length ahead ≡ old.begun
+      → drop old.written octets ≡ ahead ++ (stream rows ++ (stream puts ++ after))
+      → drop new.written result ≡ ahead ++ (stream (woven 0 (places_of coming) puts rows) ++ after)

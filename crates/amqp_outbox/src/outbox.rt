@@ -11,12 +11,13 @@
 //!
 //! `output` lends one slice, so a frame that goes before others has to move octets. Where one channel is active each
 //! frame goes last, and nothing moves. Where several frames of a channel are staged and go before others, their places
-//! are found first, and what waits after the first place moves once, in one pass from the end. That takes a copy of
-//! these frames while it lasts. A frame alone, or where there is no memory for the copy, moves the octets on the
-//! smaller side of its place; those before it only where as many octets were written as the frame has. So the worst is
-//! a row of many octets of which none is written, and frames that go near its beginning: each put moves nearly all of
-//! the row. A write reads the slots of the frames that it begins, and moves nothing: what it wrote is dropped later,
-//! before a frame is staged.
+//! are found first. Then one side of them makes room in one pass, the one on which fewer octets move: what waits before
+//! the last place, where as many octets were written before it, or what waits after the first. What moves there moves
+//! once, and the frames themselves once too, where what waits before them makes the room. Where what waits after them
+//! does, they stand in its way: they are copied out of it first, so they move twice. A frame alone, or where there is
+//! no memory for that copy, makes room in the same way for itself. So the worst is a row of many octets of which none
+//! is written, and frames that go near its beginning: a put moves nearly all of the row. A write reads the slots of the
+//! frames that it begins, and moves nothing: what it wrote is dropped later, before a frame is staged.
 ghost use Rattle.std.specs.Prelude.{◌≡◌, ℕ, ◌+◌, ◌^◌, ◌<◌, ◌≤◌, ◌==◌, [], ◌∷◌, ◌++◌, ◌≢◌, length, take, drop, slice_set, IfErr, IfSome, OnOk, OnErr, Err};
 ghost use Rattle.amqp_method.specs.HeaderView.{properties_view};
 ghost use Rattle.amqp_method.specs.MethodView.{method_view};
@@ -41,7 +42,7 @@ use crate::slots::{Waiting, begun_of, length_from, length_on, place_of};
 use crate::staging::{
     StageFault, append_body, append_header, append_heartbeat, append_method, enlist,
 };
-use crate::weaving::{Coming, find_places, length_of, weave_octets, weave_slots};
+use crate::weaving::{Ends, find_places, length_of, weave, weave_slots};
 use amqp_frame::FrameKind;
 use amqp_method::{Method, Properties};
 use amqp_model::arrangement;
@@ -491,24 +492,9 @@ impl Outbox {
         }
     }
 
-    /// Whether it is better that each of these frames moves what waits before it: there is room for them before that,
-    /// and by the number of frames and by what is left of a begun one, less moves than waits after them.
-    fn moves_down(&self, octets: usize, coming: &[Coming]) -> bool {
-        let (Some(first), Some(last)) = (coming.first(), coming.last()) else {
-            return true;
-        };
-        let row = self.slots_arranged.saturating_sub(self.slots_begun);
-        let ahead = self.begun.saturating_sub(self.written);
-        let waiting = self.arranged.saturating_sub(self.begun);
-        octets <= self.written
-            && last.place.saturating_mul(coming.len()) < row.saturating_sub(first.place)
-            && ahead.saturating_mul(coming.len()) < waiting
-    }
-
     /// Puts the first frames that are staged in one pass: those of a channel that go before frames that wait.
     ///
-    /// What waits after the first place moves once. Where as many octets were written before it, and fewer would move
-    /// if each frame made its own room, nothing is put; nor where there is no memory for a copy of the frames.
+    /// What waits on one side of them moves, once. Where there is no memory for that, nothing is put.
     fn put_between(&mut self)
         ensures { all_put self.new ≡ all_put self.old }
     {
@@ -520,30 +506,28 @@ impl Outbox {
         let Ok(coming) = find_places(self.alloc, row, staged, channel, self.lap, self.last) else {
             return;
         };
-        let octets = length_of(&coming);
-        if self.moves_down(octets, &coming) {
+        if coming.is_empty() {
             return;
         }
-        let frames = &self.octets[self.arranged..self.arranged + octets];
-        let Ok(frames) = Vec::from_slice(self.alloc, frames) else {
+        let total = length_of(&coming);
+        let row = &self.slots[self.slots_begun..self.slots_arranged];
+        let ends = Ends {
+            written: self.written,
+            begun: self.begun,
+            arranged: self.arranged,
+        };
+        let Some(ends) = weave(self.alloc, &mut self.octets, ends, row, &coming, total) else {
             return;
         };
-        let row = &self.slots[self.slots_begun..self.slots_arranged];
-        weave_octets(
-            &mut self.octets,
-            self.begun,
-            self.arranged,
-            row,
-            &coming,
-            &frames,
-        );
         weave_slots(
             &mut self.slots,
             self.slots_begun,
             self.slots_arranged,
             &coming,
         );
-        self.arranged += octets;
+        self.written = ends.written;
+        self.begun = ends.begun;
+        self.arranged = ends.arranged;
         self.slots_arranged += coming.len();
     }
 

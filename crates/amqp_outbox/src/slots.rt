@@ -91,7 +91,7 @@ impl Waiting {
 }
 
 /// How many octets the frames have together.
-fn length_of(row: &[Waiting]) -> usize
+pub(crate) fn length_of(row: &[Waiting]) -> usize
     requires { slots_length (slots_in row.now) < 2 ^ 64 }
     ensures { result ≡ slots_length (slots_in row.now) }
 {

@@ -1,4 +1,4 @@
-use Rattle.std.proofs.Common.{List, ◌≡◌, ◌≤◌, ◌+◌, ◌-◌, length, take, drop, refl, ap, ◌∙◌, arith}
+use Rattle.std.proofs.Common.{List, ◌+◌, ◌-◌, length, take, drop, refl, ap, ◌∙◌, arith}
 use Rattle.std.proofs.lemmas.List.{length-map}
 use Rattle.amqp_outbox.specs.OutboxSlots.{slot_of, slots_length}
 use Rattle.amqp_outbox.specs.OutboxWeaving.{slots_of}
@@ -44,8 +44,8 @@ find_places-requires-clause-fits c =
     let left = (in_laps x s).left in
     omega arith
 
-pub length_of-octets-requires : goal.length_of-octets-requires
-length_of-octets-requires c =
+pub length_of-total-requires : goal.length_of-total-requires
+length_of-total-requires c =
     let x = c.self.inside in
     let s = c.self.invariant in
     let coming = c.in-Ok.coming.items in
@@ -54,51 +54,37 @@ length_of-octets-requires c =
     let e = ap (λ (cs : List Coming). slots_length (slots_of cs)) c.deref-3.ensures.value in
     omega arith
 
-pub overflow_add-frames : goal.overflow_add-frames
-overflow_add-frames c =
+pub weave-requires-clause-arranged : goal.weave-requires-clause-arranged
+weave-requires-clause-arranged c =
     let x = c.self.inside in
-    let s = c.self.invariant in
-    let coming = c.in-Ok.coming.items in
-    let octets_is = c.length_of-octets.ensures ∙ ap (λ (cs : List Coming). slots_length (slots_of cs)) c.deref-3.ensures.value in
-    let a = are-staged x _ _ coming c.length_of-octets.result s (staged-lent x _ s c.deref-2.ensures.value) c.in-Ok.ensures octets_is in
-    let w = a.within in
-    omega arith
-
-pub slice_bounds-frames-end : goal.slice_bounds-frames-end
-slice_bounds-frames-end c =
-    let x = c.self.inside in
-    let s = c.self.invariant in
-    let coming = c.in-Ok.coming.items in
-    let octets_is = c.length_of-octets.ensures ∙ ap (λ (cs : List Coming). slots_length (slots_of cs)) c.deref-3.ensures.value in
-    let a = are-staged x _ _ coming c.length_of-octets.result s (staged-lent x _ s c.deref-2.ensures.value) c.in-Ok.ensures octets_is in
-    let w = a.within in
-    let e = ap length c.deref-5.ensures.value in
-    let within : x.arranged + c.length_of-octets.result ≤ length c.deref-5.result.now = omega arith in
-    within
-
-pub weave_octets-requires-clause-arranged : goal.weave_octets-requires-clause-arranged
-weave_octets-requires-clause-arranged c =
-    let x = c.self.inside in
-    let row = row-lent x _ c.self.invariant c.deref-6.ensures.value in
+    let row = row-lent x _ c.self.invariant c.deref-4.ensures.value in
     let a = ap slots_length row ∙ slots_length-row (row_of x) in
     let b = row-size x c.self.invariant in
     omega arith
 
-pub invariant_of-self : goal.invariant_of-self
-invariant_of-self c =
+pub weave-requires-clause-there : goal.weave-requires-clause-there
+weave-requires-clause-there c =
     let x = c.self.inside in
     let s = c.self.invariant in
     let coming = c.in-Ok.coming.items in
-    let octets = c.length_of-octets.result in
-    let y : Inside = record x { octets = c.weave_octets.new.octets; arranged = x.arranged + octets; slots = c.weave_slots.new.slots; slots_arranged = x.slots_arranged + c.len.result } in
+    let octets_is = c.length_of-total.ensures ∙ ap (λ (cs : List Coming). slots_length (slots_of cs)) c.deref-3.ensures.value in
+    let a = are-staged x _ _ coming c.length_of-total.result s (staged-lent x _ s c.deref-2.ensures.value) c.in-Ok.ensures octets_is in
+    a.within
+
+pub invariant_of-self-2 : goal.invariant_of-self-2
+invariant_of-self-2 c =
+    let x = c.self.inside in
+    let s = c.self.invariant in
+    let coming = c.in-Ok.coming.items in
+    let octets = c.length_of-total.result in
+    let ends = c.in-Some-weave.ends in
+    let y : Inside = record x { octets = c.weave.new.octets; written = ends.written; begun = ends.begun; arranged = ends.arranged; slots = c.weave_slots.new.slots; slots_arranged = x.slots_arranged + c.len.result } in
     let rows = row-lent x _ s c.deref.ensures.value in
     let staged = staged-lent x _ s c.deref-2.ensures.value in
-    let octets_is = c.length_of-octets.ensures ∙ ap (λ (cs : List Coming). slots_length (slots_of cs)) c.deref-3.ensures.value in
+    let octets_is = c.length_of-total.ensures ∙ ap (λ (cs : List Coming). slots_length (slots_of cs)) c.deref-3.ensures.value in
     let a = are-staged x _ _ coming octets s staged c.in-Ok.ensures octets_is in
-    let part : x.arranged + octets - x.arranged ≡ octets = omega arith in
-    let frames = c.deref-8.ensures.value ∙ (c.in-Ok-from_slice.ensures.items ∙ (ap (λ n. take n (drop x.arranged c.deref-5.result.now)) part ∙ ap (λ os. take octets (drop x.arranged os)) c.deref-5.ensures.value)) in
-    let p = is-put-between x y _ _ _ coming _ octets a (row-lent x _ s c.deref-6.ensures.value) c.deref-7.ensures.value c.deref-9.ensures.value frames
-    c.weave_octets.ensures.octets c.weave_slots.ensures c.weave_octets.ensures.count refl refl refl refl (omega arith) in
+    let p = is-put-between x y _ _ _ coming ends octets s a (row-lent x _ s c.deref-4.ensures.value) c.deref-5.ensures.value c.deref-6.ensures.value
+    c.in-Some-weave.ensures.woven c.weave_slots.ensures refl refl refl refl (omega arith) in
     (put-between x y _ _ coming octets c.args.self.now s c.self.view_is rows (row_laps-lent x _ s c.deref.ensures.value) staged c.in-Ok.ensures a p refl refl refl).0
 
 pub returns : goal.returns
@@ -106,14 +92,13 @@ returns c =
     let x = c.self.inside in
     let s = c.self.invariant in
     let coming = c.in-Ok.coming.items in
-    let octets = c.length_of-octets.result in
-    let y : Inside = record x { octets = c.weave_octets.new.octets; arranged = x.arranged + octets; slots = c.weave_slots.new.slots; slots_arranged = x.slots_arranged + c.len.result } in
+    let octets = c.length_of-total.result in
+    let ends = c.in-Some-weave.ends in
+    let y : Inside = record x { octets = c.weave.new.octets; written = ends.written; begun = ends.begun; arranged = ends.arranged; slots = c.weave_slots.new.slots; slots_arranged = x.slots_arranged + c.len.result } in
     let rows = row-lent x _ s c.deref.ensures.value in
     let staged = staged-lent x _ s c.deref-2.ensures.value in
-    let octets_is = c.length_of-octets.ensures ∙ ap (λ (cs : List Coming). slots_length (slots_of cs)) c.deref-3.ensures.value in
+    let octets_is = c.length_of-total.ensures ∙ ap (λ (cs : List Coming). slots_length (slots_of cs)) c.deref-3.ensures.value in
     let a = are-staged x _ _ coming octets s staged c.in-Ok.ensures octets_is in
-    let part : x.arranged + octets - x.arranged ≡ octets = omega arith in
-    let frames = c.deref-8.ensures.value ∙ (c.in-Ok-from_slice.ensures.items ∙ (ap (λ n. take n (drop x.arranged c.deref-5.result.now)) part ∙ ap (λ os. take octets (drop x.arranged os)) c.deref-5.ensures.value)) in
-    let p = is-put-between x y _ _ _ coming _ octets a (row-lent x _ s c.deref-6.ensures.value) c.deref-7.ensures.value c.deref-9.ensures.value frames
-    c.weave_octets.ensures.octets c.weave_slots.ensures c.weave_octets.ensures.count refl refl refl refl (omega arith) in
+    let p = is-put-between x y _ _ _ coming ends octets s a (row-lent x _ s c.deref-4.ensures.value) c.deref-5.ensures.value c.deref-6.ensures.value
+    c.in-Some-weave.ensures.woven c.weave_slots.ensures refl refl refl refl (omega arith) in
     (put-between x y _ _ coming octets c.args.self.now s c.self.view_is rows (row_laps-lent x _ s c.deref.ensures.value) staged c.in-Ok.ensures a p refl refl refl).1
