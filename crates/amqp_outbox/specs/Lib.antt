@@ -5,6 +5,7 @@ pub mod OutboxView
 pub mod OutboxFields
 pub mod OutboxFrames
 pub mod OutboxFaults
+pub mod StagesChunks
 pub mod PiecesQueues
 pub mod PiecesFields
 pub mod PiecesWrites

@@ -29,9 +29,10 @@ ghost use Rattle.amqp_model.specs.End.Controls.{heartbeat_frame};
 ghost use Rattle.amqp_model.specs.Wire.Methods.{ReadsBack};
 ghost use Rattle.amqp_model.specs.Output.Outputs.{output_octets, waiting_on, after_puts, after_writing};
 ghost use Rattle.amqp_outbox.specs.OutboxFaults.{begun, out_of_memory, too_long};
-ghost use Rattle.amqp_outbox.specs.OutboxFrames.{header_frame, body_frame, body_frames, HeaderReadsBack};
+ghost use Rattle.amqp_outbox.specs.OutboxFrames.{header_frame, body_frame, HeaderReadsBack};
 ghost use Rattle.amqp_outbox.specs.OutboxLaps.{laps_in};
 ghost use Rattle.amqp_outbox.specs.OutboxSlots.{slots_in, moved_up, moved_down};
+ghost use Rattle.amqp_outbox.specs.StagesChunks.{StagesChunks};
 ghost use Rattle.amqp_outbox.specs.OutboxView.{only, begins_with, with_staged, with_output, all_put, IsPutOfFirst};
 
 use crate::chunks::Chunks;
@@ -400,11 +401,7 @@ impl Outbox {
         chunks: &mut Chunks,
     ) -> Result<(), StageFault>
         requires { 0 < room }
-        ensures ok { OnOk result (self.new ≡ with_staged self.old (body_frames channel room chunks.old)) }
-        ensures taken { OnOk result (chunks.new ≡ []) }
-        ensures same { OnErr result (self.new ≡ self.old) }
-        ensures kept { OnErr result (chunks.new ≡ chunks.old) }
-        ensures err { IfErr result (λ e. e ≡ out_of_memory) }
+        ensures { StagesChunks channel room self.old self.new chunks.old chunks.new result }
     {
         let Some(parts) = count_parts(chunks.len(), room) else {
             return Err(StageFault::OutOfMemory);

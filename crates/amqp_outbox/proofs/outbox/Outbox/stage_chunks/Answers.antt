@@ -1,4 +1,4 @@
-use Rattle.std.proofs.Common.{◌≡◌, ◌++◌, map, refl, ap, ◌∙◌, arith, List}
+use Rattle.std.proofs.Common.{◌++◌, map, refl, ap, ◌∙◌, arith, List}
 use Rattle.amqp_frame.specs.Frame.{Frame}
 use Rattle.amqp_frame.specs.Splitting.{stream}
 use Rattle.amqp_model.specs.Wire.Contents.{pieces}
@@ -38,11 +38,18 @@ invariant_of-self-2 c =
     (frames-in_laps x y frames c.self.invariant (c.append_parts.ensures.laps ∙ ap (λ ws. laps_in ws ++ no_laps frames) c.reserve-2.ensures.items)
     (omega (arith, few, left, c.saturating_add.ensures)) refl refl refl)
 
-pub returns-clause-ok : goal.returns-clause-ok
-returns-clause-ok c =
+pub returns : goal.returns
+returns c =
     let frames : List Frame = body_frames c.args.channel c.args.room c.args.chunks.now in
     let x = c.self.inside in
     let y : Inside = record x { octets = c.append_parts.new.octets; slots = c.append_parts.new.slots } in
-    frames-view x y frames _ _ c.args.self.now (c.self.view_is ∙ (c.drop_begun.ensures ∙ c.drop_written.ensures)) refl refl
-    (frames-staged x y frames c.self.invariant (c.append_parts.ensures.octets ∙ ap (λ xs. xs ++ stream frames) c.reserve.ensures.items)
-    (c.append_parts.ensures.slots ∙ ap (λ ws. slots_in ws ++ map slot_of frames) c.reserve-2.ensures.items) refl refl refl refl refl)
+    record {
+      ok =
+          frames-view x y frames _ _ c.args.self.now (c.self.view_is ∙ (c.drop_begun.ensures ∙ c.drop_written.ensures)) refl refl
+          (frames-staged x y frames c.self.invariant (c.append_parts.ensures.octets ∙ ap (λ xs. xs ++ stream frames) c.reserve.ensures.items)
+          (c.append_parts.ensures.slots ∙ ap (λ ws. slots_in ws ++ map slot_of frames) c.reserve-2.ensures.items) refl refl refl refl refl);
+      taken = c.append_parts.ensures.taken;
+      same = tt;
+      kept = tt;
+      err = tt;
+    }
