@@ -22,7 +22,7 @@ abbrev pub IsSpentAt : Option ℕ → Held → Type 0
 IsSpentAt None held = Unit {0}
 IsSpentAt (Some place) held = held ≡ Spent
 
-pub record IsSound (s : Inside) : Type 0 where
+pub record SplitterIsSound (s : Inside) : Type 0 where
   pub begun : IsBegun s.limit (pending_of s.held s.buffer.items)
   pub room : 8 ≤ s.limit
   pub failed : IsSpentAt s.fault s.held

@@ -69,11 +69,11 @@ impl Model for Splitter {
 
     ghost Value = { Stream };
 
-    ghost use Rattle.amqp_frame.specs.SplitterFields.{stream_of, IsSound};
+    ghost use Rattle.amqp_frame.specs.SplitterFields.{stream_of, SplitterIsSound};
 
     ghost view = { stream_of };
 
-    ghost invariant = { IsSound };
+    ghost invariant = { SplitterIsSound };
 }
 
 impl Splitter {

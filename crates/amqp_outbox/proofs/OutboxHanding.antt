@@ -6,7 +6,7 @@ use Rattle.amqp_frame.specs.Frame.{Frame, octets}
 use Rattle.amqp_frame.specs.Splitting.{stream}
 use Rattle.amqp_model.specs.Output.Arrangement.{HasChannel}
 use Rattle.amqp_outbox.specs.OutboxSlots.{slot_of, slot_length, slots_in, frame_in}
-use Rattle.amqp_outbox.specs.OutboxFields.{row_of, outgoing_of, IsSound}
+use Rattle.amqp_outbox.specs.OutboxFields.{row_of, outgoing_of, OutboxIsSound}
 use Rattle.amqp_outbox.specs.OutboxView.{Outgoing, with_staged}
 use Rattle.amqp_outbox.specs.declared.outbox.Outbox.TheInside.{Inside}
 use Rattle.amqp_outbox.specs.declared.slots.Waiting.{Waiting}
@@ -81,7 +81,7 @@ frame-adds first now after row frames i count d rest front e h is size t n stage
     ∙ ap (λ fs. record { output = first.output; staged = fs }) (append_assoc first.staged (take i frames) (f.frame ∷ []) ∙ ap (λ fs. first.staged ++ fs) (sym f.past)))
 
 -- the octets of the row, as they are lent
-pub octets-lent : (x : Inside) (items : List ℕ) → IsSound x → items ≡ x.octets.items → take (x.arranged - x.begun) (drop x.begun items) ≡ stream (row_of x)
+pub octets-lent : (x : Inside) (items : List ℕ) → OutboxIsSound x → items ≡ x.octets.items → take (x.arranged - x.begun) (drop x.begun items) ≡ stream (row_of x)
 octets-lent x items s e =
     let a = s.begun in
     ap (λ os. take (x.arranged - x.begun) (drop x.begun os)) e
@@ -89,14 +89,14 @@ octets-lent x items s e =
     ∙ (ap (λ n. drop x.begun (take n x.octets.items)) (omega arith) ∙ sym s.row_encoded))
 
 -- nothing is begun, or something is
-pub none-ahead : (x : Inside) (value : Outgoing) → IsSound x → outgoing_of x ≡ value → x.begun ≤ x.written → value.output.ahead ≡ []
+pub none-ahead : (x : Inside) (value : Outgoing) → OutboxIsSound x → outgoing_of x ≡ value → x.begun ≤ x.written → value.output.ahead ≡ []
 none-ahead x value s e h =
     let a = s.begun in
     let b = s.arranged in
     let l = length-take-le x.begun x.octets.items (omega arith) in
     sym (ap (λ (o : Outgoing). o.output.ahead) e) ∙ nothing-left x.written (take x.begun x.octets.items) (omega arith)
 
-pub some-ahead : (x : Inside) (value : Outgoing) → IsSound x → outgoing_of x ≡ value → x.written < x.begun → value.output.ahead ≡ [] → ⊥
+pub some-ahead : (x : Inside) (value : Outgoing) → OutboxIsSound x → outgoing_of x ≡ value → x.written < x.begun → value.output.ahead ≡ [] → ⊥
 some-ahead x value s e h none =
     let a = s.begun in
     let b = s.arranged in

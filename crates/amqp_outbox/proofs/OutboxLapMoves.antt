@@ -4,7 +4,7 @@ use Rattle.std.proofs.lemmas.List.{drop_at, take_at, length-map, length-take-le,
 use Rattle.amqp_frame.specs.Frame.{Frame}
 use Rattle.amqp_outbox.specs.OutboxSlots.{slot_of, slots_last, moved_up}
 use Rattle.amqp_outbox.specs.OutboxLaps.{laps_in, laps_of, laps_last, TakesLap}
-use Rattle.amqp_outbox.specs.OutboxFields.{row_laps, row_of, staged_of, all_slots, all_laps, IsSound}
+use Rattle.amqp_outbox.specs.OutboxFields.{row_laps, row_of, staged_of, all_slots, all_laps, OutboxIsSound}
 use Rattle.amqp_outbox.specs.declared.slots.Slot.{Slot}
 use Rattle.amqp_outbox.specs.declared.slots.Waiting.{Waiting}
 use Rattle.amqp_outbox.specs.declared.outbox.Outbox.TheInside.{Inside}
@@ -14,7 +14,7 @@ use Rattle.amqp_outbox.proofs.OutboxWaiting.{count-slots, laps-before, laps-afte
 use Rattle.amqp_outbox.proofs.OutboxStates.{IsInLaps, in_laps, laid_out, slots_within}
 
 -- nothing of the laps changes
-pub same_laps : (x y : Inside) → IsSound x → all_laps y ≡ all_laps x → y.lap ≡ x.lap → y.last ≡ x.last → y.slots_begun ≡ x.slots_begun
+pub same_laps : (x y : Inside) → OutboxIsSound x → all_laps y ≡ all_laps x → y.lap ≡ x.lap → y.last ≡ x.last → y.slots_begun ≡ x.slots_begun
     → IsInLaps y (take x.slots_begun (all_laps x)) (row_laps x) (drop x.slots_arranged (all_laps x)) (row_of x) (staged_of x)
 same_laps x y s laps lap last begun =
     let i = in_laps x s in
@@ -28,7 +28,7 @@ same_laps x y s laps lap last begun =
     }
 
 -- the laps of the frames that are begun are dropped
-pub laps-dropped : (x y : Inside) → IsSound x → all_laps y ≡ drop x.slots_begun (all_laps x) → y.lap ≡ x.lap → y.last ≡ x.last → y.slots_begun ≡ 0
+pub laps-dropped : (x y : Inside) → OutboxIsSound x → all_laps y ≡ drop x.slots_begun (all_laps x) → y.lap ≡ x.lap → y.last ≡ x.last → y.slots_begun ≡ 0
     → IsInLaps y [] (row_laps x) (drop x.slots_arranged (all_laps x)) (row_of x) (staged_of x)
 laps-dropped x y s laps lap last begun =
     let i = in_laps x s in
@@ -42,7 +42,7 @@ laps-dropped x y s laps lap last begun =
     }
 
 -- a lap is provided for a frame that is staged
-pub laps-staged : (x y : Inside) (f : Frame) → IsSound x → all_laps y ≡ all_laps x ++ 0 ∷ []
+pub laps-staged : (x y : Inside) (f : Frame) → OutboxIsSound x → all_laps y ≡ all_laps x ++ 0 ∷ []
     → x.lap + (length x.slots.items - x.slots_begun) + 2 < 2 ^ 64 → y.lap ≡ x.lap → y.last ≡ x.last → y.slots_begun ≡ x.slots_begun
     → IsInLaps y (take x.slots_begun (all_laps x)) (row_laps x) (drop x.slots_arranged (all_laps x) ++ 0 ∷ []) (row_of x) (staged_of x ++ f ∷ [])
 laps-staged x y f s laps left lap last begun =
@@ -67,7 +67,7 @@ laps-staged x y f s laps left lap last begun =
     }
 
 -- the laps of what is staged are dropped
-pub laps-kept : (x y : Inside) → IsSound x → all_laps y ≡ take x.slots_arranged (all_laps x) → y.lap ≡ x.lap → y.last ≡ x.last → y.slots_begun ≡ x.slots_begun
+pub laps-kept : (x y : Inside) → OutboxIsSound x → all_laps y ≡ take x.slots_arranged (all_laps x) → y.lap ≡ x.lap → y.last ≡ x.last → y.slots_begun ≡ x.slots_begun
     → IsInLaps y (take x.slots_begun (all_laps x)) (row_laps x) [] (row_of x) []
 laps-kept x y s laps lap last begun =
     let i = in_laps x s in
@@ -88,7 +88,7 @@ laps-kept x y s laps lap last begun =
     }
 
 -- so many frames are begun
-pub laps-written : (x y : Inside) (k : ℕ) → IsSound x → k ≤ length (row_of x) → all_laps y ≡ all_laps x → y.lap ≡ laps_last x.lap x.last (take k (map slot_of (row_of x)))
+pub laps-written : (x y : Inside) (k : ℕ) → OutboxIsSound x → k ≤ length (row_of x) → all_laps y ≡ all_laps x → y.lap ≡ laps_last x.lap x.last (take k (map slot_of (row_of x)))
     → y.last ≡ slots_last x.last (take k (map slot_of (row_of x))) → y.slots_begun ≡ x.slots_begun + k
     → IsInLaps y (take x.slots_begun (all_laps x) ++ take k (row_laps x)) (drop k (row_laps x)) (drop x.slots_arranged (all_laps x)) (drop k (row_of x)) (staged_of x)
 laps-written x y k s few laps lap last begun =
@@ -115,7 +115,7 @@ laps-written x y k s few laps lap last begun =
     }
 
 -- The first frame that is staged is put, after so many of the row.
-pub laps-put : (x y : Inside) (f : Frame) (later : List Frame) (p its : ℕ) → IsSound x → staged_of x ≡ f ∷ later → p ≤ length (row_of x) → TakesLap its x.lap x.last p (slot_of f) (map slot_of (row_of x))
+pub laps-put : (x y : Inside) (f : Frame) (later : List Frame) (p its : ℕ) → OutboxIsSound x → staged_of x ≡ f ∷ later → p ≤ length (row_of x) → TakesLap its x.lap x.last p (slot_of f) (map slot_of (row_of x))
     → all_laps y ≡ moved_up (x.slots_begun + p) (x.slots_arranged + 1) 1 (set (all_laps x) x.slots_arranged its) → y.lap ≡ x.lap → y.last ≡ x.last → y.slots_begun ≡ x.slots_begun
     → IsInLaps y (take x.slots_begun (all_laps x)) (take p (row_laps x) ++ its ∷ drop p (row_laps x)) (drop 1 (drop x.slots_arranged (all_laps x))) (take p (row_of x) ++ f ∷ drop p (row_of x)) later
 laps-put x y f later p its s staged few takes laps lap last begun = cases (drop x.slots_arranged (all_laps x)) refl
@@ -168,7 +168,7 @@ laps-put x y f later p its s staged few takes laps lap last begun = cases (drop 
         }
 
 -- the laps of the row, as they are lent
-pub laps-lent : (x : Inside) (items : List Waiting) (slots : List Slot) → IsSound x → items ≡ x.slots.items → slots ≡ map slot_of (row_of x) → laps_in (take (x.slots_arranged - x.slots_begun) (drop x.slots_begun items)) ≡ laps_of x.lap x.last slots
+pub laps-lent : (x : Inside) (items : List Waiting) (slots : List Slot) → OutboxIsSound x → items ≡ x.slots.items → slots ≡ map slot_of (row_of x) → laps_in (take (x.slots_arranged - x.slots_begun) (drop x.slots_begun items)) ≡ laps_of x.lap x.last slots
 laps-lent x items slots s e f =
     let a = s.slots_begun in
     let b : laps_in (take (x.slots_arranged - x.slots_begun) (drop x.slots_begun items)) ≡ row_laps x =

@@ -10,7 +10,7 @@ use Rattle.amqp_model.specs.Laws.ArrangementLaws.{PutArranges}
 use Rattle.amqp_model.specs.Output.Outputs.{output_octets, waiting_on, after_put, after_puts}
 use Rattle.amqp_outbox.specs.OutboxSlots.{slot_of, slots_in, slot_length, slots_length, slots_length_on, moved_up, moved_down}
 use Rattle.amqp_outbox.specs.OutboxView.{Outgoing, only, with_staged, all_put, IsPutOfFirst}
-use Rattle.amqp_outbox.specs.OutboxFields.{row_of, staged_of, outgoing_of, all_slots, IsSound}
+use Rattle.amqp_outbox.specs.OutboxFields.{row_of, staged_of, outgoing_of, all_slots, OutboxIsSound}
 use Rattle.amqp_outbox.specs.declared.slots.Slot.{Slot}
 use Rattle.amqp_outbox.specs.declared.slots.Waiting.{Waiting}
 use Rattle.amqp_outbox.specs.declared.outbox.Outbox.TheInside.{Inside}
@@ -21,7 +21,7 @@ use Rattle.amqp_outbox.proofs.OutboxWaiting.{count-slots, slot-at, slots-before,
 use Rattle.amqp_outbox.proofs.OutboxStates.{IsLaidOut, IsKept, laid_out, view, outgoing}
 
 -- the octets to write are those from the written ones up to those staged
-pub output-is : (x : Inside) → IsSound x → take (x.arranged - x.written) (drop x.written x.octets.items) ≡ output_octets (outgoing_of x).output
+pub output-is : (x : Inside) → OutboxIsSound x → take (x.arranged - x.written) (drop x.written x.octets.items) ≡ output_octets (outgoing_of x).output
 output-is x s =
     let l = laid_out x s in
     let ahead = drop x.written (take x.begun x.octets.items) in
@@ -34,7 +34,7 @@ output-is x s =
     ap (take (x.arranged - x.written)) b ∙ take_at (ahead ++ stream (row_of x)) (stream (staged_of x)) (x.arranged - x.written) (omega arith)
 
 -- The octets that are written are dropped.
-pub written-dropped : (x y : Inside) → IsSound x → y.octets.items ≡ drop x.written x.octets.items → all_slots y ≡ all_slots x → y.written ≡ 0 → y.begun ≡ x.begun - x.written → y.arranged ≡ x.arranged - x.written
+pub written-dropped : (x y : Inside) → OutboxIsSound x → y.octets.items ≡ drop x.written x.octets.items → all_slots y ≡ all_slots x → y.written ≡ 0 → y.begun ≡ x.begun - x.written → y.arranged ≡ x.arranged - x.written
     → y.slots_begun ≡ x.slots_begun → y.slots_arranged ≡ x.slots_arranged
     → IsLaidOut y [] (drop x.written (take x.begun x.octets.items)) (take x.slots_begun (all_slots x)) (row_of x) (staged_of x)
 written-dropped x y s octets slots written begun arranged slots_begun slots_arranged =
@@ -55,7 +55,7 @@ written-dropped x y s octets slots written begun arranged slots_begun slots_arra
     }
 
 -- The slots of the frames that are begun are dropped.
-pub begun-dropped : (x y : Inside) → IsSound x → y.octets.items ≡ x.octets.items → all_slots y ≡ drop x.slots_begun (all_slots x) → y.written ≡ x.written → y.begun ≡ x.begun → y.arranged ≡ x.arranged
+pub begun-dropped : (x y : Inside) → OutboxIsSound x → y.octets.items ≡ x.octets.items → all_slots y ≡ drop x.slots_begun (all_slots x) → y.written ≡ x.written → y.begun ≡ x.begun → y.arranged ≡ x.arranged
     → y.slots_begun ≡ 0 → y.slots_arranged ≡ x.slots_arranged - x.slots_begun
     → IsLaidOut y (take x.written x.octets.items) (drop x.written (take x.begun x.octets.items)) [] (row_of x) (staged_of x)
 begun-dropped x y s octets slots written begun arranged slots_begun slots_arranged =
@@ -81,7 +81,7 @@ same_view x y gone past value e on f l =
     view y gone ahead past (row_of x) (staged_of x) l ∙ (ap₂ (λ c last. outgoing ahead c last (row_of x) (staged_of x)) on f ∙ e)
 
 -- A frame is staged after the others.
-pub frame-staged : (x y : Inside) (f : Frame) → IsSound x → y.octets.items ≡ x.octets.items ++ octets f → all_slots y ≡ all_slots x ++ slot_of f ∷ [] → y.written ≡ x.written → y.begun ≡ x.begun → y.arranged ≡ x.arranged
+pub frame-staged : (x y : Inside) (f : Frame) → OutboxIsSound x → y.octets.items ≡ x.octets.items ++ octets f → all_slots y ≡ all_slots x ++ slot_of f ∷ [] → y.written ≡ x.written → y.begun ≡ x.begun → y.arranged ≡ x.arranged
     → y.slots_begun ≡ x.slots_begun → y.slots_arranged ≡ x.slots_arranged
     → IsLaidOut y (take x.written x.octets.items) (drop x.written (take x.begun x.octets.items)) (take x.slots_begun (all_slots x)) (row_of x) (staged_of x ++ f ∷ [])
 frame-staged x y f s more more_slots written begun arranged slots_begun slots_arranged =
@@ -106,7 +106,7 @@ frame-staged x y f s more more_slots written begun arranged slots_begun slots_ar
       slots_arranged = omega arith;
     }
 
-pub kept-staged : (x : Inside) (f : Frame) → IsSound x → HasChannel f → IsKept x.last (row_of x) (staged_of x ++ f ∷ [])
+pub kept-staged : (x : Inside) (f : Frame) → OutboxIsSound x → HasChannel f → IsKept x.last (row_of x) (staged_of x ++ f ∷ [])
 kept-staged x f s h = record { in_turn = s.in_turn; row_channels = s.row_channels; staged_channels = All-push HasChannel (staged_of x) f s.staged_channels h }
 
 pub staged_view : (x y : Inside) (f : Frame) (gone : List ℕ) (past : List Slot) (value : Outgoing) → outgoing_of x ≡ value → y.begun_on ≡ x.begun_on → y.last ≡ x.last → IsLaidOut y gone (drop x.written (take x.begun x.octets.items)) past (row_of x) (staged_of x ++ f ∷ [])
@@ -116,7 +116,7 @@ staged_view x y f gone past value e on g l =
     view y gone ahead past (row_of x) (staged_of x ++ f ∷ []) l ∙ (ap₂ (λ c last. outgoing ahead c last (row_of x) (staged_of x ++ f ∷ [])) on g ∙ ap (λ v. with_staged v (f ∷ [])) e)
 
 -- What is staged is dropped.
-pub staged-dropped : (x y : Inside) → IsSound x → y.octets.items ≡ take x.arranged x.octets.items → all_slots y ≡ take x.slots_arranged (all_slots x) → y.written ≡ x.written → y.begun ≡ x.begun → y.arranged ≡ x.arranged
+pub staged-dropped : (x y : Inside) → OutboxIsSound x → y.octets.items ≡ take x.arranged x.octets.items → all_slots y ≡ take x.slots_arranged (all_slots x) → y.written ≡ x.written → y.begun ≡ x.begun → y.arranged ≡ x.arranged
     → y.slots_begun ≡ x.slots_begun → y.slots_arranged ≡ x.slots_arranged
     → IsLaidOut y (take x.written x.octets.items) (drop x.written (take x.begun x.octets.items)) (take x.slots_begun (all_slots x)) (row_of x) []
 staged-dropped x y s octets slots written begun arranged slots_begun slots_arranged =
@@ -147,7 +147,7 @@ staged-dropped x y s octets slots written begun arranged slots_begun slots_arran
       slots_arranged = omega arith;
     }
 
-pub kept-row : (x : Inside) → IsSound x → IsKept x.last (row_of x) []
+pub kept-row : (x : Inside) → OutboxIsSound x → IsKept x.last (row_of x) []
 kept-row x s = record { in_turn = s.in_turn; row_channels = s.row_channels; staged_channels = All-nil HasChannel }
 
 pub row_view : (x y : Inside) (gone : List ℕ) (past : List Slot) (value : Outgoing) → outgoing_of x ≡ value → y.begun_on ≡ x.begun_on → y.last ≡ x.last → IsLaidOut y gone (drop x.written (take x.begun x.octets.items)) past (row_of x) [] → outgoing_of y ≡ only value.output
@@ -166,7 +166,7 @@ length-appended f old new at e g =
     omega arith
 
 -- The slot of the first frame that is staged is put after so many slots of the row.
-slots-put : (x y : Inside) (f : Frame) (later : List Frame) (p : ℕ) → IsSound x → staged_of x ≡ f ∷ later → p ≤ length (row_of x) → all_slots y ≡ moved_up (x.slots_begun + p) (x.slots_arranged + 1) 1 (all_slots x)
+slots-put : (x y : Inside) (f : Frame) (later : List Frame) (p : ℕ) → OutboxIsSound x → staged_of x ≡ f ∷ later → p ≤ length (row_of x) → all_slots y ≡ moved_up (x.slots_begun + p) (x.slots_arranged + 1) 1 (all_slots x)
     → all_slots y ≡ take x.slots_begun (all_slots x) ++ (map slot_of (take p (row_of x) ++ f ∷ drop p (row_of x)) ++ map slot_of later)
 slots-put x y f later p s staged few slots_are =
     let l = laid_out x s in
@@ -192,7 +192,7 @@ slots-put x y f later p s staged few slots_are =
     slots_then ∙ (regrouped_slots ∙ ap (λ ss. past ++ (ss ++ map slot_of later)) (sym row_slots_then))
 
 -- The first frame that is staged is put after so many frames of the row.
-pub frame-put : (x y : Inside) (f : Frame) (later : List Frame) (p moved count end : ℕ) → IsSound x → staged_of x ≡ f ∷ later → p ≤ length (row_of x) → moved ≡ length (stream (drop p (row_of x))) → count ≡ length f.payload + 8 → end ≡ x.arranged + count
+pub frame-put : (x y : Inside) (f : Frame) (later : List Frame) (p moved count end : ℕ) → OutboxIsSound x → staged_of x ≡ f ∷ later → p ≤ length (row_of x) → moved ≡ length (stream (drop p (row_of x))) → count ≡ length f.payload + 8 → end ≡ x.arranged + count
     → y.octets.items ≡ moved_up (x.arranged - moved) end count x.octets.items → all_slots y ≡ moved_up (x.slots_begun + p) (x.slots_arranged + 1) 1 (all_slots x)
     → y.written ≡ x.written → y.begun ≡ x.begun → y.arranged ≡ end → y.slots_begun ≡ x.slots_begun → y.slots_arranged ≡ x.slots_arranged + 1
     → IsLaidOut y (take x.written x.octets.items) (drop x.written (take x.begun x.octets.items)) (take x.slots_begun (all_slots x)) (take p (row_of x) ++ f ∷ drop p (row_of x)) later
@@ -241,7 +241,7 @@ frame-put x y f later p moved count end s staged few moved_is count_is end_is oc
     }
 
 -- The same, where what stands before the place makes room.
-pub frame-put-down : (x y : Inside) (f : Frame) (later : List Frame) (p moved count : ℕ) → IsSound x → staged_of x ≡ f ∷ later → p ≤ length (row_of x) → moved ≡ length (stream (drop p (row_of x))) → count ≡ length f.payload + 8 → count ≤ x.written
+pub frame-put-down : (x y : Inside) (f : Frame) (later : List Frame) (p moved count : ℕ) → OutboxIsSound x → staged_of x ≡ f ∷ later → p ≤ length (row_of x) → moved ≡ length (stream (drop p (row_of x))) → count ≡ length f.payload + 8 → count ≤ x.written
     → y.octets.items ≡ moved_down x.written (x.arranged - moved) x.arranged count x.octets.items → all_slots y ≡ moved_up (x.slots_begun + p) (x.slots_arranged + 1) 1 (all_slots x)
     → y.written ≡ x.written - count → y.begun ≡ x.begun - count → y.arranged ≡ x.arranged → y.slots_begun ≡ x.slots_begun → y.slots_arranged ≡ x.slots_arranged + 1
     → IsLaidOut y (take (x.written - count) (take x.written x.octets.items)) (drop x.written (take x.begun x.octets.items)) (take x.slots_begun (all_slots x)) (take p (row_of x) ++ f ∷ drop p (row_of x)) later
@@ -289,7 +289,7 @@ frame-put-down x y f later p moved count s staged few moved_is count_is room oct
     }
 
 -- the row is arranged still
-pub kept-put : (law : PutArranges) (x : Inside) (f : Frame) (later : List Frame) (p : ℕ) → IsSound x → IsChannel x.last → staged_of x ≡ f ∷ later → placed x.last f (row_of x) ≡ take p (row_of x) ++ f ∷ drop p (row_of x)
+pub kept-put : (law : PutArranges) (x : Inside) (f : Frame) (later : List Frame) (p : ℕ) → OutboxIsSound x → IsChannel x.last → staged_of x ≡ f ∷ later → placed x.last f (row_of x) ≡ take p (row_of x) ++ f ∷ drop p (row_of x)
     → IsKept x.last (take p (row_of x) ++ f ∷ drop p (row_of x)) later
 kept-put law x f later p s last staged at =
     let row = row_of x in
@@ -313,7 +313,7 @@ put_view x y f later p gone past value e on g at l =
     ∙ ap (λ (v : Outgoing). record { output = after_put f v.output; staged = later }) e)
 
 -- the first slot that is staged is that of the first frame
-pub first-staged : (x : Inside) (d : Slot) (f : Frame) (later : List Frame) → IsSound x → staged_of x ≡ f ∷ later → (get_or (all_slots x) x.slots_arranged d ≡ slot_of f) × (x.slots_arranged < length x.slots.items)
+pub first-staged : (x : Inside) (d : Slot) (f : Frame) (later : List Frame) → OutboxIsSound x → staged_of x ≡ f ∷ later → (get_or (all_slots x) x.slots_arranged d ≡ slot_of f) × (x.slots_arranged < length x.slots.items)
 first-staged x d f later s staged =
     let l = laid_out x s in
     let past = take x.slots_begun (all_slots x) in
@@ -328,7 +328,7 @@ first-staged x d f later s staged =
     (ap (λ ss. get_or ss x.slots_arranged d) whole ∙ get_or_at (past ++ map slot_of row) (slot_of f) (map slot_of later) d x.slots_arranged (omega arith), omega arith)
 
 -- the slots of the row, as they are lent
-pub row-lent : (x : Inside) (items : List Waiting) → IsSound x → items ≡ x.slots.items → slots_in (take (x.slots_arranged - x.slots_begun) (drop x.slots_begun items)) ≡ map slot_of (row_of x)
+pub row-lent : (x : Inside) (items : List Waiting) → OutboxIsSound x → items ≡ x.slots.items → slots_in (take (x.slots_arranged - x.slots_begun) (drop x.slots_begun items)) ≡ map slot_of (row_of x)
 row-lent x items s e =
     let a = s.slots_begun in
     ap (λ ss. slots_in (take (x.slots_arranged - x.slots_begun) (drop x.slots_begun ss))) e
@@ -342,10 +342,10 @@ pub row-length : (x : Inside) (slots : List Slot) (p : ℕ) → slots ≡ map sl
 row-length x slots p e = ap slots_length (ap (drop p) e ∙ drop-map slot_of p (row_of x)) ∙ slots_length-row (drop p (row_of x))
 
 -- the octets of the row stand after those ahead and before those that are staged
-pub row-size : (x : Inside) → IsSound x → x.begun + length (stream (row_of x)) ≡ x.arranged
+pub row-size : (x : Inside) → OutboxIsSound x → x.begun + length (stream (row_of x)) ≡ x.arranged
 row-size x s = sym (laid_out x s).arranged
 
-pub row-within : (x : Inside) (p : ℕ) → IsSound x → x.begun + length (stream (drop p (row_of x))) ≤ x.arranged
+pub row-within : (x : Inside) (p : ℕ) → OutboxIsSound x → x.begun + length (stream (drop p (row_of x))) ≤ x.arranged
 row-within x p s =
     let a = row-size x s in
     let row = row_of x in
@@ -353,7 +353,7 @@ row-within x p s =
     omega arith
 
 -- what waits of a channel, where a frame of it is begun, and where none is
-own-waiting : (x : Inside) (channel n : ℕ) → IsSound x → n ≡ length (stream (on channel (row_of x))) → x.begun_on ≡ channel → (x.begun - x.written) + n ≡ waiting_on channel (outgoing_of x).output
+own-waiting : (x : Inside) (channel n : ℕ) → OutboxIsSound x → n ≡ length (stream (on channel (row_of x))) → x.begun_on ≡ channel → (x.begun - x.written) + n ≡ waiting_on channel (outgoing_of x).output
 own-waiting x channel n s e own =
     let b = length-second x.octets.items x.written x.begun s.written (let l = laid_out x s in let a = s.begun in let c = s.arranged in omega arith) in
     let there = cond-true (x.begun_on == channel) (length (drop x.written (take x.begun x.octets.items))) 0 (eq-eqb x.begun_on channel own) in
@@ -367,14 +367,14 @@ other-waiting x channel n e other =
 row-waiting : (x : Inside) (channel n : ℕ) (slots : List Slot) → slots ≡ map slot_of (row_of x) → n ≡ slots_length_on channel slots → n ≡ length (stream (on channel (row_of x)))
 row-waiting x channel n slots e h = h ∙ (ap (slots_length_on channel) e ∙ slots_length_on-row channel (row_of x))
 
-pub waits-within : (x : Inside) (channel n : ℕ) (slots : List Slot) → IsSound x → slots ≡ map slot_of (row_of x) → n ≡ slots_length_on channel slots → (x.begun - x.written) + n ≤ x.arranged
+pub waits-within : (x : Inside) (channel n : ℕ) (slots : List Slot) → OutboxIsSound x → slots ≡ map slot_of (row_of x) → n ≡ slots_length_on channel slots → (x.begun - x.written) + n ≤ x.arranged
 waits-within x channel n slots s row h =
     let most = slots_length_on-most channel slots in
     let a = ap slots_length row ∙ slots_length-row (row_of x) in
     let b = row-size x s in
     omega arith
 
-pub begun-waits : (x : Inside) (channel n : ℕ) (slots : List Slot) (value : Outgoing) → IsSound x → outgoing_of x ≡ value → slots ≡ map slot_of (row_of x) → n ≡ slots_length_on channel slots → x.begun_on ≡ channel
+pub begun-waits : (x : Inside) (channel n : ℕ) (slots : List Slot) (value : Outgoing) → OutboxIsSound x → outgoing_of x ≡ value → slots ≡ map slot_of (row_of x) → n ≡ slots_length_on channel slots → x.begun_on ≡ channel
     → (x.begun - x.written) + n ≡ waiting_on channel value.output
 begun-waits x channel n slots value s e row h own = own-waiting x channel n s (row-waiting x channel n slots row h) own ∙ ap (λ (v : Outgoing). waiting_on channel v.output) e
 
@@ -398,7 +398,7 @@ pub record FirstStaged (x : Inside) (slot : Slot) (count : ℕ) (f : Frame) (lat
   pub count_is : count ≡ length f.payload + 8
   pub within : x.arranged + count ≤ length x.octets.items
 
-pub first_staged : (x : Inside) (value : Outgoing) (slot : Slot) (count : ℕ) (f : Frame) (later : List Frame) (waiting d : Waiting) → IsSound x → outgoing_of x ≡ value → value.staged ≡ f ∷ later → waiting ≡ get_or x.slots.items x.slots_arranged d → slot ≡ waiting.slot → count ≡ slot_length slot → FirstStaged x slot count f later
+pub first_staged : (x : Inside) (value : Outgoing) (slot : Slot) (count : ℕ) (f : Frame) (later : List Frame) (waiting d : Waiting) → OutboxIsSound x → outgoing_of x ≡ value → value.staged ≡ f ∷ later → waiting ≡ get_or x.slots.items x.slots_arranged d → slot ≡ waiting.slot → count ≡ slot_length slot → FirstStaged x slot count f later
 first_staged x value slot count f later waiting d s e staged at slot_at size =
     let staged2 : staged_of x ≡ f ∷ later = ap (λ (v : Outgoing). v.staged) e ∙ staged in
     let first = first-staged x d.slot f later s staged2 in

@@ -7,7 +7,7 @@ use Rattle.amqp_model.specs.Output.Arrangement.{IsArranged, HasChannel}
 use Rattle.amqp_outbox.specs.OutboxSlots.{slot_of, frames_in}
 use Rattle.amqp_outbox.specs.OutboxLaps.{laps_of}
 use Rattle.amqp_outbox.specs.OutboxView.{Outgoing}
-use Rattle.amqp_outbox.specs.OutboxFields.{row_octets, row_slots, row_laps, row_of, staged_octets, staged_slots, staged_of, outgoing_of, all_slots, all_laps, IsSound}
+use Rattle.amqp_outbox.specs.OutboxFields.{row_octets, row_slots, row_laps, row_of, staged_octets, staged_slots, staged_of, outgoing_of, all_slots, all_laps, OutboxIsSound}
 use Rattle.amqp_outbox.specs.declared.slots.Slot.{Slot}
 use Rattle.amqp_outbox.specs.declared.outbox.Outbox.TheInside.{Inside}
 use Rattle.amqp_outbox.proofs.OutboxLaps.{length-laps}
@@ -76,11 +76,11 @@ pub record IsInLaps (x : Inside) (past own rest : List ℕ) (row staged : List F
   pub left : x.lap + (length row + length staged) + 1 < 2 ^ 64
 
 -- the slots of the row are some of all
-pub slots_within : (x : Inside) → IsSound x → x.slots_arranged ≤ length (all_slots x)
+pub slots_within : (x : Inside) → OutboxIsSound x → x.slots_arranged ≤ length (all_slots x)
 slots_within x s = let a = count-slots x.slots.items in let b = s.slots_arranged in omega arith
 
 -- fields that are laid out so are sound
-pub sound : (x : Inside) (gone ahead : List ℕ) (past : List Slot) (row staged : List Frame) (laps_past laps laps_rest : List ℕ) → IsLaidOut x gone ahead past row staged → IsKept x.last row staged → IsInLaps x laps_past laps laps_rest row staged → IsSound x
+pub sound : (x : Inside) (gone ahead : List ℕ) (past : List Slot) (row staged : List Frame) (laps_past laps laps_rest : List ℕ) → IsLaidOut x gone ahead past row staged → IsKept x.last row staged → IsInLaps x laps_past laps laps_rest row staged → OutboxIsSound x
 sound x gone ahead past row staged laps_past laps laps_rest l k i =
     let p = parts x gone ahead past row staged l in
     let a = ap length l.octets ∙ length-append gone (ahead ++ (stream row ++ stream staged)) in
@@ -122,7 +122,7 @@ view x gone ahead past row staged l =
     cc (p.ahead_is, p.row_is, p.staged_is)
 
 -- sound fields are laid out
-pub laid_out : (x : Inside) → IsSound x
+pub laid_out : (x : Inside) → OutboxIsSound x
     → IsLaidOut x (take x.written x.octets.items) (drop x.written (take x.begun x.octets.items)) (take x.slots_begun (all_slots x)) (row_of x) (staged_of x)
 laid_out x s =
     let a = length-take-le x.written x.octets.items (omega arith) in
@@ -145,11 +145,11 @@ laid_out x s =
       slots_arranged = omega arith;
     }
 
-pub kept : (x : Inside) → IsSound x → IsKept x.last (row_of x) (staged_of x)
+pub kept : (x : Inside) → OutboxIsSound x → IsKept x.last (row_of x) (staged_of x)
 kept x s = record { in_turn = s.in_turn; row_channels = s.row_channels; staged_channels = s.staged_channels }
 
 -- the laps of sound fields
-pub in_laps : (x : Inside) → IsSound x → IsInLaps x (take x.slots_begun (all_laps x)) (row_laps x) (drop x.slots_arranged (all_laps x)) (row_of x) (staged_of x)
+pub in_laps : (x : Inside) → OutboxIsSound x → IsInLaps x (take x.slots_begun (all_laps x)) (row_laps x) (drop x.slots_arranged (all_laps x)) (row_of x) (staged_of x)
 in_laps x s =
     let a = s.slots_begun in
     let b = slots_within x s in

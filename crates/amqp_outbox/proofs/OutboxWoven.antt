@@ -10,7 +10,7 @@ use Rattle.amqp_outbox.specs.OutboxSlots.{slot_of, slots_in, slots_length}
 use Rattle.amqp_outbox.specs.OutboxLaps.{laps_in, laps_of}
 use Rattle.amqp_outbox.specs.OutboxView.{Outgoing, only, all_put}
 use Rattle.amqp_outbox.specs.OutboxWeaving.{woven, Follow, places_of, waiting_of, slots_of, AreWoven, ArePlaced, WeavesIn}
-use Rattle.amqp_outbox.specs.OutboxFields.{row_of, row_laps, row_slots, staged_of, outgoing_of, all_slots, all_laps, IsSound}
+use Rattle.amqp_outbox.specs.OutboxFields.{row_of, row_laps, row_slots, staged_of, outgoing_of, all_slots, all_laps, OutboxIsSound}
 use Rattle.amqp_outbox.specs.declared.slots.Slot.{Slot}
 use Rattle.amqp_outbox.specs.declared.slots.Waiting.{Waiting}
 use Rattle.amqp_outbox.specs.declared.weaving.Coming.{Coming}
@@ -24,12 +24,12 @@ use Rattle.amqp_outbox.proofs.Woven.{woven_map, woven_length}
 use Rattle.amqp_outbox.proofs.WovenSides.{stream_woven}
 
 -- the slots that are staged, as they are lent
-pub staged-lent : (x : Inside) (items : List Waiting) → IsSound x → items ≡ x.slots.items → slots_in (take (length items - x.slots_arranged) (drop x.slots_arranged items)) ≡ map slot_of (staged_of x)
+pub staged-lent : (x : Inside) (items : List Waiting) → OutboxIsSound x → items ≡ x.slots.items → slots_in (take (length items - x.slots_arranged) (drop x.slots_arranged items)) ≡ map slot_of (staged_of x)
 staged-lent x items s e =
     slots-rest x.slots_arranged items ∙ (ap (λ ws. drop x.slots_arranged (slots_in ws)) e ∙ sym s.staged_described)
 
 -- the laps of the row, as they are lent
-pub row_laps-lent : (x : Inside) (items : List Waiting) → IsSound x → items ≡ x.slots.items → laps_in (take (x.slots_arranged - x.slots_begun) (drop x.slots_begun items)) ≡ row_laps x
+pub row_laps-lent : (x : Inside) (items : List Waiting) → OutboxIsSound x → items ≡ x.slots.items → laps_in (take (x.slots_arranged - x.slots_begun) (drop x.slots_begun items)) ≡ row_laps x
 row_laps-lent x items s e =
     let a = s.slots_begun in
     ap (λ ss. laps_in (take (x.slots_arranged - x.slots_begun) (drop x.slots_begun ss))) e
@@ -46,7 +46,7 @@ pub record AreStaged (x : Inside) (coming : List Coming) (octets : ℕ) : Type 0
   pub within : x.arranged + octets ≤ length x.octets.items
   pub slots_within : x.slots_arranged + length coming ≤ length x.slots.items
 
-pub are-staged : (x : Inside) (rows staged : List Waiting) (coming : List Coming) (octets : ℕ) → IsSound x → slots_in staged ≡ map slot_of (staged_of x) → ArePlaced x.lap x.last rows staged coming → octets ≡ slots_length (slots_of coming) → AreStaged x coming octets
+pub are-staged : (x : Inside) (rows staged : List Waiting) (coming : List Coming) (octets : ℕ) → OutboxIsSound x → slots_in staged ≡ map slot_of (staged_of x) → ArePlaced x.lap x.last rows staged coming → octets ≡ slots_length (slots_of coming) → AreStaged x coming octets
 are-staged x rows staged coming octets s e p count =
     let m = length coming in
     let fs = take m (staged_of x) in
@@ -89,7 +89,7 @@ pub record SlotsBetween (x y : Inside) (coming : List Coming) : Type 0 where
   pub slots_are : all_slots y ≡ take x.slots_begun (all_slots x) ++ (woven 0 (places_of coming) (slots_of coming) (row_slots x) ++ drop (x.slots_arranged + length coming) (all_slots x))
   pub laps_are : all_laps y ≡ take x.slots_begun (all_laps x) ++ (woven 0 (places_of coming) (laps_in (waiting_of coming)) (row_laps x) ++ drop (x.slots_arranged + length coming) (all_laps x))
 
-slots-between : (x y : Inside) (coming : List Coming) (octets : ℕ) → IsSound x → AreStaged x coming octets → IsPutBetween x y coming octets → SlotsBetween x y coming
+slots-between : (x y : Inside) (coming : List Coming) (octets : ℕ) → OutboxIsSound x → AreStaged x coming octets → IsPutBetween x y coming octets → SlotsBetween x y coming
 slots-between x y coming octets s a p =
     let items = x.slots.items in
     let m = length coming in
@@ -122,7 +122,7 @@ slots-between x y coming octets s a p =
           (map-append lap parts after ∙ ap₂ (λ xs ys. xs ++ ys) (woven_map lap 0 (places_of coming) (waiting_of coming) row ∙ ap (λ xs. woven 0 (places_of coming) (laps_in (waiting_of coming)) xs) row_is2) (laps-after (x.slots_arranged + m) items)));
     }
 
-pub between-laid_out : (x y : Inside) (coming : List Coming) (octets : ℕ) → IsSound x → Follow 0 (length (row_of x)) (places_of coming) → AreStaged x coming octets → IsPutBetween x y coming octets
+pub between-laid_out : (x y : Inside) (coming : List Coming) (octets : ℕ) → OutboxIsSound x → Follow 0 (length (row_of x)) (places_of coming) → AreStaged x coming octets → IsPutBetween x y coming octets
     → IsLaidOut y (take y.written y.octets.items) (drop x.written (take x.begun x.octets.items)) (take x.slots_begun (all_slots x)) (woven 0 (places_of coming) (take (length coming) (staged_of x)) (row_of x)) (drop (length coming) (staged_of x))
 between-laid_out x y coming octets s follow a p =
     let l = laid_out x s in
@@ -161,11 +161,11 @@ between-laid_out x y coming octets s follow a p =
       slots_arranged = omega arith;
     }
 
-pub between-kept : (x : Inside) (rows : List Waiting) (coming : List Coming) → IsSound x → AreWoven x.lap x.last rows coming (take (length coming) (staged_of x)) (row_of x)
+pub between-kept : (x : Inside) (rows : List Waiting) (coming : List Coming) → OutboxIsSound x → AreWoven x.lap x.last rows coming (take (length coming) (staged_of x)) (row_of x)
     → IsKept x.last (woven 0 (places_of coming) (take (length coming) (staged_of x)) (row_of x)) (drop (length coming) (staged_of x))
 between-kept x rows coming s w = record { in_turn = w.arranged; row_channels = w.channels; staged_channels = All-drop HasChannel (length coming) (staged_of x) s.staged_channels }
 
-pub between-laps : (x y : Inside) (rows : List Waiting) (coming : List Coming) (octets : ℕ) → IsSound x → Follow 0 (length (row_of x)) (places_of coming) → AreStaged x coming octets → IsPutBetween x y coming octets
+pub between-laps : (x y : Inside) (rows : List Waiting) (coming : List Coming) (octets : ℕ) → OutboxIsSound x → Follow 0 (length (row_of x)) (places_of coming) → AreStaged x coming octets → IsPutBetween x y coming octets
     → laps_in rows ≡ row_laps x → AreWoven x.lap x.last rows coming (take (length coming) (staged_of x)) (row_of x) → y.lap ≡ x.lap → y.last ≡ x.last
     → IsInLaps y (take x.slots_begun (all_laps x)) (woven 0 (places_of coming) (laps_in (waiting_of coming)) (row_laps x)) (drop (x.slots_arranged + length coming) (all_laps x)) (woven 0 (places_of coming) (take (length coming) (staged_of x)) (row_of x)) (drop (length coming) (staged_of x))
 between-laps x y rows coming octets s follow a p rows_are w lap last =
@@ -223,7 +223,7 @@ between-view x y rows coming gone past value e on last w l =
     ∙ ap all_put e))))
 
 -- what the calls say of lists that are lent, said of these lists
-pub is-put-between : (x y : Inside) (rows : List Waiting) (lent lent2 coming : List Coming) (new : Ends) (octets : ℕ) → IsSound x → AreStaged x coming octets → slots_in rows ≡ map slot_of (row_of x) → lent ≡ coming → lent2 ≡ coming
+pub is-put-between : (x y : Inside) (rows : List Waiting) (lent lent2 coming : List Coming) (new : Ends) (octets : ℕ) → OutboxIsSound x → AreStaged x coming octets → slots_in rows ≡ map slot_of (row_of x) → lent ≡ coming → lent2 ≡ coming
     → WeavesIn (record { written = x.written; begun = x.begun; arranged = x.arranged }) new rows lent octets x.octets.items y.octets.items
     → ((before row dropped after : List Waiting) → length before ≡ x.slots_begun → x.slots_begun + length row ≡ x.slots_arranged → length dropped ≡ length lent2
     → x.slots.items ≡ before ++ (row ++ (dropped ++ after)) → y.slots.items ≡ before ++ (woven 0 (places_of lent2) (waiting_of lent2) row ++ after))
@@ -259,10 +259,10 @@ is-put-between x y rows lent lent2 coming new octets s a rows_are is is2 w slots
     }
 
 -- so the fields are sound, and stand for what they stood for, once all is put
-pub put-between : (x y : Inside) (rows staged : List Waiting) (coming : List Coming) (octets : ℕ) (value : Outgoing) → IsSound x → outgoing_of x ≡ value
+pub put-between : (x y : Inside) (rows staged : List Waiting) (coming : List Coming) (octets : ℕ) (value : Outgoing) → OutboxIsSound x → outgoing_of x ≡ value
     → slots_in rows ≡ map slot_of (row_of x) → laps_in rows ≡ row_laps x → slots_in staged ≡ map slot_of (staged_of x)
     → ArePlaced x.lap x.last rows staged coming → AreStaged x coming octets → IsPutBetween x y coming octets → y.lap ≡ x.lap → y.last ≡ x.last → y.begun_on ≡ x.begun_on
-    → IsSound y × (all_put (outgoing_of y) ≡ all_put value)
+    → OutboxIsSound y × (all_put (outgoing_of y) ≡ all_put value)
 put-between x y rows staged coming octets value s view_is rows_are laps_are staged_are placed a p lap last on =
     let fs = take (length coming) (staged_of x) in
     let later = drop (length coming) (staged_of x) in

@@ -9,7 +9,7 @@ use Rattle.amqp_model.specs.Output.Arrangement.{IsArranged, HasChannel, last_aft
 use Rattle.amqp_model.specs.Output.Outputs.{Output, output_octets, begun_on_after, row_after_writing, after_writing}
 use Rattle.amqp_outbox.specs.OutboxSlots.{slot_of, slots_length, slots_begun_on, slots_last, begun_by}
 use Rattle.amqp_outbox.specs.OutboxView.{Outgoing, with_output}
-use Rattle.amqp_outbox.specs.OutboxFields.{row_of, staged_of, outgoing_of, IsSound, all_slots}
+use Rattle.amqp_outbox.specs.OutboxFields.{row_of, staged_of, outgoing_of, OutboxIsSound, all_slots}
 use Rattle.amqp_outbox.specs.declared.slots.Slot.{Slot}
 use Rattle.amqp_outbox.specs.declared.outbox.Outbox.TheInside.{Inside}
 use Rattle.amqp_outbox.proofs.OutboxLists.{drop_past, length-second}
@@ -57,11 +57,11 @@ arranged-from (suc k) last [] h = h
 arranged-from (suc k) last (f ∷ row) h = arranged-from k (last_after last f) row h.1
 
 -- what is kept of the row that is left
-pub kept-written : (x : Inside) (k : ℕ) → IsSound x → IsKept (last_after_all x.last (take k (row_of x))) (drop k (row_of x)) (staged_of x)
+pub kept-written : (x : Inside) (k : ℕ) → OutboxIsSound x → IsKept (last_after_all x.last (take k (row_of x))) (drop k (row_of x)) (staged_of x)
 kept-written x k s = record { in_turn = arranged-from k x.last (row_of x) s.in_turn; row_channels = All-drop HasChannel k (row_of x) s.row_channels; staged_channels = s.staged_channels }
 
 -- Fewer octets are written than stand ahead.
-pub ahead-written : (x y : Inside) (n : ℕ) → IsSound x → n < x.begun - x.written → y.octets.items ≡ x.octets.items → all_slots y ≡ all_slots x → y.written ≡ x.written + n → y.begun ≡ x.begun → y.arranged ≡ x.arranged
+pub ahead-written : (x y : Inside) (n : ℕ) → OutboxIsSound x → n < x.begun - x.written → y.octets.items ≡ x.octets.items → all_slots y ≡ all_slots x → y.written ≡ x.written + n → y.begun ≡ x.begun → y.arranged ≡ x.arranged
     → y.slots_begun ≡ x.slots_begun → y.slots_arranged ≡ x.slots_arranged
     → IsLaidOut y (take (x.written + n) x.octets.items) (drop n (drop x.written (take x.begun x.octets.items))) (take x.slots_begun (all_slots x)) (row_of x) (staged_of x)
 ahead-written x y n s h octets slots written begun arranged slots_begun slots_arranged =
@@ -91,7 +91,7 @@ ahead-written x y n s h octets slots written begun arranged slots_begun slots_ar
     }
 
 -- Octets of the row are written, all that stood ahead before, and so many frames begun.
-pub row-begun : (x y : Inside) (m k : ℕ) → IsSound x → k ≤ length (row_of x) → m ≤ length (stream (take k (row_of x))) → y.octets.items ≡ x.octets.items → all_slots y ≡ all_slots x → y.written ≡ x.begun + m
+pub row-begun : (x y : Inside) (m k : ℕ) → OutboxIsSound x → k ≤ length (row_of x) → m ≤ length (stream (take k (row_of x))) → y.octets.items ≡ x.octets.items → all_slots y ≡ all_slots x → y.written ≡ x.begun + m
     → y.begun ≡ x.begun + length (stream (take k (row_of x))) → y.arranged ≡ x.arranged → y.slots_begun ≡ x.slots_begun + k → y.slots_arranged ≡ x.slots_arranged
     → IsLaidOut y (take (x.begun + m) x.octets.items) (drop m (stream (take k (row_of x)))) (take (x.slots_begun + k) (all_slots x)) (drop k (row_of x)) (staged_of x)
 row-begun x y m k s few h octets slots written begun arranged slots_begun slots_arranged =
@@ -160,7 +160,7 @@ pub record IsWrite (x : Inside) (n k passed on now : ℕ) : Type 0 where
   pub on_is : on ≡ begun_on_after x.begun_on (take k (row_of x))
   pub now_is : now ≡ last_after_all x.last (take k (row_of x))
 
-length-ahead : (x : Inside) → IsSound x → length (drop x.written (take x.begun x.octets.items)) ≡ x.begun - x.written
+length-ahead : (x : Inside) → OutboxIsSound x → length (drop x.written (take x.begun x.octets.items)) ≡ x.begun - x.written
 length-ahead x s =
     let a = s.written in
     let b = s.begun in
@@ -168,7 +168,7 @@ length-ahead x s =
     let d = length-second x.octets.items x.written x.begun s.written (omega arith) in
     omega arith
 
-pub is_write : (x : Inside) (slots : List Slot) (n k passed on now : ℕ) → IsSound x → slots ≡ map slot_of (row_of x) → x.begun - x.written ≤ n → k ≡ begun_by (n - (x.begun - x.written)) slots → passed ≡ slots_length (take k slots)
+pub is_write : (x : Inside) (slots : List Slot) (n k passed on now : ℕ) → OutboxIsSound x → slots ≡ map slot_of (row_of x) → x.begun - x.written ≤ n → k ≡ begun_by (n - (x.begun - x.written)) slots → passed ≡ slots_length (take k slots)
     → on ≡ slots_begun_on x.begun_on (take k slots) → now ≡ slots_last x.last (take k slots) → k ≤ length slots → n - (x.begun - x.written) ≤ passed → IsWrite x n k passed on now
 is_write x slots n k passed on now s e ahead count passed_is on_is now_is few reached =
     let a = length-ahead x s in
@@ -186,7 +186,7 @@ is_write x slots n k passed on now s e ahead count passed_is on_is now_is few re
       now_is = now_is ∙ (ap (slots_last x.last) b ∙ slots_last-row x.last (take k row));
     }
 
-pub write-laid_out : (x y : Inside) (n k passed on now : ℕ) → IsSound x → IsWrite x n k passed on now → y.octets.items ≡ x.octets.items → all_slots y ≡ all_slots x → y.written ≡ x.written + n → y.begun ≡ x.begun + passed
+pub write-laid_out : (x y : Inside) (n k passed on now : ℕ) → OutboxIsSound x → IsWrite x n k passed on now → y.octets.items ≡ x.octets.items → all_slots y ≡ all_slots x → y.written ≡ x.written + n → y.begun ≡ x.begun + passed
     → y.arranged ≡ x.arranged → y.slots_begun ≡ x.slots_begun + k → y.slots_arranged ≡ x.slots_arranged
     → IsLaidOut y (take (x.begun + (n - length (drop x.written (take x.begun x.octets.items)))) x.octets.items) (drop (n - length (drop x.written (take x.begun x.octets.items))) (stream (take k (row_of x)))) (take (x.slots_begun + k) (all_slots x)) (drop k (row_of x)) (staged_of x)
 write-laid_out x y n k passed on now s w octets slots written begun arranged slots_begun slots_arranged =
@@ -195,7 +195,7 @@ write-laid_out x y n k passed on now s w octets slots written begun arranged slo
     let c = s.written in
     row-begun x y (n - length (drop x.written (take x.begun x.octets.items))) k s w.few w.reached octets slots (omega arith) (begun ∙ ap (λ m. x.begun + m) w.passed_is) arranged slots_begun slots_arranged
 
-pub write-kept : (x : Inside) (n k passed on now : ℕ) → IsSound x → IsWrite x n k passed on now → IsKept now (drop k (row_of x)) (staged_of x)
+pub write-kept : (x : Inside) (n k passed on now : ℕ) → OutboxIsSound x → IsWrite x n k passed on now → IsKept now (drop k (row_of x)) (staged_of x)
 write-kept x n k passed on now s w = let P : ℕ → Type 0 = λ last. IsKept last (drop k (row_of x)) (staged_of x) in subst P (sym w.now_is) (kept-written x k s)
 
 pub write_view : (x y : Inside) (n k passed on now : ℕ) (gone : List ℕ) (past : List Slot) (value : Outgoing) → outgoing_of x ≡ value → n ≤ length (output_octets value.output) → IsWrite x n k passed on now → y.begun_on ≡ on → y.last ≡ now
@@ -217,7 +217,7 @@ write_view x y n k passed on now gone past value e within w c g l =
     ∙ ap (λ (v : Outgoing). with_output v (after_writing n v.output)) e))
 
 -- so many octets can be written after those that stand ahead
-pub row-enough : (x : Inside) (n : ℕ) (value : Outgoing) → IsSound x → outgoing_of x ≡ value → n ≤ length (output_octets value.output) → x.begun - x.written ≤ n → n - (x.begun - x.written) ≤ length (stream (row_of x))
+pub row-enough : (x : Inside) (n : ℕ) (value : Outgoing) → OutboxIsSound x → outgoing_of x ≡ value → n ≤ length (output_octets value.output) → x.begun - x.written ≤ n → n - (x.begun - x.written) ≤ length (stream (row_of x))
 row-enough x n value s e within ahead =
     let a = length-ahead x s in
     let P : Outgoing → Type 0 = λ v. n ≤ length (output_octets v.output) in
@@ -225,7 +225,7 @@ row-enough x n value s e within ahead =
     let b = length-append (drop x.written (take x.begun x.octets.items)) (stream (row_of x)) in
     omega arith
 
-pub row-room : (x : Inside) (k : ℕ) → IsSound x → x.begun + length (stream (take k (row_of x))) ≤ x.arranged
+pub row-room : (x : Inside) (k : ℕ) → OutboxIsSound x → x.begun + length (stream (take k (row_of x))) ≤ x.arranged
 row-room x k s =
     let l = laid_out x s in
     let row = row_of x in

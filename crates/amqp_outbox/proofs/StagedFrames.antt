@@ -8,7 +8,7 @@ use Rattle.amqp_model.specs.Output.Arrangement.{HasChannel}
 use Rattle.amqp_outbox.specs.OutboxSlots.{slot_of}
 use Rattle.amqp_outbox.specs.OutboxLaps.{laps_of, no_laps}
 use Rattle.amqp_outbox.specs.OutboxView.{Outgoing, with_staged}
-use Rattle.amqp_outbox.specs.OutboxFields.{row_laps, row_of, staged_of, outgoing_of, all_slots, all_laps, IsSound}
+use Rattle.amqp_outbox.specs.OutboxFields.{row_laps, row_of, staged_of, outgoing_of, all_slots, all_laps, OutboxIsSound}
 use Rattle.amqp_outbox.specs.declared.slots.Slot.{Slot}
 use Rattle.amqp_outbox.specs.declared.outbox.Outbox.TheInside.{Inside}
 use Rattle.amqp_outbox.proofs.OutboxLists.{last_of_three, last_of_four, length-second}
@@ -16,7 +16,7 @@ use Rattle.amqp_outbox.proofs.OutboxRows.{stream-append}
 use Rattle.amqp_outbox.proofs.OutboxWaiting.{count-slots}
 use Rattle.amqp_outbox.proofs.OutboxStates.{IsLaidOut, IsKept, IsInLaps, in_laps, laid_out, slots_within, view, outgoing}
 
-pub frames-staged : (x y : Inside) (frames : List Frame) → IsSound x → y.octets.items ≡ x.octets.items ++ stream frames
+pub frames-staged : (x y : Inside) (frames : List Frame) → OutboxIsSound x → y.octets.items ≡ x.octets.items ++ stream frames
     → all_slots y ≡ all_slots x ++ map slot_of frames → y.written ≡ x.written → y.begun ≡ x.begun → y.arranged ≡ x.arranged
     → y.slots_begun ≡ x.slots_begun → y.slots_arranged ≡ x.slots_arranged
     → IsLaidOut y (take x.written x.octets.items) (drop x.written (take x.begun x.octets.items)) (take x.slots_begun (all_slots x)) (row_of x) (staged_of x ++ frames)
@@ -42,12 +42,12 @@ frames-staged x y frames s more more_slots written begun arranged slots_begun sl
       slots_arranged = omega arith;
     }
 
-pub frames-kept : (x : Inside) (frames : List Frame) → IsSound x → All HasChannel frames → IsKept x.last (row_of x) (staged_of x ++ frames)
+pub frames-kept : (x : Inside) (frames : List Frame) → OutboxIsSound x → All HasChannel frames → IsKept x.last (row_of x) (staged_of x ++ frames)
 frames-kept x frames s channels =
     record { in_turn = s.in_turn; row_channels = s.row_channels; staged_channels = All-append HasChannel (staged_of x) frames s.staged_channels channels }
 
 -- a lap is provided for each of them
-pub frames-in_laps : (x y : Inside) (frames : List Frame) → IsSound x → all_laps y ≡ all_laps x ++ no_laps frames
+pub frames-in_laps : (x y : Inside) (frames : List Frame) → OutboxIsSound x → all_laps y ≡ all_laps x ++ no_laps frames
     → x.lap + (length x.slots.items - x.slots_begun) + length frames + 1 < 2 ^ 64 → y.lap ≡ x.lap → y.last ≡ x.last → y.slots_begun ≡ x.slots_begun
     → IsInLaps y (take x.slots_begun (all_laps x)) (row_laps x) (drop x.slots_arranged (all_laps x) ++ no_laps frames) (row_of x) (staged_of x ++ frames)
 frames-in_laps x y frames s laps left lap last begun =

@@ -46,7 +46,7 @@ outgoing_of x = record {
   staged = staged_of x;
 }
 
-pub record IsSound (x : Inside) : Type 0 where
+pub record OutboxIsSound (x : Inside) : Type 0 where
   pub written : x.written ≤ x.begun
   pub begun : x.begun ≤ x.arranged
   pub arranged : x.arranged ≤ length x.octets.items

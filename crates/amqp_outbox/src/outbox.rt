@@ -97,11 +97,11 @@ impl Model for Outbox {
 
     ghost Value = { Outgoing };
 
-    ghost use Rattle.amqp_outbox.specs.OutboxFields.{outgoing_of, IsSound};
+    ghost use Rattle.amqp_outbox.specs.OutboxFields.{outgoing_of, OutboxIsSound};
 
     ghost view = { outgoing_of };
 
-    ghost invariant = { IsSound };
+    ghost invariant = { OutboxIsSound };
 }
 
 impl Outbox {
