@@ -235,7 +235,8 @@ class Method:
         return self.name if self.is_plain() else f"{self.name}View<'a>"
 
     def sentence(self):
-        return f"/// {SUMMARIES[self.label]} `{self.label}`, class {self.class_id}, method {self.id}."
+        text = f"{SUMMARIES[self.label]} `{self.label}`, class {self.class_id}, method {self.id}."
+        return wrapped("/// ", text.split(" "), "", "/// ", 120)
 
 
 def methods():
@@ -292,11 +293,11 @@ def call_clause(method, terms):
 
 def alias_of(method):
     """Of a method without arguments: the one struct that all of them share, with the method's marker."""
-    return [method.sentence(), f"pub type {method.name} = Bare<{method.kind}>;", ""]
+    return method.sentence() + [f"pub type {method.name} = Bare<{method.kind}>;", ""]
 
 
 def struct_of(method):
-    lines = [method.sentence()]
+    lines = method.sentence()
     if method.is_plain():
         lines.append("#[derive(Clone, Copy, PartialEq, Eq, Debug)]")
     else:
@@ -442,7 +443,7 @@ def view_clauses(method, name):
 def message_of(method):
     if not method.content:
         return []
-    fact = f"IfOk result (λ m. message_view m ≡ letter_with ({method.snake}_call self) (properties_view properties) body.items)"
+    message = f"letter_with ({method.snake}_call self) (properties_view properties) body.items"
     return [
         "    /// The message: the method with these arguments, and the content that follows it.",
         "    pub fn message(",
@@ -451,7 +452,8 @@ def message_of(method):
         "        properties: Properties,",
         "        body: Vec<u8>,",
         "    ) -> Result<Message, OutOfMemory>",
-        clause("", fact),
+        "        ensures { IfOk result (λ m. message_view m",
+        f"            ≡ {message}) }}",
         "    {",
         "        content_of(self.into_method(alloc), properties, body)",
         "    }",
@@ -687,7 +689,10 @@ def class_spec(name, all_methods):
             body += spec_of(method, method.name + "View", method.snake + "_view_call", True, True)
     body += any_spec_of(of_class)
     text = "\n".join(body)
-    lines = [f"-- What the structs of the class {name} stand for: each the call of its method, with the fields as arguments in the order of the table."]
+    lines = [
+        f"-- What the structs of the class {name} stand for: each the call of its method, with the fields as arguments in",
+        "-- the order of the table.",
+    ]
     lines += ["-- " + line[3:] for line in HEAD.rstrip().split("\n")]
     lines.append(f"use Rattle.std.specs.Prelude.{{[]{', ◌∷◌' if own else ''}}}")
     if "table_view" in text:
@@ -805,6 +810,21 @@ def owned_answer(method):
     return "\n".join(lines) + "\n"
 
 
+def made_answer(method):
+    """That the arguments fit their kind, and that they are those of the struct: both by computing alone."""
+    lines = [
+        "use Rattle.std.proofs.Common.{refl, arith}",
+        f"use Rattle.amqp_typed.proofs.{method.class_name}.{method.name}.into_method.Goals as goal",
+        "",
+        "pub method_of-requires : goal.method_of-requires",
+        "method_of-requires c = (omega arith, refl)",
+        "",
+        "pub returns : goal.returns",
+        "returns c = c.method_of.ensures",
+    ]
+    return "\n".join(lines) + "\n"
+
+
 def any_answer(name, enum, read, of_class):
     """That each method is read, being of its kind, and that its struct stands for it."""
     lines = [
@@ -851,6 +871,7 @@ def answers(all_methods):
         if not method.fields:
             continue
         folder = CRATE / "proofs" / method.class_name
+        found[folder / method.name / "into_method" / "Answers.antt"] = made_answer(method)
         if method.content:
             found[folder / method.name / "message" / "Answers.antt"] = message_answer(method)
         if method.is_plain():

@@ -1,4 +1,5 @@
--- What the structs of the class queue stand for: each the call of its method, with the fields as arguments in the order of the table.
+-- What the structs of the class queue stand for: each the call of its method, with the fields as arguments in
+-- the order of the table.
 -- Written by `tools/typed_methods.py` from the table of methods in `docs/PROTOCOL.md`: change those and run it again.
 use Rattle.std.specs.Prelude.{[], ◌∷◌}
 use Rattle.amqp_value.specs.Lent.{table_ref_view}

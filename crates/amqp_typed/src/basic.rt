@@ -552,7 +552,8 @@ impl Publish {
         properties: Properties,
         body: Vec<u8>,
     ) -> Result<Message, OutOfMemory>
-        ensures { IfOk result (λ m. message_view m ≡ letter_with (publish_call self) (properties_view properties) body.items) }
+        ensures { IfOk result (λ m. message_view m
+            ≡ letter_with (publish_call self) (properties_view properties) body.items) }
     {
         content_of(self.into_method(alloc), properties, body)
     }
@@ -680,7 +681,8 @@ impl Return {
         properties: Properties,
         body: Vec<u8>,
     ) -> Result<Message, OutOfMemory>
-        ensures { IfOk result (λ m. message_view m ≡ letter_with (return_call self) (properties_view properties) body.items) }
+        ensures { IfOk result (λ m. message_view m
+            ≡ letter_with (return_call self) (properties_view properties) body.items) }
     {
         content_of(self.into_method(alloc), properties, body)
     }
@@ -813,7 +815,8 @@ impl Deliver {
         properties: Properties,
         body: Vec<u8>,
     ) -> Result<Message, OutOfMemory>
-        ensures { IfOk result (λ m. message_view m ≡ letter_with (deliver_call self) (properties_view properties) body.items) }
+        ensures { IfOk result (λ m. message_view m
+            ≡ letter_with (deliver_call self) (properties_view properties) body.items) }
     {
         content_of(self.into_method(alloc), properties, body)
     }
@@ -1043,7 +1046,8 @@ impl GetOk {
         properties: Properties,
         body: Vec<u8>,
     ) -> Result<Message, OutOfMemory>
-        ensures { IfOk result (λ m. message_view m ≡ letter_with (get_ok_call self) (properties_view properties) body.items) }
+        ensures { IfOk result (λ m. message_view m
+            ≡ letter_with (get_ok_call self) (properties_view properties) body.items) }
     {
         content_of(self.into_method(alloc), properties, body)
     }

@@ -21,7 +21,8 @@ use amqp_value::{ShortStr, Table, TableRef};
 use std::alloc::Global;
 use std::fmt;
 
-/// Begins the negotiation: names the server, and the mechanisms and locales that it has. `connection.start`, class 10, method 10.
+/// Begins the negotiation: names the server, and the mechanisms and locales that it has. `connection.start`, class 10,
+/// method 10.
 #[derive(Debug, Drop, PartialEq, Eq)]
 pub struct Start {
     pub version_major: u8,
@@ -142,7 +143,8 @@ impl<'a> StartView<'a> {
     }
 }
 
-/// Picks a mechanism and a locale, and carries the first response of that mechanism. `connection.start-ok`, class 10, method 11.
+/// Picks a mechanism and a locale, and carries the first response of that mechanism. `connection.start-ok`, class 10,
+/// method 11.
 #[derive(Debug, Drop, PartialEq, Eq)]
 pub struct StartOk {
     pub client_properties: Table,

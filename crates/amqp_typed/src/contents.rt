@@ -19,6 +19,11 @@ pub(crate) fn content_of(
     ensures { (call : Call) → IfOk method (λ m. method_view m ≡ call)
         → IfOk result (λ m. message_view m ≡ letter_with call (properties_view properties) body.items) }
 {
-    let method = method?;
-    Ok(Message::content(method, properties, body))
+    match method {
+        Ok(method) => Ok(Message::content(method, properties, body)),
+        Err(error) => {
+            drop(properties);
+            Err(error)
+        }
+    }
 }

@@ -1,21 +1,22 @@
 //! The methods of AMQP 0-9-1 by name: a module for each class, and in it a struct for each method, with the fields of
 //! `amqp0-9-1.xml` under their names in snake case. The field `type` is `type_name`. A reserved field doesn't exist.
 //!
-//! - `new` takes the fields that have no default. The defaults: a bit is false, but that a flow's `active` is given; a table
-//!   is empty; a close's `class_id` and `method_id`, and `prefetch_size`, are 0; a start's version is 0-9. Other numbers
-//!   and all strings are given.
+//! - `new` takes the fields that have no default. The defaults: a bit is false, but that a flow's `active` is given; a
+//!   table is empty; a close's `class_id` and `method_id`, and `prefetch_size`, are 0; a start's version is 0-9. Other
+//!   numbers and all strings are given.
 //! - `into_method` makes the [`Method`](amqp_method::Method) with these arguments, in the order of the table.
 //! - `from_method` takes a method apart, without a copy, or gives back one of another kind.
 //! - `basic::DeliverRef` and its like are lent by a method, and take no memory. A struct of numbers and bits alone, as
 //!   [`basic::Ack`], is read by its `from_ref`.
-//! - `basic::DeliverView` and its like lie in the payload of a [`MethodRef`](amqp_method::MethodRef): strings are lent as
-//!   octets, tables as [`TableRef`](amqp_value::TableRef). Structs of numbers and bits alone have a `from_view`.
+//! - `basic::DeliverView` and its like lie in the payload of a [`MethodRef`](amqp_method::MethodRef): strings are lent
+//!   as octets, tables as [`TableRef`](amqp_value::TableRef). Structs of numbers and bits alone have a `from_view`.
 //! - The methods without arguments are one struct, [`Bare`], with a type for each kind: [`tx::Select`] is one of these.
 //! - [`AnyMethod`] is a method of any kind, for a `match` over all of them: an enum of the classes, each an enum of its
 //!   methods, as in `AnyMethod::Basic(basic::AnyMethod::Ack(ack))`. [`AnyMethodView`] is one in its payload.
 //! - The four methods that a content follows have `message`, which makes the message with its properties and its body.
 //!
-//! The definitions of `specs/` give the call that each struct stands for: what the functions are proved to make and to read.
+//! The definitions of `specs/` give the call that each struct stands for: what the functions are proved to make and to
+//! read.
 #![tactic(auto)]
 
 mod any_method;
