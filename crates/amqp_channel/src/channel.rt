@@ -19,6 +19,8 @@ ghost use Rattle.amqp_model.specs.End.FrameVerdict.{is_gathering};
 ghost use Rattle.amqp_model.specs.Lent.Alike.{AlikeChannels};
 ghost use Rattle.amqp_model.specs.Lent.Streaming.{gathered_as, streamed};
 ghost use Rattle.amqp_model.specs.Wire.Frame.{Frame};
+ghost use Rattle.amqp_model.specs.Wire.Notes.{Role};
+ghost use Rattle.amqp_model.specs.Wire.Readings as readings;
 ghost use Rattle.amqp_model.specs.Wire.Readings.{BodyOf, Calls, HeaderOf, MalformedHeader, kind_of};
 ghost use Rattle.amqp_channel.specs.Channel.ChannelView.{channel_view, is_lent, IsFree, IsOpen, content_on};
 ghost use Rattle.amqp_channel.specs.Contents.ContentView.{content_there};
@@ -431,6 +433,41 @@ impl Channel {
         ensures gathers { is_lent self.new ≡ false }
     {
         *self = Channel::Free;
+    }
+
+    /// The channel that a frame leaves of which this is told, where none was.
+    fn begun_with(told: Told) -> Channel
+        ensures left { (role : Role) (reading : readings.Reading)
+            → channel_view result ≡ told_on role reading told Free }
+        ensures gathers { is_lent result ≡ false }
+    {
+        match told {
+            Told::Opened => Channel::Open(Life::new()),
+            Told::ClosedByPeer
+            | Told::ClosedByUs
+            | Told::Method
+            | Told::Begun
+            | Told::Headed
+            | Told::Continued
+            | Told::Completed
+            | Told::Flow(_)
+            | Told::FlowOk(_)
+            | Told::Discarded
+            | Told::Quiet => Channel::Free,
+        }
+    }
+
+    /// The channel that a frame with this verdict leaves, where none was.
+    pub(crate) fn begun_by(verdict: Verdict) -> Channel
+        ensures left { (role : Role) (reading : readings.Reading)
+            → channel_view result ≡ left_by role reading verdict Free }
+        ensures gathers { is_lent result ≡ false }
+    {
+        match verdict {
+            Verdict::Proceeds(told, _) => Channel::begun_with(told),
+            Verdict::RefusesContent => Channel::Closing,
+            Verdict::Faults(_) => Channel::Free,
+        }
     }
 
     /// What a frame leaves that neither opens nor ends a life: a channel that is not Open stays as it is.

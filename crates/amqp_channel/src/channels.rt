@@ -6,13 +6,15 @@ ghost use Rattle.std.specs.Prelude.{◌≡◌, ◌≢◌, ◌+◌, ◌<◌, ◌�
 ghost use Rattle.amqp_model.specs.End.Amounts.{IsSum};
 ghost use Rattle.amqp_model.specs.End.Asks.{is_free, first_free};
 ghost use Rattle.amqp_model.specs.End.Channels.{Free};
+ghost use Rattle.amqp_model.specs.Wire.Notes.{Role};
+ghost use Rattle.amqp_model.specs.Wire.Readings as model;
 ghost use Rattle.amqp_channel.specs.Channel.ChannelView.{channel_view, is_lent};
 ghost use Rattle.amqp_channel.specs.Channels.Used.{body_octets_at, header_octets_at, is_closing_at, used_gathered, used_view, BodiesFit, HoldsAt, IsIdleAt, IsKeptAt, IsTakenOut, KeepsEntriesAt, KeepsOthersAt, KeptAt, NoneElseFree, NoneFreeBelow, NoneKeptFree, NoneLentIn, PutAt, WritesAt};
 ghost use Rattle.amqp_channel.specs.Channels.Passed.{IsPassed, PassedAreTaken};
 ghost use Rattle.indexmap.specs.IndexMap.{index_map_len};
 ghost use Rattle.std.specs.HashMap.{IsUnchanged};
 ghost use Rattle.amqp_channel.specs.ReadingView.{reading_view};
-ghost use Rattle.amqp_channel.specs.Verdict.VerdictView.{Drops, Fits, IsPart, Rules};
+ghost use Rattle.amqp_channel.specs.Verdict.VerdictView.{left_by, Drops, Fits, IsPart, Rules};
 
 mod puts;
 
@@ -31,7 +33,7 @@ use std::alloc::Global;
 /// The channels that are in use.
 pub struct Channels {
     used: IndexMap<u16, Channel>,
-    /// Where the channel of the last frame stood among them.
+    /// Where the channel stood among them that was opened last, or that of the last frame.
     last: usize,
     numbers: FreeNumbers,
     /// How many octets are kept of the contents under way.
@@ -178,7 +180,9 @@ impl Channels {
             return Ok(());
         }
         let left = channel.amount();
+        let place = self.used.len();
         keep(&mut self.used, number, channel)?;
+        self.last = place;
         self.numbers.take(number);
         self.amounts = self.amounts.after(Amount::none(), left);
         Ok(())
@@ -257,30 +261,26 @@ impl Channels {
                 tidy(&mut self.used, &mut self.numbers, alloc, number, over);
                 answer
             }
-            None => self.apply_unused(alloc, side, number, reading, verdict),
+            None => {
+                self.apply_unused(number, verdict)?;
+                Ok(None)
+            }
         }
     }
 
-    /// The same on a number that is not in use. Few frames come there, so it stands apart.
+    /// The same on a number that is not in use, where contents are gathered or lent. Few frames come there, so it stands
+    /// apart.
     #[inline(never)]
-    fn apply_unused(
-        &mut self,
-        alloc: Global,
-        side: Side,
-        number: u16,
-        reading: Reading<'_>,
-        verdict: Verdict,
-    ) -> Result<Option<Box<Content>>, OutOfMemory>
+    fn apply_unused(&mut self, number: u16, verdict: Verdict) -> Result<(), OutOfMemory>
         requires above { 0 < number }
         requires free { channels_view self.old number ≡ Free }
-        requires fits { Fits (channels_view self.old number) (reading_view reading) verdict }
-        requires gathers { NoneLent self.old }
-        ensures { Applies side number (reading_view reading.entry) verdict self.old result self.new }
+        ensures left { OnOk result ((role : Role) (reading : model.Reading)
+            → channels_view self.new number ≡ left_by role reading verdict Free) }
+        ensures others { OnOk result (OnlyAt number (channels_view self.old) (channels_view self.new)) }
+        ensures err { OnErr result ((other : ℕ) → channels_view self.new other ≡ channels_view self.old other) }
+        ensures gathers { NoneLent self.old → NoneLent self.new }
     {
-        let mut channel = Channel::Free;
-        let content = channel.apply(alloc, side, reading, verdict)?;
-        self.set(number, channel)?;
-        Ok(content)
+        self.set(number, Channel::begun_by(verdict))
     }
 
     /// Leaves the channel of a frame as its verdict does, where contents are lent: of one under way is kept how far it has
@@ -314,29 +314,8 @@ impl Channels {
                 tidy(&mut self.used, &mut self.numbers, alloc, number, over);
                 answer
             }
-            None => self.apply_lent_unused(alloc, side, number, reading, verdict),
+            None => self.apply_unused(number, verdict),
         }
-    }
-
-    /// The same on a number that is not in use. Few frames come there, so it stands apart.
-    #[inline(never)]
-    fn apply_lent_unused(
-        &mut self,
-        alloc: Global,
-        side: Side,
-        number: u16,
-        reading: Reading<'_>,
-        verdict: Verdict,
-    ) -> Result<(), OutOfMemory>
-        requires above { 0 < number }
-        requires free { channels_view self.old number ≡ Free }
-        requires fits { Fits (channels_view self.old number) (reading_view reading) verdict }
-        ensures { AppliesLent side number (reading_view reading.entry) verdict self.old result self.new }
-    {
-        let mut channel = Channel::Free;
-        channel.apply_lent(alloc, side, reading, verdict)?;
-        self.set(number, channel)?;
-        Ok(())
     }
 
     /// Whether a content is under way on the channel at a place among those in use. Channel 0 is none.
