@@ -188,6 +188,7 @@ impl Channel {
 }
 
 /// A method on a channel whose close-ok is due.
+#[inline(never)]
 fn judge_closing(site: Site, method: MethodRef<'_>) -> Verdict
     ensures { Rules site Closing (Calls (lent_call method.entry)) result }
 {
@@ -199,6 +200,7 @@ fn judge_closing(site: Site, method: MethodRef<'_>) -> Verdict
 }
 
 /// A method on a number that is free, which the other end may put.
+#[inline(never)]
 fn judge_free(site: Site, method: MethodRef<'_>) -> Verdict
     requires sent { SentOnChannel site (lent_call method) }
     ensures { Rules site Free (Calls (lent_call method.entry)) result }
@@ -213,6 +215,7 @@ fn judge_free(site: Site, method: MethodRef<'_>) -> Verdict
 }
 
 /// A method on a number whose open-ok is due.
+#[inline(never)]
 fn judge_opening(site: Site, method: MethodRef<'_>) -> Verdict
     requires sent { SentOnChannel site (lent_call method) }
     ensures { Rules site Opening (Calls (lent_call method.entry)) result }
@@ -228,6 +231,7 @@ fn judge_opening(site: Site, method: MethodRef<'_>) -> Verdict
 }
 
 /// A method inside a content that is lent: a close ends the life at any place, and no other method stands there.
+#[inline(never)]
 fn judge_inside(site: Site, method: MethodRef<'_>) -> Verdict
     ensures { (life : model.Life) → is_gathering life.content ≡ true
         → RulesByState site (Open life) (lent_call method.entry) result }
@@ -240,6 +244,7 @@ fn judge_inside(site: Site, method: MethodRef<'_>) -> Verdict
 
 impl Channel {
     /// A method, by the state of the channel.
+    #[inline(always)]
     #[tactic(auto, using(crate::proofs::VerdictLemmas::state_rules))]
     fn judge_state(&self, site: Site, method: MethodRef<'_>) -> Verdict
         requires sent { SentOnChannel site (lent_call method) }
@@ -274,6 +279,7 @@ impl Channel {
     }
 
     /// A method that can't be read.
+    #[inline(never)]
     fn judge_unread(&self, site: Site, unread: Unread) -> Verdict
         requires { 0 < site.number }
         ensures { Rules site (channel_view self.now) (unread_view unread) result }

@@ -286,6 +286,7 @@ impl Channels {
     /// Leaves the channel of a frame as its verdict does, where contents are lent: of one under way is kept how far it has
     /// come, and the channel is otherwise as `apply` leaves it. Memory is taken for a channel that is opened, and for the
     /// requests that a server keeps. Out of memory, the channel stays as it was.
+    #[inline(always)]
     #[tactic(auto, using(crate::proofs::LentLemmas::alike_same))]
     pub fn apply_lent(
         &mut self,
@@ -305,17 +306,44 @@ impl Channels {
                 if leaves_channel(side, reading, verdict) {
                     return Ok(());
                 }
-                let channel = &mut self.used[place];
-                let before = channel.amount();
-                let answer = channel.apply_lent(alloc, side, reading, verdict);
-                let left = channel.amount();
-                let over = channel.is_free();
-                self.amounts = self.amounts.after(before, left);
-                tidy(&mut self.used, &mut self.numbers, alloc, number, over);
-                answer
+                self.apply_lent_at(place, alloc, side, number, reading, verdict)
             }
             None => self.apply_unused(number, verdict),
         }
+    }
+
+    /// The same for the channel at this place. It stands apart, so that most methods, which leave their channel as it was,
+    /// are done with where they are judged.
+    #[inline(never)]
+    fn apply_lent_at(
+        &mut self,
+        place: usize,
+        alloc: Global,
+        side: Side,
+        number: u16,
+        reading: Reading<'_>,
+        verdict: Verdict,
+    ) -> Result<(), OutOfMemory>
+        requires above { 0 < number }
+        requires fits { Fits (channels_view self.old number) (reading_view reading) verdict }
+        requires within { place < index_map_len self.old.used }
+        requires holds { HoldsAt self.old.used place number }
+        requires written { WritesAt self.old.used place number }
+        requires kept { KeptAt self.old.used place number }
+        requires put { PutAt self.old.used place number }
+        requires others { KeepsOthersAt self.old.used place number }
+        requires entries { KeepsEntriesAt self.old.used place number }
+        requires taken { is_free (channels_view self.old number) ≡ false }
+        ensures { AppliesLent side number (reading_view reading.entry) verdict self.old result self.new }
+    {
+        let channel = &mut self.used[place];
+        let before = channel.amount();
+        let answer = channel.apply_lent(alloc, side, reading, verdict);
+        let left = channel.amount();
+        let over = channel.is_free();
+        self.amounts = self.amounts.after(before, left);
+        tidy(&mut self.used, &mut self.numbers, alloc, number, over);
+        answer
     }
 
     /// Whether a content is under way on the channel at a place among those in use. Channel 0 is none.

@@ -62,6 +62,7 @@ impl Life {
 }
 
 /// A message that may come: its method stands alone, or begins a content.
+#[inline(always)]
 fn tell_message(method: MethodRef<'_>) -> Verdict
     ensures tells { TellsMessage (lent_call method.entry) result }
     ensures verdict { (number : ℕ) → verdict_view number (Calls (lent_call method.entry)) None result
@@ -108,6 +109,7 @@ impl Life {
     ghost use Rattle.amqp_channel.specs.Channel.LifeView.{life_view, IsIdle, IsOther};
 
     /// What a client takes: a reply has to be to the request that waits.
+    #[inline(always)]
     fn judge_reply(&self, method: MethodRef<'_>) -> Verdict
         ensures rules { MessageRules Client (life_view self.now) (lent_call method.entry) result }
         ensures tells { TellsMessage (lent_call method.entry) result }
@@ -119,6 +121,7 @@ impl Life {
     }
 
     /// What a server takes: so many requests are kept, and no more.
+    #[inline(always)]
     fn judge_request(&self, method: MethodRef<'_>) -> Verdict
         ensures rules { MessageRules Server (life_view self.now) (lent_call method.entry) result }
         ensures tells { TellsMessage (lent_call method.entry) result }
@@ -131,6 +134,7 @@ impl Life {
 
     /// A method that neither opens nor closes the channel nor asks for a flow or answers one, where no content is under
     /// way.
+    #[inline(always)]
     #[tactic(auto, using(crate::proofs::VerdictLemmas::message_rules))]
     fn judge_message(&self, site: Site, method: MethodRef<'_>) -> Verdict
         requires idle { IsIdle self.now }
@@ -144,6 +148,7 @@ impl Life {
     }
 
     /// A method that doesn't close the channel, where no content is under way.
+    #[inline(always)]
     fn judge_idle(&self, site: Site, method: MethodRef<'_>) -> Verdict
         requires idle { IsIdle self.now }
         requires goes_on { (lent_call method).kind ≢ Kind.ChannelClose }
@@ -172,6 +177,7 @@ impl Life {
     }
 
     /// A method on a channel that is Open. A close ends the life at any place; no other method stands inside a content.
+    #[inline(always)]
     pub(crate) fn judge_method(&self, site: Site, method: MethodRef<'_>) -> Verdict
         ensures { RulesByState site (Open (life_view self.now)) (lent_call method.entry) result }
     {

@@ -13,6 +13,7 @@ pub fn same(kind: Kind, other: Kind) -> bool
 }
 
 /// The bit at a place among the arguments of a method that lies in its payload; 0 where there is none.
+#[inline(never)]
 pub(crate) fn lent_bit_at(place: usize, method: MethodRef<'_>) -> bool
     ensures { result ≡ bit_held place (lent_call method.entry) }
 {

@@ -16,6 +16,7 @@ use crate::verdict::{Notice, Verdict};
 use amqp_channel::{Reading, Told, Verdict as ChannelVerdict};
 
 /// Whether this tells of a close of the other end, of a channel.
+#[inline(always)]
 fn is_close_told(told: Told) -> bool
     ensures { result ≡ told_closes told }
 {
@@ -54,6 +55,7 @@ fn is_close_noticed(notice: Notice) -> bool
 }
 
 /// Whether the frame is a close of the other end, of its channel, of which is told.
+#[inline(always)]
 fn closes_on(verdict: ChannelVerdict) -> bool
     ensures { result ≡ closes_by (OnChannel verdict) }
 {
@@ -87,6 +89,7 @@ impl Verdict {
 }
 
 /// What a close of this verdict is about, if the frame is one, of its channel.
+#[inline(always)]
 #[tactic(auto, using(crate::proofs::HeardLemmas::is_close))]
 fn cause_on(reading: Reading<'_>, verdict: ChannelVerdict) -> Option<Cause>
     requires { FitsEventOf (reading_view reading) (OnChannel verdict) }
@@ -118,6 +121,7 @@ fn cause_of(reading: Reading<'_>, verdict: Verdict) -> Option<Cause>
 
 /// Keeps of a frame of a channel with this verdict what an application may ask for later. Most frames leave it as it
 /// is.
+#[inline(always)]
 pub(crate) fn keep_cause(reading: Reading<'_>, verdict: ChannelVerdict, heard: &mut Heard)
     requires { FitsEventOf (reading_view reading) (OnChannel verdict) }
     ensures { (number : ℕ) → heard_view heard.new

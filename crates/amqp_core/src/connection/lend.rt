@@ -38,6 +38,7 @@ use amqp_frame::{FrameFaultKind, FrameRef};
 use amqp_outbox::Outbox;
 
 /// What is told of a frame of a channel, or the fault that is found with it.
+#[inline(always)]
 #[tactic(auto, using(crate::proofs::LendLemmas::told_lends))]
 fn report_on(verdict: ChannelVerdict) -> Result<Report, CoreFault>
     ensures says { (settings : Settings) (number : ℕ) (reading : readings.Reading) (whole : Option contents.Content)
@@ -132,6 +133,7 @@ impl Connection {
     }
 
     /// Leaves the channel as a frame with this verdict does.
+    #[inline(always)]
     #[tactic(auto, using(crate::proofs::StreamLemmas::end_itself))]
     fn apply_on_lent(
         &mut self,
@@ -158,8 +160,8 @@ impl Connection {
     /// Does what the rules say of a frame of a channel: the channel is left as it leaves it, what is owed is put, and
     /// what may be asked for later is kept. Out of memory, nothing is put.
     ///
-    /// It stands apart, so that the code before it, which each frame passes, keeps its values in registers.
-    #[inline(never)]
+    /// It is inlined where the frame is judged. What changes the channel, and what is put, stands apart.
+    #[inline(always)]
     fn carry_out_on_lent(
         &mut self,
         outbox: &mut Outbox,

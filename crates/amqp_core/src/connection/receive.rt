@@ -436,6 +436,7 @@ fn judge_zero(settings: &Settings, agreed: Agreed, reading: Reading<'_>) -> Verd
 }
 
 /// What an end owes by a channel's verdict, on a connection that is Running.
+#[inline(always)]
 pub(crate) fn owed_on(verdict: ChannelVerdict, number: u16) -> Owed
     ensures owed { (settings : Settings) (reading : readings.Reading) (whole : Option contents.Content)
         → owed_view settings result ≡ owed_by false number (channel_verdict number reading whole verdict) }
@@ -450,6 +451,7 @@ pub(crate) fn owed_on(verdict: ChannelVerdict, number: u16) -> Owed
 }
 
 /// The fault that an end finds by a channel's verdict, if it finds one.
+#[inline(always)]
 pub(crate) fn fault_on(verdict: ChannelVerdict) -> Option<Fault>
     ensures fault { (settings : Settings) (number : ℕ) (reading : readings.Reading) (whole : Option contents.Content)
         → fault_there result ≡ fault_by (verdict_view settings number reading whole (OnChannel verdict)) }
@@ -928,6 +930,7 @@ impl Connection {
     }
 
     /// An end that has found fault with a frame fails, and the frame is blamed.
+    #[inline(always)]
     pub(crate) fn fail_by(&mut self, fault: Option<Fault>, frame: FrameRef<'_>, tally: &mut Tally)
         ensures end { connection_end self.new ≡ ended_if (fault_there fault) (connection_end self.old) }
         ensures settings { self.new.settings ≡ self.old.settings }

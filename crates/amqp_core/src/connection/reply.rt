@@ -66,6 +66,7 @@ fn put_all(
 }
 
 /// Puts what is owed, if anything is.
+#[inline(always)]
 pub(crate) fn put_owed(
     alloc: Global,
     settings: &Settings,
