@@ -27,7 +27,7 @@ use Rattle.amqp_channel.specs.Channels.Payloads.{after_payloads}
 use Rattle.amqp_channel.specs.Roles.{role_of}
 use Rattle.amqp_channel.specs.declared.events.Agreed.{Agreed}
 use Rattle.amqp_channel.specs.declared.site.Site.{Site}
-use Rattle.amqp_core.specs.Asks.Asked.{IsAccepted, IsAllowed, IsRefusal, IsRefused}
+use Rattle.amqp_core.specs.Asks.Outcomes.{IsAccepted, IsAllowed, IsRefusal, IsRefused}
 use Rattle.amqp_core.specs.Connection.View.{site_at}
 use Rattle.amqp_core.specs.Faults.Numbers.{refusal_view}
 use Rattle.amqp_core.specs.Connection.OneChannel.{AreWritten, SayPayloads}

@@ -21,7 +21,7 @@ use Rattle.amqp_model.specs.Pair.Sent.{life_on}
 use Rattle.amqp_model.specs.Stream.Traces as traces
 use Rattle.amqp_model.specs.Stream.Traces.{IsPut, Noted, Other, noted, said_by_ask, telling_at, trace, word_of}
 use Rattle.amqp_channel.specs.Channel.LifeView.{IsOther}
-use Rattle.amqp_core.specs.Traced.AskNoting.{GrowsByFrames, IsChannelOf, frames_of_message, item_asked, notes_asked}
+use Rattle.amqp_core.specs.Traced.NotedAsks.{GrowsByFrames, IsChannelOf, frames_of_message, item_asked, notes_asked}
 use Rattle.amqp_core.specs.Traced.Noting.{lives_in}
 use Rattle.amqp_core.specs.Traced.Notes.{noted_as}
 use Rattle.amqp_core.proofs.GrowthLemmas.{length_puts, length_row}

@@ -18,8 +18,8 @@ use Rattle.amqp_model.specs.Output.Outputs.{after_puts}
 use Rattle.amqp_model.specs.End.ReadingBack.{WritesReadBack}
 use Rattle.amqp_model.specs.Pair.Sent.{told, said}
 use Rattle.amqp_model.specs.Stream.Traces.{IsPut, SaysAsk, PutsTellNothing, TracePuts, noted, telling_at, trace}
-use Rattle.amqp_core.specs.Traced.AskNoting.{GrowsByFrames, IsChannelOf, IsSizeOf, count_asked, item_asked, notes_asked, word_asked}
-use Rattle.amqp_core.specs.Asks.Asking.{AcceptsAsk}
+use Rattle.amqp_core.specs.Traced.NotedAsks.{GrowsByFrames, IsChannelOf, IsSizeOf, count_asked, item_asked, notes_asked, word_asked}
+use Rattle.amqp_core.specs.Asks.Effects.{AcceptsAsk}
 use Rattle.amqp_core.specs.Traced.Notes.{noted_as}
 use Rattle.amqp_core.specs.Traced.Noting.{lives_in}
 use Rattle.amqp_core.specs.Traced.Tracing as tracing

@@ -21,12 +21,12 @@ use Rattle.amqp_model.specs.Laws.OctetLaws.{AcceptedFollows, EndpointStandsFor}
 use Rattle.amqp_model.specs.Output.Outputs.{Output, after_puts}
 use Rattle.amqp_model.specs.Stream.Pieces.{AskHolds, HoldsUnfinished}
 use Rattle.amqp_outbox.specs.OutboxView.{Outgoing}
-use Rattle.amqp_core.specs.Asks.Asked.{IsAccepted, IsRefused}
-use Rattle.amqp_core.specs.Asks.Asking.{AcceptsAsk, AskIsOfHistory, RefusesAsk}
+use Rattle.amqp_core.specs.Asks.Outcomes.{IsAccepted, IsRefused}
+use Rattle.amqp_core.specs.Asks.Effects.{AcceptsAsk, AskIsOfHistory, RefusesAsk}
 use Rattle.amqp_core.specs.End.Bounded.{IsBounded}
 use Rattle.amqp_core.specs.Connection.View.{connection_end}
 use Rattle.amqp_core.specs.Faults.Numbers.{refusal_view}
-use Rattle.amqp_core.specs.End.EndpointView.{FieldsFit, IsSound, endpoint_view, is_opened, role_at}
+use Rattle.amqp_core.specs.End.EndpointView.{FieldsFit, EndpointIsSound, endpoint_view, is_opened, role_at}
 use Rattle.amqp_core.specs.Config.Settings.{config_view, role_for}
 use Rattle.amqp_core.specs.declared.endpoint.Endpoint.{Endpoint}
 use Rattle.amqp_core.specs.declared.faults.AskFault.{AskFault}
@@ -111,12 +111,12 @@ accepts settings ask old after before new is out fits asked law counted =
       of_history = λ history fed written stands. sym (counted history stands.stands) ∙ verdict;
     }
 
-pub accepted_sound : (ask : Ask) (old new : Endpoint) → IsSound old → new.connection.settings ≡ old.connection.settings → new.splitter ≡ old.splitter → new.heard ≡ old.heard → IsAccepted old.connection.settings ask (connection_end old.connection) (connection_end new.connection) old.outbox new.outbox
+pub accepted_sound : (ask : Ask) (old new : Endpoint) → EndpointIsSound old → new.connection.settings ≡ old.connection.settings → new.splitter ≡ old.splitter → new.heard ≡ old.heard → IsAccepted old.connection.settings ask (connection_end old.connection) (connection_end new.connection) old.outbox new.outbox
     → AskHolds (role_at old) (config_view old.connection.settings) (endpoint_view old) ask
     → AskKeepsAgreed (role_at old) (config_view old.connection.settings) (connection_end old.connection) ask (frames_asked (connection_end old.connection) ask)
     → AcceptsAsk (role_at old) (config_view old.connection.settings) ask (endpoint_view old) (endpoint_view new)
     → AskStaysWithin (role_at old) (config_view old.connection.settings) (connection_end old.connection) ask (frames_asked (connection_end old.connection) ask)
-    → IsSound new
+    → EndpointIsSound new
 accepted_sound ask old new sound settings splitter heard is holds keeps accepts_it stays =
     let verdict : ask_verdict (role_at old) (connection_end old.connection) ask ≡ Puts (frames_asked (connection_end old.connection) ask) = ap (λ r. refused_or_put r (frames_asked (connection_end old.connection) ask)) is.allowed in
     let running = is_running_then (role_at old) (connection_end old.connection) ask is.allowed in
@@ -151,7 +151,7 @@ refuses settings ask fault old after before new is out counted =
       of_history = refused_so (role_for settings) ask fault old is.refused counted;
     }
 
-pub refused_sound : (ask : Ask) (fault : AskFault) (old new : Endpoint) → IsSound old → new.connection.settings ≡ old.connection.settings → new.splitter ≡ old.splitter → new.heard ≡ old.heard → IsRefused old.connection.settings ask fault (connection_end old.connection) (connection_end new.connection) old.outbox new.outbox → RefusesAsk (role_at old) ask fault (endpoint_view old) (endpoint_view new) → IsSound new
+pub refused_sound : (ask : Ask) (fault : AskFault) (old new : Endpoint) → EndpointIsSound old → new.connection.settings ≡ old.connection.settings → new.splitter ≡ old.splitter → new.heard ≡ old.heard → IsRefused old.connection.settings ask fault (connection_end old.connection) (connection_end new.connection) old.outbox new.outbox → RefusesAsk (role_at old) ask fault (endpoint_view old) (endpoint_view new) → EndpointIsSound new
 refused_sound ask fault old new sound settings splitter heard is refuses_it =
     sound_with old.connection.settings new settings sound.writes (ap (λ (o : Outgoing). o.staged) is.output_same ∙ sound.staged)
     (subst (λ h. FieldsFit (role_at old) (connection_end new.connection) h new.splitter) (sym heard)

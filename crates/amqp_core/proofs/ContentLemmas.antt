@@ -7,7 +7,7 @@ use Rattle.amqp_model.specs.End.Asks.{Ask, TooLarge, bad_channel, first_refusal,
 use Rattle.amqp_model.specs.End.Channels.{End}
 use Rattle.amqp_model.specs.Wire.Methods.{Method, MethodKind, Properties, Never, is_request, is_wanted, plain_header, plain_method, wants}
 use Rattle.amqp_model.specs.Wire.Notes.{Role, Client, Server}
-use Rattle.amqp_core.specs.Asks.Asked.{content_asked}
+use Rattle.amqp_core.specs.Asks.Outcomes.{content_asked}
 
 -- A header is as long whatever the size that it says.
 sizes_alike : (properties : Properties) (size other : ℕ)

@@ -28,7 +28,7 @@ use Rattle.amqp_core.specs.Asks.Controlled.{frames_by, refusal_by, verdict_for, 
 use Rattle.amqp_core.specs.Asks.Controlling.{AcceptsControl, RefusesControl, verdict_at}
 use Rattle.amqp_core.specs.Connection.Decisions.{holds_client, holds_start}
 use Rattle.amqp_core.specs.Faults.Numbers.{refusal_view}
-use Rattle.amqp_core.specs.End.EndpointView.{FieldsFit, IsSound, endpoint_view, is_opened, role_at, unfinished_of}
+use Rattle.amqp_core.specs.End.EndpointView.{FieldsFit, EndpointIsSound, endpoint_view, is_opened, role_at, unfinished_of}
 use Rattle.amqp_core.specs.Config.Settings.{config_view, role_for}
 use Rattle.amqp_core.specs.declared.endpoint.Endpoint.{Endpoint}
 use Rattle.amqp_core.specs.declared.faults.AskFault.{AskFault}
@@ -150,10 +150,10 @@ unfinished_same : (old new : Endpoint) → new.splitter ≡ old.splitter → new
 unfinished_same old new splitter heard =
     ap (λ h. unfinished_of h new.splitter.pending) heard ∙ ap (λ (s : Stream). unfinished_of old.heard s.pending) splitter
 
-pub accepted_sound : (control : Control) (old new : Endpoint) → IsSound old → new.connection.settings ≡ old.connection.settings → new.splitter ≡ old.splitter
+pub accepted_sound : (control : Control) (old new : Endpoint) → EndpointIsSound old → new.connection.settings ≡ old.connection.settings → new.splitter ≡ old.splitter
     → new.heard ≡ old.heard
     → IsControlled old.connection.settings control (connection_end old.connection) (connection_end new.connection) old.outbox new.outbox
-    → IsSound new
+    → EndpointIsSound new
 accepted_sound control old new sound settings splitter heard is =
     let role = role_at old in
     let config = config_view old.connection.settings in
@@ -185,10 +185,10 @@ refuses settings control fault old after before new is out counted =
       of_history = λ history fed written stands. sym (counted history stands.stands);
     }
 
-pub refused_sound : (control : Control) (fault : AskFault) (old new : Endpoint) → IsSound old → new.connection.settings ≡ old.connection.settings
+pub refused_sound : (control : Control) (fault : AskFault) (old new : Endpoint) → EndpointIsSound old → new.connection.settings ≡ old.connection.settings
     → new.splitter ≡ old.splitter → new.heard ≡ old.heard
     → IsRefusedControl old.connection.settings control fault (connection_end old.connection) (connection_end new.connection) old.outbox new.outbox
-    → RefusesControl (role_at old) (config_view old.connection.settings) control fault (endpoint_view old) (endpoint_view new) → IsSound new
+    → RefusesControl (role_at old) (config_view old.connection.settings) control fault (endpoint_view old) (endpoint_view new) → EndpointIsSound new
 refused_sound control fault old new sound settings splitter heard is refuses_it =
     sound_with old.connection.settings new settings sound.writes (ap (λ (o : Outgoing). o.staged) is.output_same ∙ sound.staged)
     (subst (λ h. FieldsFit (role_at old) (connection_end new.connection) h new.splitter) (sym heard)

@@ -16,7 +16,7 @@ use Rattle.amqp_model.specs.Laws.OctetLaws.{EndpointStandsFor}
 use Rattle.amqp_model.specs.Output.Outputs.{after_puts, output_octets}
 use Rattle.amqp_model.specs.Wire.Readings.{kind_of, reading}
 use Rattle.amqp_model.specs.Stream.Traces.{IsPut, Noted, Other, PutsTellNothing, TracePuts, noted, trace, word_of}
-use Rattle.amqp_core.specs.Traced.AskNoting.{GrowsByFrames}
+use Rattle.amqp_core.specs.Traced.NotedAsks.{GrowsByFrames}
 use Rattle.amqp_core.specs.Asks.Controlled.{frames_by}
 use Rattle.amqp_core.specs.Asks.Controlling.{AcceptsControl, RefusesControl, verdict_at}
 use Rattle.amqp_core.specs.Traced.Notes.{noted_as}

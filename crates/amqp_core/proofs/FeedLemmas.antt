@@ -30,7 +30,7 @@ use Rattle.amqp_model.specs.Wire.Readings.{reading}
 use Rattle.amqp_outbox.specs.OutboxView.{Outgoing, only}
 use Rattle.amqp_model.specs.End.Events.{Event}
 use Rattle.amqp_core.specs.Faults.Answering.{answer_with, AnswersFrame, EndsAs, PutsAs, Reports, ran_out, is_out_of_memory, stopped}
-use Rattle.amqp_core.specs.End.EndpointView.{FieldsFit, IsSound, endpoint_view, is_opened, unfinished_of}
+use Rattle.amqp_core.specs.End.EndpointView.{FieldsFit, EndpointIsSound, endpoint_view, is_opened, unfinished_of}
 use Rattle.amqp_core.specs.End.Feeding.{IsFed, SameButChannels, SameEndpoint, ran_out_of, taken_with, Seen}
 use Rattle.amqp_core.specs.End.Bounded.{IsBounded}
 use Rattle.amqp_core.specs.Connection.View.{connection_end}
@@ -304,7 +304,7 @@ stop_leaves role config old new kind true same fits = (same.phase, subst IfAgree
 stop_leaves role config old new kind false same fits = (same.phase, subst IfAgreedFits same.agreed (subst IfAgreedFits (sym (stopped_agreed role config old kind)) fits))
 
 -- What an end is set up with stays, so what holds of it is of the same role and the same configuration.
-pub sound_with : (settings : Settings) (new : Endpoint) → new.connection.settings ≡ settings → ∥ ConfigWrites (config_view settings) ∥₁ → new.outbox.staged ≡ [] → FieldsFit (role_for settings) (connection_end new.connection) new.heard new.splitter → HoldsUnfinished (role_for settings) (endpoint_view new) → IsBounded (role_for settings) (config_view settings) (connection_end new.connection) → IsSound new
+pub sound_with : (settings : Settings) (new : Endpoint) → new.connection.settings ≡ settings → ∥ ConfigWrites (config_view settings) ∥₁ → new.outbox.staged ≡ [] → FieldsFit (role_for settings) (connection_end new.connection) new.heard new.splitter → HoldsUnfinished (role_for settings) (endpoint_view new) → IsBounded (role_for settings) (config_view settings) (connection_end new.connection) → EndpointIsSound new
 sound_with settings new e writes staged fields holds bounded = record {
   writes = subst (λ (s : Settings). ∥ ConfigWrites (config_view s) ∥₁) (sym e) writes;
   staged = staged;

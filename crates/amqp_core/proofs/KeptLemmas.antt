@@ -11,7 +11,7 @@ use Rattle.amqp_model.specs.Wire.Notes.{Role, Client, Server}
 use Rattle.amqp_model.specs.Output.Outputs.{Output}
 use Rattle.amqp_model.specs.Stream.Pieces.{AreBegun, HoldsUnfinished, reads_frames}
 use Rattle.amqp_core.specs.Connection.View.{connection_end}
-use Rattle.amqp_core.specs.End.EndpointView.{FieldsFit, IsSound, role_at, unfinished_of}
+use Rattle.amqp_core.specs.End.EndpointView.{FieldsFit, EndpointIsSound, role_at, unfinished_of}
 use Rattle.amqp_core.specs.End.Kept.{IsKept}
 use Rattle.amqp_core.specs.declared.endpoint.Endpoint.{Endpoint}
 use Rattle.amqp_core.proofs.FeedLemmas.{reads, unfinished_is}
@@ -27,7 +27,7 @@ holds_of role end heard stream output fit frame = record {
   of_frame = λ r. subst (λ (xs : List ℕ). AreBegun (frame_limit end.agreed) xs) (sym (unfinished_is heard stream.pending (fit.opened (reads role end.phase r).opened))) (frame r);
 }
 
-pub kept_sound : (end : Endpoint) → IsKept end → IsSound end
+pub kept_sound : (end : Endpoint) → IsKept end → EndpointIsSound end
 kept_sound end kept = record {
   writes = kept.writes;
   staged = none_there end.outbox.staged kept.staged;
@@ -36,7 +36,7 @@ kept_sound end kept = record {
   bounded = kept.bounded;
 }
 
-pub sound_kept : (end : Endpoint) → IsSound end → IsKept end
+pub sound_kept : (end : Endpoint) → EndpointIsSound end → IsKept end
 sound_kept end sound = record {
   writes = sound.writes;
   staged = ap (λ xs. length xs) sound.staged;

@@ -23,7 +23,7 @@ use Rattle.amqp_model.specs.Stream.Endpoint.{Endpoint, after_ask, after_control,
 use Rattle.amqp_model.specs.Stream.RunningOut.{RunsOut}
 use Rattle.amqp_model.specs.Wire.Notes.{Role}
 use Rattle.amqp_core.specs.Faults.Answering.{ran_out}
-use Rattle.amqp_core.specs.Asks.Asking.{AcceptsAsk}
+use Rattle.amqp_core.specs.Asks.Effects.{AcceptsAsk}
 use Rattle.amqp_core.specs.Asks.Controlled.{frames_by}
 use Rattle.amqp_core.specs.Asks.Controlling.{AcceptsControl, verdict_at}
 use Rattle.amqp_core.specs.End.Feeding.{SameEndpoint, ran_out_of}

@@ -38,7 +38,7 @@ use Rattle.amqp_outbox.specs.OutboxView.{Outgoing}
 use Rattle.amqp_core.specs.Faults.Answering.{answer_with, AnswersFrame, PutsAs, AnswersEvent, ran_out}
 use Rattle.amqp_core.specs.Connection.View.{connection_end}
 use Rattle.amqp_core.specs.End.Bounded.{IsBounded}
-use Rattle.amqp_core.specs.End.EndpointView.{FieldsFit, IsSound, endpoint_view, is_opened, role_at, unfinished_of}
+use Rattle.amqp_core.specs.End.EndpointView.{FieldsFit, EndpointIsSound, endpoint_view, is_opened, role_at, unfinished_of}
 use Rattle.amqp_core.specs.End.Feeding.{IsFed, SameEndpoint, taken_with}
 use Rattle.amqp_core.specs.Stream.Lending.{AlikeEndpoint, AlikeLeft, AnswersLent, EndsAlike, IsLent, LendsOf, LentSeen}
 use Rattle.amqp_core.specs.Connection.Outcomes.{SameEnd}
@@ -290,7 +290,7 @@ frame_lent role config old stream piece octets frame said seen new unfinished ou
 
 -- What is known then of the code's end.
 pub frame_sound : {A : Type 0} (old new : kept.Endpoint) (piece : List ℕ) (octets : ℕ) (frame : Frame) (said : Result A CoreFault) (after : Stream)
-    → IsSound old → reads_frames (role_at old) (connection_end old.connection).phase ≡ true → new.connection.settings ≡ old.connection.settings → new.heard ≡ old.heard
+    → EndpointIsSound old → reads_frames (role_at old) (connection_end old.connection).phase ≡ true → new.connection.settings ≡ old.connection.settings → new.heard ≡ old.heard
     → AgreedStaysWithin (role_at old) (config_view old.connection.settings) (connection_end old.connection) frame
     → FeedHolds (role_at old) (config_view old.connection.settings) (endpoint_view old) piece
     → FrameStaysWithin (role_at old) (config_view old.connection.settings) (connection_end old.connection) frame
@@ -301,7 +301,7 @@ pub frame_sound : {A : Type 0} (old new : kept.Endpoint) (piece : List ℕ) (oct
     → IsFed (taken_with said octets (event_of_frame (config_view old.connection.settings) (connection_end old.connection) frame)) (endpoint_view old)
     (after_feed (role_at old) (config_view old.connection.settings) (endpoint_view old) piece)
     (record { end = standing_in (left_by_frame (role_at old) (config_view old.connection.settings) said (connection_end old.connection) frame) (connection_end new.connection); unfinished = unfinished_of new.heard new.splitter.pending; output = new.outbox.output })
-    → IsSound new
+    → EndpointIsSound new
 frame_sound old new piece octets frame said after sound r settings heard stays holds within by none fault tuned ends puts fed =
     let role = role_at old in
     let config = config_view old.connection.settings in

@@ -22,7 +22,7 @@ use Rattle.amqp_model.specs.Output.Outputs.{output_octets}
 use Rattle.amqp_model.specs.Stream.RunningOut.{RunsOut, RanOutWrites}
 use Rattle.amqp_model.specs.Stream.Traces.{Noted, PutsTellNothing, SaysMethod, TellsEvent, TracePuts}
 use Rattle.amqp_core.specs.Traced.AccountView.{IsAccount}
-use Rattle.amqp_core.specs.Asks.Asking.{RefusesAsk}
+use Rattle.amqp_core.specs.Asks.Effects.{RefusesAsk}
 use Rattle.amqp_core.specs.Faults.Answering.{Reports, is_out_of_memory, ran_out}
 use Rattle.amqp_core.specs.End.Following.{GoesOn}
 use Rattle.amqp_core.specs.End.Feeding.{IsFed, SameButChannels, SameEndpoint, ran_out_of, Seen}

@@ -17,7 +17,7 @@ use Rattle.amqp_model.specs.Wire.Notes.{Role}
 use Rattle.amqp_channel.specs.Channel.ChannelView.{content_on}
 use Rattle.amqp_core.specs.End.Bounded.{IsBounded}
 use Rattle.amqp_core.specs.Connection.View.{connection_end}
-use Rattle.amqp_core.specs.End.EndpointView.{FieldsFit, IsSound, unfinished_of}
+use Rattle.amqp_core.specs.End.EndpointView.{FieldsFit, EndpointIsSound, unfinished_of}
 use Rattle.amqp_core.specs.Config.Settings.{config_view, role_for}
 use Rattle.amqp_core.specs.declared.endpoint.Endpoint.{Endpoint}
 use Rattle.amqp_core.specs.declared.settings.Settings.{Settings}
@@ -25,8 +25,8 @@ use Rattle.amqp_core.proofs.FeedLemmas.{sound_with}
 use Rattle.amqp_core.proofs.StreamLemmas.{end_itself}
 
 -- with the same settings but for whether it lends
-pub turned_sound : (lends : Bool) (old new : Endpoint) → IsSound old → new.connection.settings ≡ record old.connection.settings { lends = lends }
-    → connection_end new.connection ≡ connection_end old.connection → new.heard ≡ old.heard → new.splitter ≡ old.splitter → new.outbox ≡ old.outbox → IsSound new
+pub turned_sound : (lends : Bool) (old new : Endpoint) → EndpointIsSound old → new.connection.settings ≡ record old.connection.settings { lends = lends }
+    → connection_end new.connection ≡ connection_end old.connection → new.heard ≡ old.heard → new.splitter ≡ old.splitter → new.outbox ≡ old.outbox → EndpointIsSound new
 turned_sound lends old new sound settings end heard splitter outbox =
     let old_settings = old.connection.settings in
     let role = role_for old_settings in
@@ -82,8 +82,8 @@ pub turns_back : (role : Role) (config : Config role) (old new : model.Endpoint)
 turns_back role config old new history fed written is none s =
     subst (λ (e : model.Endpoint). EndpointStandsFor role config e history fed written) (none_alike s.gathers old s.alike none ∙ sym is) s.stands
 
-pub turned_by : (b : Bool) (old new : Endpoint) → IsSound old → new.connection.settings ≡ cond b (record old.connection.settings { lends = false }) old.connection.settings
-    → connection_end new.connection ≡ connection_end old.connection → new.heard ≡ old.heard → new.splitter ≡ old.splitter → new.outbox ≡ old.outbox → IsSound new
+pub turned_by : (b : Bool) (old new : Endpoint) → EndpointIsSound old → new.connection.settings ≡ cond b (record old.connection.settings { lends = false }) old.connection.settings
+    → connection_end new.connection ≡ connection_end old.connection → new.heard ≡ old.heard → new.splitter ≡ old.splitter → new.outbox ≡ old.outbox → EndpointIsSound new
 turned_by true old new sound settings end heard splitter outbox = turned_sound false old new sound settings end heard splitter outbox
 turned_by false old new sound settings end heard splitter outbox = turned_sound old.connection.settings.lends old new sound settings end heard splitter outbox
 

@@ -4,8 +4,8 @@ pub mod View
 pub mod LentForm
 pub mod LentLetter
 pub mod Refusals
-pub mod Asked
-pub mod Asking
+pub mod Outcomes
+pub mod Effects
 pub mod ControlView
 pub mod Controlled
 pub mod Controlling

@@ -2,7 +2,7 @@
 pub mod Notes
 pub mod AccountView
 pub mod Noting
-pub mod AskNoting
+pub mod NotedAsks
 pub mod LifeCounts
 pub mod CountView
 pub mod CountsLives

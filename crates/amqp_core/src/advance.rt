@@ -36,12 +36,12 @@ fn buffered_frame(splitter: &Splitter) -> FrameRef<'_>
 }
 
 impl Endpoint {
-    ghost use Rattle.amqp_core.specs.End.EndpointView.{endpoint_view, role_at, IsSound};
+    ghost use Rattle.amqp_core.specs.End.EndpointView.{endpoint_view, role_at, EndpointIsSound};
 
     /// Octets of the protocol header, at a server that awaits it.
     #[inline(never)]
     fn hear_lent<'a>(&mut self, piece: &'a [u8]) -> Result<Step<'a>, CoreFault>
-        requires sound { IsSound self.old }
+        requires sound { EndpointIsSound self.old }
         requires awaits { awaits_opening (role_at self.old) (phase_at self.old.connection.stage) ≡ true }
         ensures lent { IsLent (role_at self.old) (config_view self.old.connection.settings)
             (step_seen result self.new.splitter.given)
@@ -49,7 +49,7 @@ impl Endpoint {
             (after_feed (role_at self.old) (config_view self.old.connection.settings)
             (endpoint_view self.old) piece.now)
             (endpoint_view self.new) }
-        ensures sound { IsSound self.new }
+        ensures sound { EndpointIsSound self.new }
         ensures settings { self.new.connection.settings ≡ self.old.connection.settings }
         ensures tally { Blames (role_at self.old) result (endpoint_view self.old) piece.now
             (after_feed (role_at self.old) (config_view self.old.connection.settings) (endpoint_view self.old)
@@ -64,7 +64,7 @@ impl Endpoint {
     /// Octets of frames.
     #[inline(always)]
     fn read_lent<'a>(&mut self, piece: &'a [u8], heard: &mut Heard) -> Result<Step<'a>, CoreFault>
-        requires sound { IsSound self.old }
+        requires sound { EndpointIsSound self.old }
         requires lends { self.old.connection.settings.lends ≡ true }
         requires reads { reads_frames (role_at self.old) (phase_at self.old.connection.stage) ≡ true }
         ensures lent { IsLent (role_at self.old) (config_view self.old.connection.settings)
@@ -78,7 +78,7 @@ impl Endpoint {
         ensures heard { Hears (role_at self.old) (config_view self.old.connection.settings) result
             (endpoint_view self.old) piece.now (after_feed (role_at self.old) (config_view self.old.connection.settings)
             (endpoint_view self.old) piece.now) (heard_view heard.old) (heard_view heard.new) }
-        ensures sound { IsSound self.new }
+        ensures sound { EndpointIsSound self.new }
         ensures settings { self.new.connection.settings ≡ self.old.connection.settings }
         ensures tally { Blames (role_at self.old) result (endpoint_view self.old) piece.now
             (after_feed (role_at self.old) (config_view self.old.connection.settings) (endpoint_view self.old)
@@ -137,7 +137,7 @@ impl Endpoint {
         piece: &'a [u8],
         heard: &mut Heard,
     ) -> Result<Step<'a>, CoreFault>
-        requires sound { IsSound self.old }
+        requires sound { EndpointIsSound self.old }
         requires lends { self.old.connection.settings.lends ≡ true }
         ensures lent { IsLent (role_at self.old) (config_view self.old.connection.settings)
             (step_seen result self.new.splitter.given)
@@ -156,7 +156,7 @@ impl Endpoint {
         ensures heard { Hears (role_at self.old) (config_view self.old.connection.settings) result
             (endpoint_view self.old) piece.now (after_feed (role_at self.old) (config_view self.old.connection.settings)
             (endpoint_view self.old) piece.now) (heard_view heard.old) (heard_view heard.new) }
-        ensures sound { IsSound self.new }
+        ensures sound { EndpointIsSound self.new }
         ensures settings { self.new.connection.settings ≡ self.old.connection.settings }
         ensures tally { Blames (role_at self.old) result (endpoint_view self.old) piece.now
             (after_feed (role_at self.old) (config_view self.old.connection.settings) (endpoint_view self.old)

@@ -3,9 +3,9 @@
 ghost use Rattle.std.specs.Prelude.{◌≡◌, Some, IfOk, IfErr, OnOk};
 ghost use Rattle.amqp_model.specs.End.Asks as asks;
 ghost use Rattle.amqp_model.specs.End.Asks.{lowest_free};
-ghost use Rattle.amqp_core.specs.Traced.AskNoting.{IsChannelOf, IsSizeOf};
+ghost use Rattle.amqp_core.specs.Traced.NotedAsks.{IsChannelOf, IsSizeOf};
 ghost use Rattle.amqp_core.specs.Asks.View.{lent_view};
-ghost use Rattle.amqp_core.specs.Asks.Asked.{IsAllowed, IsRefusal};
+ghost use Rattle.amqp_core.specs.Asks.Outcomes.{IsAllowed, IsRefusal};
 
 use crate::asks::LentAsk;
 use crate::connection::Connection;

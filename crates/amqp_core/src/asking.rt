@@ -10,7 +10,7 @@ ghost use Rattle.amqp_model.specs.End.Asks as asks;
 ghost use Rattle.amqp_model.specs.End.Asks.{lowest_free};
 ghost use Rattle.amqp_channel.specs.Events.EventView.{message_of};
 ghost use Rattle.amqp_core.specs.Asks.View.{lent_view};
-ghost use Rattle.amqp_core.specs.Asks.Asked.{content_asked, number_taken, IsAccepted, IsRefused};
+ghost use Rattle.amqp_core.specs.Asks.Outcomes.{content_asked, number_taken, IsAccepted, IsRefused};
 ghost use Rattle.amqp_core.specs.Heard.View.{cause_view};
 ghost use Rattle.amqp_core.specs.Asks.LentLetter.{lent_letter};
 

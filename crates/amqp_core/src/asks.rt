@@ -1,7 +1,7 @@
 //! What an application asks of an end.
 ghost use Rattle.std.specs.Prelude.{◌≡◌, ◌<◌, IfOk};
 ghost use Rattle.amqp_channel.specs.Events.EventView.{message_of};
-ghost use Rattle.amqp_core.specs.Traced.AskNoting.{count_asked, frames_of_message};
+ghost use Rattle.amqp_core.specs.Traced.NotedAsks.{count_asked, frames_of_message};
 ghost use Rattle.amqp_core.specs.Asks.View.{ask_view, lent_view};
 ghost use Rattle.amqp_core.specs.Asks.LentLetter.{lent_letter};
 

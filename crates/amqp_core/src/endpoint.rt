@@ -20,10 +20,10 @@ ghost use Rattle.amqp_outbox.specs.OutboxView.{begins_with};
 ghost use Rattle.amqp_channel.specs.Roles.{role_of};
 ghost use Rattle.amqp_core.specs.Traced.AccountView.{IsFresh};
 ghost use Rattle.amqp_core.specs.Faults.Blamed.{Blames};
-ghost use Rattle.amqp_core.specs.Traced.AskNoting.{IsChannelOf, IsSizeOf};
+ghost use Rattle.amqp_core.specs.Traced.NotedAsks.{IsChannelOf, IsSizeOf};
 ghost use Rattle.amqp_core.specs.Asks.View.{lent_view};
-ghost use Rattle.amqp_core.specs.Asks.Asked.{content_asked, number_taken};
-ghost use Rattle.amqp_core.specs.Asks.Asking.{AcceptsAsk, RefusesAsk};
+ghost use Rattle.amqp_core.specs.Asks.Outcomes.{content_asked, number_taken};
+ghost use Rattle.amqp_core.specs.Asks.Effects.{AcceptsAsk, RefusesAsk};
 ghost use Rattle.amqp_core.specs.Faults.Answering.{ran_out};
 ghost use Rattle.amqp_core.specs.Asks.ControlView.{control_view};
 ghost use Rattle.amqp_core.specs.Asks.Controlled.{refusal_by};
@@ -115,13 +115,13 @@ fn begun(alloc: Global, side: Side) -> Result<Outbox, OutOfMemory>
 impl Endpoint {
     ghost use Rattle.amqp_core.specs.Traced.AccountView.{IsAccount, came_by, taken_by};
     ghost use Rattle.amqp_core.specs.Faults.Blamed.{no_octets, tally_view};
-    ghost use Rattle.amqp_core.specs.End.EndpointView.{endpoint_view, role_at, IsSound};
+    ghost use Rattle.amqp_core.specs.End.EndpointView.{endpoint_view, role_at, EndpointIsSound};
     ghost use Rattle.amqp_core.specs.End.Growth.{GrowsLittle};
 
     /// Octets of the protocol header, at a server that awaits it.
     #[inline(never)]
     pub(crate) fn hear(&mut self, piece: &[u8], account: &mut Account) -> Result<(), CoreFault>
-        requires sound { IsSound self.old }
+        requires sound { EndpointIsSound self.old }
         requires fresh { IsFresh account.old }
         requires awaits { awaits_opening (role_at self.old) (phase_at self.old.connection.stage) ≡ true }
         ensures fed { IsFed (taken_by result account.new) (endpoint_view self.old) (after_feed (role_at self.old)
@@ -135,7 +135,7 @@ impl Endpoint {
         ensures message { OnOk result (IsMessage (parts_there account.new.parts)
             → SameButChannels (endpoint_view self.old) (endpoint_view self.new)) }
         ensures grows { GrowsLittle (endpoint_view self.old).output (endpoint_view self.new).output }
-        ensures sound { IsSound self.new }
+        ensures sound { EndpointIsSound self.new }
         ensures settings { self.new.connection.settings ≡ self.old.connection.settings }
         ensures tally { Blames (role_at self.old) result (endpoint_view self.old) piece.now
             (after_feed (role_at self.old) (config_view self.old.connection.settings) (endpoint_view self.old)
@@ -181,7 +181,7 @@ impl Endpoint {
         account: &mut Account,
         heard: &mut Heard,
     ) -> Result<(), CoreFault>
-        requires sound { IsSound self.old }
+        requires sound { EndpointIsSound self.old }
         requires gathers { self.old.connection.settings.lends ≡ false }
         requires fresh { IsFresh account.old }
         requires reads { reads_frames (role_at self.old) (phase_at self.old.connection.stage) ≡ true }
@@ -201,7 +201,7 @@ impl Endpoint {
             (endpoint_view self.old) piece.now (after_feed (role_at self.old) (config_view self.old.connection.settings)
             (endpoint_view self.old) piece.now) (heard_view heard.old) (heard_view heard.new) }
         ensures grows { GrowsLittle (endpoint_view self.old).output (endpoint_view self.new).output }
-        ensures sound { IsSound self.new }
+        ensures sound { EndpointIsSound self.new }
         ensures settings { self.new.connection.settings ≡ self.old.connection.settings }
         ensures tally { Blames (role_at self.old) result (endpoint_view self.old) piece.now
             (after_feed (role_at self.old) (config_view self.old.connection.settings) (endpoint_view self.old)
@@ -244,7 +244,7 @@ impl Endpoint {
     pub(crate) fn new(alloc: Global, settings: Settings) -> Result<Endpoint, OutOfMemory>
         requires { ConfigWrites (config_view settings) }
         ensures view { IfOk result (λ end. endpoint_view end ≡ new_endpoint (role_for settings)) }
-        ensures sound { IfOk result IsSound }
+        ensures sound { IfOk result EndpointIsSound }
         ensures settings { IfOk result (λ end. end.connection.settings ≡ settings) }
         ensures tally { IfOk result (λ end. tally_view end.tally ≡ no_octets) }
     {
@@ -267,7 +267,7 @@ impl Endpoint {
         account: &mut Account,
         heard: &mut Heard,
     ) -> Result<(), CoreFault>
-        requires sound { IsSound self.old }
+        requires sound { EndpointIsSound self.old }
         requires gathers { self.old.connection.settings.lends ≡ false }
         requires fresh { IsFresh account.old }
         ensures fed { IsFed (taken_by result account.new) (endpoint_view self.old) (after_feed (role_at self.old)
@@ -289,7 +289,7 @@ impl Endpoint {
             (endpoint_view self.old) piece.now (after_feed (role_at self.old) (config_view self.old.connection.settings)
             (endpoint_view self.old) piece.now) (heard_view heard.old) (heard_view heard.new) }
         ensures grows { GrowsLittle (endpoint_view self.old).output (endpoint_view self.new).output }
-        ensures sound { IsSound self.new }
+        ensures sound { EndpointIsSound self.new }
         ensures settings { self.new.connection.settings ≡ self.old.connection.settings }
         ensures tally { Blames (role_at self.old) result (endpoint_view self.old) piece.now
             (after_feed (role_at self.old) (config_view self.old.connection.settings) (endpoint_view self.old)
@@ -311,9 +311,9 @@ impl Endpoint {
 
     /// Out of memory: the end has failed, and keeps no unfinished octets.
     pub(crate) fn run_out(&mut self)
-        requires sound { IsSound self.old }
+        requires sound { EndpointIsSound self.old }
         ensures left { SameEndpoint (ran_out_of (endpoint_view self.old)) (endpoint_view self.new) }
-        ensures sound { IsSound self.new }
+        ensures sound { EndpointIsSound self.new }
         ensures settings { self.new.connection.settings ≡ self.old.connection.settings }
         ensures tally { tally_view self.new.tally ≡ tally_view self.old.tally }
     {
@@ -347,9 +347,9 @@ impl Endpoint {
     /// So many octets of the output were written.
     pub(crate) fn wrote(&mut self, octets: usize)
         requires within { octets ≤ length (output_octets (endpoint_view self.old).output) }
-        requires sound { IsSound self.old }
+        requires sound { EndpointIsSound self.old }
         ensures written { endpoint_view self.new ≡ after_wrote octets (endpoint_view self.old) }
-        ensures sound { IsSound self.new }
+        ensures sound { EndpointIsSound self.new }
         ensures settings { self.new.connection.settings ≡ self.old.connection.settings }
         ensures tally { tally_view self.new.tally ≡ tally_view self.old.tally }
     {
@@ -359,7 +359,7 @@ impl Endpoint {
 
     /// How many octets were taken of a frame that isn't whole yet, or of the protocol header.
     pub(crate) fn pending(&self) -> usize
-        requires { IsSound self.now }
+        requires { EndpointIsSound self.now }
         ensures count { result ≡ length (endpoint_view self.now).unfinished }
         ensures below { result < frame_limit (agreed_at self.now.connection.stage) }
         ensures none { takes_octets (phase_at self.now.connection.stage) ≡ false → result ≡ 0 }
@@ -369,7 +369,7 @@ impl Endpoint {
 
     /// Where the frames of an ask go, or why it is refused.
     pub(crate) fn allow(&self, ask: LentAsk<'_>) -> Result<Place, AskFault>
-        requires { IsSound self.now }
+        requires { EndpointIsSound self.now }
         ensures allowed { OnOk result (refusal (role_at self.now) (endpoint_view self.now).end (lent_view ask.entry)
             ≡ None) }
         ensures refused { IfErr result (λ fault. RefusesAsk (role_at self.now) (lent_view ask.entry) fault
@@ -397,13 +397,13 @@ impl Endpoint {
 
     /// A heartbeat, or what an application decides in the handshake: it is refused, or its frame is put.
     pub(crate) fn control(&mut self, control: LentControl<'_>) -> Result<(), AskFault>
-        requires { IsSound self.old }
+        requires { EndpointIsSound self.old }
         ensures accepted { OnOk result (AcceptsControl (role_at self.old) (config_view self.old.connection.settings)
             (control_view control.entry) (endpoint_view self.old) (endpoint_view self.new)) }
         ensures refused { IfErr result (λ fault. RefusesControl (role_at self.old)
             (config_view self.old.connection.settings) (control_view control.entry) fault (endpoint_view self.old)
             (endpoint_view self.new)) }
-        ensures sound { IsSound self.new }
+        ensures sound { EndpointIsSound self.new }
         ensures settings { self.new.connection.settings ≡ self.old.connection.settings }
         ensures tally { tally_view self.new.tally ≡ tally_view self.old.tally }
     {
@@ -418,14 +418,14 @@ impl Endpoint {
 
     /// What an application asks: it is refused, or its frames are put. The answer is the channel that an open takes.
     pub(crate) fn ask(&mut self, ask: LentAsk<'_>) -> Result<Option<u16>, AskFault>
-        requires { IsSound self.old }
+        requires { EndpointIsSound self.old }
         ensures accepted { OnOk result (AcceptsAsk (role_at self.old) (config_view self.old.connection.settings)
             (lent_view ask.entry) (endpoint_view self.old) (endpoint_view self.new)) }
         ensures number { IfOk result (λ number. number ≡ number_taken (endpoint_view self.old).end
             (lent_view ask.entry)) }
         ensures refused { IfErr result (λ fault. RefusesAsk (role_at self.old) (lent_view ask.entry) fault
             (endpoint_view self.old) (endpoint_view self.new)) }
-        ensures sound { IsSound self.new }
+        ensures sound { EndpointIsSound self.new }
         ensures settings { self.new.connection.settings ≡ self.old.connection.settings }
         ensures tally { tally_view self.new.tally ≡ tally_view self.old.tally }
     {
@@ -449,7 +449,7 @@ impl Endpoint {
         properties: &Properties,
         chunks: &mut Chunks,
     ) -> Result<(), AskFault>
-        requires sound { IsSound self.old }
+        requires sound { EndpointIsSound self.old }
         requires content { has_content (method_view method.now).kind ≡ true }
         ensures accepted { OnOk result (AcceptsAsk (role_at self.old) (config_view self.old.connection.settings)
             (content_asked number (method_view method.now) (properties_view properties.now) chunks.old)
@@ -459,7 +459,7 @@ impl Endpoint {
             (endpoint_view self.old) (endpoint_view self.new)) }
         ensures taken { OnOk result (chunks.new ≡ []) }
         ensures kept { OnErr result (chunks.new ≡ chunks.old) }
-        ensures sound { IsSound self.new }
+        ensures sound { EndpointIsSound self.new }
         ensures settings { self.new.connection.settings ≡ self.old.connection.settings }
         ensures tally { tally_view self.new.tally ≡ tally_view self.old.tally }
     {

@@ -42,12 +42,12 @@ impl Connection {
 }
 
 impl Endpoint {
-    ghost use Rattle.amqp_core.specs.End.EndpointView.{endpoint_view, IsSound};
+    ghost use Rattle.amqp_core.specs.End.EndpointView.{endpoint_view, EndpointIsSound};
     ghost use Rattle.amqp_core.specs.End.KeptOctets.{kept_by};
 
     /// How many octets are kept of the contents that are gathered, and of a frame that isn't whole.
     fn kept(&self) -> usize
-        requires { IsSound self.now }
+        requires { EndpointIsSound self.now }
         ensures lent { KeepsOctets (kept_by self.now) result }
         ensures gathered { self.now.connection.settings.lends ≡ false → KeepsOctets (endpoint_view self.now) result }
         ensures unfinished { length (endpoint_view self.now).unfinished

@@ -11,7 +11,7 @@ ghost use Rattle.amqp_model.specs.Stream.Traces as traces;
 ghost use Rattle.amqp_model.specs.Stream.Traces.{IsPut, telling_above, telling_at};
 ghost use Rattle.amqp_channel.specs.Roles.{role_of};
 ghost use Rattle.amqp_core.specs.Traced.AccountView.{note_there};
-ghost use Rattle.amqp_core.specs.Traced.AskNoting.{count_asked, notes_asked};
+ghost use Rattle.amqp_core.specs.Traced.NotedAsks.{count_asked, notes_asked};
 ghost use Rattle.amqp_core.specs.Asks.View.{lent_view};
 ghost use Rattle.amqp_core.specs.Traced.CountsLives.{CountsLives};
 ghost use Rattle.amqp_core.specs.Traced.Notes.{item_there, note_view, noted_as, word_view};

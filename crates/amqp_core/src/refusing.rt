@@ -136,7 +136,7 @@ impl Connection {
     ghost use Rattle.amqp_model.specs.Wire.Readings.{Calls, kind_of};
     ghost use Rattle.amqp_channel.specs.Channels.ChannelsView.{channels_view};
     ghost use Rattle.amqp_channel.specs.Channels.Used.{is_open_at};
-    ghost use Rattle.amqp_core.specs.Asks.Asked.{content_asked, IsAllowed, IsRefusal};
+    ghost use Rattle.amqp_core.specs.Asks.Outcomes.{content_asked, IsAllowed, IsRefusal};
     ghost use Rattle.amqp_core.specs.Connection.View.{connection_end};
     ghost use Rattle.amqp_core.specs.Faults.Numbers.{refusal_view};
     ghost use Rattle.amqp_core.specs.Asks.Refusals.{refused_on, IsOpenIn};

@@ -22,7 +22,7 @@ ghost use Rattle.amqp_channel.specs.Events.EventView.{message_of};
 ghost use Rattle.amqp_channel.specs.Events.Closes.{IsClose};
 ghost use Rattle.amqp_core.specs.Faults.Numbers.{refusal_view};
 ghost use Rattle.amqp_core.specs.Heard.View.{cause_view};
-ghost use Rattle.amqp_core.specs.Asks.Asked.{content_asked};
+ghost use Rattle.amqp_core.specs.Asks.Outcomes.{content_asked};
 ghost use Rattle.amqp_core.specs.Asks.LentLetter.{lent_letter};
 
 use crate::faults::AskFault;

@@ -17,7 +17,7 @@ ghost use Rattle.amqp_model.specs.History.Negotiation.{frame_limit};
 ghost use Rattle.amqp_model.specs.Output.Outputs.{output_octets, waiting_on};
 ghost use Rattle.amqp_channel.specs.Events.EventView.{agreed_there, message_of, state_view};
 ghost use Rattle.amqp_outbox.specs.OutboxFaults.{begun};
-ghost use Rattle.amqp_core.specs.Asks.Asked.{content_asked};
+ghost use Rattle.amqp_core.specs.Asks.Outcomes.{content_asked};
 ghost use Rattle.amqp_core.specs.Asks.View.{ask_view, lent_view};
 ghost use Rattle.amqp_core.specs.End.Bounded.{IsBounded};
 ghost use Rattle.amqp_core.specs.End.Counted.{heartbeat_in};

@@ -2,7 +2,7 @@
 ghost use Rattle.std.specs.Prelude.{◌≡◌, IfOk, OnErr};
 ghost use Rattle.amqp_model.specs.Stream.Traces.{item_in_event};
 ghost use Rattle.amqp_channel.specs.Events.PartsView.{parts_there};
-ghost use Rattle.amqp_core.specs.Traced.AskNoting.{item_asked};
+ghost use Rattle.amqp_core.specs.Traced.NotedAsks.{item_asked};
 ghost use Rattle.amqp_core.specs.Asks.View.{lent_view};
 ghost use Rattle.amqp_core.specs.End.Feeding.{IsMessage};
 ghost use Rattle.amqp_core.specs.Traced.Notes.{item_there, item_view};

@@ -19,7 +19,7 @@ ghost use Rattle.amqp_model.specs.Output.Outputs.{output_octets, waiting_on};
 ghost use Rattle.amqp_channel.specs.Events.EventView.{agreed_there, state_view};
 ghost use Rattle.amqp_channel.specs.Roles.{role_of};
 ghost use Rattle.amqp_core.specs.Asks.View.{ask_view, lent_view};
-ghost use Rattle.amqp_core.specs.Asks.Asked.{content_asked};
+ghost use Rattle.amqp_core.specs.Asks.Outcomes.{content_asked};
 ghost use Rattle.amqp_core.specs.Faults.Blamed.{blame_view};
 ghost use Rattle.amqp_core.specs.End.Bounded.{IsBounded};
 ghost use Rattle.amqp_core.specs.Asks.ControlView.{control_view};

@@ -16,14 +16,14 @@ impl Endpoint {
     ghost use Rattle.std.specs.Prelude.{cond};
     ghost use Rattle.amqp_channel.specs.Channels.ChannelsView.{NoneUnderWay};
     ghost use Rattle.amqp_core.specs.Faults.Blamed.{tally_view};
-    ghost use Rattle.amqp_core.specs.End.EndpointView.{endpoint_view, IsSound};
+    ghost use Rattle.amqp_core.specs.End.EndpointView.{endpoint_view, EndpointIsSound};
 
     /// From here on the end lends what it takes.
     fn lend(&mut self)
-        requires { IsSound self.old }
+        requires { EndpointIsSound self.old }
         ensures view { endpoint_view self.new ≡ endpoint_view self.old }
         ensures settings { self.new.connection.settings ≡ record self.old.connection.settings { lends = true } }
-        ensures sound { IsSound self.new }
+        ensures sound { EndpointIsSound self.new }
         ensures tally { tally_view self.new.tally ≡ tally_view self.old.tally }
     {
         self.connection.lend();
@@ -31,12 +31,12 @@ impl Endpoint {
 
     /// From here on the end gathers whole contents, if none is under way. The answer is whether that is so.
     fn gather(&mut self) -> bool
-        requires { IsSound self.old }
+        requires { EndpointIsSound self.old }
         ensures view { endpoint_view self.new ≡ endpoint_view self.old }
         ensures settings { self.new.connection.settings
             ≡ cond result (record self.old.connection.settings { lends = false }) self.old.connection.settings }
         ensures none { result ≡ true → NoneUnderWay self.old.connection.channels }
-        ensures sound { IsSound self.new }
+        ensures sound { EndpointIsSound self.new }
         ensures tally { tally_view self.new.tally ≡ tally_view self.old.tally }
     {
         self.connection.gather()

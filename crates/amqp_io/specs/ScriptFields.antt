@@ -14,5 +14,5 @@ tape_of script = record {
 }
 
 -- no more was given than the input has, and no more answers were used than there are
-abbrev pub IsSound : Inside → Type 0
-IsSound script = (script.given ≤ length script.input.items) × (script.used ≤ length script.answers.items)
+abbrev pub ScriptIsSound : Inside → Type 0
+ScriptIsSound script = (script.given ≤ length script.input.items) × (script.used ≤ length script.answers.items)

@@ -14,5 +14,5 @@ octets_in (Given octets) = octets.items
 abbrev pub buffered_of : Inside → Buffered
 buffered_of x = record { octets = drop x.fed (take x.read (octets_in x.room)); room = length (octets_in x.room) }
 
-abbrev pub IsSound : Inside → Type 0
-IsSound x = (x.fed ≤ x.read) × (x.read ≤ length (octets_in x.room)) × (0 < length (octets_in x.room))
+abbrev pub ReadBufferIsSound : Inside → Type 0
+ReadBufferIsSound x = (x.fed ≤ x.read) × (x.read ≤ length (octets_in x.room)) × (0 < length (octets_in x.room))

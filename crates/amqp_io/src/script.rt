@@ -43,11 +43,11 @@ impl Model for Script {
 
     ghost Value = { Tape };
 
-    ghost use Rattle.amqp_io.specs.ScriptFields.{tape_of, IsSound};
+    ghost use Rattle.amqp_io.specs.ScriptFields.{tape_of, ScriptIsSound};
 
     ghost view = { tape_of };
 
-    ghost invariant = { IsSound };
+    ghost invariant = { ScriptIsSound };
 }
 
 impl Script {

@@ -35,11 +35,11 @@ impl Model for Unfed {
 
     ghost Value = { Buffered };
 
-    ghost use Rattle.amqp_io.specs.UnfedFields.{buffered_of, IsSound};
+    ghost use Rattle.amqp_io.specs.UnfedFields.{buffered_of, ReadBufferIsSound};
 
     ghost view = { buffered_of };
 
-    ghost invariant = { IsSound };
+    ghost invariant = { ReadBufferIsSound };
 }
 
 impl Unfed {

@@ -9,7 +9,7 @@ use Rattle.amqp_model.specs.History.Negotiation.{Config}
 use Rattle.amqp_model.specs.Wire.Notes.{Role}
 use Rattle.amqp_model.specs.Output.Outputs.{output_octets}
 use Rattle.amqp_core.specs.Faults.Answering.{ran_out}
-use Rattle.amqp_core.specs.Asks.Asking.{AcceptsAsk}
+use Rattle.amqp_core.specs.Asks.Effects.{AcceptsAsk}
 use Rattle.amqp_core.specs.Asks.Controlled.{frames_by, refusal_by}
 use Rattle.amqp_core.specs.Asks.Controlling.{AcceptsControl, verdict_at}
 use Rattle.amqp_core.specs.Faults.Numbers.{refusal_view}

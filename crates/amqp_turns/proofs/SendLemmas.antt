@@ -3,7 +3,7 @@ use Rattle.std.proofs.Common.{◌≡◌, ◌⊎◌, ◌<◌, List, [], ◌∷◌
 use Rattle.amqp_model.specs.End.Asks.{Send, Paused, ReplyPending}
 use Rattle.amqp_model.specs.Stream.Endpoint.{Endpoint}
 use Rattle.amqp_model.specs.End.Events.{Message}
-use Rattle.amqp_core.specs.Asks.Asking.{RefusesAsk}
+use Rattle.amqp_core.specs.Asks.Effects.{RefusesAsk}
 use Rattle.amqp_core.specs.Faults.Numbers.{refusal_view}
 use Rattle.amqp_core.specs.Config.Settings.{role_for}
 use Rattle.amqp_core.specs.declared.faults.AskFault.{AskFault}

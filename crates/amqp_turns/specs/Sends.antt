@@ -4,7 +4,7 @@ use Rattle.std.specs.Prelude.{◌≡◌, ◌≢◌, ◌⊎◌, ℕ, List, [], �
 use Rattle.amqp_model.specs.End.Asks.{Send, Paused, ReplyPending, Refusal, refusal}
 use Rattle.amqp_model.specs.Stream.Endpoint.{Endpoint}
 use Rattle.amqp_model.specs.End.Events.{Message}
-use Rattle.amqp_core.specs.Asks.Asking.{AcceptsAsk, RefusesAsk}
+use Rattle.amqp_core.specs.Asks.Effects.{AcceptsAsk, RefusesAsk}
 use Rattle.amqp_core.specs.Config.Settings.{config_view, role_for}
 use Rattle.amqp_core.specs.declared.faults.AskFault.{AskFault}
 use Rattle.amqp_core.specs.declared.faults.AskFault.TheVariants as faults

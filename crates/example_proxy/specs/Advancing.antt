@@ -2,7 +2,7 @@
 use Rattle.std.specs.Prelude.{◌≡◌, ◌≢◌, cond, ℕ, List, [], ◌∷◌, Option, None}
 use Rattle.amqp_model.specs.End.Asks.{Ask, refusal}
 use Rattle.amqp_model.specs.Stream.Endpoint.{Endpoint}
-use Rattle.amqp_core.specs.Asks.Asking.{AcceptsAsk}
+use Rattle.amqp_core.specs.Asks.Effects.{AcceptsAsk}
 use Rattle.amqp_core.specs.Config.Settings.{config_view, role_for}
 use Rattle.amqp_core.specs.declared.settings.Settings.{Settings}
 use Rattle.example_proxy.specs.AskingView.{closes}

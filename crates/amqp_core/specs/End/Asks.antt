@@ -1,8 +1,8 @@
--- What an ask of an end does. Read before: what comes of an ask (`Asking`).
+-- What an ask of an end does. Read before: what comes of an ask (`Effects`).
 use Rattle.std.specs.Prelude.{◌≡◌, Option, Result, IfOk, IfErr, OnOk, ℕ, Some}
 use Rattle.amqp_model.specs.End.Asks.{Ask, lowest_free}
-use Rattle.amqp_core.specs.Asks.Asked.{number_taken}
-use Rattle.amqp_core.specs.Asks.Asking.{AcceptsAsk, RefusesAsk}
+use Rattle.amqp_core.specs.Asks.Outcomes.{number_taken}
+use Rattle.amqp_core.specs.Asks.Effects.{AcceptsAsk, RefusesAsk}
 use Rattle.amqp_core.specs.End.View.{config_at, counters_of, endpoint_of, heard_in, role_played, settings_at}
 use Rattle.amqp_core.specs.declared.end.End.{End}
 use Rattle.amqp_core.specs.declared.faults.AskFault.{AskFault}

@@ -54,7 +54,7 @@ pub record FieldsFit (role : Role) (end : model.End) (heard : ℕ) (stream : Str
   pub ready : takes_octets end.phase ≡ true → IsReady (frame_limit end.agreed) stream
 
 -- what holds of an end between two calls
-pub record IsSound (end : Endpoint) : Type 0 where
+pub record EndpointIsSound (end : Endpoint) : Type 0 where
   pub writes : ∥ ConfigWrites (config_view end.connection.settings) ∥₁
   pub staged : end.outbox.staged ≡ []
   pub fields : FieldsFit (role_at end) (connection_end end.connection) end.heard end.splitter

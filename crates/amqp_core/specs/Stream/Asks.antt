@@ -1,9 +1,9 @@
--- What an ask of a lending end does. Read before: what comes of an ask (`Asking`), and what it makes of each history
+-- What an ask of a lending end does. Read before: what comes of an ask (`Effects`), and what it makes of each history
 -- that the end stands for (`History`).
 use Rattle.std.specs.Prelude.{◌≡◌, Option, Result, IfOk, IfErr, OnOk, ℕ, Some}
 use Rattle.amqp_model.specs.End.Asks.{Ask, lowest_free}
-use Rattle.amqp_core.specs.Asks.Asked.{number_taken}
-use Rattle.amqp_core.specs.Asks.Asking.{AcceptsAsk, RefusesAsk}
+use Rattle.amqp_core.specs.Asks.Outcomes.{number_taken}
+use Rattle.amqp_core.specs.Asks.Effects.{AcceptsAsk, RefusesAsk}
 use Rattle.amqp_core.specs.Stream.History.{StreamAskGoesOn, StreamAskIsOfHistory}
 use Rattle.amqp_core.specs.Stream.View.{config_at, counters_of, endpoint_of, role_played, settings_at, heard_in}
 use Rattle.amqp_core.specs.declared.faults.AskFault.{AskFault}

@@ -1,10 +1,10 @@
--- What an ask of an end that is kept with its history does. Read before: what comes of an ask (`Asking`).
+-- What an ask of an end that is kept with its history does. Read before: what comes of an ask (`Effects`).
 use Rattle.std.specs.Prelude.{◌≡◌, ℕ, Option, Result, IfOk, IfErr, OnOk, OnErr}
 use Rattle.amqp_model.specs.End.Asks.{Ask, frames_asked}
 use Rattle.amqp_model.specs.End.LawfulHistories.{then_put}
 use Rattle.amqp_model.specs.History.Histories.{History}
-use Rattle.amqp_core.specs.Asks.Asked.{number_taken}
-use Rattle.amqp_core.specs.Asks.Asking.{AcceptsAsk, RefusesAsk}
+use Rattle.amqp_core.specs.Asks.Outcomes.{number_taken}
+use Rattle.amqp_core.specs.Asks.Effects.{AcceptsAsk, RefusesAsk}
 use Rattle.amqp_core.specs.Traced.Tracing.{IsTraceOf, SameLists}
 use Rattle.amqp_core.specs.Traced.View.{config_at, heard_in, role_played, settings_at, traced_of}
 use Rattle.amqp_core.specs.declared.faults.AskFault.{AskFault}

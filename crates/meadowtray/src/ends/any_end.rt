@@ -15,7 +15,7 @@ ghost use Rattle.amqp_model.specs.End.Controls.{Control};
 ghost use Rattle.amqp_model.specs.Output.Outputs.{output_octets, waiting_on};
 ghost use Rattle.amqp_model.specs.Stream.Endpoint.{Endpoint};
 ghost use Rattle.amqp_channel.specs.Events.EventView.{agreed_there, message_of, state_view};
-ghost use Rattle.amqp_core.specs.Asks.Asked.{content_asked};
+ghost use Rattle.amqp_core.specs.Asks.Outcomes.{content_asked};
 ghost use Rattle.amqp_core.specs.Asks.View.{ask_view};
 ghost use Rattle.amqp_core.specs.Connection.Stages.{phase_name};
 ghost use Rattle.amqp_core.specs.End.Counted.{heartbeat_in};

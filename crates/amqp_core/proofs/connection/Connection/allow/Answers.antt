@@ -2,7 +2,7 @@
 use Rattle.std.proofs.Common.{sym, subst}
 use Rattle.std.proofs.lemmas.Result.{err_from_is_err_and}
 use Rattle.amqp_core.specs.Asks.View.{lent_view}
-use Rattle.amqp_core.specs.Asks.Asked.{IsAllowed, IsRefusal}
+use Rattle.amqp_core.specs.Asks.Outcomes.{IsAllowed, IsRefusal}
 use Rattle.amqp_core.specs.Connection.View.{connection_end}
 use Rattle.amqp_core.specs.Heard.View.{cause_view}
 use Rattle.amqp_core.specs.declared.asks.LentAsk.{LentAsk}

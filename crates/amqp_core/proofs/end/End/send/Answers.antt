@@ -2,7 +2,7 @@
 use Rattle.std.proofs.Common.{refl, ap, ◌∙◌, subst}
 use Rattle.amqp_model.specs.End.Asks.{Send}
 use Rattle.amqp_model.specs.End.Events.{Message}
-use Rattle.amqp_core.specs.Asks.Asking.{AcceptsAsk}
+use Rattle.amqp_core.specs.Asks.Effects.{AcceptsAsk}
 use Rattle.amqp_core.specs.End.View.{config_at, endpoint_of, role_played}
 use Rattle.amqp_core.specs.End.EndpointView.{endpoint_view}
 use Rattle.amqp_core.specs.Config.Settings.{role_for}

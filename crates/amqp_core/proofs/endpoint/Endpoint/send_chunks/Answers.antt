@@ -2,7 +2,7 @@
 use Rattle.std.proofs.Common.{false, refl}
 use Rattle.amqp_method.specs.HeaderView.{properties_view}
 use Rattle.amqp_method.specs.MethodView.{method_view}
-use Rattle.amqp_core.specs.Asks.Asked.{content_asked}
+use Rattle.amqp_core.specs.Asks.Outcomes.{content_asked}
 use Rattle.amqp_core.specs.Connection.View.{connection_end}
 use Rattle.amqp_core.specs.End.EndpointView.{endpoint_view, role_at}
 use Rattle.amqp_core.specs.Config.Settings.{config_view}

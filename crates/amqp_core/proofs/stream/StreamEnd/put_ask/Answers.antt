@@ -2,7 +2,7 @@
 use Rattle.std.proofs.Common.{ap, ◌∙◌, false, refl}
 use Rattle.amqp_model.specs.End.Asks.{frames_asked}
 use Rattle.amqp_core.specs.Asks.View.{lent_view}
-use Rattle.amqp_core.specs.Asks.Asking.{AcceptsAsk}
+use Rattle.amqp_core.specs.Asks.Effects.{AcceptsAsk}
 use Rattle.amqp_core.specs.End.EndpointView.{endpoint_view}
 use Rattle.amqp_core.specs.Config.Settings.{role_for}
 use Rattle.amqp_core.specs.Stream.History.{StreamAskGoesOn}

@@ -3,8 +3,8 @@ use Rattle.std.proofs.Common.{ap, ◌∙◌, false, refl}
 use Rattle.amqp_method.specs.HeaderView.{properties_view}
 use Rattle.amqp_method.specs.MethodView.{method_view}
 use Rattle.amqp_model.specs.End.Asks.{frames_asked}
-use Rattle.amqp_core.specs.Asks.Asked.{content_asked}
-use Rattle.amqp_core.specs.Asks.Asking.{AcceptsAsk}
+use Rattle.amqp_core.specs.Asks.Outcomes.{content_asked}
+use Rattle.amqp_core.specs.Asks.Effects.{AcceptsAsk}
 use Rattle.amqp_core.specs.End.EndpointView.{endpoint_view}
 use Rattle.amqp_core.specs.Config.Settings.{role_for}
 use Rattle.amqp_core.specs.Stream.History.{StreamAskGoesOn}

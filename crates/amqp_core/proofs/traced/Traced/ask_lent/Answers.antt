@@ -5,7 +5,7 @@ use Rattle.amqp_model.specs.End.Asks.{frames_asked}
 use Rattle.amqp_model.specs.End.LawfulHistories.{then_put}
 use Rattle.amqp_model.specs.Output.Outputs.{output_octets}
 use Rattle.amqp_channel.specs.Roles.{role_of}
-use Rattle.amqp_core.specs.Traced.AskNoting.{count_asked}
+use Rattle.amqp_core.specs.Traced.NotedAsks.{count_asked}
 use Rattle.amqp_core.specs.Asks.View.{lent_view}
 use Rattle.amqp_core.specs.End.View.{config_at, endpoint_of, role_played, settings_at}
 use Rattle.amqp_core.specs.Config.Settings.{role_for}
