@@ -321,22 +321,27 @@ static bool lies_in(const mt_event *event, const uint8_t *piece, size_t length)
 static uint32_t feed_lent_batch(mt_end *end, const uint8_t *piece, size_t length, mt_event *events, size_t capacity,
 				size_t *count, size_t *taken, uint16_t *code)
 {
-	while (*count < capacity && *taken < length) {
-		mt_event *event = &events[*count];
-		uint32_t status = feed_lent(end, piece + *taken, length - *taken, event);
+	size_t found = 0, at = 0;
+	uint32_t status = MT_OK;
+	uint16_t last = 0;
 
-		*taken += event->taken;
-		if (code)
-			*code = event->code;
-		event->taken = *taken;
-		if (status != MT_OK)
-			return status;
-		if (event->kind == MT_EVENT_NONE)
+	while (found < capacity && at < length) {
+		mt_event *event = &events[found];
+
+		status = feed_lent(end, piece + at, length - at, event);
+		at += event->taken;
+		event->taken = at;
+		last = event->code;
+		if (status != MT_OK || event->kind == MT_EVENT_NONE)
 			break;
-		if (++*count == 1 && !lies_in(event, piece, length))
+		if (++found == 1 && !lies_in(event, piece, length))
 			break;
 	}
-	return MT_OK;
+	*count = found;
+	*taken = at;
+	if (code)
+		*code = last;
+	return status;
 }
 
 uint32_t mt_end_feed(mt_end *end, const uint8_t *piece, size_t length, mt_event *event)
@@ -367,7 +372,9 @@ uint32_t mt_end_event(mt_end *end, mt_event *event)
 uint32_t mt_end_feed_batch(mt_end *end, const uint8_t *piece, size_t length, mt_event *events, size_t capacity,
 			   size_t *count, size_t *taken, uint16_t *code)
 {
-	uint32_t status = MT_OK;
+	size_t found = 0, at = 0;
+	uint32_t status;
+	uint16_t last = 0;
 
 	WANTED(end && events && count && taken && (piece || length == 0));
 	*count = 0;
@@ -379,20 +386,22 @@ uint32_t mt_end_feed_batch(mt_end *end, const uint8_t *piece, size_t length, mt_
 		return feed_lent_batch(end, piece ? piece : NOTHING, length, events, capacity, count, taken, code);
 	if (capacity == 0 || length == 0)
 		return status;
-	while (status == MT_OK && *count < capacity && *taken < length) {
+	while (status == MT_OK && found < capacity && at < length) {
 		fed_end fed = {0, 0, MT_EVENT_NONE};
 
-		status = feed_at(end, *count, piece + *taken, length - *taken, &fed);
-		*taken += fed.taken;
-		if (code)
-			*code = fed.code;
+		status = feed_at(end, found, piece + at, length - at, &fed);
+		at += fed.taken;
+		last = fed.code;
 		if (status == MT_OK && fed.kind != MT_EVENT_NONE) {
-			events[*count] = NO_EVENT;
-			events[*count].taken = *taken;
-			++*count;
+			events[found] = NO_EVENT;
+			events[found++].taken = at;
 		}
 	}
-	for (size_t i = 0; i < *count; ++i) {
+	*count = found;
+	*taken = at;
+	if (code)
+		*code = last;
+	for (size_t i = 0; i < found; ++i) {
 		uint32_t shown = show(end, i, &events[i]);
 
 		if (shown != MT_OK)
