@@ -137,6 +137,7 @@ fn show_reason<'a>(reason: &'a Option<Reason>, out: &mut SeenEvent<'a>)
 }
 
 /// An event of this kind, before anything is said of it.
+#[inline(always)]
 pub(crate) fn of_kind<'a>(kind: u8) -> SeenEvent<'a>
     ensures { result.kind ≡ kind }
 {
@@ -156,6 +157,7 @@ pub(crate) fn of_kind<'a>(kind: u8) -> SeenEvent<'a>
 }
 
 /// The event at a place, whose octets were written.
+#[inline(always)]
 fn seen<'a>(place: &'a Place) -> SeenEvent<'a>
     requires { WritesPlace place.now }
     ensures { ShowsEvent place.now.event result }
@@ -198,6 +200,7 @@ fn seen<'a>(place: &'a Place) -> SeenEvent<'a>
 }
 
 /// The event at a place, whose octets are written first.
+#[inline(always)]
 fn show_place<'a>(place: &'a mut Place) -> Result<SeenEvent<'a>, u32>
     ensures shows { ShowsPlace place.old.event result }
     ensures* after { sem 𝓛 (Rests place_row.the_row place.entry (λ new. new.event ≡ place.old.event)) }
@@ -210,6 +213,7 @@ fn show_place<'a>(place: &'a mut Place) -> Result<SeenEvent<'a>, u32>
 }
 
 /// The event at a place of an end, if there is that place.
+#[inline(always)]
 fn show_at<'a, E>(kept: &'a mut Kept<E>, place: usize) -> Result<SeenEvent<'a>, u32>
     ensures shows { ShowsAt kept.old.places.items place result }
     ensures* after { sem 𝓛 (Rests (kept_row.the_row E.row) kept.entry
@@ -223,6 +227,7 @@ fn show_at<'a, E>(kept: &'a mut Kept<E>, place: usize) -> Result<SeenEvent<'a>, 
 }
 
 /// The event at a place of a handle's end.
+#[inline(always)]
 fn end_event<'a>(slot: &'a mut EndSlot, place: usize) -> Result<SeenEvent<'a>, u32>
     requires { is_some slot.old.value ≡ true }
     ensures shows { ShowsOf slot.old.value place result }

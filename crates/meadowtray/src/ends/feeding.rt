@@ -40,6 +40,7 @@ pub(crate) fn tell_fault(fault: CoreFault, out: &mut FedEnd) -> u32
 }
 
 /// Keeps an event at a place that is there.
+#[inline(always)]
 fn keep_at(places: &mut Vec<Place>, place: usize, event: Option<Event>)
     requires { place < length places.old.items }
     ensures { KeepsAt places.old.items place event places.new.items }
@@ -48,6 +49,7 @@ fn keep_at(places: &mut Vec<Place>, place: usize, event: Option<Event>)
 }
 
 /// Feeds an end, and keeps what it tells at a place that is there.
+#[inline(always)]
 fn feed<R: Role>(kept: &mut Kept<End<R>>, place: usize, piece: &[u8], out: &mut FedEnd) -> u32
     requires { place < length kept.old.places.items }
     ensures { FeedsKept kept.old place piece.now result out.new kept.new }
