@@ -19,6 +19,14 @@ pair_there p = (p.name.now, datum_there p.value)
 abbrev pub named_there : List (List ℕ × Datum) → List (List ℕ × Option Datum)
 named_there pairs = map (λ (p : List ℕ × Datum). (p.0, Some p.1)) pairs
 
+-- pairs in their places and those that are left are all that there are
+abbrev pub PairsMakeUp : List Pair → (left all : List (List ℕ × Datum)) → Type 0
+PairsMakeUp placed left all = map pair_there placed ++ named_there left ≡ named_there all
+
+-- values likewise
+abbrev pub ValuesMakeUp : List Value → (left all : List Datum) → Type 0
+ValuesMakeUp placed left all = map datum_there placed ++ all_data left ≡ all_data all
+
 -- The table has these pairs, the first of them stand in their places, and nothing behind them is changed. Without a
 -- fault all have a place, and otherwise each place is taken, and some pairs are left.
 pub record ToldPairs (table : Pairs) (size : ℕ) (old new : List Pair) (status : ℕ) (out : TableRead) : Type 0 where
@@ -27,7 +35,7 @@ pub record ToldPairs (table : Pairs) (size : ℕ) (old new : List Pair) (status 
   pub table_is : table ≡ pairs_of all
   pub length_is : out.length ≡ size
   pub count_is : out.count ≡ length all
-  pub pairs_are : map pair_there (take out.placed new) ++ named_there left ≡ named_there all
+  pub pairs_are : PairsMakeUp (take out.placed new) left all
   pub others : drop out.placed new ≡ drop out.placed old
   pub room : ((status ≡ 0) × (left ≡ []) × (out.placed ≡ out.count))
       ⊎ ((status ≡ 7) × (out.placed ≡ length old) × (out.placed < out.count))
@@ -45,7 +53,7 @@ pub record ToldItems (all : List Datum) (size : ℕ) (old new : List Value) (sta
   pub left : List Datum
   pub length_is : out.length ≡ size
   pub count_is : out.count ≡ length all
-  pub values_are : map datum_there (take out.placed new) ++ all_data left ≡ all_data all
+  pub values_are : ValuesMakeUp (take out.placed new) left all
   pub others : drop out.placed new ≡ drop out.placed old
   pub room : ((status ≡ 0) × (left ≡ []) × (out.placed ≡ out.count))
       ⊎ ((status ≡ 7) × (out.placed ≡ length old) × (out.placed < out.count))

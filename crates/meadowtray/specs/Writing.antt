@@ -32,6 +32,10 @@ ToldWrite (Err Room) status out = status ≡ 7
 ToldWrite (Err TooLong) status out = status ≡ 306
 ToldWrite (Err OutOfMemory) status out = status ≡ 4
 
+-- octets are put at the start of the room, and what is behind them stays
+abbrev pub PutInto : (octets old : List ℕ) → (n : ℕ) → (new : List ℕ) → Type 0
+PutInto octets old n new = (n ≡ length octets) × (take n new ≡ octets) × (drop n new ≡ drop n old)
+
 -- ---- one value
 
 -- what is read is all of so many octets
@@ -204,3 +208,8 @@ NotMade Long (Inside place e) = ⊥
 NotMade Long Room = ⊥
 NotMade Long TooLong = Long
 NotMade Long OutOfMemory = Unit {0}
+
+-- and what came of it is told
+abbrev pub TellsMethod : ℕ → List Value → (old : List ℕ) → (status : ℕ) → Written → (new : List ℕ) → Type 0
+TellsMethod number values old status out new =
+    (written : Result ℕ WriteFault) × WritesMethod number values old written new × ToldWrite written status out

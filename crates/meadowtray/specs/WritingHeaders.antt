@@ -8,13 +8,14 @@ use Rattle.amqp_method.specs.Properties.{header, property_kinds, HaveKinds}
 use Rattle.amqp_method.specs.declared.fields.FieldKind.{FieldKind}
 use Rattle.amqp_method.specs.declared.fields.FieldKind.TheVariants as kinds
 use Rattle.meadowtray.specs.Values.{argument_there}
-use Rattle.meadowtray.specs.Writing.{fits_field, At, TableFault, Writes}
+use Rattle.meadowtray.specs.Writing.{fits_field, At, TableFault, ToldWrite, Writes}
 use Rattle.meadowtray.specs.declared.codec.owned.ArgFault.{ArgFault}
 use Rattle.meadowtray.specs.declared.codec.owned.ArgFault.TheVariants as arg
 use Rattle.meadowtray.specs.declared.codec.values.Value.{Value}
 use Rattle.meadowtray.specs.declared.codec.writing.WriteFault.{WriteFault}
 use Rattle.meadowtray.specs.declared.codec.writing.WriteFault.TheVariants.{UnknownKind, Misfit, Inside, Room, TooLong}
 use Rattle.meadowtray.specs.declared.codec.writing.WriteFault.TheVariants.{OutOfMemory}
+use Rattle.meadowtray.specs.declared.codec.writing.Written.{Written}
 
 -- a property that is there is of this kind
 abbrev pub OfKind : Option Argument → FieldKind → Type 0
@@ -54,12 +55,21 @@ abbrev pub bit_for : Option Argument → ℕ → ℕ
 bit_for None bit = 0
 bit_for (Some value) bit = bit
 
+-- the octets of the header of these properties
+abbrev pub header_octets : ℕ → List Value → List ℕ
+header_octets size values = plain_header (header size (map argument_there values))
+
 -- the octets are those of the header of these properties, each of the kind of its place
 abbrev pub IsHeader : ℕ → List Value → List ℕ → Type 0
 IsHeader size values octets =
     HaveKinds (map argument_there values) property_kinds
-    × (octets ≡ plain_header (header size (map argument_there values)))
+    × (octets ≡ header_octets size values)
 
 -- the header of these properties is written
 abbrev pub WritesHeader : ℕ → List Value → List ℕ → Result ℕ WriteFault → List ℕ → Type 0
 WritesHeader size values old written new = Writes (IsHeader size values) ⊥ (NotHeader values) old written new
+
+-- and what came of it is told
+abbrev pub TellsHeader : ℕ → List Value → (old : List ℕ) → (status : ℕ) → Written → (new : List ℕ) → Type 0
+TellsHeader size values old status out new =
+    (written : Result ℕ WriteFault) × WritesHeader size values old written new × ToldWrite written status out

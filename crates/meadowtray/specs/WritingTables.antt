@@ -10,7 +10,7 @@ use Rattle.amqp_value.specs.declared.fault.ValueFault.{ValueFault}
 use Rattle.amqp_value.specs.declared.fault.ValueFaultKind.TheVariants.{TooDeep}
 use Rattle.meadowtray.specs.Tables.{pair_there, named_there}
 use Rattle.meadowtray.specs.Values.{signed_number}
-use Rattle.meadowtray.specs.Writing.{is_table, Writes}
+use Rattle.meadowtray.specs.Writing.{is_table, ToldWrite, Writes}
 use Rattle.meadowtray.specs.declared.codec.owned.ArgFault.{ArgFault}
 use Rattle.meadowtray.specs.declared.codec.owned.ArgFault.TheVariants as arg
 use Rattle.meadowtray.specs.declared.codec.tables.Pair.{Pair}
@@ -18,6 +18,7 @@ use Rattle.meadowtray.specs.declared.codec.values.Value.{Value}
 use Rattle.meadowtray.specs.declared.codec.writing.WriteFault.{WriteFault}
 use Rattle.meadowtray.specs.declared.codec.writing.WriteFault.TheVariants.{UnknownKind, Misfit, Inside, Room, TooLong}
 use Rattle.meadowtray.specs.declared.codec.writing.WriteFault.TheVariants.{OutOfMemory}
+use Rattle.meadowtray.specs.declared.codec.writing.Written.{Written}
 
 abbrev pub within : ℤ → ℤ → ℤ → Bool
 within least greatest n = int_le least n && int_le n greatest
@@ -120,3 +121,8 @@ abbrev pub WritesTable : List Pair → List ℕ → Result ℕ WriteFault → Li
 WritesTable pairs old written new =
     Writes (λ octets. (table : Pairs) × IsTable pairs table × (octets ≡ plain_table table))
     ((table : Pairs) × IsTable pairs table × LongTable table) (NotTableOf pairs) old written new
+
+-- and what came of it is told
+abbrev pub TellsTable : List Pair → (old : List ℕ) → (status : ℕ) → Written → (new : List ℕ) → Type 0
+TellsTable pairs old status out new =
+    (written : Result ℕ WriteFault) × WritesTable pairs old written new × ToldWrite written status out

@@ -1,9 +1,8 @@
 //! Tables and arrays as C reads them.
-ghost use Rattle.std.specs.Prelude.{◌≡◌, ◌+◌, ◌≤◌, ◌++◌, ◌⊎◌, [], length, map, take, drop};
+ghost use Rattle.std.specs.Prelude.{◌≡◌, ◌+◌, ◌≤◌, ◌⊎◌, [], length, take, drop};
 ghost use Rattle.amqp_value.specs.Lent.{body_of, items_left, octets_of, pairs_left, table_ref_view};
 ghost use Rattle.amqp_value.specs.Whole.{items_encoded};
-ghost use Rattle.meadowtray.specs.Tables.{pair_there, named_there, GetsValue, ReadsArray, ReadsTable, ToldItems, ToldPairs};
-ghost use Rattle.meadowtray.specs.Values.{datum_there, all_data};
+ghost use Rattle.meadowtray.specs.Tables.{GetsValue, PairsMakeUp, ReadsArray, ReadsTable, ToldItems, ToldPairs, ValuesMakeUp};
 
 use crate::codec::statuses::{NO_ROOM, NOT_THERE, value_fault};
 use crate::codec::values::Value;
@@ -29,7 +28,7 @@ pub struct TableRead {
 
 /// Puts the first pairs into their places, as far as there is room. The answer is how many, and those that are left.
 fn fill_pairs<'a>(named: PairsRef<'a>, pairs: &mut [Pair<'a>]) -> (usize, PairsRef<'a>)
-    ensures pairs { map pair_there (take result.0 pairs.new) ++ named_there (pairs_left result.1) ≡ named_there (pairs_left named.entry) }
+    ensures pairs { PairsMakeUp (take result.0 pairs.new) (pairs_left result.1) (pairs_left named.entry) }
     ensures counted { result.0 + length (pairs_left result.1) ≡ length (pairs_left named.entry) }
     ensures full { (pairs_left result.1 ≡ []) ⊎ (result.0 ≡ length pairs.old) }
     ensures within { result.0 ≤ length pairs.old }
@@ -65,7 +64,8 @@ fn count_pairs(named: PairsRef<'_>, limit: usize) -> usize
 
 /// Tells the pairs of a table, with so many of them in their places as there are. The answer is the status.
 fn tell_pairs<'a>(table: TableRef<'a>, pairs: &mut [Pair<'a>], out: &mut TableRead) -> u32
-    ensures { ToldPairs (table_ref_view table.entry) (length (octets_of table.entry)) pairs.old pairs.new result out.new }
+    ensures { ToldPairs (table_ref_view table.entry) (length (octets_of table.entry)) pairs.old pairs.new result
+        out.new }
 {
     let size = table.octets().len();
     let (placed, left) = fill_pairs(table.iter(), pairs);
@@ -122,7 +122,7 @@ pub extern "C" fn proved_table_get<'a>(
 
 /// Puts the first values into their places, as far as there is room. The answer is how many, and those that are left.
 fn fill_items<'a>(items: ItemsRef<'a>, values: &mut [Value<'a>]) -> (usize, ItemsRef<'a>)
-    ensures values { map datum_there (take result.0 values.new) ++ all_data (items_left result.1) ≡ all_data (items_left items.entry) }
+    ensures values { ValuesMakeUp (take result.0 values.new) (items_left result.1) (items_left items.entry) }
     ensures counted { result.0 + length (items_left result.1) ≡ length (items_left items.entry) }
     ensures full { (items_left result.1 ≡ []) ⊎ (result.0 ≡ length values.old) }
     ensures within { result.0 ≤ length values.old }
@@ -155,7 +155,8 @@ fn count_items(items: ItemsRef<'_>, limit: usize) -> usize
 
 /// Tells the values of an array, with so many of them in their places as there are. The answer is the status.
 fn tell_items<'a>(array: ArrayRef<'a>, values: &mut [Value<'a>], out: &mut TableRead) -> u32
-    ensures { ToldItems (items_encoded (body_of array.entry)) (length (body_of array.entry)) values.old values.new result out.new }
+    ensures { ToldItems (items_encoded (body_of array.entry)) (length (body_of array.entry)) values.old values.new
+        result out.new }
 {
     let size = array.body().len();
     let (placed, left) = fill_items(array.iter(), values);

@@ -1,7 +1,7 @@
 //! What a write tells C, and octets put into its room.
-ghost use Rattle.std.specs.Prelude.{◌≡◌, ◌<◌, ◌≤◌, length, take, drop, IfOk, IfErr};
+ghost use Rattle.std.specs.Prelude.{◌≡◌, ◌<◌, ◌≤◌, length, IfOk, IfErr};
 ghost use Rattle.meadowtray.specs.declared.codec.writing.WriteFault.TheVariants.{Room};
-ghost use Rattle.meadowtray.specs.Writing.{ToldWrite};
+ghost use Rattle.meadowtray.specs.Writing.{PutInto, ToldWrite};
 
 use crate::codec::statuses::{MISFIT, NO_ROOM, method_fault, value_fault};
 use amqp_handle::HandleFault;
@@ -61,7 +61,7 @@ pub(crate) fn tell(written: Result<usize, WriteFault>, out: &mut Written) -> u32
 
 /// Puts octets at the start of the room, if there is room for all.
 pub(crate) fn put(octets: &[u8], room: &mut [u8]) -> Result<usize, WriteFault>
-    ensures put { IfOk result (λ n. (n ≡ length octets.now) × (take n room.new ≡ octets.now) × (drop n room.new ≡ drop n room.old)) }
+    ensures put { IfOk result (λ n. PutInto octets.now room.old n room.new) }
     ensures room { IfErr result (λ e. (e ≡ Room) × (length room.old < length octets.now) × (room.new ≡ room.old)) }
 {
     if octets.len() > room.len() {

@@ -1,5 +1,5 @@
 //! Content headers as C writes them.
-ghost use Rattle.std.specs.Prelude.{◌≡◌, ◌<◌, ◌≤◌, ◌++◌, ℕ, length, map, Result, IfOk, IfErr, OnOk, OnErr};
+ghost use Rattle.std.specs.Prelude.{◌≡◌, ◌<◌, ◌≤◌, ◌++◌, ℕ, length, map, IfOk, IfErr, OnOk, OnErr};
 ghost use Rattle.byteorder.specs.Endian.{big_bytes};
 ghost use Rattle.amqp_value.specs.Plain.{plain_table};
 ghost use Rattle.amqp_value.specs.Whole.{table_encoded};
@@ -9,10 +9,9 @@ ghost use Rattle.amqp_method.specs.Plain.{plain_header, plain_property, plain_pr
 ghost use Rattle.amqp_method.specs.Properties.{flags_of, header, property_kinds, HaveKinds};
 ghost use Rattle.amqp_method.specs.declared.fields.FieldKind.{FieldKind};
 ghost use Rattle.meadowtray.specs.Values.{argument_there};
-ghost use Rattle.meadowtray.specs.Writing.{NotCounted, NotTable, ToldWrite};
-ghost use Rattle.meadowtray.specs.WritingHeaders.{bit_for, NotHeader, NotProperty, OfKind, WritesHeader};
+ghost use Rattle.meadowtray.specs.Writing.{NotCounted, NotTable};
+ghost use Rattle.meadowtray.specs.WritingHeaders.{bit_for, header_octets, NotHeader, NotProperty, OfKind, TellsHeader, WritesHeader};
 ghost use Rattle.meadowtray.specs.declared.codec.owned.ArgFault.TheVariants as arg;
-ghost use Rattle.meadowtray.specs.declared.codec.writing.WriteFault.{WriteFault};
 ghost use Rattle.meadowtray.specs.declared.codec.writing.WriteFault.TheVariants.{OutOfMemory};
 
 use crate::codec::owned::{ArgFault, own_table};
@@ -202,7 +201,7 @@ fn flags(values: &[Value<'_>]) -> u16
 
 /// The payload of a content header.
 fn encoded(alloc: Global, body_size: u64, values: &[Value<'_>]) -> Result<Vec<u8>, WriteFault>
-    ensures ok { IfOk result (λ octets. octets.items ≡ plain_header (header body_size (map argument_there values.now))) }
+    ensures ok { IfOk result (λ octets. octets.items ≡ header_octets body_size values.now) }
     ensures kinds { IfOk result (λ octets. HaveKinds (map argument_there values.now) property_kinds) }
     ensures err { IfErr result (λ e. NotHeader values.now e) }
 {
@@ -245,7 +244,7 @@ pub extern "C" fn proved_header_write(
     room: &mut [u8],
     out: &mut Written,
 ) -> u32
-    ensures { (written : Result ℕ WriteFault) × WritesHeader body_size values.now room.old written room.new × ToldWrite written result out.new }
+    ensures { TellsHeader body_size values.now room.old result out.new room.new }
 {
     tell(write_into(alloc, body_size, values, room), out)
 }

@@ -1,12 +1,11 @@
 //! Methods as C writes them.
-ghost use Rattle.std.specs.Prelude.{◌≡◌, ◌<◌, ◌≤◌, ℕ, List, length, Result, IfOk, IfErr};
+ghost use Rattle.std.specs.Prelude.{◌≡◌, ◌<◌, ◌≤◌, ℕ, List, length, IfOk, IfErr};
 ghost use Rattle.amqp_method.specs.Arguments.{wanted};
 ghost use Rattle.amqp_method.specs.Kinds.{fields_of};
 ghost use Rattle.amqp_method.specs.MethodView.{method_view};
 ghost use Rattle.amqp_method.specs.Plain.{plain_method};
-ghost use Rattle.meadowtray.specs.Writing.{field_number, first_unlike, kind_numbered, IsMethod, NotEncoded, NotMethod, PastValue, ToldWrite, WritesMethod};
+ghost use Rattle.meadowtray.specs.Writing.{field_number, first_unlike, kind_numbered, IsMethod, NotEncoded, NotMethod, PastValue, TellsMethod, WritesMethod};
 ghost use Rattle.amqp_method.specs.declared.fields.FieldKind.{FieldKind};
-ghost use Rattle.meadowtray.specs.declared.codec.writing.WriteFault.{WriteFault};
 
 use crate::codec::owned::own_args;
 use crate::codec::values::{
@@ -136,7 +135,7 @@ pub extern "C" fn proved_method_write(
     room: &mut [u8],
     out: &mut Written,
 ) -> u32
-    ensures { (written : Result ℕ WriteFault) × WritesMethod kind values.now room.old written room.new × ToldWrite written result out.new }
+    ensures { TellsMethod kind values.now room.old result out.new room.new }
 {
     tell(write_into(alloc, kind, values, room), out)
 }

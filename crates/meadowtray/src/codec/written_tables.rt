@@ -1,12 +1,11 @@
 //! Tables as C writes them.
-ghost use Rattle.std.specs.Prelude.{◌≡◌, ℕ, [], length, map, Result, IfOk, IfErr, OnOk};
+ghost use Rattle.std.specs.Prelude.{◌≡◌, ℕ, [], length, map, IfOk, IfErr, OnOk};
 ghost use Rattle.amqp_value.specs.Tables.{table_view};
 ghost use Rattle.amqp_value.specs.Plain.{plain_table};
 ghost use Rattle.amqp_value.specs.View.{named_view};
 ghost use Rattle.meadowtray.specs.Tables.{pair_there, named_there};
-ghost use Rattle.meadowtray.specs.Writing.{NotMade, ToldWrite};
-ghost use Rattle.meadowtray.specs.WritingTables.{one_there, IsTable, LongTable, NotPair, NotPairs, NotTableOf, WritesTable};
-ghost use Rattle.meadowtray.specs.declared.codec.writing.WriteFault.{WriteFault};
+ghost use Rattle.meadowtray.specs.Writing.{NotMade};
+ghost use Rattle.meadowtray.specs.WritingTables.{one_there, IsTable, LongTable, NotPair, NotPairs, NotTableOf, TellsTable, WritesTable};
 
 use crate::codec::lent::lend;
 use crate::codec::owned::ArgFault;
@@ -128,7 +127,7 @@ pub extern "C" fn proved_table_write(
     room: &mut [u8],
     out: &mut Written,
 ) -> u32
-    ensures { (written : Result ℕ WriteFault) × WritesTable pairs.now room.old written room.new × ToldWrite written result out.new }
+    ensures { TellsTable pairs.now room.old result out.new room.new }
 {
     tell(write_into(alloc, pairs, room), out)
 }

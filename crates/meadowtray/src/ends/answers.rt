@@ -21,8 +21,8 @@ pub struct AgreedLimits {
 /// What an end answers of itself, as it crosses to C.
 ///
 /// How many frames it took, how many octets of its output were written, and how many octets it took; how many of these
-/// are of a frame that isn't whole yet, how many it keeps for its peer, and how many of bodies on all channels; what was
-/// agreed, the heartbeat of that, and the number of its phase.
+/// are of a frame that isn't whole yet, how many it keeps for its peer, and how many of bodies on all channels; what
+/// was agreed, the heartbeat of that, and the number of its phase.
 #[repr(C)]
 #[derive(Clone, Copy)]
 pub struct EndLook {

@@ -47,7 +47,8 @@ fn send_sized<E: AnyEnd>(
     body: &[u8],
 ) -> u32
     requires { has_content (method_view method.now).kind ≡ true }
-    ensures { SizedOne E.AnyEnd kept.old channel (method_view method.now) (header_view header.now) body.now result kept.new }
+    ensures { SizedOne E.AnyEnd kept.old channel (method_view method.now) (header_view header.now) body.now result
+        kept.new }
 {
     if header.body_size != body.len() as u64 {
         return MISFIT;
