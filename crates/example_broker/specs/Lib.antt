@@ -1,5 +1,4 @@
 pub mod Credits
-pub mod Pulses
 pub mod Standing
 pub mod Topic
 pub mod TopicRows

@@ -1,26 +1,36 @@
 //! All that the broker holds, and what it does with what the ends of its connections tell.
-//!
-//! Methods are handled in `methods`, with `exchanges`, `queues` and `messaging`.
 use crate::channel::Channel;
 use crate::connection::Connection;
-use crate::exchanges::Exchange;
-use crate::login::Users;
-use crate::memory::Gauge;
-use crate::queues::{Place, Queue, QueueId, settle};
-use crate::refusal::{Done, Fault};
+use crate::exchanges::Exchanges;
+use crate::fault::{Answer, Done, Fault, refused};
+use crate::login::{Users, server_end};
+use crate::queues::{Place, QueueId, Queues};
 use amqp_core::{AskFault, Event};
+use amqp_method::{Kind, Message, Method, reply};
+use amqp_typed::AnyMethod;
+use amqp_typed::basic::AnyMethod as Basic;
+use amqp_typed::confirm::AnyMethod as Confirm;
+use amqp_typed::exchange::AnyMethod as Exchange;
+use amqp_typed::queue::AnyMethod as Queue;
 use amqp_value::ShortStr;
+use mio::net::TcpStream;
 use std::alloc::{AllocError, Global};
+use std::cell::Cell;
 use std::collections::BTreeMap;
+use std::rc::Rc;
+
+/// Where messages hold more octets, those who publish have to wait.
+const BOUND: usize = 268_435_456;
 
 #[derive(Drop)]
 pub struct Broker {
     pub alloc: Global,
-    pub users: Users,
-    pub gauge: Gauge,
-    pub connections: BTreeMap<u64, Connection>,
-    pub exchanges: BTreeMap<Vec<u8>, Exchange>,
-    pub queues: BTreeMap<QueueId, Queue>,
+    users: Users,
+    /// How many octets all messages hold.
+    pub held: Rc<Cell<usize>>,
+    pub connections: BTreeMap<usize, Connection>,
+    pub exchanges: Exchanges,
+    pub queues: Queues,
     pub names: BTreeMap<Vec<u8>, QueueId>,
     /// the last number that was given to a queue or a consumer
     last_id: u64,
@@ -31,7 +41,7 @@ impl Broker {
         let mut broker = Broker {
             alloc,
             users,
-            gauge: Gauge::new(alloc)?,
+            held: Rc::new(alloc, Cell::new(0))?,
             connections: BTreeMap::new(alloc),
             exchanges: BTreeMap::new(alloc),
             queues: BTreeMap::new(alloc),
@@ -49,153 +59,200 @@ impl Broker {
     }
 
     /// A name for a queue or a consumer, where the client leaves it to the broker.
-    pub fn made_up_name(&self, start: &str, id: u64) -> Result<ShortStr, Fault> {
+    pub fn made_up_name(&mut self, start: &str) -> Result<ShortStr, Fault> {
+        let id = self.next_id()?;
         let name = format!(in self.alloc; "{start}-{id}")?;
         Ok(ShortStr::text(self.alloc, name.as_str())?)
     }
 
-    pub fn connection(&mut self, id: u64) -> Result<&mut Connection, Fault> {
+    pub fn connection(&mut self, id: usize) -> Result<&mut Connection, Fault> {
         Ok(self.connections.get_mut(&id).ok_or(AskFault::NotRunning)?)
     }
 
     pub fn channel(&mut self, at: Place) -> Result<&mut Channel, Fault> {
-        self.connection(at.connection)?.channel(at.channel)
+        self.connection(at.0)?.channel(at.1)
     }
 
-    /// Feeds the end of a connection, and does what each event asks for. What can't be done ends the connection.
-    pub fn feed(&mut self, id: u64, piece: &[u8]) -> Done {
-        let mut rest = piece;
-        for _ in 0..u64::MAX {
+    /// Whether a connection has something to do at once.
+    pub fn has_work(&self) -> bool {
+        let mut links = self.connections.values().map(|connection| &connection.link);
+        links.any(|link| link.has_work() || link.is_done())
+    }
+
+    pub fn add_connection(&mut self, id: usize, stream: TcpStream) -> anyhow::Result<()> {
+        let connection = Connection::new(self.alloc, stream, server_end(self.alloc)?);
+        self.connections.insert(id, connection)?;
+        Ok(())
+    }
+
+    /// Gives each connection a turn, and each queue: it sends its messages to its consumers.
+    pub fn turn(&mut self, has_ticked: bool, room: &mut [u8]) -> Done {
+        let ids = self.connections.keys().copied();
+        let ids: Vec<usize> = ids.collect(self.alloc)?;
+        for id in ids {
+            let is_short = self.held.get() > BOUND;
             let connection = self.connection(id)?;
-            if rest.is_empty() || !connection.is_served() {
-                break;
+            let count = connection.turn(is_short, has_ticked, room);
+            if connection.link.is_done() {
+                self.remove_connection(id)?;
+            } else {
+                self.hear(id, &room[..count])?;
             }
-            let Ok(taken) = connection.end.feed(rest) else {
+        }
+        for queue in self.queues.values_mut() {
+            queue.deliver(&mut self.connections);
+        }
+        Ok(())
+    }
+
+    /// Does what a connection asks for. What can't be done ends it.
+    fn hear(&mut self, id: usize, octets: &[u8]) -> Done {
+        let mut rest = octets;
+        for _ in 0..u64::MAX {
+            let Some(event) = self.connection(id)?.link.hear(&mut rest) else {
                 break;
             };
-            rest = &rest[taken.octets..];
-            if let Some(event) = taken.event
-                && self.handle(id, event).is_err()
-            {
-                self.connection(id)?.is_gone = true;
+            if self.handle(id, event).is_err() {
+                self.connection(id)?.link.is_gone = true;
             }
         }
         Ok(())
     }
 
     /// Does what an event asks for.
-    fn handle(&mut self, connection: u64, event: Event) -> Done {
-        let at = |channel| Place {
-            connection,
-            channel,
-        };
+    fn handle(&mut self, id: usize, event: Event) -> Done {
         match event {
-            Event::LoginAsked => self.login(connection),
-            Event::OpenAsked => self.connection(connection)?.enter(),
-            Event::Opened(channel) => self.open_channel(at(channel)),
-            Event::Told(channel, message) => self.tell(at(channel), message),
+            Event::LoginAsked => self.login(id),
+            Event::OpenAsked => self.connection(id)?.enter(),
+            Event::Opened(channel) => self.connection(id)?.open_channel(channel),
+            Event::Told(channel, message) => self.tell(Place(id, channel), message),
             Event::Flow(channel, active) => {
-                self.channel(at(channel))?.is_flowing = active;
+                self.channel(Place(id, channel))?.is_flowing = active;
                 Ok(())
             }
             // an end closes a channel of itself where a content is too large
             Event::ChannelClosed(channel, _) | Event::Discarded(channel) => {
-                self.close_channel(at(channel))
+                self.close_channel(Place(id, channel))
             }
             // no other asks a server for anything
             _ => Ok(()),
         }
     }
 
-    fn login(&mut self, id: u64) -> Done {
+    fn login(&mut self, id: usize) -> Done {
         match self.connections.get_mut(&id) {
             Some(connection) => connection.login(&self.users),
             None => Ok(()),
         }
     }
 
-    fn open_channel(&mut self, at: Place) -> Done {
-        let channel = Channel::new(self.alloc, ShortStr::text(self.alloc, "")?);
-        let channels = &mut self.connection(at.connection)?.channels;
-        channels.insert(at.channel, channel)?;
+    /// Does what a method asks for, and answers it if the client wants that. One that is refused closes its channel, or
+    /// the connection where the error is a hard one.
+    fn tell(&mut self, at: Place, message: Message) -> Done {
+        let kind = message.method().kind();
+        let is_answered = message.method().is_request() || kind.has_content();
+        let answer = match message.into_parts() {
+            (method, Some((properties, body))) => self.publish(at, method, properties, body),
+            (method, None) => self.tell_method(at, method),
+        };
+        match answer {
+            Ok(Some(method)) if is_answered => self.send(at, method),
+            Ok(_) => Ok(()),
+            Err(fault) => {
+                let (code, text) = fault.into_close(self.alloc)?;
+                self.close_for(at, code, &text, kind)
+            }
+        }
+    }
+
+    fn tell_method(&mut self, at: Place, method: Method) -> Answer {
+        match AnyMethod::from_method(method) {
+            AnyMethod::Exchange(Exchange::Declare(declare)) => self.declare_exchange(declare),
+            AnyMethod::Exchange(Exchange::Delete(delete)) => self.delete_exchange(delete),
+            AnyMethod::Exchange(_) => refused(reply::NOT_IMPLEMENTED, "bound exchanges", None),
+            AnyMethod::Queue(Queue::Declare(declare)) => self.declare_queue(at, declare),
+            AnyMethod::Queue(Queue::Bind(bind)) => self.bind_queue(at, bind),
+            AnyMethod::Queue(Queue::Unbind(unbind)) => self.unbind_queue(at, unbind),
+            AnyMethod::Queue(Queue::Purge(purge)) => self.purge_queue(at, purge),
+            AnyMethod::Queue(Queue::Delete(delete)) => self.delete_queue(at, delete),
+            AnyMethod::Basic(method) => self.tell_basic(at, method),
+            AnyMethod::Confirm(Confirm::Select(_)) => self.select_confirms(at),
+            AnyMethod::Tx(_) => refused(reply::NOT_IMPLEMENTED, "transactions", None),
+            // no client sends any other
+            _ => Ok(None),
+        }
+    }
+
+    fn tell_basic(&mut self, at: Place, method: Basic) -> Answer {
+        match method {
+            Basic::Qos(qos) => self.set_qos(at, qos),
+            Basic::Consume(consume) => self.consume(at, consume),
+            Basic::Cancel(cancel) => self.cancel(at, cancel),
+            Basic::Get(get) => self.get(at, get),
+            Basic::Ack(ack) => self.settle(at, ack.delivery_tag, ack.multiple, false),
+            Basic::Reject(reject) => self.settle(at, reject.delivery_tag, false, reject.requeue),
+            Basic::Nack(nack) => self.settle(at, nack.delivery_tag, nack.multiple, nack.requeue),
+            Basic::RecoverAsync(recover) => self.recover(at, recover.requeue),
+            Basic::Recover(recover) => self.recover(at, recover.requeue),
+            _ => Ok(None),
+        }
+    }
+
+    /// Sends a method alone.
+    fn send(&mut self, at: Place, method: Method) -> Done {
+        if let Ok(message) = Message::try_plain(method) {
+            let end = &mut self.connection(at.0)?.link.end;
+            end.send(at.1, &message)?;
+        }
+        Ok(())
+    }
+
+    /// Closes the channel, or the connection, for a method of this kind.
+    fn close_for(&mut self, at: Place, code: u16, text: &ShortStr, kind: Kind) -> Done {
+        if reply::is_hard(code) {
+            self.close_channels(at.0)?;
+            let end = &mut self.connection(at.0)?.link.end;
+            end.close_for(code, text, kind)?;
+        } else {
+            self.close_channel(at)?;
+            let end = &mut self.connection(at.0)?.link.end;
+            end.close_channel_for(at.1, code, text, kind)?;
+        }
         Ok(())
     }
 
     /// A channel is gone: its consumers are, and what was sent on it and not acknowledged goes back.
-    pub fn close_channel(&mut self, at: Place) -> Done {
-        let channels = &mut self.connection(at.connection)?.channels;
-        if let Some(mut channel) = channels.remove(&at.channel) {
-            settle(&mut self.queues, &mut channel, 0, u64::MAX, true)?;
-            for consumer in &channel.consumers {
-                self.remove_consumer(consumer.queue, consumer.id);
+    fn close_channel(&mut self, at: Place) -> Done {
+        let channels = &mut self.connection(at.0)?.channels;
+        if let Some(mut channel) = channels.remove(&at.1) {
+            channel.settle_in(&mut self.queues, 0, u64::MAX, true)?;
+            for (id, consumer) in channel.consumers.iter() {
+                self.remove_consumer(consumer.queue, *id);
             }
         }
         Ok(())
     }
 
     /// All channels of a connection are gone.
-    pub fn close_channels(&mut self, connection: u64) -> Done {
-        for _ in 0..=u16::MAX {
-            let channels = &self.connection(connection)?.channels;
-            let Some((number, _)) = channels.first_key_value() else {
-                break;
-            };
-            let channel = *number;
-            self.close_channel(Place {
-                connection,
-                channel,
-            })?;
+    fn close_channels(&mut self, id: usize) -> Done {
+        let alloc = self.alloc;
+        let numbers = self.connection(id)?.channels.keys().copied();
+        let numbers: Vec<u16> = numbers.collect(alloc)?;
+        for channel in numbers {
+            self.close_channel(Place(id, channel))?;
         }
         Ok(())
     }
 
-    /// The first of the queues that belong to a connection.
-    fn first_owned(&self, connection: u64) -> Option<QueueId> {
-        let owner = Some(connection);
-        let queue = self.queues.values().find(|queue| queue.owner == owner)?;
-        Some(queue.id)
-    }
-
     /// A connection is gone: its channels and its exclusive queues are.
-    pub fn remove_connection(&mut self, id: u64) -> Done {
+    fn remove_connection(&mut self, id: usize) -> Done {
         self.close_channels(id)?;
-        for _ in 0..u64::MAX {
-            let Some(queue) = self.first_owned(id) else {
-                break;
-            };
+        let owned = self.queues.values().filter(|queue| queue.owner == Some(id));
+        let owned: Vec<QueueId> = owned.map(|queue| queue.id).collect(self.alloc)?;
+        for queue in owned {
             self.remove_queue(queue);
         }
         self.connections.remove(&id);
         Ok(())
-    }
-
-    /// Each queue sends its messages to its consumers, as far as these may be sent more.
-    pub fn deliver(&mut self) {
-        for queue in self.queues.values_mut() {
-            deliver(&mut self.connections, queue);
-        }
-    }
-}
-
-/// Sends the messages of a queue to its consumers by turns, until it has none or no consumer may be sent one.
-fn deliver(connections: &mut BTreeMap<u64, Connection>, queue: &mut Queue) {
-    let mut passed = 0;
-    for _ in 0..u64::MAX {
-        let Some(seat) = queue.consumers.front().copied() else {
-            break;
-        };
-        let Some(connection) = connections.get_mut(&seat.at.connection) else {
-            break;
-        };
-        if passed >= queue.consumers.len() || queue.messages.ready_count() == 0 {
-            break;
-        }
-        queue.consumers.rotate_left(1);
-        passed += 1;
-        match connection.offer(queue, seat) {
-            Ok(true) => passed = 0,
-            Ok(false) => {}
-            Err(_) => connection.is_gone = true,
-        }
     }
 }

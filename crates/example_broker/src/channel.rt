@@ -1,24 +1,23 @@
 //! A channel: its consumers, and the messages that were sent on it and wait to be acknowledged.
-ghost use Rattle.std.specs.Prelude.{◌≡◌, false, true, OnOk};
+ghost use Rattle.std.specs.Prelude.{true, false, OnOk};
 ghost use Rattle.example_broker.specs.Standing.{Awaits};
 
 use crate::credit::Credit;
+use crate::fault::Done;
 use crate::messages::Content;
-use crate::queues::QueueId;
-use crate::refusal::{Done, Refusal};
+use crate::queues::{QueueId, Queues};
 use amqp_value::ShortStr;
 use std::alloc::{AllocError, Global};
 use std::collections::BTreeMap;
-use std::ops::Bound;
 use std::rc::Rc;
 
 #[derive(Drop)]
 pub struct Consumer {
-    pub id: u64,
     pub tag: ShortStr,
     pub queue: QueueId,
     pub no_ack: bool,
-    credit: Credit,
+    /// How many messages it may have that wait.
+    pub credit: Credit,
 }
 
 /// A message that waits to be acknowledged.
@@ -34,10 +33,11 @@ pub struct Delivery {
 
 #[derive(Drop)]
 pub struct Channel {
-    pub consumers: Vec<Consumer>,
+    /// by their numbers
+    pub consumers: BTreeMap<u64, Consumer>,
     /// by their delivery tags
-    unacked: BTreeMap<u64, Delivery>,
-    last_tag: u64,
+    pub unacked: BTreeMap<u64, Delivery>,
+    pub last_tag: u64,
     /// The limit of each consumer that is added from now on.
     pub prefetch: u16,
     /// The limit of all consumers together.
@@ -50,15 +50,10 @@ pub struct Channel {
     pub is_flowing: bool,
 }
 
-/// The consumer with this number.
-fn find_consumer(consumers: &mut [Consumer], id: u64) -> Option<&mut Consumer> {
-    consumers.iter_mut().find(|consumer| consumer.id == id)
-}
-
 impl Channel {
     pub fn new(alloc: Global, last_queue: ShortStr) -> Channel {
         Channel {
-            consumers: Vec::new(alloc),
+            consumers: BTreeMap::new(alloc),
             unacked: BTreeMap::new(alloc),
             last_tag: 0,
             prefetch: 0,
@@ -69,74 +64,31 @@ impl Channel {
         }
     }
 
-    /// The delivery tag of the next message, which is then the last.
-    pub fn next_tag(&mut self) -> u64 {
-        self.last_tag = self.last_tag.saturating_add(1);
-        self.last_tag
-    }
-
-    /// Adds a consumer, whose tag no other on the channel has.
-    pub fn add_consumer(&mut self, id: u64, tag: ShortStr, queue: QueueId, no_ack: bool) -> Done {
-        if self.consumers.iter().any(|other| other.tag == tag) {
-            return Err(Refusal::TagInUse(tag).into());
-        }
-        self.consumers.push(Consumer {
-            id,
-            tag,
-            queue,
-            no_ack,
-            credit: Credit::new(self.prefetch),
-        })?;
-        Ok(())
+    /// The number of the consumer with this tag.
+    pub fn consumer_with(&self, tag: &ShortStr) -> Option<u64> {
+        let found = self.consumers.iter().find(|pair| pair.1.tag == *tag)?;
+        Some(*found.0)
     }
 
     /// The consumer, if it may be sent a message now.
     pub fn ready_consumer(&self, id: u64) -> Option<&Consumer> {
-        let consumer = self.consumers.iter().find(|consumer| consumer.id == id)?;
+        let consumer = self.consumers.get(&id)?;
         let has_room = self.credit.has_room() && consumer.credit.has_room();
         (self.is_flowing && (consumer.no_ack || has_room)).then_some(consumer)
     }
 
-    /// A message was sent to a consumer, if it is still there.
-    fn spend(&mut self, consumer: Option<u64>)
-        ensures { self.new.unacked ≡ self.old.unacked }
-    {
-        if let Some(id) = consumer {
-            self.credit.spend();
-            if let Some(consumer) = find_consumer(&mut self.consumers, id) {
-                consumer.credit.spend();
-            }
-        }
-    }
-
-    /// A message that was sent to a consumer waits no more.
-    fn give_back(&mut self, consumer: Option<u64>)
-        ensures { self.new.unacked ≡ self.old.unacked }
-    {
-        if let Some(id) = consumer {
-            self.credit.give_back();
-            if let Some(consumer) = find_consumer(&mut self.consumers, id) {
-                consumer.credit.give_back();
-            }
-        }
-    }
-
-    /// A message waits to be acknowledged.
+    /// A message that was sent waits to be acknowledged.
     pub fn await_ack(&mut self, tag: u64, delivery: Delivery) -> Result<(), AllocError>
         ensures { OnOk result (Awaits self.old self.new tag true) }
     {
-        self.spend(delivery.consumer);
+        if let Some(id) = delivery.consumer {
+            self.credit.spend();
+            if let Some(consumer) = self.consumers.get_mut(&id) {
+                consumer.credit.spend();
+            }
+        }
         self.unacked.insert(tag, delivery)?;
         Ok(())
-    }
-
-    /// A message waits no more: the first with a tag from one to another.
-    pub fn settle_next(&mut self, first: u64, last: u64) -> Option<Delivery> {
-        let mut from_first = self
-            .unacked
-            .range((Bound::Included(first), Bound::Unbounded));
-        let tag = *from_first.next()?.0;
-        if tag > last { None } else { self.settle(tag) }
     }
 
     /// The message with this tag waits no more.
@@ -144,12 +96,34 @@ impl Channel {
         ensures { Awaits self.old self.new tag false }
     {
         let delivery = self.unacked.remove(&tag)?;
-        self.give_back(delivery.consumer);
+        if let Some(id) = delivery.consumer {
+            self.credit.give_back();
+            if let Some(consumer) = self.consumers.get_mut(&id) {
+                consumer.credit.give_back();
+            }
+        }
         Some(delivery)
     }
 
-    /// Whether a message with this tag waits.
-    pub fn has_delivery(&self, tag: u64) -> bool {
-        self.unacked.contains_key(&tag)
+    /// A message waits no more: the first with a tag from one to another.
+    fn settle_next(&mut self, first: u64, last: u64) -> Option<Delivery> {
+        let tag = *self.unacked.range(first..).next()?.0;
+        if tag > last { None } else { self.settle(tag) }
+    }
+
+    /// Messages wait no more: those with tags from one to another. They are done with, or go back to their queues.
+    pub fn settle_in(&mut self, queues: &mut Queues, first: u64, last: u64, requeue: bool) -> Done {
+        for _ in 0..u64::MAX {
+            let Some(delivery) = self.settle_next(first, last) else {
+                break;
+            };
+            if let Some(queue) = queues.get_mut(&delivery.queue)
+                && requeue
+            {
+                let messages = &mut queue.messages;
+                messages.put_back(delivery.place, delivery.content)?;
+            }
+        }
+        Ok(())
     }
 }

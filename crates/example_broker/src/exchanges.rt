@@ -1,15 +1,18 @@
 //! Exchanges: how each was declared, and its bindings.
 use crate::broker::Broker;
+use crate::fault::{Answer, Done, Fault, answer, refused};
 use crate::headers::headers_match;
+use crate::messages::Content;
 use crate::queues::{Place, QueueId};
-use crate::refusal::{Done, Fault, Refusal};
 use crate::topic::topic_matches;
+use amqp_method::reply;
 use amqp_typed::exchange::{self, Declare};
 use amqp_typed::queue;
 use amqp_value::{ShortStr, Table};
 use std::alloc::{AllocError, Global};
+use std::collections::BTreeMap;
 
-/// The exchanges that are there from the start.
+/// The exchanges that are there from the start, with their types.
 const STANDARD: [(&str, &str); 5] = [
     ("amq.direct", "direct"),
     ("amq.fanout", "fanout"),
@@ -17,26 +20,6 @@ const STANDARD: [(&str, &str); 5] = [
     ("amq.headers", "headers"),
     ("amq.match", "headers"),
 ];
-
-#[derive(Clone, Copy)]
-enum ExchangeType {
-    Direct,
-    Fanout,
-    Topic,
-    Headers,
-}
-
-impl ExchangeType {
-    fn from_name(name: &[u8]) -> Option<ExchangeType> {
-        match name {
-            b"direct" => Some(ExchangeType::Direct),
-            b"fanout" => Some(ExchangeType::Fanout),
-            b"topic" => Some(ExchangeType::Topic),
-            b"headers" => Some(ExchangeType::Headers),
-            _ => None,
-        }
-    }
-}
 
 #[derive(Drop, PartialEq, Eq)]
 pub struct Binding {
@@ -47,21 +30,14 @@ pub struct Binding {
 
 #[derive(Drop)]
 pub struct Exchange {
-    kind: ExchangeType,
     declare: Declare,
     bindings: Vec<Binding>,
 }
 
-impl Exchange {
-    /// Whether the exchange is as a declaration says.
-    fn is_as(&self, declare: &Declare) -> bool {
-        let own = &self.declare;
-        own.type_name == declare.type_name
-            && own.durable == declare.durable
-            && own.auto_delete == declare.auto_delete
-            && own.internal == declare.internal
-    }
+/// By their names.
+pub type Exchanges = BTreeMap<Vec<u8>, Exchange>;
 
+impl Exchange {
     /// Removes the bindings of a queue, or only the one. It answers whether the exchange goes with its last one.
     pub fn unbind(&mut self, queue: QueueId, only: Option<&Binding>) -> bool {
         let before = self.bindings.len();
@@ -72,20 +48,17 @@ impl Exchange {
         self.declare.auto_delete && before > 0 && self.bindings.is_empty()
     }
 
-    /// The queues to which a message with this key and these headers goes, each once.
-    fn route(
-        &self,
-        alloc: Global,
-        key: &ShortStr,
-        headers: Option<&Table>,
-    ) -> Result<Vec<QueueId>, AllocError> {
+    /// The queues to which a message goes, each once.
+    fn route(&self, alloc: Global, message: &Content) -> Result<Vec<QueueId>, AllocError> {
+        let key = &message.publish.routing_key;
+        let headers = message.properties.headers.as_ref();
         let mut queues = Vec::new(alloc);
         for binding in &self.bindings {
-            let matches = match self.kind {
-                ExchangeType::Direct => binding.key == *key,
-                ExchangeType::Fanout => true,
-                ExchangeType::Topic => topic_matches(alloc, &binding.key, key)?,
-                ExchangeType::Headers => headers_match(alloc, &binding.arguments, headers)?,
+            let matches = match self.declare.type_name.as_bytes() {
+                b"direct" => binding.key == *key,
+                b"fanout" => true,
+                b"topic" => topic_matches(alloc, &binding.key, key)?,
+                _ => headers_match(alloc, &binding.arguments, headers)?,
             };
             if matches && !queues.contains(&binding.queue) {
                 queues.push(binding.queue)?;
@@ -98,9 +71,16 @@ impl Exchange {
 /// Clients neither make nor delete what has no name, or one that begins so.
 pub fn check_not_reserved(name: &ShortStr) -> Done {
     if name.is_empty() || name.as_bytes().starts_with(b"amq.") {
-        return Err(Refusal::NoAccess(name.copy()?, "contains reserved prefix 'amq.*'").into());
+        return refused(reply::ACCESS_REFUSED, "reserved name", Some(name));
     }
     Ok(())
+}
+
+/// A declaration as it is kept, and compared with a later one.
+fn kept(mut declare: Declare, alloc: Global) -> Declare {
+    declare.no_wait = false;
+    declare.arguments = Table::new(alloc);
+    declare
 }
 
 impl Broker {
@@ -115,16 +95,14 @@ impl Broker {
     }
 
     fn add_exchange(&mut self, declare: Declare) -> Done {
-        let Some(kind) = ExchangeType::from_name(declare.type_name.as_bytes()) else {
-            return Err(Refusal::UnknownType(declare.type_name).into());
-        };
+        let kind = &declare.type_name;
+        let mut kinds = STANDARD.iter();
+        if !kinds.any(|known| known.1.as_bytes() == kind.as_bytes()) {
+            return refused(reply::COMMAND_INVALID, "unknown exchange type", Some(kind));
+        }
         let name = Vec::from_slice(self.alloc, declare.exchange.as_bytes())?;
-        let exchange = Exchange {
-            kind,
-            declare,
-            bindings: Vec::new(self.alloc),
-        };
-        self.exchanges.insert(name, exchange)?;
+        let bindings = Vec::new(self.alloc);
+        self.exchanges.insert(name, Exchange { declare, bindings })?;
         Ok(())
     }
 
@@ -132,70 +110,62 @@ impl Broker {
     fn exchange(&mut self, name: &ShortStr) -> Result<&mut Exchange, Fault> {
         match self.exchanges.get_mut(name.as_bytes()) {
             Some(exchange) => Ok(exchange),
-            None if name.is_empty() => {
-                Err(Refusal::NoAccess(name.copy()?, "is the default exchange").into())
-            }
-            None => Err(Refusal::NotFound("exchange", name.copy()?).into()),
+            None if name.is_empty() => refused(reply::ACCESS_REFUSED, "default exchange", None),
+            None => refused(reply::NOT_FOUND, "no exchange", Some(name)),
         }
     }
 
-    /// The queues to which a message goes that is published to an exchange.
-    pub fn route(
-        &mut self,
-        name: &ShortStr,
-        key: &ShortStr,
-        headers: Option<&Table>,
-    ) -> Result<Vec<QueueId>, Fault> {
-        let alloc = self.alloc;
+    /// The queues to which a message goes that is published.
+    pub fn route(&mut self, message: &Content) -> Result<Vec<QueueId>, Fault> {
+        let (alloc, name) = (self.alloc, &message.publish.exchange);
         if name.is_empty() {
-            let queue = self.names.get(key.as_bytes()).copied();
-            return Ok(queue.into_iter().collect(alloc)?);
+            let queue = self.names.get(message.publish.routing_key.as_bytes());
+            return Ok(queue.copied().into_iter().collect(alloc)?);
         }
         let exchange = self.exchange(name)?;
         if exchange.declare.internal {
-            return Err(Refusal::NoAccess(name.copy()?, "is internal").into());
+            return refused(reply::ACCESS_REFUSED, "internal exchange", Some(name));
         }
-        Ok(exchange.route(alloc, key, headers)?)
+        Ok(exchange.route(alloc, message)?)
     }
 
-    pub fn declare_exchange(&mut self, at: Place, declare: Declare) -> Done {
-        let no_wait = declare.no_wait;
+    /// Whether the exchange is there, and if so declared like this.
+    fn is_declared(&self, declare: &Declare) -> Result<bool, Fault> {
+        let name = &declare.exchange;
+        match self.exchanges.get(name.as_bytes()) {
+            Some(own) if own.declare != *declare => {
+                let why = "declared otherwise: exchange";
+                refused(reply::PRECONDITION_FAILED, why, Some(name))
+            }
+            own => Ok(own.is_some()),
+        }
+    }
+
+    pub fn declare_exchange(&mut self, declare: Declare) -> Answer {
+        let declare = kept(declare, self.alloc);
         if declare.passive {
             self.exchange(&declare.exchange)?;
-        } else {
-            self.ensure_exchange(declare)?;
+        } else if !self.is_declared(&declare)? {
+            check_not_reserved(&declare.exchange)?;
+            self.add_exchange(declare)?;
         }
-        let ok = exchange::DeclareOk::new().into_method(self.alloc);
-        self.reply(at, no_wait, ok)
+        answer(exchange::DeclareOk::new().into_method(self.alloc))
     }
 
-    /// Adds an exchange, or sees that the one that is there is as declared.
-    fn ensure_exchange(&mut self, declare: Declare) -> Done {
-        match self.exchanges.get(declare.exchange.as_bytes()) {
-            Some(exchange) if exchange.is_as(&declare) => Ok(()),
-            Some(_) => Err(Refusal::Precondition(declare.exchange, "is declared otherwise").into()),
-            None => {
-                check_not_reserved(&declare.exchange)?;
-                self.add_exchange(declare)
-            }
-        }
-    }
-
-    pub fn delete_exchange(&mut self, at: Place, delete: exchange::Delete) -> Done {
+    pub fn delete_exchange(&mut self, delete: exchange::Delete) -> Answer {
         let name = delete.exchange;
         check_not_reserved(&name)?;
         let exchange = self.exchanges.get(name.as_bytes());
         if delete.if_unused && exchange.is_some_and(|exchange| !exchange.bindings.is_empty()) {
-            return Err(Refusal::Precondition(name, "in use").into());
+            return refused(reply::PRECONDITION_FAILED, "in use", Some(&name));
         }
         self.exchanges.remove(name.as_bytes());
-        let ok = exchange::DeleteOk::new().into_method(self.alloc);
-        self.reply(at, delete.no_wait, ok)
+        answer(exchange::DeleteOk::new().into_method(self.alloc))
     }
 
-    pub fn bind_queue(&mut self, at: Place, bind: queue::Bind) -> Done {
+    pub fn bind_queue(&mut self, at: Place, bind: queue::Bind) -> Answer {
         let binding = Binding {
-            queue: self.queue(at, bind.queue)?.id,
+            queue: self.queue(at, &bind.queue)?.id,
             key: bind.routing_key,
             arguments: bind.arguments,
         };
@@ -203,13 +173,12 @@ impl Broker {
         if !bindings.contains(&binding) {
             bindings.push(binding)?;
         }
-        let ok = queue::BindOk::new().into_method(self.alloc);
-        self.reply(at, bind.no_wait, ok)
+        answer(queue::BindOk::new().into_method(self.alloc))
     }
 
-    pub fn unbind_queue(&mut self, at: Place, unbind: queue::Unbind) -> Done {
+    pub fn unbind_queue(&mut self, at: Place, unbind: queue::Unbind) -> Answer {
         let binding = Binding {
-            queue: self.queue(at, unbind.queue)?.id,
+            queue: self.queue(at, &unbind.queue)?.id,
             key: unbind.routing_key,
             arguments: unbind.arguments,
         };
@@ -217,6 +186,6 @@ impl Broker {
         if exchange.unbind(binding.queue, Some(&binding)) {
             self.exchanges.remove(unbind.exchange.as_bytes());
         }
-        self.reply(at, false, queue::UnbindOk::new().into_method(self.alloc))
+        answer(queue::UnbindOk::new().into_method(self.alloc))
     }
 }

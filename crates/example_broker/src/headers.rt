@@ -4,9 +4,6 @@ ghost use Rattle.std.specs.Prelude.{◌≡◌, ◌↔◌, true, false, Contains}
 use amqp_value::{ShortStr, Table, Value};
 use std::alloc::{AllocError, Global};
 
-/// The argument that says how many of the others have to match.
-const X_MATCH: &[u8] = b"x-match";
-
 /// Whether a message with these headers goes to a binding with these arguments: all of them are among the
 /// headers with the same value, or, with `x-match` `any`, at least one is. Arguments whose names begin with
 /// `x-` don't count.
@@ -18,21 +15,17 @@ pub fn headers_match(
     let mut tests = Vec::new(alloc);
     for pair in arguments.pairs() {
         if !pair.0.as_bytes().starts_with(b"x-") {
-            tests.push(has(headers, &pair.0, &pair.1))?;
+            tests.push(has(headers, &pair.0, &pair.1) == Some(true))?;
         }
     }
-    Ok(tests_suffice(wants_any(arguments), &tests))
+    let x_match = arguments.get(b"x-match").and_then(Value::as_bytes);
+    Ok(tests_suffice(x_match == Some(b"any".as_slice()), &tests))
 }
 
 /// Whether the headers have this name with this value. One without a value asks for the name alone.
-fn has(headers: Option<&Table>, name: &ShortStr, wanted: &Value) -> bool {
-    let Some(headers) = headers else {
-        return false;
-    };
-    match headers.get(name.as_bytes()) {
-        Some(value) => *wanted == Value::Void || *wanted == *value,
-        None => false,
-    }
+fn has(headers: Option<&Table>, name: &ShortStr, wanted: &Value) -> Option<bool> {
+    let value = headers?.get(name.as_bytes())?;
+    Some(*wanted == Value::Void || *wanted == *value)
 }
 
 /// Whether so many tests hold as a binding asks for: one of them, or all.
@@ -44,13 +37,5 @@ fn tests_suffice(any: bool, tests: &[bool]) -> bool
         tests.contains(&true)
     } else {
         !tests.contains(&false)
-    }
-}
-
-/// Whether one of the arguments is enough.
-fn wants_any(arguments: &Table) -> bool {
-    match arguments.get(X_MATCH) {
-        Some(value) => value.as_bytes() == Some(b"any".as_slice()),
-        None => false,
     }
 }

@@ -1,12 +1,11 @@
 //! Logins: what the broker says of itself, who may log in, and to which virtual host.
 use crate::connection::Connection;
-use crate::refusal::{Done, Refusal};
+use crate::fault::Done;
 use amqp_core::{AskFault, Config, End, Server, ServerHello};
-use amqp_method::Kind;
+use amqp_method::{Kind, reply};
 use amqp_typed::connection::{OpenRef, StartOkRef};
 use amqp_value::{ShortStr, Table, Value, read_table};
-use std::alloc::{AllocError, Global};
-use std::collections::BTreeMap;
+use std::alloc::Global;
 
 /// What clients look for before they use it.
 const CAPABILITIES: [&str; 5] = [
@@ -24,12 +23,10 @@ pub fn server_end(alloc: Global) -> anyhow::Result<End<Server>> {
         capabilities.push(ShortStr::text(alloc, name)?, Value::from(true))?;
     }
     let mut properties = Table::new(alloc);
-    let (product, name) = (ShortStr::text(alloc, "product")?, "example_broker");
-    properties.push(product, Value::string(alloc, name)?)?;
-    properties.push(
-        ShortStr::text(alloc, "capabilities")?,
-        Value::from(capabilities),
-    )?;
+    let name = Value::string(alloc, "example_broker")?;
+    properties.push(ShortStr::text(alloc, "product")?, name)?;
+    let capabilities = Value::from(capabilities);
+    properties.push(ShortStr::text(alloc, "capabilities")?, capabilities)?;
     let mut config = Config::new(ServerHello {
         properties,
         mechanisms: Vec::from_slice(alloc, b"PLAIN AMQPLAIN")?,
@@ -41,64 +38,55 @@ pub fn server_end(alloc: Global) -> anyhow::Result<End<Server>> {
     Ok(End::new(alloc, config)?)
 }
 
-/// Those who may log in, with their passwords.
+/// Those who may log in.
 #[derive(Drop)]
 pub struct Users {
-    passwords: BTreeMap<Vec<u8>, Vec<u8>>,
+    /// a line `name:password` for each
+    lines: String,
 }
 
 impl Users {
     /// The users of a text with a line `name:password` for each.
     pub fn from_text(alloc: Global, text: &str) -> anyhow::Result<Users> {
-        let mut passwords = BTreeMap::new(alloc);
-        for line in text.lines() {
-            let Some((name, password)) = line.split_once(':') else {
-                anyhow::bail!("a line of the users is not name:password");
-            };
-            let name = Vec::from_slice(alloc, name.as_bytes())?;
-            passwords.insert(name, Vec::from_slice(alloc, password.as_bytes())?)?;
+        if !text.lines().all(|line| line.contains(':')) {
+            anyhow::bail!("a line of the users is not name:password");
         }
-        Ok(Users { passwords })
+        let lines = String::from_str(alloc, text)?;
+        Ok(Users { lines })
     }
 
     fn has(&self, name: &[u8], password: &[u8]) -> bool {
-        match self.passwords.get(name) {
-            Some(own) => own.as_slice() == password,
+        let mut users = self.lines.as_str().lines();
+        users.any(|line| match line.split_once(':') {
+            Some((own, secret)) => own.as_bytes() == name && secret.as_bytes() == password,
             None => false,
-        }
+        })
     }
 
-    /// Whether the response of a client names a user with the password, by the mechanism that the client chose.
-    fn allow(&self, alloc: Global, start: StartOkRef<'_>) -> Result<bool, AllocError> {
+    /// Whether a client may log in as it says, by the mechanism that it chose. None: it says nothing that can be read.
+    fn allow(&self, alloc: Global, start: &StartOkRef<'_>) -> Option<bool> {
         match start.mechanism.as_bytes() {
-            b"PLAIN" => Ok(self.allow_plain(start.response)),
-            b"AMQPLAIN" => {
-                // a table without its length
-                let length = u32::try_from(start.response.len()).unwrap_or(u32::MAX);
-                let mut octets = Vec::from_slice(alloc, &length.to_be_bytes())?;
-                octets.extend_from_slice(start.response)?;
-                Ok(
-                    self.allow_table(read_table(alloc, &octets).ok())
-                        .unwrap_or(false),
-                )
-            }
-            _ => Ok(false),
+            b"PLAIN" => self.allow_plain(start.response),
+            b"AMQPLAIN" => self.allow_table(alloc, start.response),
+            _ => None,
         }
     }
 
-    /// The response of PLAIN: whom to act as, which isn't looked at, the name and the password, with zeros between.
-    fn allow_plain(&self, response: &[u8]) -> bool {
+    /// Whom to act as, which isn't looked at, the name and the password, with zeros between.
+    fn allow_plain(&self, response: &[u8]) -> Option<bool> {
         let mut parts = response.splitn(3, |octet| *octet == 0);
-        match (parts.next(), parts.next(), parts.next()) {
-            (Some(_), Some(name), Some(password)) => self.has(name, password),
-            _ => false,
-        }
+        parts.next()?;
+        Some(self.has(parts.next()?, parts.next()?))
     }
 
-    fn allow_table(&self, table: Option<(Table, usize)>) -> Option<bool> {
-        let (table, _) = table?;
-        let name = table.get(b"LOGIN")?.as_bytes()?;
-        Some(self.has(name, table.get(b"PASSWORD")?.as_bytes()?))
+    /// A table without its length.
+    fn allow_table(&self, alloc: Global, response: &[u8]) -> Option<bool> {
+        let length = u32::try_from(response.len()).ok()?;
+        let mut octets = Vec::from_slice(alloc, &length.to_be_bytes()).ok()?;
+        octets.extend_from_slice(response).ok()?;
+        let (table, _) = read_table(alloc, &octets).ok()?;
+        let (name, password) = (table.get(b"LOGIN")?, table.get(b"PASSWORD")?);
+        Some(self.has(name.as_bytes()?, password.as_bytes()?))
     }
 }
 
@@ -111,34 +99,32 @@ fn hears_blocked(properties: &Table) -> Option<bool> {
 impl Connection {
     /// Admits a login, where the users allow it.
     pub fn login(&mut self, users: &Users) -> Done {
-        let start = self.end.heard(Kind::ConnectionStartOk);
+        let start = self.link.end.heard(Kind::ConnectionStartOk);
         let start = start.and_then(StartOkRef::from_method);
         let start = start.ok_or(AskFault::NotAwaited)?;
         self.hears_blocked = hears_blocked(start.client_properties) == Some(true);
-        let mut refusal = None;
-        if !users.allow(self.alloc, start)? {
-            refusal = Some(Refusal::Login(start.mechanism.copy()?));
-        }
-        self.answer(refusal)
+        let is_user = users.allow(self.alloc, &start) == Some(true);
+        self.admit(is_user, reply::ACCESS_REFUSED, "no such login")
     }
 
     /// Admits a client to the virtual host.
     pub fn enter(&mut self) -> Done {
-        let open = self.end.heard(Kind::ConnectionOpen);
+        let open = self.link.end.heard(Kind::ConnectionOpen);
         let open = open.and_then(OpenRef::from_method);
         let open = open.ok_or(AskFault::NotAwaited)?;
-        let mut refusal = None;
-        if open.virtual_host.as_bytes() != b"/".as_slice() {
-            refusal = Some(Refusal::NoHost(open.virtual_host.copy()?));
-        }
-        self.answer(refusal)
+        let is_host = open.virtual_host.as_bytes() == b"/".as_slice();
+        self.admit(is_host, reply::NOT_ALLOWED, "no such host")
     }
 
-    fn answer(&mut self, refusal: Option<Refusal>) -> Done {
-        self.end.forget_heard();
-        match refusal {
-            Some(refusal) => self.end.refuse(refusal.code(), &refusal.text(self.alloc)?)?,
-            None => self.end.admit()?,
+    /// Admits what a client asks for in the handshake, or refuses it.
+    fn admit(&mut self, is_fine: bool, code: u16, text: &str) -> Done {
+        self.link.end.forget_heard();
+        if is_fine {
+            self.link.end.admit()?;
+        } else {
+            self.link
+                .end
+                .refuse(code, &ShortStr::text(self.alloc, text)?)?;
         }
         Ok(())
     }

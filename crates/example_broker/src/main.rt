@@ -6,20 +6,17 @@ mod channel;
 mod connection;
 mod credit;
 mod exchanges;
+mod fault;
 mod headers;
 mod login;
-mod memory;
 mod messages;
 mod messaging;
-mod methods;
-mod pulse;
 mod queues;
-mod refusal;
-mod server;
 mod topic;
 
+use crate::broker::Broker;
 use crate::login::Users;
-use crate::server::Server;
+use example_loop::Sockets;
 use std::alloc::Global;
 use std::net::{Net, TcpListener, TcpStream};
 use std::process::ExitCode;
@@ -32,6 +29,9 @@ Usage: example_broker [--users FILE] ADDRESS
 Serves AMQP 0-9-1 at ADDRESS, as 127.0.0.1:5672, to any number of clients. FILE has a line name:password
 for each user; without it the only user is guest, with the password guest. The virtual host is /.
 Exchanges, queues and messages are kept in memory, and are gone when the program ends.";
+
+/// So many octets of one connection are read before the next has its turn.
+const AT_ONCE: usize = 65_536;
 
 fn main(rt: HostRuntime) -> anyhow::Result<ExitCode> {
     let alloc = rt.alloc();
@@ -53,17 +53,33 @@ fn main(rt: HostRuntime) -> anyhow::Result<ExitCode> {
     Ok(ExitCode::SUCCESS)
 }
 
-/// Listens at an address, and serves whoever connects and is one of the users.
+/// Serves whoever connects at an address and is one of the users, until waiting fails, or memory is refused for what
+/// can't be left undone. One thread waits for all sockets; then each connection gets a turn, and each queue.
 fn serve<R: Net<Stream = TcpStream, Listener = TcpListener> + Clock + Print>(
     rt: &R,
     alloc: Global,
     address: &str,
     users: &str,
 ) -> anyhow::Result<()> {
-    let users = Users::from_text(alloc, users)?;
-    let listener = TcpListener::bind(rt, address)?;
-    listener.set_nonblocking(true)?;
-    println!(rt; "listening {}", listener.local_addr()?)?;
-    let listener = mio::net::TcpListener::from_std(listener);
-    Server::new(rt, alloc, listener, users)?.run()
+    let mut sockets = Sockets::listen(rt, alloc, address)?;
+    println!(rt; "listening {}", sockets.listener.local_addr()?)?;
+    let mut broker = Broker::new(alloc, Users::from_text(alloc, users)?)?;
+    let mut room = vec![in alloc; 0; AT_ONCE]?;
+    for _ in 0..u64::MAX {
+        let has_ticked = sockets.wait(broker.has_work())?;
+        for event in sockets.events.iter() {
+            if let Some(connection) = broker.connections.get_mut(&event.token().0) {
+                connection.link.note(event);
+            }
+        }
+        for _ in 0..u64::MAX {
+            let Some((id, stream)) = sockets.accept() else {
+                break;
+            };
+            // one that can't be served, for want of memory, is dropped
+            drop(broker.add_connection(id, stream));
+        }
+        broker.turn(has_ticked, &mut room)?;
+    }
+    Ok(())
 }

@@ -3,15 +3,18 @@ ghost use Rattle.std.specs.Prelude.{ℕ, ◌≡◌, ◌<◌, true, is_some};
 ghost use Rattle.std.specs.Ordering.{nat_cmp};
 ghost use Rattle.std.specs.BTreeMap as tree;
 
-use crate::memory::Share;
+use crate::fault::Fault;
 use crate::queues::count;
-use crate::refusal::Fault;
 use amqp_method::{Method, Properties};
 use amqp_typed::basic::{Deliver, GetOk, Publish};
 use amqp_value::ShortStr;
 use std::alloc::{AllocError, Global};
+use std::cell::Cell;
 use std::collections::BTreeMap;
 use std::rc::Rc;
+
+/// What a message takes beside its body, about.
+const OVERHEAD: usize = 512;
 
 /// A message as it was published. The queues that hold it share it.
 #[derive(Drop)]
@@ -20,6 +23,25 @@ pub struct Content {
     pub properties: Properties,
     pub body: Vec<u8>,
     pub share: Share,
+}
+
+/// So many octets are counted among those that all messages hold, for as long as the share is kept.
+pub struct Share(pub usize, pub Rc<Cell<usize>>);
+
+impl Share {
+    /// The share of a message with a body of this length.
+    pub fn new(body: usize, held: &Rc<Cell<usize>>) -> Result<Share, AllocError> {
+        let (octets, held) = (body.saturating_add(OVERHEAD), held.clone()?);
+        held.set(held.get().saturating_add(octets));
+        Ok(Share(octets, held))
+    }
+}
+
+impl Drop for Share {
+    fn drop(self) {
+        let Share(octets, held) = self;
+        held.set(held.get().saturating_sub(octets));
+    }
 }
 
 /// A message in a queue.

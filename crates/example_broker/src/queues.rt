@@ -1,60 +1,71 @@
 //! Queues: how each was declared, its messages, and who consumes them.
 use crate::broker::Broker;
-use crate::channel::Channel;
+use crate::connection::Connection;
 use crate::exchanges::check_not_reserved;
+use crate::fault::{Answer, Done, Fault, answer, refused};
 use crate::messages::Messages;
-use crate::refusal::{Done, Fault, Refusal};
+use amqp_method::reply;
 use amqp_typed::queue::{self, Declare};
-use amqp_value::{OutOfMemory, ShortStr};
+use amqp_value::{ShortStr, Table};
+use std::alloc::Global;
 use std::collections::{BTreeMap, VecDeque};
 
 /// What the broker calls a queue. A number is never used again, so what still refers to a queue that is gone
 /// finds none.
 pub type QueueId = u64;
 
-/// A channel of a connection.
-#[derive(Clone, Copy, PartialEq, Eq)]
-pub struct Place {
-    pub connection: u64,
-    pub channel: u16,
-}
+/// By their numbers.
+pub type Queues = BTreeMap<QueueId, Queue>;
 
-/// A consumer on a channel.
+/// A channel of a connection: the numbers of both.
 #[derive(Clone, Copy)]
-pub struct Seat {
-    pub at: Place,
-    pub consumer: u64,
-}
+pub struct Place(pub usize, pub u16);
 
 #[derive(Drop)]
 pub struct Queue {
     pub id: QueueId,
     declare: Declare,
     /// The connection that alone may use the queue, and with which it ends.
-    pub owner: Option<u64>,
+    pub owner: Option<usize>,
     /// One consumer has the queue for itself.
     pub is_taken: bool,
     pub messages: Messages,
-    /// The next to get a message comes first.
-    pub consumers: VecDeque<Seat>,
+    /// The consumers, each with its channel. The next to get a message comes first.
+    pub consumers: VecDeque<(Place, u64)>,
 }
 
 impl Queue {
-    pub fn name(&self) -> Result<ShortStr, OutOfMemory> {
-        self.declare.queue.copy()
-    }
-
-    /// Whether the queue is as a declaration says.
-    fn is_as(&self, declare: &Declare) -> bool {
-        let own = &self.declare;
-        own.durable == declare.durable && own.auto_delete == declare.auto_delete
-    }
-
     /// A consumer is gone. It answers whether the queue goes with it.
     fn remove_consumer(&mut self, id: u64) -> bool {
-        self.consumers.retain(|seat| seat.consumer != id);
+        self.consumers.retain(|seat| seat.1 != id);
         self.is_taken &= !self.consumers.is_empty();
         self.declare.auto_delete && self.consumers.is_empty()
+    }
+
+    fn ready(&self) -> u32 {
+        count(self.messages.ready_count())
+    }
+
+    /// Sends messages to the consumers by turns, until there are none or no consumer may be sent one.
+    pub fn deliver(&mut self, connections: &mut BTreeMap<usize, Connection>) {
+        let mut passed = 0;
+        for _ in 0..u64::MAX {
+            if passed >= self.consumers.len() || self.messages.ready_count() == 0 {
+                break;
+            }
+            let Some((at, id)) = self.consumers.front().copied() else {
+                break;
+            };
+            self.consumers.rotate_left(1);
+            passed += 1;
+            if let Some(connection) = connections.get_mut(&at.0) {
+                match connection.offer(self, at.1, id) {
+                    Ok(true) => passed = 0,
+                    Ok(false) => {}
+                    Err(_) => connection.link.is_gone = true,
+                }
+            }
+        }
     }
 }
 
@@ -63,80 +74,66 @@ pub fn count(number: usize) -> u32 {
     u32::try_from(number).unwrap_or(u32::MAX)
 }
 
-/// Messages of a channel wait no more: those with tags from one to another. They are done with, or go back to
-/// their queues.
-pub fn settle(
-    queues: &mut BTreeMap<QueueId, Queue>,
-    channel: &mut Channel,
-    first: u64,
-    last: u64,
-    requeue: bool,
-) -> Done {
-    for _ in 0..u64::MAX {
-        let Some(delivery) = channel.settle_next(first, last) else {
-            break;
-        };
-        match queues.get_mut(&delivery.queue) {
-            Some(queue) if requeue => queue.messages.put_back(delivery.place, delivery.content)?,
-            _ => {}
-        }
-    }
-    Ok(())
+/// A declaration of the queue of that name, as it is kept, and compared with a later one.
+fn kept(mut declare: Declare, name: ShortStr, alloc: Global) -> Declare {
+    declare.queue = name;
+    declare.no_wait = false;
+    declare.arguments = Table::new(alloc);
+    declare
 }
 
 impl Broker {
     /// The name of a queue that a method means: an empty one stands for the queue that was declared last on
     /// the channel.
-    fn queue_name(&mut self, at: Place, name: ShortStr) -> Result<ShortStr, Fault> {
+    fn queue_name(&mut self, at: Place, name: &ShortStr) -> Result<ShortStr, Fault> {
         if name.is_empty() {
             return Ok(self.channel(at)?.last_queue.copy()?);
         }
-        Ok(name)
+        Ok(name.copy()?)
     }
 
     /// The queue of a name, for a connection that may use it.
-    pub fn queue(&mut self, at: Place, name: ShortStr) -> Result<&mut Queue, Fault> {
+    pub fn queue(&mut self, at: Place, name: &ShortStr) -> Result<&mut Queue, Fault> {
         let name = self.queue_name(at, name)?;
         let id = self.names.get(name.as_bytes());
         let Some(queue) = id.and_then(|id| self.queues.get_mut(id)) else {
-            return Err(Refusal::NotFound("queue", name).into());
+            return refused(reply::NOT_FOUND, "no queue", Some(&name));
         };
-        if queue.owner.is_some_and(|owner| owner != at.connection) {
-            return Err(Refusal::Locked(name).into());
+        if queue.owner.is_some_and(|owner| owner != at.0) {
+            return refused(reply::RESOURCE_LOCKED, "another has queue", Some(&name));
         }
         Ok(queue)
     }
 
-    pub fn declare_queue(&mut self, at: Place, mut declare: Declare) -> Done {
-        let (id, no_wait) = (self.next_id()?, declare.no_wait);
-        let is_made_up = declare.queue.is_empty() && !declare.passive;
-        declare.queue = if is_made_up {
-            self.made_up_name("amq.gen", id)?
+    pub fn declare_queue(&mut self, at: Place, declare: Declare) -> Answer {
+        let is_unnamed = declare.queue.is_empty() && !declare.passive;
+        let name = if is_unnamed {
+            self.made_up_name("amq.gen")?
         } else {
-            self.queue_name(at, declare.queue)?
+            self.queue_name(at, &declare.queue)?
         };
-        let name = declare.queue.copy()?;
-        if !declare.passive && !self.names.contains_key(name.as_bytes()) {
-            if !is_made_up {
+        let declare = kept(declare, name.copy()?, self.alloc);
+        if declare.passive || self.names.contains_key(name.as_bytes()) {
+            self.check_declared(at, &declare)?;
+        } else {
+            if !is_unnamed {
                 check_not_reserved(&name)?;
             }
-            self.add_queue(at, id, declare)?;
-        } else {
-            self.check_declared(at, declare)?;
+            self.add_queue(at, declare)?;
         }
-        let queue = self.queue(at, name.copy()?)?;
-        let (ready, consumers) = (queue.messages.ready_count(), queue.consumers.len());
-        let ok = queue::DeclareOk::new(name.copy()?, count(ready), count(consumers));
-        self.channel(at)?.last_queue = name;
-        self.reply(at, no_wait, ok.into_method(self.alloc))
+        let queue = self.queue(at, &name)?;
+        let (ready, consumers) = (queue.ready(), count(queue.consumers.len()));
+        self.channel(at)?.last_queue = name.copy()?;
+        answer(queue::DeclareOk::new(name, ready, consumers).into_method(self.alloc))
     }
 
-    fn add_queue(&mut self, at: Place, id: QueueId, declare: Declare) -> Done {
+    fn add_queue(&mut self, at: Place, declare: Declare) -> Done {
+        let id = self.next_id()?;
         let name = Vec::from_slice(self.alloc, declare.queue.as_bytes())?;
         self.names.insert(name, id)?;
         let queue = Queue {
             id,
-            owner: declare.exclusive.then_some(at.connection),
+            owner: declare.exclusive.then_some(at.0),
             declare,
             is_taken: false,
             messages: Messages::new(self.alloc),
@@ -146,43 +143,40 @@ impl Broker {
         Ok(())
     }
 
-    /// Sees that a queue that is there is as declared.
-    fn check_declared(&mut self, at: Place, declare: Declare) -> Done {
-        let queue = self.queue(at, declare.queue.copy()?)?;
-        let owner = declare.exclusive.then_some(at.connection);
-        if !declare.passive && queue.owner != owner {
-            return Err(Refusal::Locked(declare.queue).into());
+    /// Sees that a queue is there, and is as declared.
+    fn check_declared(&mut self, at: Place, declare: &Declare) -> Done {
+        let own = &self.queue(at, &declare.queue)?.declare;
+        if declare.passive || *own == *declare {
+            return Ok(());
         }
-        if !declare.passive && !queue.is_as(&declare) {
-            return Err(Refusal::Precondition(declare.queue, "is declared otherwise").into());
-        }
-        Ok(())
+        let (code, why) = if own.exclusive == declare.exclusive {
+            (reply::PRECONDITION_FAILED, "declared otherwise: queue")
+        } else {
+            (reply::RESOURCE_LOCKED, "another has queue")
+        };
+        refused(code, why, Some(&declare.queue))
     }
 
-    pub fn delete_queue(&mut self, at: Place, delete: queue::Delete) -> Done {
-        let name = self.queue_name(at, delete.queue)?;
+    pub fn delete_queue(&mut self, at: Place, delete: queue::Delete) -> Answer {
+        let name = self.queue_name(at, &delete.queue)?;
         let mut ready = 0;
         if self.names.contains_key(name.as_bytes()) {
-            let queue = self.queue(at, name.copy()?)?;
-            ready = queue.messages.ready_count();
-            if delete.if_unused && !queue.consumers.is_empty() {
-                return Err(Refusal::Precondition(name, "in use").into());
+            let queue = self.queue(at, &name)?;
+            let (id, is_used) = (queue.id, !queue.consumers.is_empty());
+            ready = queue.ready();
+            if (delete.if_unused && is_used) || (delete.if_empty && ready > 0) {
+                return refused(reply::PRECONDITION_FAILED, "in use: queue", Some(&name));
             }
-            if delete.if_empty && ready > 0 {
-                return Err(Refusal::Precondition(name, "not empty").into());
-            }
-            let id = queue.id;
             self.remove_queue(id);
         }
-        let ok = queue::DeleteOk::new(count(ready));
-        self.reply(at, delete.no_wait, ok.into_method(self.alloc))
+        answer(queue::DeleteOk::new(ready).into_method(self.alloc))
     }
 
-    pub fn purge_queue(&mut self, at: Place, purge: queue::Purge) -> Done {
-        let messages = &mut self.queue(at, purge.queue)?.messages;
-        let ok = queue::PurgeOk::new(count(messages.ready_count()));
-        messages.purge();
-        self.reply(at, purge.no_wait, ok.into_method(self.alloc))
+    pub fn purge_queue(&mut self, at: Place, purge: queue::Purge) -> Answer {
+        let queue = self.queue(at, &purge.queue)?;
+        let ready = queue.ready();
+        queue.messages.purge();
+        answer(queue::PurgeOk::new(ready).into_method(self.alloc))
     }
 
     /// A consumer is gone, and perhaps its queue with it.
@@ -198,15 +192,13 @@ impl Broker {
     pub fn remove_queue(&mut self, id: QueueId) {
         if let Some(queue) = self.queues.remove(&id) {
             self.names.remove(queue.declare.queue.as_bytes());
-            for seat in queue.consumers.iter() {
-                if let Ok(channel) = self.channel(seat.at) {
-                    channel
-                        .consumers
-                        .retain(|consumer| consumer.id != seat.consumer);
+            for (at, id) in queue.consumers.iter() {
+                if let Ok(channel) = self.channel(*at) {
+                    channel.consumers.remove(id);
                 }
             }
-            self.exchanges
-                .retain(|_, exchange| !exchange.unbind(id, None));
+            let exchanges = &mut self.exchanges;
+            exchanges.retain(|_, exchange| !exchange.unbind(id, None));
         }
     }
 }

@@ -1,6 +1,6 @@
 //! Heartbeats: how long nothing came, and nothing went.
 ghost use Rattle.std.specs.Prelude.{◌≡◌, ◌↔◌, ◌≤◌, ◌<◌, ◌*◌, ◌⊎◌, ◌==◌, ◌&&◌, IsTrue};
-ghost use Rattle.example_broker.specs.Pulses.{ticks_after};
+ghost use Rattle.example_loop.specs.Pulses.{ticks_after};
 
 /// How many ticks of half a second passed with the same counts of frames taken, and of octets written.
 #[derive(Clone, Copy, Default)]
@@ -18,14 +18,9 @@ impl Pulse {
         ensures idle { self.new.idle ≡ ticks_after (octets == self.old.octets) self.old.idle }
         ensures counts { (self.new.frames ≡ frames) × (self.new.octets ≡ octets) }
     {
-        let silent = ticks_after(is_read && frames == self.frames, self.silent);
-        let idle = ticks_after(octets == self.octets, self.idle);
-        *self = Pulse {
-            frames,
-            octets,
-            silent,
-            idle,
-        };
+        self.silent = ticks_after(is_read && frames == self.frames, self.silent);
+        self.idle = ticks_after(octets == self.octets, self.idle);
+        (self.frames, self.octets) = (frames, octets);
     }
 
     /// Whether nothing went for half a heartbeat, which is in seconds.

@@ -1,0 +1,62 @@
+//! What comes of a method: an answer, or why it isn't done.
+use amqp_core::AskFault;
+use amqp_method::{Method, OutOfMemory, reply};
+use amqp_value::{ShortStr, ValueFault};
+use std::alloc::{AllocError, Global};
+use thiserror::Error;
+
+#[derive(Debug, Drop, Error)]
+pub enum Fault {
+    /// What it asks for is refused: the client is told by a close with this code, why it is, and the name that it is about. A hard
+    /// code closes the connection, a soft one the channel alone.
+    #[error("{1} {2:?}")]
+    Refused(u16, &'static str, Option<ShortStr>),
+    /// It can't be answered, for this reason or one of those below: the connection is given up.
+    #[error(transparent)]
+    Unanswered(#[from] AskFault),
+    #[error(transparent)]
+    Memory(#[from(alloc)] AllocError),
+    #[error(transparent)]
+    Value(#[from] amqp_value::OutOfMemory),
+    #[error(transparent)]
+    Method(#[from] OutOfMemory),
+    /// A string that the broker makes is too long, which none is.
+    #[error(transparent)]
+    Text(#[from] ValueFault),
+}
+
+/// What comes of a method that isn't answered.
+pub type Done = Result<(), Fault>;
+
+/// What a method is answered, unless the client wants no answer.
+pub type Answer = Result<Option<Method>, Fault>;
+
+pub fn answer(method: Result<Method, OutOfMemory>) -> Answer {
+    Ok(Some(method?))
+}
+
+/// Refuses a method. The codes are RabbitMQ's.
+pub fn refused<T>(code: u16, why: &'static str, name: Option<&ShortStr>) -> Result<T, Fault> {
+    let name = name.map(ShortStr::copy).transpose()?;
+    Err(Fault::Refused(code, why, name))
+}
+
+impl Fault {
+    /// The code and the text of the close by which the client is told, or the fault where it isn't. A close takes 255
+    /// octets of text.
+    pub fn into_close(self, alloc: Global) -> Result<(u16, ShortStr), Fault> {
+        let Fault::Refused(code, why, name) = self else {
+            return Err(self);
+        };
+        let kind = reply::reply_name(code).unwrap_or("refused");
+        let text = match name {
+            Some(name) => format!(in alloc; "{kind} - {why} {name:?}")?,
+            None => format!(in alloc; "{kind} - {why}")?,
+        };
+        let octets = text.as_bytes();
+        Ok((
+            code,
+            ShortStr::new(alloc, &octets[..octets.len().min(255)])?,
+        ))
+    }
+}

@@ -1,0 +1,73 @@
+//! The sockets of a program: who connects is accepted, and one thread waits until any of them is ready.
+use mio::net::{TcpListener, TcpStream};
+use mio::{Events, Interest, Poll, Token};
+use std::alloc::Global;
+use std::io;
+use std::net::{self, Net};
+use std::time::{Clock, Duration, Instant};
+
+/// So many milliseconds pass from tick to tick.
+const TICK: u64 = 500;
+
+/// A listening socket, and the wait for it and for those that it has accepted.
+#[derive(Drop)]
+pub struct Sockets<'a, R: Net + Clock> {
+    rt: &'a R,
+    poll: Poll,
+    /// What the last wait found ready: the listener by the token 0, connections by their numbers, from 1 on.
+    pub events: Events,
+    pub listener: TcpListener,
+    last: usize,
+    ticked: Instant,
+}
+
+impl<'a, R: Net<Stream = net::TcpStream, Listener = net::TcpListener> + Clock> Sockets<'a, R> {
+    /// Listens at an address.
+    pub fn listen(rt: &'a R, alloc: Global, address: &str) -> anyhow::Result<Sockets<'a, R>> {
+        let listener = net::TcpListener::bind(rt, address)?;
+        listener.set_nonblocking(true)?;
+        let mut listener = TcpListener::from_std(listener);
+        let poll = Poll::new(rt)?;
+        let (registry, token) = (poll.registry(), Token(0));
+        registry.register(&mut listener, token, Interest::READABLE)?;
+        Ok(Sockets {
+            rt,
+            poll,
+            events: Events::with_capacity(alloc, 1024)?,
+            listener,
+            last: 0,
+            ticked: Instant::now(rt)?,
+        })
+    }
+
+    /// Waits for a socket or the next tick, or not at all where there is something to do. Answers whether it ticks.
+    pub fn wait(&mut self, is_busy: bool) -> io::Result<bool> {
+        let tick = Duration::from_millis(TICK);
+        let left = tick.saturating_sub(self.ticked.elapsed(self.rt)?);
+        let wait = if is_busy { Duration::ZERO } else { left };
+        self.poll.poll(&mut self.events, Some(wait))?;
+        let is_over = self.ticked.elapsed(self.rt)? >= tick;
+        if is_over {
+            self.ticked = Instant::now(self.rt)?;
+        }
+        Ok(is_over)
+    }
+
+    /// The next who connects, with a number of its own. One that can't be served is dropped.
+    pub fn accept(&mut self) -> Option<(usize, TcpStream)> {
+        let (stream, _) = self.listener.accept().ok()?;
+        self.last = self.last.saturating_add(1);
+        Some((self.last, self.register(self.last, stream).ok()?))
+    }
+
+    /// Waits for a socket too, under a number that may be another's as well.
+    pub fn register(&self, number: usize, mut stream: TcpStream) -> io::Result<TcpStream> {
+        stream.set_nodelay(true)?;
+        let (registry, both_ways) = (
+            self.poll.registry(),
+            Interest::READABLE | Interest::WRITABLE,
+        );
+        registry.register(&mut stream, Token(number), both_ways)?;
+        Ok(stream)
+    }
+}
