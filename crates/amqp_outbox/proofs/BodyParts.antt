@@ -6,7 +6,7 @@ use Rattle.std.proofs.lemmas.List.{length-take-le, take_min}
 use Rattle.std.proofs.lemmas.List.Elements.{All-nil, All-cons}
 use Rattle.std.proofs.lemmas.Nat.{div-add-mod', le-div}
 use Rattle.byteorder.specs.Endian.{big_bytes}
-use Rattle.amqp_frame.specs.Frame.{Frame, header, octets, type_octet, END}
+use Rattle.amqp_frame.specs.Frame.{header, octets, type_octet, END}
 use Rattle.amqp_frame.specs.declared.frames.FrameKind.TheVariants.{Body}
 use Rattle.amqp_frame.specs.Splitting.{stream}
 use Rattle.amqp_model.specs.Output.Arrangement.{HasChannel}

@@ -1,5 +1,6 @@
 pub mod BodyParts
 mod ChunkLemmas
+mod OutboxAside
 mod OutboxFrames
 mod OutboxHanding
 mod OutboxLapMoves

@@ -1,15 +1,16 @@
 -- A row that is handed over, frame by frame.
-use Rattle.std.proofs.Common.{◌≡◌, ℕ, suc, ◌+◌, ◌-◌, ◌<◌, ◌≤◌, List, [], ◌∷◌, ◌++◌, length, map, take, drop, get_or, All, refl, sym, ap, ap₂, ◌∙◌, arith, append_assoc, length-append, length-drop}
+use Rattle.std.proofs.Common.{◌≡◌, ℕ, suc, ◌+◌, ◌-◌, ◌<◌, ◌≤◌, List, [], ◌∷◌, ◌++◌, length, map, take, drop, get_or, All, sym, ap, ◌∙◌, arith, append_assoc, length-append, length-drop}
 use Rattle.std.proofs.Math.Seq.{drop-cons, take-suc}
 use Rattle.std.proofs.lemmas.List.{length-map, get_or-map, take_at, drop_at, drop-take, length-take-le}
 use Rattle.amqp_frame.specs.Frame.{Frame, octets}
 use Rattle.amqp_frame.specs.Splitting.{stream}
 use Rattle.amqp_model.specs.Output.Arrangement.{HasChannel}
 use Rattle.amqp_outbox.specs.OutboxSlots.{slot_of, slot_length, slots_in, frame_in}
-use Rattle.amqp_outbox.specs.OutboxFields.{row_of, outgoing_of, OutboxIsSound}
+use Rattle.amqp_outbox.specs.OutboxFields.{all_octets, row_of, outgoing_of, OutboxIsSound}
 use Rattle.amqp_outbox.specs.OutboxView.{Outgoing, with_staged}
 use Rattle.amqp_outbox.specs.declared.outbox.Outbox.TheInside.{Inside}
 use Rattle.amqp_outbox.specs.declared.slots.Waiting.{Waiting}
+use Rattle.amqp_outbox.proofs.OutboxAside.{in-front}
 use Rattle.amqp_outbox.proofs.OutboxRows.{length-octets}
 use Rattle.amqp_outbox.proofs.OutboxWaiting.{count-slots, slot-at}
 use Rattle.amqp_outbox.proofs.PiecesWrites.{nothing-left}
@@ -85,22 +86,23 @@ pub octets-lent : (x : Inside) (items : List ℕ) → OutboxIsSound x → items 
 octets-lent x items s e =
     let a = s.begun in
     ap (λ os. take (x.arranged - x.begun) (drop x.begun os)) e
-    ∙ (sym (drop-take x.begun (x.arranged - x.begun) x.octets.items)
-    ∙ (ap (λ n. drop x.begun (take n x.octets.items)) (omega arith) ∙ sym s.row_encoded))
+    ∙ (in-front x.octets.items x.aside.items x.begun x.arranged a s.aside.row
+    ∙ (sym (drop-take x.begun (x.arranged - x.begun) (all_octets x))
+    ∙ (ap (λ n. drop x.begun (take n (all_octets x))) (omega arith) ∙ sym s.row_encoded)))
 
 -- nothing is begun, or something is
 pub none-ahead : (x : Inside) (value : Outgoing) → OutboxIsSound x → outgoing_of x ≡ value → x.begun ≤ x.written → value.output.ahead ≡ []
 none-ahead x value s e h =
     let a = s.begun in
     let b = s.arranged in
-    let l = length-take-le x.begun x.octets.items (omega arith) in
-    sym (ap (λ (o : Outgoing). o.output.ahead) e) ∙ nothing-left x.written (take x.begun x.octets.items) (omega arith)
+    let l = length-take-le x.begun (all_octets x) (omega arith) in
+    sym (ap (λ (o : Outgoing). o.output.ahead) e) ∙ nothing-left x.written (take x.begun (all_octets x)) (omega arith)
 
 pub some-ahead : (x : Inside) (value : Outgoing) → OutboxIsSound x → outgoing_of x ≡ value → x.written < x.begun → value.output.ahead ≡ [] → ⊥
 some-ahead x value s e h none =
     let a = s.begun in
     let b = s.arranged in
-    let l = length-take-le x.begun x.octets.items (omega arith) in
-    let d = length-drop x.written (take x.begun x.octets.items) in
+    let l = length-take-le x.begun (all_octets x) (omega arith) in
+    let d = length-drop x.written (take x.begun (all_octets x)) in
     let z = ap length (ap (λ (o : Outgoing). o.output.ahead) e ∙ none) in
     omega arith

@@ -10,10 +10,11 @@ use Rattle.amqp_model.specs.Laws.ArrangementLaws.{PutArranges}
 use Rattle.amqp_model.specs.Output.Outputs.{output_octets, waiting_on, after_put, after_puts}
 use Rattle.amqp_outbox.specs.OutboxSlots.{slot_of, slots_in, slot_length, slots_length, slots_length_on, moved_up, moved_down}
 use Rattle.amqp_outbox.specs.OutboxView.{Outgoing, only, with_staged, all_put, IsPutOfFirst}
-use Rattle.amqp_outbox.specs.OutboxFields.{row_of, staged_of, outgoing_of, all_slots, OutboxIsSound}
+use Rattle.amqp_outbox.specs.OutboxFields.{all_octets, row_of, staged_of, outgoing_of, all_slots, OutboxIsSound}
 use Rattle.amqp_outbox.specs.declared.slots.Slot.{Slot}
 use Rattle.amqp_outbox.specs.declared.slots.Waiting.{Waiting}
 use Rattle.amqp_outbox.specs.declared.outbox.Outbox.TheInside.{Inside}
+use Rattle.amqp_outbox.proofs.OutboxAside.{in-front}
 use Rattle.amqp_outbox.proofs.OutboxLists.{moved_up-is, moved_down-is, last_of_three, last_of_four, length-second}
 use Rattle.amqp_outbox.proofs.OutboxRows.{stream-append, length-octets, slots_length-row, slots_length_on-row}
 use Rattle.amqp_outbox.proofs.OutboxSlots.{slots_length_on-most}
@@ -24,28 +25,29 @@ use Rattle.amqp_outbox.proofs.OutboxStates.{IsLaidOut, IsKept, laid_out, view, o
 pub output-is : (x : Inside) → OutboxIsSound x → take (x.arranged - x.written) (drop x.written x.octets.items) ≡ output_octets (outgoing_of x).output
 output-is x s =
     let l = laid_out x s in
-    let ahead = drop x.written (take x.begun x.octets.items) in
-    let gone = take x.written x.octets.items in
-    let a : drop x.written x.octets.items ≡ ahead ++ (stream (row_of x) ++ stream (staged_of x)) = ap (drop x.written) l.octets ∙ drop_at gone (ahead ++ (stream (row_of x) ++ stream (staged_of x))) x.written (sym l.written) in
-    let b : drop x.written x.octets.items ≡ (ahead ++ stream (row_of x)) ++ stream (staged_of x) = a ∙ sym (append_assoc ahead (stream (row_of x)) (stream (staged_of x))) in
+    let ahead = drop x.written (take x.begun (all_octets x)) in
+    let gone = take x.written (all_octets x) in
+    let a : drop x.written (all_octets x) ≡ ahead ++ (stream (row_of x) ++ stream (staged_of x)) = ap (drop x.written) l.octets ∙ drop_at gone (ahead ++ (stream (row_of x) ++ stream (staged_of x))) x.written (sym l.written) in
+    let b : drop x.written (all_octets x) ≡ (ahead ++ stream (row_of x)) ++ stream (staged_of x) = a ∙ sym (append_assoc ahead (stream (row_of x)) (stream (staged_of x))) in
     let c = length-append ahead (stream (row_of x)) in
     let d = l.begun in
     let e = l.arranged in
-    ap (take (x.arranged - x.written)) b ∙ take_at (ahead ++ stream (row_of x)) (stream (staged_of x)) (x.arranged - x.written) (omega arith)
+    in-front x.octets.items x.aside.items x.written x.arranged (omega arith) s.aside.row
+    ∙ (ap (take (x.arranged - x.written)) b ∙ take_at (ahead ++ stream (row_of x)) (stream (staged_of x)) (x.arranged - x.written) (omega arith))
 
 -- The octets that are written are dropped.
-pub written-dropped : (x y : Inside) → OutboxIsSound x → y.octets.items ≡ drop x.written x.octets.items → all_slots y ≡ all_slots x → y.written ≡ 0 → y.begun ≡ x.begun - x.written → y.arranged ≡ x.arranged - x.written
+pub written-dropped : (x y : Inside) → OutboxIsSound x → all_octets y ≡ drop x.written (all_octets x) → all_slots y ≡ all_slots x → y.written ≡ 0 → y.begun ≡ x.begun - x.written → y.arranged ≡ x.arranged - x.written
     → y.slots_begun ≡ x.slots_begun → y.slots_arranged ≡ x.slots_arranged
-    → IsLaidOut y [] (drop x.written (take x.begun x.octets.items)) (take x.slots_begun (all_slots x)) (row_of x) (staged_of x)
+    → IsLaidOut y [] (drop x.written (take x.begun (all_octets x))) (take x.slots_begun (all_slots x)) (row_of x) (staged_of x)
 written-dropped x y s octets slots written begun arranged slots_begun slots_arranged =
     let l = laid_out x s in
-    let ahead = drop x.written (take x.begun x.octets.items) in
+    let ahead = drop x.written (take x.begun (all_octets x)) in
     let rest = ahead ++ (stream (row_of x) ++ stream (staged_of x)) in
     let a = l.begun in
     let b = l.arranged in
     let c = s.written in
     record {
-      octets = octets ∙ (ap (drop x.written) l.octets ∙ drop_at (take x.written x.octets.items) rest x.written (sym l.written));
+      octets = octets ∙ (ap (drop x.written) l.octets ∙ drop_at (take x.written (all_octets x)) rest x.written (sym l.written));
       slots = slots ∙ l.slots;
       written = written;
       begun = omega arith;
@@ -55,9 +57,9 @@ written-dropped x y s octets slots written begun arranged slots_begun slots_arra
     }
 
 -- The slots of the frames that are begun are dropped.
-pub begun-dropped : (x y : Inside) → OutboxIsSound x → y.octets.items ≡ x.octets.items → all_slots y ≡ drop x.slots_begun (all_slots x) → y.written ≡ x.written → y.begun ≡ x.begun → y.arranged ≡ x.arranged
+pub begun-dropped : (x y : Inside) → OutboxIsSound x → all_octets y ≡ all_octets x → all_slots y ≡ drop x.slots_begun (all_slots x) → y.written ≡ x.written → y.begun ≡ x.begun → y.arranged ≡ x.arranged
     → y.slots_begun ≡ 0 → y.slots_arranged ≡ x.slots_arranged - x.slots_begun
-    → IsLaidOut y (take x.written x.octets.items) (drop x.written (take x.begun x.octets.items)) [] (row_of x) (staged_of x)
+    → IsLaidOut y (take x.written (all_octets x)) (drop x.written (take x.begun (all_octets x))) [] (row_of x) (staged_of x)
 begun-dropped x y s octets slots written begun arranged slots_begun slots_arranged =
     let l = laid_out x s in
     let rest = map slot_of (row_of x) ++ map slot_of (staged_of x) in
@@ -75,19 +77,38 @@ begun-dropped x y s octets slots written begun arranged slots_begun slots_arrang
     }
 
 -- fields that are laid out with the same lists stand for the same
-pub same_view : (x y : Inside) (gone : List ℕ) (past : List Slot) (value : Outgoing) → outgoing_of x ≡ value → y.begun_on ≡ x.begun_on → y.last ≡ x.last → IsLaidOut y gone (drop x.written (take x.begun x.octets.items)) past (row_of x) (staged_of x) → outgoing_of y ≡ value
+pub same_view : (x y : Inside) (gone : List ℕ) (past : List Slot) (value : Outgoing) → outgoing_of x ≡ value → y.begun_on ≡ x.begun_on → y.last ≡ x.last → IsLaidOut y gone (drop x.written (take x.begun (all_octets x))) past (row_of x) (staged_of x) → outgoing_of y ≡ value
 same_view x y gone past value e on f l =
-    let ahead = drop x.written (take x.begun x.octets.items) in
+    let ahead = drop x.written (take x.begun (all_octets x)) in
     view y gone ahead past (row_of x) (staged_of x) l ∙ (ap₂ (λ c last. outgoing ahead c last (row_of x) (staged_of x)) on f ∙ e)
 
--- A frame is staged after the others.
-pub frame-staged : (x y : Inside) (f : Frame) → OutboxIsSound x → y.octets.items ≡ x.octets.items ++ octets f → all_slots y ≡ all_slots x ++ slot_of f ∷ [] → y.written ≡ x.written → y.begun ≡ x.begun → y.arranged ≡ x.arranged
+-- The room alone is another.
+pub still-laid : (x y : Inside) → OutboxIsSound x → y.octets.items ≡ x.octets.items → y.aside.items ≡ x.aside.items → y.slots.items ≡ x.slots.items → y.written ≡ x.written → y.begun ≡ x.begun → y.arranged ≡ x.arranged
     → y.slots_begun ≡ x.slots_begun → y.slots_arranged ≡ x.slots_arranged
-    → IsLaidOut y (take x.written x.octets.items) (drop x.written (take x.begun x.octets.items)) (take x.slots_begun (all_slots x)) (row_of x) (staged_of x ++ f ∷ [])
+    → IsLaidOut y (take x.written (all_octets x)) (drop x.written (take x.begun (all_octets x))) (take x.slots_begun (all_slots x)) (row_of x) (staged_of x)
+still-laid x y s octets aside slots written begun arranged slots_begun slots_arranged =
+    let l = laid_out x s in
+    let a = l.begun in
+    let b = l.arranged in
+    let c = l.slots_arranged in
+    record {
+      octets = ap₂ (λ xs ys. xs ++ ys) octets aside ∙ l.octets;
+      slots = ap slots_in slots ∙ l.slots;
+      written = written ∙ l.written;
+      begun = omega arith;
+      arranged = omega arith;
+      slots_begun = slots_begun ∙ l.slots_begun;
+      slots_arranged = omega arith;
+    }
+
+-- A frame is staged after the others.
+pub frame-staged : (x y : Inside) (f : Frame) → OutboxIsSound x → all_octets y ≡ all_octets x ++ octets f → all_slots y ≡ all_slots x ++ slot_of f ∷ [] → y.written ≡ x.written → y.begun ≡ x.begun → y.arranged ≡ x.arranged
+    → y.slots_begun ≡ x.slots_begun → y.slots_arranged ≡ x.slots_arranged
+    → IsLaidOut y (take x.written (all_octets x)) (drop x.written (take x.begun (all_octets x))) (take x.slots_begun (all_slots x)) (row_of x) (staged_of x ++ f ∷ [])
 frame-staged x y f s more more_slots written begun arranged slots_begun slots_arranged =
     let l = laid_out x s in
-    let gone = take x.written x.octets.items in
-    let ahead = drop x.written (take x.begun x.octets.items) in
+    let gone = take x.written (all_octets x) in
+    let ahead = drop x.written (take x.begun (all_octets x)) in
     let row = row_of x in
     let staged = staged_of x in
     let past = take x.slots_begun (all_slots x) in
@@ -109,24 +130,24 @@ frame-staged x y f s more more_slots written begun arranged slots_begun slots_ar
 pub kept-staged : (x : Inside) (f : Frame) → OutboxIsSound x → HasChannel f → IsKept x.last (row_of x) (staged_of x ++ f ∷ [])
 kept-staged x f s h = record { in_turn = s.in_turn; row_channels = s.row_channels; staged_channels = All-push HasChannel (staged_of x) f s.staged_channels h }
 
-pub staged_view : (x y : Inside) (f : Frame) (gone : List ℕ) (past : List Slot) (value : Outgoing) → outgoing_of x ≡ value → y.begun_on ≡ x.begun_on → y.last ≡ x.last → IsLaidOut y gone (drop x.written (take x.begun x.octets.items)) past (row_of x) (staged_of x ++ f ∷ [])
+pub staged_view : (x y : Inside) (f : Frame) (gone : List ℕ) (past : List Slot) (value : Outgoing) → outgoing_of x ≡ value → y.begun_on ≡ x.begun_on → y.last ≡ x.last → IsLaidOut y gone (drop x.written (take x.begun (all_octets x))) past (row_of x) (staged_of x ++ f ∷ [])
     → outgoing_of y ≡ with_staged value (f ∷ [])
 staged_view x y f gone past value e on g l =
-    let ahead = drop x.written (take x.begun x.octets.items) in
+    let ahead = drop x.written (take x.begun (all_octets x)) in
     view y gone ahead past (row_of x) (staged_of x ++ f ∷ []) l ∙ (ap₂ (λ c last. outgoing ahead c last (row_of x) (staged_of x ++ f ∷ [])) on g ∙ ap (λ v. with_staged v (f ∷ [])) e)
 
 -- What is staged is dropped.
-pub staged-dropped : (x y : Inside) → OutboxIsSound x → y.octets.items ≡ take x.arranged x.octets.items → all_slots y ≡ take x.slots_arranged (all_slots x) → y.written ≡ x.written → y.begun ≡ x.begun → y.arranged ≡ x.arranged
+pub staged-dropped : (x y : Inside) → OutboxIsSound x → all_octets y ≡ take x.arranged (all_octets x) → all_slots y ≡ take x.slots_arranged (all_slots x) → y.written ≡ x.written → y.begun ≡ x.begun → y.arranged ≡ x.arranged
     → y.slots_begun ≡ x.slots_begun → y.slots_arranged ≡ x.slots_arranged
-    → IsLaidOut y (take x.written x.octets.items) (drop x.written (take x.begun x.octets.items)) (take x.slots_begun (all_slots x)) (row_of x) []
+    → IsLaidOut y (take x.written (all_octets x)) (drop x.written (take x.begun (all_octets x))) (take x.slots_begun (all_slots x)) (row_of x) []
 staged-dropped x y s octets slots written begun arranged slots_begun slots_arranged =
     let l = laid_out x s in
-    let gone = take x.written x.octets.items in
-    let ahead = drop x.written (take x.begun x.octets.items) in
+    let gone = take x.written (all_octets x) in
+    let ahead = drop x.written (take x.begun (all_octets x)) in
     let row = stream (row_of x) in
     let past = take x.slots_begun (all_slots x) in
     let rows = map slot_of (row_of x) in
-    let whole : x.octets.items ≡ (gone ++ (ahead ++ row)) ++ stream (staged_of x) = l.octets ∙ sym (last_of_three gone ahead row (stream (staged_of x))) in
+    let whole : all_octets x ≡ (gone ++ (ahead ++ row)) ++ stream (staged_of x) = l.octets ∙ sym (last_of_three gone ahead row (stream (staged_of x))) in
     let wholes : all_slots x ≡ (past ++ rows) ++ map slot_of (staged_of x) = l.slots ∙ sym (append_assoc past rows (map slot_of (staged_of x))) in
     let a = length-append gone (ahead ++ row) in
     let b = length-append ahead row in
@@ -150,9 +171,9 @@ staged-dropped x y s octets slots written begun arranged slots_begun slots_arran
 pub kept-row : (x : Inside) → OutboxIsSound x → IsKept x.last (row_of x) []
 kept-row x s = record { in_turn = s.in_turn; row_channels = s.row_channels; staged_channels = All-nil HasChannel }
 
-pub row_view : (x y : Inside) (gone : List ℕ) (past : List Slot) (value : Outgoing) → outgoing_of x ≡ value → y.begun_on ≡ x.begun_on → y.last ≡ x.last → IsLaidOut y gone (drop x.written (take x.begun x.octets.items)) past (row_of x) [] → outgoing_of y ≡ only value.output
+pub row_view : (x y : Inside) (gone : List ℕ) (past : List Slot) (value : Outgoing) → outgoing_of x ≡ value → y.begun_on ≡ x.begun_on → y.last ≡ x.last → IsLaidOut y gone (drop x.written (take x.begun (all_octets x))) past (row_of x) [] → outgoing_of y ≡ only value.output
 row_view x y gone past value e on f l =
-    let ahead = drop x.written (take x.begun x.octets.items) in
+    let ahead = drop x.written (take x.begun (all_octets x)) in
     view y gone ahead past (row_of x) [] l ∙ (ap₂ (λ c last. outgoing ahead c last (row_of x) []) on f ∙ ap (λ (v : Outgoing). only v.output) e)
 
 -- the frame appended stands from where the octets ended before
@@ -193,14 +214,14 @@ slots-put x y f later p s staged few slots_are =
 
 -- The first frame that is staged is put after so many frames of the row.
 pub frame-put : (x y : Inside) (f : Frame) (later : List Frame) (p moved count end : ℕ) → OutboxIsSound x → staged_of x ≡ f ∷ later → p ≤ length (row_of x) → moved ≡ length (stream (drop p (row_of x))) → count ≡ length f.payload + 8 → end ≡ x.arranged + count
-    → y.octets.items ≡ moved_up (x.arranged - moved) end count x.octets.items → all_slots y ≡ moved_up (x.slots_begun + p) (x.slots_arranged + 1) 1 (all_slots x)
+    → all_octets y ≡ moved_up (x.arranged - moved) end count (all_octets x) → all_slots y ≡ moved_up (x.slots_begun + p) (x.slots_arranged + 1) 1 (all_slots x)
     → y.written ≡ x.written → y.begun ≡ x.begun → y.arranged ≡ end → y.slots_begun ≡ x.slots_begun → y.slots_arranged ≡ x.slots_arranged + 1
-    → IsLaidOut y (take x.written x.octets.items) (drop x.written (take x.begun x.octets.items)) (take x.slots_begun (all_slots x)) (take p (row_of x) ++ f ∷ drop p (row_of x)) later
+    → IsLaidOut y (take x.written (all_octets x)) (drop x.written (take x.begun (all_octets x))) (take x.slots_begun (all_slots x)) (take p (row_of x) ++ f ∷ drop p (row_of x)) later
 frame-put x y f later p moved count end s staged few moved_is count_is end_is octets_are slots_are written begun arranged slots_begun slots_arranged =
     let l = laid_out x s in
     let row = row_of x in
-    let gone = take x.written x.octets.items in
-    let ahead = drop x.written (take x.begun x.octets.items) in
+    let gone = take x.written (all_octets x) in
+    let ahead = drop x.written (take x.begun (all_octets x)) in
     let first = stream (take p row) in
     let rest = stream (drop p row) in
     let a = l.begun in
@@ -210,14 +231,14 @@ frame-put x y f later p moved count end s staged few moved_is count_is end_is oc
     let split : stream row ≡ first ++ rest = ap stream (sym (take-append-drop p row)) ∙ stream-append (take p row) (drop p row) in
     let size = ap length split ∙ length-append first rest in
     let frame = length-octets f in
-    let whole : x.octets.items ≡ ((gone ++ ahead) ++ first) ++ (rest ++ (octets f ++ stream later)) =
+    let whole : all_octets x ≡ ((gone ++ ahead) ++ first) ++ (rest ++ (octets f ++ stream later)) =
     l.octets
     ∙ (ap₂ (λ r t. gone ++ (ahead ++ (r ++ stream t))) split staged
     ∙ (ap (λ os. gone ++ (ahead ++ os)) (append_assoc first rest (octets f ++ stream later))
     ∙ (sym (append_assoc gone ahead (first ++ (rest ++ (octets f ++ stream later)))) ∙ sym (append_assoc (gone ++ ahead) first (rest ++ (octets f ++ stream later)))))) in
     let size1 = length-append gone ahead in
     let size2 = length-append (gone ++ ahead) first in
-    let octets_then : y.octets.items ≡ ((gone ++ ahead) ++ first) ++ (octets f ++ (rest ++ stream later)) =
+    let octets_then : all_octets y ≡ ((gone ++ ahead) ++ first) ++ (octets f ++ (rest ++ stream later)) =
     octets_are ∙ (ap (moved_up (x.arranged - moved) end count) whole ∙ moved_up-is ((gone ++ ahead) ++ first) rest (octets f) (stream later) (x.arranged - moved) end count (omega arith) (omega arith) (omega arith)) in
     let row_then : stream (take p row ++ f ∷ drop p row) ≡ first ++ (octets f ++ rest) = stream-append (take p row) (f ∷ drop p row) in
     let regrouped : ((gone ++ ahead) ++ first) ++ (octets f ++ (rest ++ stream later)) ≡ gone ++ (ahead ++ ((first ++ (octets f ++ rest)) ++ stream later)) =
@@ -242,14 +263,14 @@ frame-put x y f later p moved count end s staged few moved_is count_is end_is oc
 
 -- The same, where what stands before the place makes room.
 pub frame-put-down : (x y : Inside) (f : Frame) (later : List Frame) (p moved count : ℕ) → OutboxIsSound x → staged_of x ≡ f ∷ later → p ≤ length (row_of x) → moved ≡ length (stream (drop p (row_of x))) → count ≡ length f.payload + 8 → count ≤ x.written
-    → y.octets.items ≡ moved_down x.written (x.arranged - moved) x.arranged count x.octets.items → all_slots y ≡ moved_up (x.slots_begun + p) (x.slots_arranged + 1) 1 (all_slots x)
+    → all_octets y ≡ moved_down x.written (x.arranged - moved) x.arranged count (all_octets x) → all_slots y ≡ moved_up (x.slots_begun + p) (x.slots_arranged + 1) 1 (all_slots x)
     → y.written ≡ x.written - count → y.begun ≡ x.begun - count → y.arranged ≡ x.arranged → y.slots_begun ≡ x.slots_begun → y.slots_arranged ≡ x.slots_arranged + 1
-    → IsLaidOut y (take (x.written - count) (take x.written x.octets.items)) (drop x.written (take x.begun x.octets.items)) (take x.slots_begun (all_slots x)) (take p (row_of x) ++ f ∷ drop p (row_of x)) later
+    → IsLaidOut y (take (x.written - count) (take x.written (all_octets x))) (drop x.written (take x.begun (all_octets x))) (take x.slots_begun (all_slots x)) (take p (row_of x) ++ f ∷ drop p (row_of x)) later
 frame-put-down x y f later p moved count s staged few moved_is count_is room octets_are slots_are written begun arranged slots_begun slots_arranged =
     let l = laid_out x s in
     let row = row_of x in
-    let gone = take x.written x.octets.items in
-    let ahead = drop x.written (take x.begun x.octets.items) in
+    let gone = take x.written (all_octets x) in
+    let ahead = drop x.written (take x.begun (all_octets x)) in
     let first = stream (take p row) in
     let rest = stream (drop p row) in
     let a = l.begun in
@@ -258,14 +279,14 @@ frame-put-down x y f later p moved count s staged few moved_is count_is room oct
     let split : stream row ≡ first ++ rest = ap stream (sym (take-append-drop p row)) ∙ stream-append (take p row) (drop p row) in
     let size = ap length split ∙ length-append first rest in
     let frame = length-octets f in
-    let whole : x.octets.items ≡ gone ++ ((ahead ++ first) ++ (rest ++ (octets f ++ stream later))) =
+    let whole : all_octets x ≡ gone ++ ((ahead ++ first) ++ (rest ++ (octets f ++ stream later))) =
     l.octets
     ∙ (ap₂ (λ r t. gone ++ (ahead ++ (r ++ stream t))) split staged
     ∙ (ap (λ os. gone ++ (ahead ++ os)) (append_assoc first rest (octets f ++ stream later)) ∙ ap (λ os. gone ++ os) (sym (append_assoc ahead first (rest ++ (octets f ++ stream later)))))) in
     let size1 = length-append ahead first in
     let lost = take (x.written - count) gone in
     let size2 = length-take-le (x.written - count) gone (omega arith) in
-    let octets_then : y.octets.items ≡ lost ++ ((ahead ++ first) ++ (octets f ++ (rest ++ stream later))) =
+    let octets_then : all_octets y ≡ lost ++ ((ahead ++ first) ++ (octets f ++ (rest ++ stream later))) =
     octets_are ∙ (ap (moved_down x.written (x.arranged - moved) x.arranged count) whole ∙ moved_down-is gone (ahead ++ first) rest (octets f) (stream later) x.written (x.arranged - moved) x.arranged count d (omega arith) (omega arith) (omega arith) room) in
     let row_then : stream (take p row ++ f ∷ drop p row) ≡ first ++ (octets f ++ rest) = stream-append (take p row) (f ∷ drop p row) in
     let regrouped : (ahead ++ first) ++ (octets f ++ (rest ++ stream later)) ≡ ahead ++ ((first ++ (octets f ++ rest)) ++ stream later) =
@@ -304,10 +325,10 @@ kept-put law x f later p s last staged at =
     }
 
 pub put_view : (x y : Inside) (f : Frame) (later : List Frame) (p : ℕ) (gone : List ℕ) (past : List Slot) (value : Outgoing) → outgoing_of x ≡ value → y.begun_on ≡ x.begun_on → y.last ≡ x.last → placed x.last f (row_of x) ≡ take p (row_of x) ++ f ∷ drop p (row_of x)
-    → IsLaidOut y gone (drop x.written (take x.begun x.octets.items)) past (take p (row_of x) ++ f ∷ drop p (row_of x)) later
+    → IsLaidOut y gone (drop x.written (take x.begun (all_octets x))) past (take p (row_of x) ++ f ∷ drop p (row_of x)) later
     → outgoing_of y ≡ record { output = after_put f value.output; staged = later }
 put_view x y f later p gone past value e on g at l =
-    let ahead = drop x.written (take x.begun x.octets.items) in
+    let ahead = drop x.written (take x.begun (all_octets x)) in
     view y gone ahead past (take p (row_of x) ++ f ∷ drop p (row_of x)) later l
     ∙ (cc (on, g, at)
     ∙ ap (λ (v : Outgoing). record { output = after_put f v.output; staged = later }) e)
@@ -355,13 +376,13 @@ row-within x p s =
 -- what waits of a channel, where a frame of it is begun, and where none is
 own-waiting : (x : Inside) (channel n : ℕ) → OutboxIsSound x → n ≡ length (stream (on channel (row_of x))) → x.begun_on ≡ channel → (x.begun - x.written) + n ≡ waiting_on channel (outgoing_of x).output
 own-waiting x channel n s e own =
-    let b = length-second x.octets.items x.written x.begun s.written (let l = laid_out x s in let a = s.begun in let c = s.arranged in omega arith) in
-    let there = cond-true (x.begun_on == channel) (length (drop x.written (take x.begun x.octets.items))) 0 (eq-eqb x.begun_on channel own) in
+    let b = length-second (all_octets x) x.written x.begun s.written (let l = laid_out x s in let a = s.begun in let c = s.arranged in omega arith) in
+    let there = cond-true (x.begun_on == channel) (length (drop x.written (take x.begun (all_octets x)))) 0 (eq-eqb x.begun_on channel own) in
     omega arith
 
 other-waiting : (x : Inside) (channel n : ℕ) → n ≡ length (stream (on channel (row_of x))) → x.begun_on ≢ channel → n ≡ waiting_on channel (outgoing_of x).output
 other-waiting x channel n e other =
-    let there = cond-false (x.begun_on == channel) (length (drop x.written (take x.begun x.octets.items))) 0 (ne_eqb x.begun_on channel other) in
+    let there = cond-false (x.begun_on == channel) (length (drop x.written (take x.begun (all_octets x)))) 0 (ne_eqb x.begun_on channel other) in
     omega arith
 
 row-waiting : (x : Inside) (channel n : ℕ) (slots : List Slot) → slots ≡ map slot_of (row_of x) → n ≡ slots_length_on channel slots → n ≡ length (stream (on channel (row_of x)))
@@ -396,7 +417,7 @@ pub record FirstStaged (x : Inside) (slot : Slot) (count : ℕ) (f : Frame) (lat
   pub staged : staged_of x ≡ f ∷ later
   pub slot_is : slot_of f ≡ slot
   pub count_is : count ≡ length f.payload + 8
-  pub within : x.arranged + count ≤ length x.octets.items
+  pub within : x.arranged + count ≤ length (all_octets x)
 
 pub first_staged : (x : Inside) (value : Outgoing) (slot : Slot) (count : ℕ) (f : Frame) (later : List Frame) (waiting d : Waiting) → OutboxIsSound x → outgoing_of x ≡ value → value.staged ≡ f ∷ later → waiting ≡ get_or x.slots.items x.slots_arranged d → slot ≡ waiting.slot → count ≡ slot_length slot → FirstStaged x slot count f later
 first_staged x value slot count f later waiting d s e staged at slot_at size =
@@ -408,7 +429,7 @@ first_staged x value slot count f later waiting d s e staged at slot_at size =
     let a = ap length s.staged_encoded in
     let b = ap length (ap stream staged2) ∙ length-append (octets f) (stream later) in
     let c = length-octets f in
-    let h = length-drop x.arranged x.octets.items in
+    let h = length-drop x.arranged (all_octets x) in
     let g = s.arranged in
     record { staged = staged2; slot_is = sym slot_is; count_is = count_is; within = omega arith }
 

@@ -1,5 +1,5 @@
 -- The fields of an outbox beside the lists that they stand for.
-use Rattle.std.proofs.Common.{◌≡◌, ℕ, ◌+◌, ◌^◌, ◌<◌, ◌≤◌, List, ◌++◌, length, map, take, drop, All, sym, ap, ap₂, ◌∙◌, arith, append_assoc, length-append, length-drop}
+use Rattle.std.proofs.Common.{◌≡◌, ℕ, ◌+◌, ◌^◌, ◌<◌, ◌≤◌, List, [], ◌++◌, length, map, take, drop, All, sym, ap, ap₂, ◌∙◌, arith, append_assoc, length-append, length-drop}
 use Rattle.std.proofs.lemmas.List.{drop_at, length-map, length-take-le}
 use Rattle.amqp_frame.specs.Frame.{Frame}
 use Rattle.amqp_frame.specs.Splitting.{stream}
@@ -7,9 +7,10 @@ use Rattle.amqp_model.specs.Output.Arrangement.{IsArranged, HasChannel}
 use Rattle.amqp_outbox.specs.OutboxSlots.{slot_of, frames_in}
 use Rattle.amqp_outbox.specs.OutboxLaps.{laps_of}
 use Rattle.amqp_outbox.specs.OutboxView.{Outgoing}
-use Rattle.amqp_outbox.specs.OutboxFields.{row_octets, row_slots, row_laps, row_of, staged_octets, staged_slots, staged_of, outgoing_of, all_slots, all_laps, OutboxIsSound}
+use Rattle.amqp_outbox.specs.OutboxFields.{row_octets, row_slots, row_laps, row_of, staged_octets, staged_slots, staged_of, outgoing_of, all_octets, all_slots, all_laps, AsideFits, OutboxIsSound}
 use Rattle.amqp_outbox.specs.declared.slots.Slot.{Slot}
 use Rattle.amqp_outbox.specs.declared.outbox.Outbox.TheInside.{Inside}
+use Rattle.amqp_outbox.proofs.OutboxAside.{aside-empty}
 use Rattle.amqp_outbox.proofs.OutboxLaps.{length-laps}
 use Rattle.amqp_outbox.proofs.OutboxLists.{second, three, four, length-second}
 use Rattle.amqp_outbox.proofs.OutboxRows.{row-read}
@@ -17,7 +18,7 @@ use Rattle.amqp_outbox.proofs.OutboxWaiting.{count-slots, count-laps}
 
 -- the octets and the slots, part by part
 pub record IsLaidOut (x : Inside) (gone ahead : List ℕ) (past : List Slot) (row staged : List Frame) : Type 0 where
-  pub octets : x.octets.items ≡ gone ++ (ahead ++ (stream row ++ stream staged))
+  pub octets : all_octets x ≡ gone ++ (ahead ++ (stream row ++ stream staged))
   pub slots : all_slots x ≡ past ++ (map slot_of row ++ map slot_of staged)
   pub written : x.written ≡ length gone
   pub begun : x.begun ≡ x.written + length ahead
@@ -36,7 +37,7 @@ outgoing ahead begun_on last row staged = record { output = record { ahead = ahe
 
 -- each part of such fields
 pub record Parts (x : Inside) (ahead : List ℕ) (row staged : List Frame) : Type 0 where
-  pub ahead_is : drop x.written (take x.begun x.octets.items) ≡ ahead
+  pub ahead_is : drop x.written (take x.begun (all_octets x)) ≡ ahead
   pub row_octets_are : row_octets x ≡ stream row
   pub row_slots_are : row_slots x ≡ map slot_of row
   pub staged_octets_are : staged_octets x ≡ stream staged
@@ -46,11 +47,11 @@ pub record Parts (x : Inside) (ahead : List ℕ) (row staged : List Frame) : Typ
 
 pub parts : (x : Inside) (gone ahead : List ℕ) (past : List Slot) (row staged : List Frame) → IsLaidOut x gone ahead past row staged → Parts x ahead row staged
 parts x gone ahead past row staged l =
-    let a : drop x.written (take x.begun x.octets.items) ≡ ahead = ap (λ os. drop x.written (take x.begun os)) l.octets ∙ second gone ahead (stream row ++ stream staged) x.written x.begun l.written l.begun in
-    let regrouped : x.octets.items ≡ (gone ++ ahead) ++ (stream row ++ stream staged) = l.octets ∙ sym (append_assoc gone ahead (stream row ++ stream staged)) in
+    let a : drop x.written (take x.begun (all_octets x)) ≡ ahead = ap (λ os. drop x.written (take x.begun os)) l.octets ∙ second gone ahead (stream row ++ stream staged) x.written x.begun l.written l.begun in
+    let regrouped : all_octets x ≡ (gone ++ ahead) ++ (stream row ++ stream staged) = l.octets ∙ sym (append_assoc gone ahead (stream row ++ stream staged)) in
     let size = length-append gone ahead in
     let b : row_octets x ≡ stream row = ap (λ os. drop x.begun (take x.arranged os)) regrouped ∙ second (gone ++ ahead) (stream row) (stream staged) x.begun x.arranged (omega arith) l.arranged in
-    let regrouped2 : x.octets.items ≡ ((gone ++ ahead) ++ stream row) ++ stream staged = regrouped ∙ sym (append_assoc (gone ++ ahead) (stream row) (stream staged)) in
+    let regrouped2 : all_octets x ≡ ((gone ++ ahead) ++ stream row) ++ stream staged = regrouped ∙ sym (append_assoc (gone ++ ahead) (stream row) (stream staged)) in
     let size2 = length-append (gone ++ ahead) (stream row) in
     let c : staged_octets x ≡ stream staged = ap (drop x.arranged) regrouped2 ∙ drop_at ((gone ++ ahead) ++ stream row) (stream staged) x.arranged (omega arith) in
     let count = length-map row slot_of in
@@ -80,8 +81,8 @@ pub slots_within : (x : Inside) → OutboxIsSound x → x.slots_arranged ≤ len
 slots_within x s = let a = count-slots x.slots.items in let b = s.slots_arranged in omega arith
 
 -- fields that are laid out so are sound
-pub sound : (x : Inside) (gone ahead : List ℕ) (past : List Slot) (row staged : List Frame) (laps_past laps laps_rest : List ℕ) → IsLaidOut x gone ahead past row staged → IsKept x.last row staged → IsInLaps x laps_past laps laps_rest row staged → OutboxIsSound x
-sound x gone ahead past row staged laps_past laps laps_rest l k i =
+pub sound : (x : Inside) (gone ahead : List ℕ) (past : List Slot) (row staged : List Frame) (laps_past laps laps_rest : List ℕ) → IsLaidOut x gone ahead past row staged → IsKept x.last row staged → IsInLaps x laps_past laps laps_rest row staged → AsideFits x → OutboxIsSound x
+sound x gone ahead past row staged laps_past laps laps_rest l k i aside =
     let p = parts x gone ahead past row staged l in
     let a = ap length l.octets ∙ length-append gone (ahead ++ (stream row ++ stream staged)) in
     let b = length-append ahead (stream row ++ stream staged) in
@@ -102,6 +103,7 @@ sound x gone ahead past row staged laps_past laps laps_rest l k i =
       written = omega arith;
       begun = omega arith;
       arranged = omega arith;
+      aside = aside;
       slots_begun = omega arith;
       slots_arranged = omega arith;
       row_encoded = ap stream p.row_is ∙ sym p.row_octets_are;
@@ -115,6 +117,19 @@ sound x gone ahead past row staged laps_past laps laps_rest l k i =
       laps_left = let z = l.slots_arranged in let y = l.slots_begun in omega arith;
     }
 
+-- where nothing stands aside, there is room for it
+pub fits-alone : (x : Inside) (gone ahead : List ℕ) (past : List Slot) (row staged : List Frame) → IsLaidOut x gone ahead past row staged → x.aside.items ≡ [] → AsideFits x
+fits-alone x gone ahead past row staged l none =
+    let a = ap length l.octets ∙ length-append gone (ahead ++ (stream row ++ stream staged)) in
+    let b = length-append ahead (stream row ++ stream staged) in
+    let c = length-append (stream row) (stream staged) in
+    let d = length-append x.octets.items x.aside.items in
+    let e = ap length none in
+    let f = l.written in
+    let g = l.begun in
+    let h = l.arranged in
+    aside-empty x none (omega arith)
+
 -- and these lists are what they stand for
 pub view : (x : Inside) (gone ahead : List ℕ) (past : List Slot) (row staged : List Frame) → IsLaidOut x gone ahead past row staged → outgoing_of x ≡ outgoing ahead x.begun_on x.last row staged
 view x gone ahead past row staged l =
@@ -123,11 +138,11 @@ view x gone ahead past row staged l =
 
 -- sound fields are laid out
 pub laid_out : (x : Inside) → OutboxIsSound x
-    → IsLaidOut x (take x.written x.octets.items) (drop x.written (take x.begun x.octets.items)) (take x.slots_begun (all_slots x)) (row_of x) (staged_of x)
+    → IsLaidOut x (take x.written (all_octets x)) (drop x.written (take x.begun (all_octets x))) (take x.slots_begun (all_slots x)) (row_of x) (staged_of x)
 laid_out x s =
-    let a = length-take-le x.written x.octets.items (omega arith) in
-    let b = length-second x.octets.items x.written x.begun s.written (omega arith) in
-    let c = length-second x.octets.items x.begun x.arranged s.begun s.arranged in
+    let a = length-take-le x.written (all_octets x) (omega arith) in
+    let b = length-second (all_octets x) x.written x.begun s.written (omega arith) in
+    let c = length-second (all_octets x) x.begun x.arranged s.begun s.arranged in
     let in_all = slots_within x s in
     let ordered = s.slots_begun in
     let d = length-take-le x.slots_begun (all_slots x) (omega arith) in
@@ -136,7 +151,7 @@ laid_out x s =
     let g = ap length s.row_encoded in
     let h = ap length s.row_described in
     record {
-      octets = four x.octets.items x.written x.begun x.arranged s.written s.begun s.arranged ∙ ap₂ (λ y z. take x.written x.octets.items ++ (drop x.written (take x.begun x.octets.items) ++ (y ++ z))) (sym s.row_encoded) (sym s.staged_encoded);
+      octets = four (all_octets x) x.written x.begun x.arranged s.written s.begun s.arranged ∙ ap₂ (λ y z. take x.written (all_octets x) ++ (drop x.written (take x.begun (all_octets x)) ++ (y ++ z))) (sym s.row_encoded) (sym s.staged_encoded);
       slots = three (all_slots x) x.slots_begun x.slots_arranged s.slots_begun (slots_within x s) ∙ ap₂ (λ y z. take x.slots_begun (all_slots x) ++ (y ++ z)) (sym s.row_described) (sym s.staged_described);
       written = sym a;
       begun = omega arith;

@@ -10,15 +10,16 @@ use Rattle.amqp_outbox.specs.OutboxSlots.{slot_of, slots_in, slots_length}
 use Rattle.amqp_outbox.specs.OutboxLaps.{laps_in, laps_of}
 use Rattle.amqp_outbox.specs.OutboxView.{Outgoing, only, all_put}
 use Rattle.amqp_outbox.specs.OutboxWeaving.{woven, Follow, places_of, waiting_of, slots_of, AreWoven, ArePlaced, WeavesIn}
-use Rattle.amqp_outbox.specs.OutboxFields.{row_of, row_laps, row_slots, staged_of, outgoing_of, all_slots, all_laps, OutboxIsSound}
+use Rattle.amqp_outbox.specs.OutboxFields.{all_octets, row_of, row_laps, row_slots, staged_of, outgoing_of, all_slots, all_laps, OutboxIsSound}
 use Rattle.amqp_outbox.specs.declared.slots.Slot.{Slot}
 use Rattle.amqp_outbox.specs.declared.slots.Waiting.{Waiting}
 use Rattle.amqp_outbox.specs.declared.weaving.Coming.{Coming}
 use Rattle.amqp_outbox.specs.declared.weaving.Ends.{Ends}
 use Rattle.amqp_outbox.specs.declared.outbox.Outbox.TheInside.{Inside}
+use Rattle.amqp_outbox.proofs.OutboxAside.{none-aside}
 use Rattle.amqp_outbox.proofs.OutboxLists.{four, length-second}
 use Rattle.amqp_outbox.proofs.OutboxRows.{stream-append, slots_length-row}
-use Rattle.amqp_outbox.proofs.OutboxStates.{IsLaidOut, IsKept, IsInLaps, laid_out, in_laps, sound, view, outgoing}
+use Rattle.amqp_outbox.proofs.OutboxStates.{IsLaidOut, IsKept, IsInLaps, laid_out, in_laps, sound, fits-alone, view, outgoing}
 use Rattle.amqp_outbox.proofs.OutboxWaiting.{count-slots, slots-rest, slots-after, slots-before, laps-after, laps-before}
 use Rattle.amqp_outbox.proofs.Woven.{woven_map, woven_length}
 use Rattle.amqp_outbox.proofs.WovenSides.{stream_woven}
@@ -41,9 +42,9 @@ row_laps-lent x items s e =
 pub record AreStaged (x : Inside) (coming : List Coming) (octets : ℕ) : Type 0 where
   pub slots_are : slots_of coming ≡ map slot_of (take (length coming) (staged_of x))
   pub few : length coming ≤ length (staged_of x)
-  pub octets_are : take octets (drop x.arranged x.octets.items) ≡ stream (take (length coming) (staged_of x))
+  pub octets_are : take octets (drop x.arranged (all_octets x)) ≡ stream (take (length coming) (staged_of x))
   pub length_is : octets ≡ length (stream (take (length coming) (staged_of x)))
-  pub within : x.arranged + octets ≤ length x.octets.items
+  pub within : x.arranged + octets ≤ length (all_octets x)
   pub slots_within : x.slots_arranged + length coming ≤ length x.slots.items
 
 pub are-staged : (x : Inside) (rows staged : List Waiting) (coming : List Coming) (octets : ℕ) → OutboxIsSound x → slots_in staged ≡ map slot_of (staged_of x) → ArePlaced x.lap x.last rows staged coming → octets ≡ slots_length (slots_of coming) → AreStaged x coming octets
@@ -53,9 +54,9 @@ are-staged x rows staged coming octets s e p count =
     let slots : slots_of coming ≡ map slot_of fs = p.slots_are ∙ (ap (take m) e ∙ take-map slot_of m (staged_of x)) in
     let size = count ∙ (ap slots_length slots ∙ slots_length-row fs) in
     let split : stream (staged_of x) ≡ stream fs ++ stream (drop m (staged_of x)) = ap stream (sym (take-append-drop m (staged_of x))) ∙ stream-append fs (drop m (staged_of x)) in
-    let whole : drop x.arranged x.octets.items ≡ stream fs ++ stream (drop m (staged_of x)) = sym s.staged_encoded ∙ split in
+    let whole : drop x.arranged (all_octets x) ≡ stream fs ++ stream (drop m (staged_of x)) = sym s.staged_encoded ∙ split in
     let a = ap length whole ∙ length-append (stream fs) (stream (drop m (staged_of x))) in
-    let b = length-drop x.arranged x.octets.items in
+    let b = length-drop x.arranged (all_octets x) in
     let c = s.arranged in
     let d = ap length e ∙ length-map (staged_of x) slot_of in
     let f = count-slots staged in
@@ -75,8 +76,8 @@ are-staged x rows staged coming octets s e p count =
 
 -- what the octets and the slots become, part by part
 pub record IsPutBetween (x y : Inside) (coming : List Coming) (octets : ℕ) : Type 0 where
-  pub octets_are : drop y.written y.octets.items ≡ drop x.written (take x.begun x.octets.items) ++ (stream (woven 0 (places_of coming) (take (length coming) (staged_of x)) (row_of x)) ++ stream (drop (length coming) (staged_of x)))
-  pub written : y.written ≤ length y.octets.items
+  pub octets_are : drop y.written (all_octets y) ≡ drop x.written (take x.begun (all_octets x)) ++ (stream (woven 0 (places_of coming) (take (length coming) (staged_of x)) (row_of x)) ++ stream (drop (length coming) (staged_of x)))
+  pub written : y.written ≤ length (all_octets y)
   pub begun : y.begun + x.written ≡ y.written + x.begun
   pub arranged : y.arranged + x.written ≡ y.written + (x.arranged + octets)
   pub slots_are : (before row dropped after : List Waiting) → length before ≡ x.slots_begun → x.slots_begun + length row ≡ x.slots_arranged → length dropped ≡ length coming
@@ -123,7 +124,7 @@ slots-between x y coming octets s a p =
     }
 
 pub between-laid_out : (x y : Inside) (coming : List Coming) (octets : ℕ) → OutboxIsSound x → Follow 0 (length (row_of x)) (places_of coming) → AreStaged x coming octets → IsPutBetween x y coming octets
-    → IsLaidOut y (take y.written y.octets.items) (drop x.written (take x.begun x.octets.items)) (take x.slots_begun (all_slots x)) (woven 0 (places_of coming) (take (length coming) (staged_of x)) (row_of x)) (drop (length coming) (staged_of x))
+    → IsLaidOut y (take y.written (all_octets y)) (drop x.written (take x.begun (all_octets x))) (take x.slots_begun (all_slots x)) (woven 0 (places_of coming) (take (length coming) (staged_of x)) (row_of x)) (drop (length coming) (staged_of x))
 between-laid_out x y coming octets s follow a p =
     let l = laid_out x s in
     let m = length coming in
@@ -152,9 +153,9 @@ between-laid_out x y coming octets s follow a p =
     let lsb = l.slots_begun in
     let lsa = l.slots_arranged in
     record {
-      octets = sym (take-append-drop y.written y.octets.items) ∙ ap (λ os. take y.written y.octets.items ++ os) p.octets_are;
+      octets = sym (take-append-drop y.written (all_octets y)) ∙ ap (λ os. take y.written (all_octets y) ++ os) p.octets_are;
       slots = b.slots_are ∙ ap₂ (λ xs ys. take x.slots_begun (all_slots x) ++ (xs ++ ys)) slots rest;
-      written = sym (length-take-le y.written y.octets.items c);
+      written = sym (length-take-le y.written (all_octets y) c);
       begun = omega arith;
       arranged = omega arith;
       slots_begun = f ∙ lsb;
@@ -207,13 +208,13 @@ puts-more (f ∷ frames) later o = puts-more frames later (after_put f o)
 -- what is put then is what was to be put
 pub between-view : (x y : Inside) (rows : List Waiting) (coming : List Coming) (gone : List ℕ) (past : List Slot) (value : Outgoing) → outgoing_of x ≡ value → y.begun_on ≡ x.begun_on → y.last ≡ x.last
     → AreWoven x.lap x.last rows coming (take (length coming) (staged_of x)) (row_of x)
-    → IsLaidOut y gone (drop x.written (take x.begun x.octets.items)) past (woven 0 (places_of coming) (take (length coming) (staged_of x)) (row_of x)) (drop (length coming) (staged_of x))
+    → IsLaidOut y gone (drop x.written (take x.begun (all_octets x))) past (woven 0 (places_of coming) (take (length coming) (staged_of x)) (row_of x)) (drop (length coming) (staged_of x))
     → all_put (outgoing_of y) ≡ all_put value
 between-view x y rows coming gone past value e on last w l =
     let m = length coming in
     let fs = take m (staged_of x) in
     let later = drop m (staged_of x) in
-    let ahead = drop x.written (take x.begun x.octets.items) in
+    let ahead = drop x.written (take x.begun (all_octets x)) in
     let o : Output = (outgoing_of x).output in
     ap all_put (view y gone ahead past (woven 0 (places_of coming) fs (row_of x)) later l)
     ∙ (ap₂ (λ c v. all_put (outgoing ahead c v (woven 0 (places_of coming) fs (row_of x)) later)) on last
@@ -223,30 +224,32 @@ between-view x y rows coming gone past value e on last w l =
     ∙ ap all_put e))))
 
 -- what the calls say of lists that are lent, said of these lists
-pub is-put-between : (x y : Inside) (rows : List Waiting) (lent lent2 coming : List Coming) (new : Ends) (octets : ℕ) → OutboxIsSound x → AreStaged x coming octets → slots_in rows ≡ map slot_of (row_of x) → lent ≡ coming → lent2 ≡ coming
-    → WeavesIn (record { written = x.written; begun = x.begun; arranged = x.arranged }) new rows lent octets x.octets.items y.octets.items
+pub is-put-between : (x y : Inside) (rows : List Waiting) (lent lent2 coming : List Coming) (aside : List ℕ) (new : Ends) (octets : ℕ) → OutboxIsSound x → AreStaged x coming octets → slots_in rows ≡ map slot_of (row_of x) → lent ≡ coming → lent2 ≡ coming → aside ≡ x.aside.items → y.aside.items ≡ []
+    → WeavesIn (record { written = x.written; begun = x.begun; arranged = x.arranged }) new rows lent octets (x.octets.items ++ aside) y.octets.items
     → ((before row dropped after : List Waiting) → length before ≡ x.slots_begun → x.slots_begun + length row ≡ x.slots_arranged → length dropped ≡ length lent2
     → x.slots.items ≡ before ++ (row ++ (dropped ++ after)) → y.slots.items ≡ before ++ (woven 0 (places_of lent2) (waiting_of lent2) row ++ after))
     → y.written ≡ new.written → y.begun ≡ new.begun → y.arranged ≡ new.arranged → y.slots_begun ≡ x.slots_begun → y.slots_arranged ≡ x.slots_arranged + length coming
     → IsPutBetween x y coming octets
-is-put-between x y rows lent lent2 coming new octets s a rows_are is is2 w slots_said written begun arranged slots_begun slots_arranged =
+is-put-between x y rows lent lent2 coming aside new octets s a rows_are is is2 aside_is none w slots_said written begun arranged slots_begun slots_arranged =
     let l = laid_out x s in
-    let ahead = drop x.written (take x.begun x.octets.items) in
+    let ahead = drop x.written (take x.begun (all_octets x)) in
     let m = length coming in
     let fs = take m (staged_of x) in
     let later = drop m (staged_of x) in
     let split : stream (staged_of x) ≡ stream fs ++ stream later = ap stream (sym (take-append-drop m (staged_of x))) ∙ stream-append fs later in
-    let whole : drop x.written x.octets.items ≡ ahead ++ (stream (row_of x) ++ (stream fs ++ stream later)) =
+    let whole : drop x.written (all_octets x) ≡ ahead ++ (stream (row_of x) ++ (stream fs ++ stream later)) =
     ap (drop x.written) l.octets
-    ∙ (drop_at (take x.written x.octets.items) (ahead ++ (stream (row_of x) ++ stream (staged_of x))) x.written (sym l.written)
+    ∙ (drop_at (take x.written (all_octets x)) (ahead ++ (stream (row_of x) ++ stream (staged_of x))) x.written (sym l.written)
     ∙ ap (λ os. ahead ++ (stream (row_of x) ++ os)) split) in
     let within = w.written in
     let b = w.begun in
     let c = w.arranged in
+    let alone : all_octets y ≡ y.octets.items = none-aside y.octets.items y.aside.items none in
+    let size = ap length alone in
     record {
       octets_are =
-          ap (λ n. drop n y.octets.items) written
-          ∙ (w.octets_are ahead (stream later) (row_of x) fs rows_are (ap slots_of is ∙ a.slots_are) (sym l.begun) whole
+          ap₂ (λ n os. drop n os) written alone
+          ∙ (w.octets_are ahead (stream later) (row_of x) fs rows_are (ap slots_of is ∙ a.slots_are) (sym l.begun) (ap (λ os. drop x.written (x.octets.items ++ os)) aside_is ∙ whole)
           ∙ ap (λ (cs : List Coming). ahead ++ (stream (woven 0 (places_of cs) fs (row_of x)) ++ stream later)) is);
       written = omega arith;
       begun = omega arith;
@@ -261,9 +264,9 @@ is-put-between x y rows lent lent2 coming new octets s a rows_are is is2 w slots
 -- so the fields are sound, and stand for what they stood for, once all is put
 pub put-between : (x y : Inside) (rows staged : List Waiting) (coming : List Coming) (octets : ℕ) (value : Outgoing) → OutboxIsSound x → outgoing_of x ≡ value
     → slots_in rows ≡ map slot_of (row_of x) → laps_in rows ≡ row_laps x → slots_in staged ≡ map slot_of (staged_of x)
-    → ArePlaced x.lap x.last rows staged coming → AreStaged x coming octets → IsPutBetween x y coming octets → y.lap ≡ x.lap → y.last ≡ x.last → y.begun_on ≡ x.begun_on
+    → ArePlaced x.lap x.last rows staged coming → AreStaged x coming octets → IsPutBetween x y coming octets → y.aside.items ≡ [] → y.lap ≡ x.lap → y.last ≡ x.last → y.begun_on ≡ x.begun_on
     → OutboxIsSound y × (all_put (outgoing_of y) ≡ all_put value)
-put-between x y rows staged coming octets value s view_is rows_are laps_are staged_are placed a p lap last on =
+put-between x y rows staged coming octets value s view_is rows_are laps_are staged_are placed a p none lap last on =
     let fs = take (length coming) (staged_of x) in
     let later = drop (length coming) (staged_of x) in
     let both = woven 0 (places_of coming) fs (row_of x) in
@@ -272,6 +275,6 @@ put-between x y rows staged coming octets value s view_is rows_are laps_are stag
     let w = placed.woven_are (staged_of x) (row_of x) staged_are rows_are s.in_turn s.row_channels s.staged_channels in
     let laid = between-laid_out x y coming octets s follow a p in
     let kept : IsKept y.last both later = subst (λ (n : ℕ). IsKept n both later) (sym last) (between-kept x rows coming s w) in (
-      sound y _ _ _ _ _ _ _ _ laid kept (between-laps x y rows coming octets s follow a p laps_are w lap last),
+      sound y _ _ _ _ _ _ _ _ laid kept (between-laps x y rows coming octets s follow a p laps_are w lap last) (fits-alone y _ _ _ _ _ laid none),
       between-view x y rows coming _ _ value view_is on last w laid,
     )

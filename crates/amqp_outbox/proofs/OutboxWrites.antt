@@ -9,7 +9,7 @@ use Rattle.amqp_model.specs.Output.Arrangement.{IsArranged, HasChannel, last_aft
 use Rattle.amqp_model.specs.Output.Outputs.{Output, output_octets, begun_on_after, row_after_writing, after_writing}
 use Rattle.amqp_outbox.specs.OutboxSlots.{slot_of, slots_length, slots_begun_on, slots_last, begun_by}
 use Rattle.amqp_outbox.specs.OutboxView.{Outgoing, with_output}
-use Rattle.amqp_outbox.specs.OutboxFields.{row_of, staged_of, outgoing_of, OutboxIsSound, all_slots}
+use Rattle.amqp_outbox.specs.OutboxFields.{all_octets, row_of, staged_of, outgoing_of, OutboxIsSound, all_slots}
 use Rattle.amqp_outbox.specs.declared.slots.Slot.{Slot}
 use Rattle.amqp_outbox.specs.declared.outbox.Outbox.TheInside.{Inside}
 use Rattle.amqp_outbox.proofs.OutboxLists.{drop_past, length-second}
@@ -61,23 +61,23 @@ pub kept-written : (x : Inside) (k : ℕ) → OutboxIsSound x → IsKept (last_a
 kept-written x k s = record { in_turn = arranged-from k x.last (row_of x) s.in_turn; row_channels = All-drop HasChannel k (row_of x) s.row_channels; staged_channels = s.staged_channels }
 
 -- Fewer octets are written than stand ahead.
-pub ahead-written : (x y : Inside) (n : ℕ) → OutboxIsSound x → n < x.begun - x.written → y.octets.items ≡ x.octets.items → all_slots y ≡ all_slots x → y.written ≡ x.written + n → y.begun ≡ x.begun → y.arranged ≡ x.arranged
+pub ahead-written : (x y : Inside) (n : ℕ) → OutboxIsSound x → n < x.begun - x.written → all_octets y ≡ all_octets x → all_slots y ≡ all_slots x → y.written ≡ x.written + n → y.begun ≡ x.begun → y.arranged ≡ x.arranged
     → y.slots_begun ≡ x.slots_begun → y.slots_arranged ≡ x.slots_arranged
-    → IsLaidOut y (take (x.written + n) x.octets.items) (drop n (drop x.written (take x.begun x.octets.items))) (take x.slots_begun (all_slots x)) (row_of x) (staged_of x)
+    → IsLaidOut y (take (x.written + n) (all_octets x)) (drop n (drop x.written (take x.begun (all_octets x)))) (take x.slots_begun (all_slots x)) (row_of x) (staged_of x)
 ahead-written x y n s h octets slots written begun arranged slots_begun slots_arranged =
     let l = laid_out x s in
-    let ahead = drop x.written (take x.begun x.octets.items) in
+    let ahead = drop x.written (take x.begun (all_octets x)) in
     let rest = stream (row_of x) ++ stream (staged_of x) in
-    let gone = take x.written x.octets.items in
+    let gone = take x.written (all_octets x) in
     let a = l.begun in
     let b = l.arranged in
     let c = l.slots_arranged in
     let d = l.written in
-    let e : x.octets.items ≡ gone ++ (take n ahead ++ (drop n ahead ++ rest)) = l.octets ∙ ap (λ os. gone ++ os) (ap (λ os. os ++ rest) (sym (take-append-drop n ahead)) ∙ append_assoc (take n ahead) (drop n ahead) rest) in
+    let e : all_octets x ≡ gone ++ (take n ahead ++ (drop n ahead ++ rest)) = l.octets ∙ ap (λ os. gone ++ os) (ap (λ os. os ++ rest) (sym (take-append-drop n ahead)) ∙ append_assoc (take n ahead) (drop n ahead) rest) in
     let size = length-take-le n ahead (omega arith) in
-    let f : x.octets.items ≡ (gone ++ take n ahead) ++ (drop n ahead ++ rest) = e ∙ sym (append_assoc gone (take n ahead) (drop n ahead ++ rest)) in
+    let f : all_octets x ≡ (gone ++ take n ahead) ++ (drop n ahead ++ rest) = e ∙ sym (append_assoc gone (take n ahead) (drop n ahead ++ rest)) in
     let size2 = length-append gone (take n ahead) in
-    let g : take (x.written + n) x.octets.items ≡ gone ++ take n ahead = ap (take (x.written + n)) f ∙ take_at (gone ++ take n ahead) (drop n ahead ++ rest) (x.written + n) (omega arith) in
+    let g : take (x.written + n) (all_octets x) ≡ gone ++ take n ahead = ap (take (x.written + n)) f ∙ take_at (gone ++ take n ahead) (drop n ahead ++ rest) (x.written + n) (omega arith) in
     let left = length-drop n ahead in
     let whole = ap length g in
     record {
@@ -91,15 +91,15 @@ ahead-written x y n s h octets slots written begun arranged slots_begun slots_ar
     }
 
 -- Octets of the row are written, all that stood ahead before, and so many frames begun.
-pub row-begun : (x y : Inside) (m k : ℕ) → OutboxIsSound x → k ≤ length (row_of x) → m ≤ length (stream (take k (row_of x))) → y.octets.items ≡ x.octets.items → all_slots y ≡ all_slots x → y.written ≡ x.begun + m
+pub row-begun : (x y : Inside) (m k : ℕ) → OutboxIsSound x → k ≤ length (row_of x) → m ≤ length (stream (take k (row_of x))) → all_octets y ≡ all_octets x → all_slots y ≡ all_slots x → y.written ≡ x.begun + m
     → y.begun ≡ x.begun + length (stream (take k (row_of x))) → y.arranged ≡ x.arranged → y.slots_begun ≡ x.slots_begun + k → y.slots_arranged ≡ x.slots_arranged
-    → IsLaidOut y (take (x.begun + m) x.octets.items) (drop m (stream (take k (row_of x)))) (take (x.slots_begun + k) (all_slots x)) (drop k (row_of x)) (staged_of x)
+    → IsLaidOut y (take (x.begun + m) (all_octets x)) (drop m (stream (take k (row_of x)))) (take (x.slots_begun + k) (all_slots x)) (drop k (row_of x)) (staged_of x)
 row-begun x y m k s few h octets slots written begun arranged slots_begun slots_arranged =
     let l = laid_out x s in
     let row = row_of x in
     let staged = staged_of x in
-    let gone = take x.written x.octets.items in
-    let ahead = drop x.written (take x.begun x.octets.items) in
+    let gone = take x.written (all_octets x) in
+    let ahead = drop x.written (take x.begun (all_octets x)) in
     let first = stream (take k row) in
     let rest = stream (drop k row) ++ stream staged in
     let past = take x.slots_begun (all_slots x) in
@@ -112,12 +112,12 @@ row-begun x y m k s few h octets slots written begun arranged slots_begun slots_
     ap (λ os. os ++ stream staged) split
     ∙ (append_assoc first (stream (drop k row)) (stream staged)
     ∙ (ap (λ os. os ++ rest) (sym (take-append-drop m first)) ∙ append_assoc (take m first) (drop m first) rest)) in
-    let f : x.octets.items ≡ ((gone ++ ahead) ++ take m first) ++ (drop m first ++ rest) =
+    let f : all_octets x ≡ ((gone ++ ahead) ++ take m first) ++ (drop m first ++ rest) =
     l.octets ∙ (ap (λ os. gone ++ (ahead ++ os)) e ∙ (sym (append_assoc gone ahead (take m first ++ (drop m first ++ rest))) ∙ sym (append_assoc (gone ++ ahead) (take m first) (drop m first ++ rest)))) in
     let size1 = length-append gone ahead in
     let size2 = length-append (gone ++ ahead) (take m first) in
     let size3 = length-take-le m first h in
-    let g : take (x.begun + m) x.octets.items ≡ (gone ++ ahead) ++ take m first = ap (take (x.begun + m)) f ∙ take_at ((gone ++ ahead) ++ take m first) (drop m first ++ rest) (x.begun + m) (omega arith) in
+    let g : take (x.begun + m) (all_octets x) ≡ (gone ++ ahead) ++ take m first = ap (take (x.begun + m)) f ∙ take_at ((gone ++ ahead) ++ take m first) (drop m first ++ rest) (x.begun + m) (omega arith) in
     let size4 = ap length g in
     let size5 = length-drop m first in
     let size6 = ap length split ∙ length-append first (stream (drop k row)) in
@@ -152,20 +152,20 @@ written-row n o h l =
 
 -- what of the row is begun by a write that passes what stands ahead
 pub record IsWrite (x : Inside) (n k passed on now : ℕ) : Type 0 where
-  pub ahead : length (drop x.written (take x.begun x.octets.items)) ≤ n
+  pub ahead : length (drop x.written (take x.begun (all_octets x))) ≤ n
   pub few : k ≤ length (row_of x)
-  pub reached : n - length (drop x.written (take x.begun x.octets.items)) ≤ length (stream (take k (row_of x)))
-  pub count : k ≡ begun_by (n - length (drop x.written (take x.begun x.octets.items))) (map slot_of (row_of x))
+  pub reached : n - length (drop x.written (take x.begun (all_octets x))) ≤ length (stream (take k (row_of x)))
+  pub count : k ≡ begun_by (n - length (drop x.written (take x.begun (all_octets x)))) (map slot_of (row_of x))
   pub passed_is : passed ≡ length (stream (take k (row_of x)))
   pub on_is : on ≡ begun_on_after x.begun_on (take k (row_of x))
   pub now_is : now ≡ last_after_all x.last (take k (row_of x))
 
-length-ahead : (x : Inside) → OutboxIsSound x → length (drop x.written (take x.begun x.octets.items)) ≡ x.begun - x.written
+length-ahead : (x : Inside) → OutboxIsSound x → length (drop x.written (take x.begun (all_octets x))) ≡ x.begun - x.written
 length-ahead x s =
     let a = s.written in
     let b = s.begun in
     let c = s.arranged in
-    let d = length-second x.octets.items x.written x.begun s.written (omega arith) in
+    let d = length-second (all_octets x) x.written x.begun s.written (omega arith) in
     omega arith
 
 pub is_write : (x : Inside) (slots : List Slot) (n k passed on now : ℕ) → OutboxIsSound x → slots ≡ map slot_of (row_of x) → x.begun - x.written ≤ n → k ≡ begun_by (n - (x.begun - x.written)) slots → passed ≡ slots_length (take k slots)
@@ -186,24 +186,24 @@ is_write x slots n k passed on now s e ahead count passed_is on_is now_is few re
       now_is = now_is ∙ (ap (slots_last x.last) b ∙ slots_last-row x.last (take k row));
     }
 
-pub write-laid_out : (x y : Inside) (n k passed on now : ℕ) → OutboxIsSound x → IsWrite x n k passed on now → y.octets.items ≡ x.octets.items → all_slots y ≡ all_slots x → y.written ≡ x.written + n → y.begun ≡ x.begun + passed
+pub write-laid_out : (x y : Inside) (n k passed on now : ℕ) → OutboxIsSound x → IsWrite x n k passed on now → all_octets y ≡ all_octets x → all_slots y ≡ all_slots x → y.written ≡ x.written + n → y.begun ≡ x.begun + passed
     → y.arranged ≡ x.arranged → y.slots_begun ≡ x.slots_begun + k → y.slots_arranged ≡ x.slots_arranged
-    → IsLaidOut y (take (x.begun + (n - length (drop x.written (take x.begun x.octets.items)))) x.octets.items) (drop (n - length (drop x.written (take x.begun x.octets.items))) (stream (take k (row_of x)))) (take (x.slots_begun + k) (all_slots x)) (drop k (row_of x)) (staged_of x)
+    → IsLaidOut y (take (x.begun + (n - length (drop x.written (take x.begun (all_octets x))))) (all_octets x)) (drop (n - length (drop x.written (take x.begun (all_octets x)))) (stream (take k (row_of x)))) (take (x.slots_begun + k) (all_slots x)) (drop k (row_of x)) (staged_of x)
 write-laid_out x y n k passed on now s w octets slots written begun arranged slots_begun slots_arranged =
     let a = length-ahead x s in
     let b = w.ahead in
     let c = s.written in
-    row-begun x y (n - length (drop x.written (take x.begun x.octets.items))) k s w.few w.reached octets slots (omega arith) (begun ∙ ap (λ m. x.begun + m) w.passed_is) arranged slots_begun slots_arranged
+    row-begun x y (n - length (drop x.written (take x.begun (all_octets x)))) k s w.few w.reached octets slots (omega arith) (begun ∙ ap (λ m. x.begun + m) w.passed_is) arranged slots_begun slots_arranged
 
 pub write-kept : (x : Inside) (n k passed on now : ℕ) → OutboxIsSound x → IsWrite x n k passed on now → IsKept now (drop k (row_of x)) (staged_of x)
 write-kept x n k passed on now s w = let P : ℕ → Type 0 = λ last. IsKept last (drop k (row_of x)) (staged_of x) in subst P (sym w.now_is) (kept-written x k s)
 
 pub write_view : (x y : Inside) (n k passed on now : ℕ) (gone : List ℕ) (past : List Slot) (value : Outgoing) → outgoing_of x ≡ value → n ≤ length (output_octets value.output) → IsWrite x n k passed on now → y.begun_on ≡ on → y.last ≡ now
-    → IsLaidOut y gone (drop (n - length (drop x.written (take x.begun x.octets.items))) (stream (take k (row_of x)))) past (drop k (row_of x)) (staged_of x)
+    → IsLaidOut y gone (drop (n - length (drop x.written (take x.begun (all_octets x)))) (stream (take k (row_of x)))) past (drop k (row_of x)) (staged_of x)
     → outgoing_of y ≡ with_output value (after_writing n value.output)
 write_view x y n k passed on now gone past value e within w c g l =
     let row = row_of x in
-    let m = n - length (drop x.written (take x.begun x.octets.items)) in
+    let m = n - length (drop x.written (take x.begun (all_octets x))) in
     let o : Output = (outgoing_of x).output in
     let P : Outgoing → Type 0 = λ v. n ≤ length (output_octets v.output) in
     let enough : n ≤ length (output_octets o) = subst P (sym e) within in
@@ -222,7 +222,7 @@ row-enough x n value s e within ahead =
     let a = length-ahead x s in
     let P : Outgoing → Type 0 = λ v. n ≤ length (output_octets v.output) in
     let enough : n ≤ length (output_octets (outgoing_of x).output) = subst P (sym e) within in
-    let b = length-append (drop x.written (take x.begun x.octets.items)) (stream (row_of x)) in
+    let b = length-append (drop x.written (take x.begun (all_octets x))) (stream (row_of x)) in
     omega arith
 
 pub row-room : (x : Inside) (k : ℕ) → OutboxIsSound x → x.begun + length (stream (take k (row_of x))) ≤ x.arranged

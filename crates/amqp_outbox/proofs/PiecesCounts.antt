@@ -1,9 +1,9 @@
 -- How many octets wait, and how many are staged.
-use Rattle.std.proofs.Common.{◌≡◌, ℕ, ◌+◌, ◌-◌, ◌<◌, Bool, true, false, cond, nat_lt, List, [], ◌∷◌, ◌++◌, length, All, refl, sym, ap, ◌∙◌, arith, length-append, append-nil}
+use Rattle.std.proofs.Common.{◌≡◌, ℕ, ◌+◌, ◌-◌, Bool, true, false, cond, nat_lt, List, [], ◌∷◌, ◌++◌, length, ap, ◌∙◌, arith, length-append}
 use Rattle.std.proofs.lemmas.List.{map-append}
 use Rattle.amqp_frame.specs.Frame.{Frame, octets}
 use Rattle.amqp_frame.specs.Splitting.{stream}
-use Rattle.amqp_model.specs.Output.Arrangement.{turn, last_after, placed, placed_all, arranged}
+use Rattle.amqp_model.specs.Output.Arrangement.{turn, last_after, placed}
 use Rattle.amqp_outbox.specs.PiecesQueues.{frame_of, frames_of, IsChunk}
 use Rattle.amqp_outbox.specs.declared.queues.Chunk.{Chunk}
 use Rattle.amqp_outbox.proofs.OutboxRows.{stream-append}

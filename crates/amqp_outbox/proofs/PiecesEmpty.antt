@@ -1,5 +1,5 @@
 -- A queue of which nothing is left.
-use Rattle.std.proofs.Common.{◌≡◌, ◌+◌, List, [], ◌∷◌, ◌++◌, length, drop, refl, sym, ap, ◌∙◌, arith, length-append}
+use Rattle.std.proofs.Common.{◌≡◌, List, [], ◌∷◌, length, drop, refl, sym, ap, ◌∙◌, arith, length-append}
 use Rattle.amqp_frame.specs.Frame.{Frame, octets}
 use Rattle.amqp_frame.specs.Splitting.{stream}
 use Rattle.amqp_outbox.specs.PiecesFields.{outgoing_in, IsWhole}

@@ -1,7 +1,6 @@
 -- The row that waits in queues follows the rules.
-use Rattle.std.proofs.Common.{◌≡◌, ℕ, List, ◌++◌, All}
+use Rattle.std.proofs.Common.{ℕ, ◌++◌, All}
 use Rattle.std.proofs.lemmas.List.Elements.{All-append, All-map, All-weaker}
-use Rattle.amqp_frame.specs.Frame.{Frame}
 use Rattle.amqp_model.specs.Output.Arrangement.{IsChannel, HasChannel, arranged}
 use Rattle.amqp_model.specs.Output.ArrangementRules.{FollowsRules}
 use Rattle.amqp_model.specs.Laws.ArrangementLaws.{ArrangedByRules, PutsMakeRow}
@@ -9,7 +8,7 @@ use Rattle.amqp_outbox.specs.PiecesQueues.{frame_of, frames_of, IsPlain, IsLeavi
 use Rattle.amqp_outbox.specs.declared.queues.Chunk.{Chunk}
 use Rattle.amqp_outbox.specs.declared.queues.Queues.{Queues}
 use Rattle.amqp_outbox.proofs.PiecesMoves.{plain-frames, leaving-frames, all-above, above-channels}
-use Rattle.amqp_outbox.proofs.PiecesRows.{IsAbove, arranged-keeps, in-turn}
+use Rattle.amqp_outbox.proofs.PiecesRows.{arranged-keeps, in-turn}
 
 row-channels : (last : ℕ) (queues : Queues) → AreSound queues → All HasChannel (row_of last queues)
 row-channels last queues s =

@@ -1,5 +1,5 @@
 -- Frames that are staged together, after the others.
-use Rattle.std.proofs.Common.{◌≡◌, ℕ, ◌+◌, ◌-◌, ◌^◌, ◌<◌, ◌≤◌, List, ◌++◌, length, map, take, drop, All, sym, ap, ap₂, ◌∙◌, arith, length-append, length-drop}
+use Rattle.std.proofs.Common.{◌≡◌, ℕ, ◌+◌, ◌-◌, ◌^◌, ◌<◌, List, ◌++◌, length, map, take, drop, All, sym, ap, ap₂, ◌∙◌, arith, length-append, length-drop}
 use Rattle.std.proofs.lemmas.List.{length-map, map-append}
 use Rattle.std.proofs.lemmas.List.Elements.{All-append}
 use Rattle.amqp_frame.specs.Frame.{Frame}
@@ -8,7 +8,7 @@ use Rattle.amqp_model.specs.Output.Arrangement.{HasChannel}
 use Rattle.amqp_outbox.specs.OutboxSlots.{slot_of}
 use Rattle.amqp_outbox.specs.OutboxLaps.{laps_of, no_laps}
 use Rattle.amqp_outbox.specs.OutboxView.{Outgoing, with_staged}
-use Rattle.amqp_outbox.specs.OutboxFields.{row_laps, row_of, staged_of, outgoing_of, all_slots, all_laps, OutboxIsSound}
+use Rattle.amqp_outbox.specs.OutboxFields.{all_octets, row_laps, row_of, staged_of, outgoing_of, all_slots, all_laps, OutboxIsSound}
 use Rattle.amqp_outbox.specs.declared.slots.Slot.{Slot}
 use Rattle.amqp_outbox.specs.declared.outbox.Outbox.TheInside.{Inside}
 use Rattle.amqp_outbox.proofs.OutboxLists.{last_of_three, last_of_four, length-second}
@@ -16,14 +16,14 @@ use Rattle.amqp_outbox.proofs.OutboxRows.{stream-append}
 use Rattle.amqp_outbox.proofs.OutboxWaiting.{count-slots}
 use Rattle.amqp_outbox.proofs.OutboxStates.{IsLaidOut, IsKept, IsInLaps, in_laps, laid_out, slots_within, view, outgoing}
 
-pub frames-staged : (x y : Inside) (frames : List Frame) → OutboxIsSound x → y.octets.items ≡ x.octets.items ++ stream frames
+pub frames-staged : (x y : Inside) (frames : List Frame) → OutboxIsSound x → all_octets y ≡ all_octets x ++ stream frames
     → all_slots y ≡ all_slots x ++ map slot_of frames → y.written ≡ x.written → y.begun ≡ x.begun → y.arranged ≡ x.arranged
     → y.slots_begun ≡ x.slots_begun → y.slots_arranged ≡ x.slots_arranged
-    → IsLaidOut y (take x.written x.octets.items) (drop x.written (take x.begun x.octets.items)) (take x.slots_begun (all_slots x)) (row_of x) (staged_of x ++ frames)
+    → IsLaidOut y (take x.written (all_octets x)) (drop x.written (take x.begun (all_octets x))) (take x.slots_begun (all_slots x)) (row_of x) (staged_of x ++ frames)
 frames-staged x y frames s more more_slots written begun arranged slots_begun slots_arranged =
     let l = laid_out x s in
-    let gone = take x.written x.octets.items in
-    let ahead = drop x.written (take x.begun x.octets.items) in
+    let gone = take x.written (all_octets x) in
+    let ahead = drop x.written (take x.begun (all_octets x)) in
     let row = row_of x in
     let staged = staged_of x in
     let past = take x.slots_begun (all_slots x) in
@@ -73,9 +73,9 @@ frames-in_laps x y frames s laps left lap last begun =
     }
 
 pub frames-view : (x y : Inside) (frames : List Frame) (gone : List ℕ) (past : List Slot) (value : Outgoing) → outgoing_of x ≡ value → y.begun_on ≡ x.begun_on → y.last ≡ x.last
-    → IsLaidOut y gone (drop x.written (take x.begun x.octets.items)) past (row_of x) (staged_of x ++ frames)
+    → IsLaidOut y gone (drop x.written (take x.begun (all_octets x))) past (row_of x) (staged_of x ++ frames)
     → outgoing_of y ≡ with_staged value frames
 frames-view x y frames gone past value e on g l =
-    let ahead = drop x.written (take x.begun x.octets.items) in
+    let ahead = drop x.written (take x.begun (all_octets x)) in
     view y gone ahead past (row_of x) (staged_of x ++ frames) l
     ∙ (ap₂ (λ c last. outgoing ahead c last (row_of x) (staged_of x ++ frames)) on g ∙ ap (λ v. with_staged v frames) e)

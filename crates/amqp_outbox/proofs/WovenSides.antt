@@ -1,6 +1,6 @@
 -- The two ways of putting frames among those of a row: what waits before them moves down, or what waits after them up.
-use Rattle.std.proofs.Common.{◌≡◌, ℕ, zero, suc, ◌+◌, ◌-◌, ◌<◌, ◌≤◌, List, [], ◌∷◌, ◌++◌, length, map, take, drop, get_or, refl, sym, ap, ap₂, ◌∙◌, subst, arith, append_assoc, append-nil, length-append, take-append-drop}
-use Rattle.std.proofs.lemmas.List.{take_at, drop_at, length-map, get_or-map, length-take-le, take-take, drop-take, drop-drop}
+use Rattle.std.proofs.Common.{◌≡◌, ℕ, zero, suc, ◌+◌, ◌-◌, ◌<◌, ◌≤◌, List, [], ◌∷◌, ◌++◌, length, map, take, drop, get_or, refl, sym, ap, ap₂, ◌∙◌, subst, arith, append_assoc, append-nil, length-append, length-drop, take-append-drop}
+use Rattle.std.proofs.lemmas.List.{take_at, drop_at, length-map, get_or-map, length-take-le, take-take, take-append-le, drop-append-le, drop-take, drop-drop}
 use Rattle.amqp_frame.specs.Frame.{Frame, octets}
 use Rattle.amqp_frame.specs.Splitting.{stream}
 use Rattle.amqp_outbox.specs.OutboxSlots.{slot_of, slots_in, slots_length}
@@ -71,70 +71,93 @@ lengths row coming total rows puts rows_are puts_are total_is follow =
     let none : length (stream (take 0 rows)) ≡ 0 = refl in
     (omega arith, a, b)
 
-pub down-weaves : (old new : Ends) (row : List Waiting) (coming : List Coming) (total : ℕ) (octets a b c : List ℕ) → new.written ≡ old.written - total → new.begun ≡ old.begun - total → new.arranged ≡ old.arranged
-    → total ≤ old.written → old.written ≤ old.begun → old.arranged ≡ old.begun + slots_length (slots_in row) → total ≡ slots_length (slots_of coming) → old.arranged + total ≤ length octets → Follow 0 (length row) (places_of coming)
-    → take (old.begun - total + 0) a ≡ take (old.written - total) octets ++ (drop old.written (take old.begun octets) ++ take 0 (drop old.arranged octets)) → drop old.begun a ≡ drop old.begun octets
+-- what octets and those that stand aside are, part by part
+pub record Apart (octets aside ahead after : List ℕ) (rows puts : List Frame) (written begun : ℕ) : Type 0 where
+  pub ahead_is : drop written (take begun octets) ≡ ahead
+  pub row_is : drop begun octets ≡ stream rows
+  pub aside_is : aside ≡ stream puts ++ after
+
+pub apart : (octets aside ahead after : List ℕ) (rows puts : List Frame) (written begun : ℕ) → written + length ahead ≡ begun → length octets ≡ begun + length (stream rows)
+    → drop written (octets ++ aside) ≡ ahead ++ (stream rows ++ (stream puts ++ after)) → Apart octets aside ahead after rows puts written begun
+apart octets aside ahead after rows puts written begun e size whole =
+    let f = begins-with (octets ++ aside) ahead (stream rows ++ (stream puts ++ after)) written begun e whole in
+    let n = length (stream rows) in
+    let left = length-drop begun octets in
+    let parted : drop begun octets ++ aside ≡ stream rows ++ (stream puts ++ after) = sym (drop-append-le begun octets aside (omega arith)) ∙ f.rest_is in
+    record {
+      ahead_is = ap (drop written) (sym (take-append-le begun octets aside (omega arith))) ∙ f.ahead_is;
+      row_is = sym (take_at (drop begun octets) aside n (omega arith)) ∙ (ap (take n) parted ∙ take_at (stream rows) (stream puts ++ after) n refl);
+      aside_is = sym (drop_at (drop begun octets) aside n (omega arith)) ∙ (ap (drop n) parted ∙ drop_at (stream rows) (stream puts ++ after) n refl);
+    }
+
+pub down-weaves : (old new : Ends) (row : List Waiting) (coming : List Coming) (total : ℕ) (octets aside frames later a b c : List ℕ) → new.written ≡ old.written - total → new.begun ≡ old.begun - total → new.arranged ≡ old.arranged
+    → total ≤ old.written → old.written ≤ old.begun → old.arranged ≡ old.begun + slots_length (slots_in row) → total ≡ slots_length (slots_of coming) → length octets ≡ old.arranged → Follow 0 (length row) (places_of coming)
+    → frames ≡ take total aside → later ≡ drop total aside → length frames ≡ total
+    → take (old.begun - total + 0) a ≡ take (old.written - total) octets ++ (drop old.written (take old.begun octets) ++ []) → drop old.begun a ≡ drop old.begun octets
     → length b ≡ length octets
-    → ((after : List ℕ) (rows puts : List Frame) → slots_in row ≡ map slot_of rows → slots_of coming ≡ map slot_of puts → drop old.begun a ≡ stream rows ++ (stream puts ++ after)
-    → b ≡ take (old.begun - total) a ++ (stream (woven 0 (places_of coming) puts rows) ++ (stream puts ++ after)))
-    → c ≡ take old.arranged b ++ drop (old.arranged + total) b
-    → WeavesIn old new row coming total octets c
-down-weaves old new row coming total octets a b c written begun arranged room order arranged_is total_is there follow settled kept count woven_is c_is =
-    let size = length-take-le old.arranged b (omega arith) in
-    let size2 = ap length c_is ∙ length-append (take old.arranged b) (drop (old.arranged + total) b) in
+    → ((after : List ℕ) (rows puts : List Frame) → slots_in row ≡ map slot_of rows → slots_of coming ≡ map slot_of puts → frames ≡ stream puts → drop old.begun a ≡ stream rows ++ after
+    → b ≡ take (old.begun - length frames) a ++ (stream (woven 0 (places_of coming) puts rows) ++ after))
+    → c ≡ b ++ later
+    → WeavesIn old new row coming total (octets ++ aside) c
+down-weaves old new row coming total octets aside frames later a b c written begun arranged room order arranged_is total_is all follow frames_are later_is frames_count settled kept count woven_is c_is =
+    let size = ap length c_is ∙ length-append b later in
     record {
       written = omega arith;
       begun = omega arith;
       arranged = omega arith;
       octets_are = λ ahead after rows puts rows_are puts_are ahead_is whole.
-          let f = begins-with octets ahead (stream rows ++ (stream puts ++ after)) old.written old.begun ahead_is whole in
           let n = lengths row coming total rows puts rows_are puts_are total_is follow in
-          let n0 = n.0 in
+          let n1 = n.1 in
           let n2 = n.2 in
+          let f = apart octets aside ahead after rows puts old.written old.begun ahead_is (omega arith) whole in
+          let frames_stream : frames ≡ stream puts = frames_are ∙ (ap (take total) f.aside_is ∙ take_at (stream puts) after total (sym n2)) in
+          let later_after : later ≡ after = later_is ∙ (ap (drop total) f.aside_is ∙ drop_at (stream puts) after total (sym n2)) in
           let both = stream (woven 0 (places_of coming) puts rows) in
           let pre = take (old.written - total) octets in
-          let size3 = length-take-le (old.written - total) octets (omega arith) in
-          let same : old.begun - total + 0 ≡ old.begun - total = omega arith in
-          let pre_is : take (old.begun - total) a ≡ pre ++ ahead = ap (λ n. take n a) (sym same) ∙ (settled ∙ (ap (λ ys. pre ++ (ys ++ [])) f.ahead_is ∙ ap (λ ys. pre ++ ys) (append-nil ahead))) in
-          let b_is : b ≡ (pre ++ ahead) ++ (both ++ (stream puts ++ after)) = woven_is after rows puts rows_are puts_are (kept ∙ f.rest_is) ∙ ap (λ ys. ys ++ (both ++ (stream puts ++ after))) pre_is in
-          let b_is2 : b ≡ ((pre ++ ahead) ++ both) ++ (stream puts ++ after) = b_is ∙ sym (append_assoc (pre ++ ahead) both (stream puts ++ after)) in
-          let b_is3 : b ≡ (((pre ++ ahead) ++ both) ++ stream puts) ++ after = b_is2 ∙ sym (append_assoc ((pre ++ ahead) ++ both) (stream puts) after) in
-          let size4 = length-append pre ahead in
-          let size5 = length-append (pre ++ ahead) both in
-          let size6 = length-append ((pre ++ ahead) ++ both) (stream puts) in
-          let taken : take old.arranged b ≡ (pre ++ ahead) ++ both = ap (take old.arranged) b_is2 ∙ take_at ((pre ++ ahead) ++ both) (stream puts ++ after) old.arranged (omega arith) in
-          let dropped : drop (old.arranged + total) b ≡ after = ap (drop (old.arranged + total)) b_is3 ∙ drop_at (((pre ++ ahead) ++ both) ++ stream puts) after (old.arranged + total) (omega arith) in
-          let all : c ≡ pre ++ (ahead ++ (both ++ after)) = c_is ∙ (ap₂ (λ ys zs. ys ++ zs) taken dropped ∙ (append_assoc (pre ++ ahead) both after ∙ append_assoc pre ahead (both ++ after))) in
-          ap (drop new.written) all ∙ drop_at pre (ahead ++ (both ++ after)) new.written (omega arith);
+          let size2 = length-take-le (old.written - total) octets (omega arith) in
+          let same : old.begun - length frames ≡ old.begun - total + 0 = omega arith in
+          let pre_is : take (old.begun - length frames) a ≡ pre ++ ahead = ap (λ n. take n a) same ∙ (settled ∙ (ap (λ ys. pre ++ (ys ++ [])) f.ahead_is ∙ ap (λ ys. pre ++ ys) (append-nil ahead))) in
+          let b_is : b ≡ (pre ++ ahead) ++ both =
+          woven_is [] rows puts rows_are puts_are frames_stream (kept ∙ (f.row_is ∙ sym (append-nil (stream rows))))
+          ∙ ap₂ (λ ys zs. ys ++ zs) pre_is (append-nil both) in
+          let all_is : c ≡ pre ++ (ahead ++ (both ++ after)) =
+          c_is ∙ (ap₂ (λ ys zs. ys ++ zs) b_is later_after ∙ (append_assoc (pre ++ ahead) both after ∙ append_assoc pre ahead (both ++ after))) in
+          ap (drop new.written) all_is ∙ drop_at pre (ahead ++ (both ++ after)) new.written (omega arith);
     }
 
-pub up-weaves : (old new : Ends) (row : List Waiting) (coming : List Coming) (total : ℕ) (octets frames result : List ℕ) → new.written ≡ old.written → new.begun ≡ old.begun → new.arranged ≡ old.arranged + total
-    → old.written ≤ old.begun → old.arranged ≡ old.begun + slots_length (slots_in row) → total ≡ slots_length (slots_of coming) → old.arranged + total ≤ length octets → Follow 0 (length row) (places_of coming)
-    → frames ≡ take total (drop old.arranged octets) → length result ≡ length octets
-    → ((before after : List ℕ) (rows puts : List Frame) → slots_in row ≡ map slot_of rows → slots_of coming ≡ map slot_of puts → frames ≡ stream puts → length before ≡ old.begun
-    → octets ≡ before ++ (stream rows ++ (stream puts ++ after)) → result ≡ before ++ (stream (woven 0 (places_of coming) puts rows) ++ after))
-    → WeavesIn old new row coming total octets result
-up-weaves old new row coming total octets frames result written begun arranged order arranged_is total_is there follow frames_are count woven_is = record {
-  written = omega arith;
-  begun = omega arith;
-  arranged = omega arith;
-  octets_are = λ ahead after rows puts rows_are puts_are ahead_is whole.
-      let f = begins-with octets ahead (stream rows ++ (stream puts ++ after)) old.written old.begun ahead_is whole in
-      let n = lengths row coming total rows puts rows_are puts_are total_is follow in
-      let n1 = n.1 in
-      let n2 = n.2 in
-      let both = stream (woven 0 (places_of coming) puts rows) in
-      let on : old.begun + length (stream rows) ≡ old.arranged = omega arith in
-      let staged : drop old.arranged octets ≡ stream puts ++ after =
-      ap (λ n. drop n octets) (sym on) ∙ (sym (drop-drop (length (stream rows)) old.begun octets) ∙ (ap (drop (length (stream rows))) f.rest_is ∙ drop_at (stream rows) (stream puts ++ after) (length (stream rows)) refl)) in
-      let puts_stream : frames ≡ stream puts = frames_are ∙ (ap (take total) staged ∙ take_at (stream puts) after total (sym n2)) in
-      let size = length-take-le old.begun octets (omega arith) in
-      let size2 = length-take-le old.written octets (omega arith) in
-      let parted : take old.begun octets ≡ take old.written octets ++ ahead = sym (take-append-drop old.written (take old.begun octets)) ∙ ap₂ (λ ys zs. ys ++ zs) (take-take old.written old.begun octets order) f.ahead_is in
-      let new_is = woven_is (take old.begun octets) after rows puts rows_are puts_are puts_stream size (sym (take-append-drop old.begun octets) ∙ ap (λ ys. take old.begun octets ++ ys) f.rest_is) in
-      let all : result ≡ take old.written octets ++ (ahead ++ (both ++ after)) = new_is ∙ (ap (λ ys. ys ++ (both ++ after)) parted ∙ append_assoc (take old.written octets) ahead (both ++ after)) in
-      ap (drop new.written) all ∙ drop_at (take old.written octets) (ahead ++ (both ++ after)) new.written (omega arith);
-}
+pub up-weaves : (old new : Ends) (row : List Waiting) (coming : List Coming) (total : ℕ) (octets aside frames later hole a b result : List ℕ) → new.written ≡ old.written → new.begun ≡ old.begun → new.arranged ≡ old.arranged + total
+    → old.written ≤ old.begun → old.arranged ≡ old.begun + slots_length (slots_in row) → total ≡ slots_length (slots_of coming) → length octets ≡ old.arranged → Follow 0 (length row) (places_of coming)
+    → frames ≡ take total aside → later ≡ drop total aside → length frames ≡ total
+    → a ≡ octets ++ hole → length octets + length hole ≡ old.arranged + total → b ≡ a ++ later → length result ≡ length b
+    → ((before dropped after : List ℕ) (rows puts : List Frame) → slots_in row ≡ map slot_of rows → slots_of coming ≡ map slot_of puts → frames ≡ stream puts → length before ≡ old.begun → length dropped ≡ length frames
+    → b ≡ before ++ (stream rows ++ (dropped ++ after)) → result ≡ before ++ (stream (woven 0 (places_of coming) puts rows) ++ after))
+    → WeavesIn old new row coming total (octets ++ aside) result
+up-weaves old new row coming total octets aside frames later hole a b result written begun arranged order arranged_is total_is all follow frames_are later_is frames_count a_is hole_count b_is count woven_is =
+    let b_parts : b ≡ octets ++ (hole ++ later) = b_is ∙ (ap (λ ys. ys ++ later) a_is ∙ append_assoc octets hole later) in
+    let size = ap length b_parts ∙ length-append octets (hole ++ later) in
+    record {
+      written = omega arith;
+      begun = omega arith;
+      arranged = omega arith;
+      octets_are = λ ahead after rows puts rows_are puts_are ahead_is whole.
+          let n = lengths row coming total rows puts rows_are puts_are total_is follow in
+          let n1 = n.1 in
+          let n2 = n.2 in
+          let f = apart octets aside ahead after rows puts old.written old.begun ahead_is (omega arith) whole in
+          let frames_stream : frames ≡ stream puts = frames_are ∙ (ap (take total) f.aside_is ∙ take_at (stream puts) after total (sym n2)) in
+          let later_after : later ≡ after = later_is ∙ (ap (drop total) f.aside_is ∙ drop_at (stream puts) after total (sym n2)) in
+          let both = stream (woven 0 (places_of coming) puts rows) in
+          let front = take old.begun octets in
+          let size2 = length-take-le old.begun octets (omega arith) in
+          let size3 = length-take-le old.written octets (omega arith) in
+          let parted : front ≡ take old.written octets ++ ahead = sym (take-append-drop old.written front) ∙ ap₂ (λ ys zs. ys ++ zs) (take-take old.written old.begun octets order) f.ahead_is in
+          let octets_parts : octets ≡ front ++ stream rows = sym (take-append-drop old.begun octets) ∙ ap (λ ys. front ++ ys) f.row_is in
+          let b_rows : b ≡ front ++ (stream rows ++ (hole ++ later)) = b_parts ∙ (ap (λ ys. ys ++ (hole ++ later)) octets_parts ∙ append_assoc front (stream rows) (hole ++ later)) in
+          let new_is = woven_is front hole later rows puts rows_are puts_are frames_stream size2 (omega arith) b_rows in
+          let all_is : result ≡ take old.written octets ++ (ahead ++ (both ++ after)) =
+          new_is ∙ (ap₂ (λ ys zs. ys ++ (both ++ zs)) parted later_after ∙ append_assoc (take old.written octets) ahead (both ++ after)) in
+          ap (drop new.written) all_is ∙ drop_at (take old.written octets) (ahead ++ (both ++ after)) new.written (omega arith);
+    }
 
 -- what stands from a place of a row on is some of all
 pub part-within : (row : List Waiting) (place : ℕ) → slots_length (drop place (slots_in row)) ≤ slots_length (slots_in row)

@@ -184,18 +184,18 @@ octets-woven begun row coming row_end left k end hole count moved next d frames 
     subst (λ (m : ℕ). Weaving stream before after (places_of coming) puts rows k next.place (end - moved) (hole - m) new) part_length done
 
 -- before any frame is put
-pub octets-start : (row : List Waiting) (coming : List Coming) (begun row_end left end hole : ℕ) (frames now before after : List ℕ) (rows puts : List Frame)
+pub octets-start : (row : List Waiting) (coming : List Coming) (begun row_end left end hole : ℕ) (frames now before dropped after : List ℕ) (rows puts : List Frame)
     → left ≡ length coming → row_end ≡ length row → end ≡ begun + slots_length (slots_in row) → hole ≡ length frames
-    → slots_in row ≡ map slot_of rows → slots_of coming ≡ map slot_of puts → frames ≡ stream puts → length before ≡ begun
-    → now ≡ before ++ (stream rows ++ (stream puts ++ after))
+    → slots_in row ≡ map slot_of rows → slots_of coming ≡ map slot_of puts → frames ≡ stream puts → length before ≡ begun → length dropped ≡ length frames
+    → now ≡ before ++ (stream rows ++ (dropped ++ after))
     → Weaving stream before after (places_of coming) puts rows left row_end end hole now
-octets-start row coming begun row_end left end hole frames now before after rows puts e f g h rows_are puts_are frames_are size now_is =
+octets-start row coming begun row_end left end hole frames now before dropped after rows puts e f g h rows_are puts_are frames_are size dropped_size now_is =
     let many : length coming ≡ length puts = sym (length-map coming (λ (c : Coming). c.waiting)) ∙ (sym (count-slots (waiting_of coming)) ∙ (ap length puts_are ∙ length-map puts slot_of)) in
     let many2 = length-map coming (λ (c : Coming). c.place) in
     let rows_many : length row ≡ length rows = sym (count-slots row) ∙ (ap length rows_are ∙ length-map rows slot_of) in
     let rows_length = ap slots_length rows_are ∙ slots_length-row rows in
     let frames_length = ap length frames_are in
-    weaving_begun stream refl before after (stream puts) (places_of coming) puts rows left row_end end hole now (omega arith) (omega arith) (omega arith) (omega arith) (omega arith) (omega arith) now_is
+    weaving_begun stream refl before after dropped (places_of coming) puts rows left row_end end hole now (omega arith) (omega arith) (omega arith) (omega arith) (omega arith) (omega arith) now_is
 
 -- once all are put
 pub octets-end : (row : List Waiting) (coming : List Coming) (begun row_end left end hole : ℕ) (now before after : List ℕ) (rows puts : List Frame)

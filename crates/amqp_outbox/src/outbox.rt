@@ -10,15 +10,16 @@
 //! halved again and again: once where no frame of the channel waits, else some times for each doubling of how many do.
 //!
 //! `output` lends one slice, so a frame that goes before others has to move octets. Where one channel is active each
-//! frame goes last, and nothing moves. Where several frames of a channel are staged and go before others, their places
+//! frame goes last: it is encoded where it stays, and nothing moves. Where the first frame that is staged goes before
+//! others that wait, it and those after it are encoded aside, out of the way of what makes room for them. Their places
 //! are found first. Then one side of them makes room in one pass, the one on which fewer octets move: what waits before
 //! the last place, where as many octets were written before it, or what waits after the first. What moves there moves
-//! once, and the frames themselves once too, where what waits before them makes the room. Where what waits after them
-//! does, they stand in its way: they are copied out of it first, so they move twice. A frame alone, or where there is
-//! no memory for that copy, makes room in the same way for itself. So the worst is a row of many octets of which none
-//! is written, and frames that go near its beginning: a put moves nearly all of the row. A write reads the slots of the
-//! frames that it begins, and moves nothing: what it wrote is dropped later, before a frame is staged.
-ghost use Rattle.std.specs.Prelude.{◌≡◌, ℕ, ◌+◌, ◌^◌, ◌<◌, ◌≤◌, ◌==◌, [], ◌∷◌, ◌++◌, ◌≢◌, length, take, drop, slice_set, IfErr, IfSome, OnOk, OnErr, Err};
+//! once, and what stands aside is copied once, to where it stays: the frames of the first channel that are staged. The
+//! few that come after them, of other channels, then make room each for itself; so does each frame where there is no
+//! memory for the places, and a frame of channel 0 that goes before others. So the worst is a row of many octets of
+//! which none is written, and frames that go near its beginning: a put moves nearly all of the row. A write reads the
+//! slots of the frames that it begins, and moves nothing: what it wrote is dropped later, before a frame is staged.
+ghost use Rattle.std.specs.Prelude.{◌≡◌, ℕ, ◌+◌, ◌^◌, ◌<◌, ◌≤◌, ◌==◌, [], ◌∷◌, ◌++◌, ◌≢◌, length, take, drop, slice_set, vec_capacity, IfErr, IfSome, OnOk, OnErr, Err};
 ghost use Rattle.amqp_method.specs.HeaderView.{properties_view};
 ghost use Rattle.amqp_method.specs.MethodView.{method_view};
 ghost use Rattle.amqp_method.specs.Plain.{plain_method, plain_header, CountsAllFit, CountsPresentFit};
@@ -39,11 +40,11 @@ use crate::chunks::Chunks;
 use crate::handing::{HandOverFault, stage_row};
 use crate::parts::{append_parts, count_parts};
 use crate::send_queue::SendQueue;
-use crate::slots::{Waiting, begun_of, length_from, length_on, place_of};
+use crate::slots::{Slot, Waiting, begun_of, length_from, length_on, place_of};
 use crate::staging::{
     StageFault, append_body, append_header, append_heartbeat, append_method, enlist,
 };
-use crate::weaving::{Ends, find_places, length_of, weave, weave_slots};
+use crate::weaving::{Ends, find_places, join, length_of, weave, weave_slots};
 use amqp_frame::FrameKind;
 use amqp_method::{Method, Properties};
 use amqp_model::arrangement;
@@ -71,11 +72,17 @@ const SPARED: u8 = 16;
 ///
 /// The octets stand one after another: those written; those left of what no put moves, which is the frame that is
 /// begun, or the protocol header; the frames of the row, in the order in which they are to leave; and the frames that
-/// are staged. The slots are those of the frames begun, of the row, and of the frames staged.
+/// are staged. From the first one on that goes before others that wait, these are staged aside instead, so that they
+/// don't stand in the way of what makes room for them; there is room for them after the octets. The slots are those of
+/// the frames begun, of the row, and of the frames staged.
 #[derive(Drop)]
 pub struct Outbox {
     alloc: Global,
     octets: Vec<u8>,
+    /// the frames that are staged after all others
+    aside: Vec<u8>,
+    /// how many octets more are announced of them
+    announced: usize,
     written: usize,
     begun: usize,
     arranged: usize,
@@ -112,6 +119,8 @@ impl Outbox {
         Outbox {
             alloc,
             octets: Vec::new(alloc),
+            aside: Vec::new(alloc),
+            announced: 0,
             written: 0,
             begun: 0,
             arranged: 0,
@@ -166,6 +175,7 @@ impl Outbox {
         let before = self.octets.len();
         self.octets.extend_from_slice(octets)?;
         forget(&mut self.octets, before);
+        self.aside.clear();
         self.slots.clear();
         self.written = 0;
         self.begun = octets.len();
@@ -272,28 +282,42 @@ impl Outbox {
             kept: KEPT_SLOTS,
             large: LARGE_SLOTS,
         };
-        if !octets.is_spare() && !slots.is_spare() {
+        let aside = Room {
+            all: self.aside.capacity(),
+            used: self.aside.len(),
+            kept: KEPT_OCTETS,
+            large: LARGE_OCTETS,
+        };
+        if !octets.is_spare() && !aside.is_spare() && !slots.is_spare() {
             self.spared = 0;
             return;
         }
         self.spared = self.spared.saturating_add(1);
-        if self.spared > SPARED || octets.is_large() || slots.is_large() {
+        if self.spared > SPARED || octets.is_large() || aside.is_large() || slots.is_large() {
             self.spared = 0;
-            self.shrink(octets.left(), slots.left());
+            self.shrink(octets, aside, slots);
         }
     }
 
-    /// Keeps room for so many octets and slots alone, or for those that it holds.
+    /// Gives back what is spare of its rooms.
     ///
     /// What is left is moved into a smaller room, with as much again beside it. So an eighth of the room is moved at
     /// most, and the next such move comes after as much was written or staged again.
-    fn shrink(&mut self, octets: usize, slots: usize)
+    fn shrink(&mut self, octets: Room, aside: Room, slots: Room)
         ensures { self.new ≡ self.old }
     {
-        self.forget_written();
-        self.octets.shrink_to(octets);
-        self.forget_begun();
-        self.slots.shrink_to(slots);
+        if octets.is_spare() {
+            self.forget_written();
+            let held = self.octets.len().saturating_add(self.aside.len());
+            self.octets.shrink_to(octets.left().max(held));
+        }
+        if aside.is_spare() {
+            self.aside.shrink_to(aside.left());
+        }
+        if slots.is_spare() {
+            self.forget_begun();
+            self.slots.shrink_to(slots.left());
+        }
     }
 
     /// Adds all frames that wait to a queue: a copy of each, or none.
@@ -327,8 +351,12 @@ impl Outbox {
         ensures err { IfErr result (λ e. e ≡ out_of_memory) }
     {
         self.drop_written(octets);
-        self.octets.reserve(octets)?;
+        let Some(room) = self.aside.len().checked_add(octets) else {
+            return Err(StageFault::OutOfMemory);
+        };
+        self.octets.reserve(room)?;
         self.slots.reserve(frames)?;
+        self.announced = octets;
         Ok(())
     }
 
@@ -343,11 +371,19 @@ impl Outbox {
     {
         self.drop_written(USUAL_FRAME);
         self.drop_begun();
+        let between = self.is_between(channel)?;
         expect_lap(self.slots.len() - self.slots_begun, self.lap)?;
-        let at = self.octets.len();
-        append_method(&mut self.octets, channel, method)?;
         let kind = FrameKind::Method;
-        enlist(&mut self.octets, &mut self.slots, at, kind, channel)?;
+        if !between && self.aside.is_empty() {
+            let at = self.octets.len();
+            append_method(&mut self.octets, channel, method)?;
+            enlist(&mut self.octets, &mut self.slots, at, kind, channel)?;
+            return Ok(());
+        }
+        let at = self.aside.len();
+        append_method(&mut self.aside, channel, method)?;
+        keep_room(&mut self.octets, &mut self.aside, at)?;
+        enlist(&mut self.aside, &mut self.slots, at, kind, channel)?;
         Ok(())
     }
 
@@ -368,11 +404,19 @@ impl Outbox {
     {
         self.drop_written(USUAL_FRAME);
         self.drop_begun();
+        let between = self.is_between(channel)?;
         expect_lap(self.slots.len() - self.slots_begun, self.lap)?;
-        let at = self.octets.len();
-        append_header(&mut self.octets, channel, body_size, properties)?;
         let kind = FrameKind::Header;
-        enlist(&mut self.octets, &mut self.slots, at, kind, channel)?;
+        if !between && self.aside.is_empty() {
+            let at = self.octets.len();
+            append_header(&mut self.octets, channel, body_size, properties)?;
+            enlist(&mut self.octets, &mut self.slots, at, kind, channel)?;
+            return Ok(());
+        }
+        let at = self.aside.len();
+        append_header(&mut self.aside, channel, body_size, properties)?;
+        keep_room(&mut self.octets, &mut self.aside, at)?;
+        enlist(&mut self.aside, &mut self.slots, at, kind, channel)?;
         Ok(())
     }
 
@@ -384,11 +428,19 @@ impl Outbox {
     {
         self.drop_written(part.len());
         self.drop_begun();
+        let between = self.is_between(channel)?;
         expect_lap(self.slots.len() - self.slots_begun, self.lap)?;
-        let at = self.octets.len();
-        append_body(&mut self.octets, channel, part)?;
         let kind = FrameKind::Body;
-        enlist(&mut self.octets, &mut self.slots, at, kind, channel)?;
+        if !between && self.aside.is_empty() {
+            let at = self.octets.len();
+            append_body(&mut self.octets, channel, part)?;
+            enlist(&mut self.octets, &mut self.slots, at, kind, channel)?;
+            return Ok(());
+        }
+        let at = self.aside.len();
+        append_body(&mut self.aside, channel, part)?;
+        keep_room(&mut self.octets, &mut self.aside, at)?;
+        enlist(&mut self.aside, &mut self.slots, at, kind, channel)?;
         Ok(())
     }
 
@@ -408,11 +460,21 @@ impl Outbox {
         };
         self.drop_written(parts.octets);
         self.drop_begun();
+        let between = self.is_between(channel)?;
         let waiting = self.slots.len() - self.slots_begun;
         expect_lap(waiting.saturating_add(parts.count), self.lap)?;
-        self.octets.reserve(parts.octets)?;
         self.slots.reserve(parts.count)?;
-        append_parts(&mut self.octets, &mut self.slots, channel, room, chunks);
+        if !between && self.aside.is_empty() {
+            self.octets.reserve(parts.octets)?;
+            append_parts(&mut self.octets, &mut self.slots, channel, room, chunks);
+            return Ok(());
+        }
+        let Some(after) = self.aside.len().checked_add(parts.octets) else {
+            return Err(StageFault::OutOfMemory);
+        };
+        self.octets.reserve(after)?;
+        self.aside.reserve(parts.octets)?;
+        append_parts(&mut self.aside, &mut self.slots, channel, room, chunks);
         Ok(())
     }
 
@@ -424,10 +486,17 @@ impl Outbox {
         self.drop_written(USUAL_FRAME);
         self.drop_begun();
         expect_lap(self.slots.len() - self.slots_begun, self.lap)?;
-        let at = self.octets.len();
-        append_heartbeat(&mut self.octets)?;
         let kind = FrameKind::Heartbeat;
-        enlist(&mut self.octets, &mut self.slots, at, kind, 0)?;
+        if self.aside.is_empty() {
+            let at = self.octets.len();
+            append_heartbeat(&mut self.octets)?;
+            enlist(&mut self.octets, &mut self.slots, at, kind, 0)?;
+            return Ok(());
+        }
+        let at = self.aside.len();
+        append_heartbeat(&mut self.aside)?;
+        keep_room(&mut self.octets, &mut self.aside, at)?;
+        enlist(&mut self.aside, &mut self.slots, at, kind, 0)?;
         Ok(())
     }
 
@@ -436,7 +505,53 @@ impl Outbox {
         ensures { self.new ≡ only self.old.output }
     {
         self.octets.truncate(self.arranged);
+        self.aside.clear();
         self.slots.truncate(self.slots_arranged);
+        self.announced = 0;
+    }
+
+    /// Whether a frame of a channel above 0 that is staged first goes before others that wait.
+    ///
+    /// Where the frame that waits last is of the channel, the new one goes after it.
+    fn goes_between(&self, channel: u16) -> bool {
+        let row = &self.slots[self.slots_begun..self.slots_arranged];
+        let Some(newest) = row.last() else {
+            return false;
+        };
+        if channel == 0
+            || newest.slot.channel == channel
+            || self.slots_arranged < self.slots.len()
+        {
+            return false;
+        }
+        let soonest = if self.last < channel {
+            self.lap
+        } else {
+            self.lap.saturating_add(1)
+        };
+        if !newest.is_after(soonest, channel) {
+            return false;
+        }
+        let slot = Slot {
+            size: 0,
+            channel,
+            kind: FrameKind::Body,
+            leaving: false,
+        };
+        place_of(row, slot, self.lap, self.last).before < row.len()
+    }
+
+    /// Whether a frame that is staged now is the first one that goes before others. Then there is room aside for all
+    /// octets that were announced.
+    fn is_between(&mut self, channel: u16) -> Result<bool, StageFault>
+        ensures same { self.new ≡ self.old }
+        ensures err { IfErr result (λ e. e ≡ out_of_memory) }
+    {
+        let between = self.goes_between(channel);
+        if between {
+            self.aside.reserve(self.announced)?;
+        }
+        Ok(between)
     }
 
     /// How many frames are staged.
@@ -455,6 +570,7 @@ impl Outbox {
         ensures { IsPutOfFirst self.old self.new }
     {
         arrangement::put_keeps_arranged();
+        join(&mut self.octets, &mut self.aside);
         let waiting = self.slots[self.slots_arranged];
         let slot = waiting.slot;
         let row = &self.slots[self.slots_begun..self.slots_arranged];
@@ -475,26 +591,26 @@ impl Outbox {
         }
     }
 
-    /// The channel of the frames that are staged first, where several are staged and may go before others that wait.
+    /// The channel of the frames that are staged first, where frames stand aside.
     fn between(&self) -> Option<u16>
         ensures { IfSome result (λ channel. 0 < channel) }
     {
-        let newest = self.slots[self.slots_begun..self.slots_arranged].last()?;
-        let staged = &self.slots[self.slots_arranged..];
-        let channel = staged.first()?.slot.channel;
-        if staged.len() > 1 && channel > 0 && newest.slot.channel != channel {
-            Some(channel)
-        } else {
-            None
+        if self.aside.is_empty() {
+            return None;
         }
+        let channel = self.slots[self.slots_arranged..].first()?.slot.channel;
+        if channel > 0 { Some(channel) } else { None }
     }
 
-    /// Puts the first frames that are staged in one pass: those of a channel that go before frames that wait.
+    /// Puts the first frames that stand aside in one pass: those of a channel that go before frames that wait.
     ///
-    /// What waits on one side of them moves, once. Where there is no memory for that, nothing is put.
+    /// What waits on one side of them moves, once. Where there is no memory for their places, nothing is put.
     fn put_between(&mut self)
         ensures { all_put self.new ≡ all_put self.old }
     {
+        if self.arranged < self.octets.len() {
+            return;
+        }
         let Some(channel) = self.between() else {
             return;
         };
@@ -513,9 +629,8 @@ impl Outbox {
             begun: self.begun,
             arranged: self.arranged,
         };
-        let Some(ends) = weave(self.alloc, &mut self.octets, ends, row, &coming, total) else {
-            return;
-        };
+        let ends = weave(&mut self.octets, ends, row, &coming, &self.aside, total);
+        self.aside.clear();
         weave_slots(
             &mut self.slots,
             self.slots_begun,
@@ -536,6 +651,7 @@ impl Outbox {
         for _ in 0..self.staged() {
             self.put_first();
         }
+        self.announced = 0;
     }
 }
 
@@ -548,6 +664,22 @@ fn expect_lap(waiting: usize, lap: u64) -> Result<(), StageFault>
     if lap.saturating_add(waiting as u64) >= u64::MAX - 1 {
         return Err(StageFault::OutOfMemory);
     }
+    Ok(())
+}
+
+/// Makes room after octets for all that stands aside. Where there is none, what stands there from a place on is dropped.
+fn keep_room(octets: &mut Vec<u8>, aside: &mut Vec<u8>, at: usize) -> Result<(), StageFault>
+    ensures octets { octets.new.items ≡ octets.old.items }
+    ensures kept { vec_capacity octets.old ≤ vec_capacity octets.new }
+    ensures room { OnOk result (length octets.new.items + length aside.new.items ≤ vec_capacity octets.new) }
+    ensures same { OnOk result (aside.new.items ≡ aside.old.items) }
+    ensures back { OnErr result (aside.new.items ≡ take at aside.old.items) }
+    ensures err { IfErr result (λ e. e ≡ out_of_memory) }
+{
+    let Ok(()) = octets.reserve(aside.len()) else {
+        aside.truncate(at);
+        return Err(StageFault::OutOfMemory);
+    };
     Ok(())
 }
 
@@ -582,7 +714,8 @@ impl Room {
 /// Drops the first of the items.
 fn forget<T: Copy + Drop>(items: &mut Vec<T>, count: usize)
     requires { count ≤ length items.old.items }
-    ensures { items.new.items ≡ drop count items.old.items }
+    ensures items { items.new.items ≡ drop count items.old.items }
+    ensures room { vec_capacity items.new ≡ vec_capacity items.old }
 {
     let left = items.len() - count;
     items.copy_within(count.., 0);

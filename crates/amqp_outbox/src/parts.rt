@@ -44,7 +44,8 @@ pub(crate) fn append_parts(
     chunks: &mut Chunks,
 )
     requires some { 0 < room }
-    requires room { vec_len octets.old + length (stream (body_frames channel room chunks.old)) ≤ vec_capacity octets.old }
+    requires room { vec_len octets.old + length (stream (body_frames channel room chunks.old))
+        ≤ vec_capacity octets.old }
     requires slots_room { vec_len slots.old + length (body_frames channel room chunks.old) ≤ vec_capacity slots.old }
     ensures octets { octets.new.items ≡ octets.old.items ++ stream (body_frames channel room chunks.old) }
     ensures slots { slots_in slots.new.items

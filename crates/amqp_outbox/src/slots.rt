@@ -79,7 +79,7 @@ impl Slot {
 
 impl Waiting {
     /// Whether the frame has its turn after that of a channel in a lap.
-    fn is_after(self, lap: u64, channel: u16) -> bool
+    pub(crate) fn is_after(self, lap: u64, channel: u16) -> bool
         ensures { result ≡ is_after (moment lap channel) self.slot self.lap }
     {
         let slot = self.slot;

@@ -5,11 +5,10 @@
 //! has to go in all, and a frame is copied into the room that they leave.
 //!
 //! `goes_down` counts the octets that move on each side. Where what waits before the last place moves (`put_down`), it
-//! goes down over octets that are written, from the beginning on. The new frames stand out of its way, so each is
-//! copied once; what is staged after them then moves down to the row. Where what waits after the first place moves
-//! (`put_up`), it goes up, from the end on, to where the new frames stand. So these are copied twice: out of the way,
-//! and to their places. The slots always move up.
-ghost use Rattle.std.specs.Prelude.{◌≡◌, ℕ, ◌+◌, ◌-◌, ◌^◌, ◌<◌, ◌≤◌, List, ◌++◌, length, map, take, drop, All, IfOk, IfSome, None, true};
+//! goes down over octets that are written, from the beginning on. Where what waits after the first place moves
+//! (`put_up`), it goes up, from the end on. The new frames stand aside, so each is copied once. The slots always move
+//! up.
+ghost use Rattle.std.specs.Prelude.{◌≡◌, ℕ, ◌+◌, ◌-◌, ◌^◌, ◌<◌, ◌≤◌, List, [], ◌++◌, length, map, take, drop, replicate, vec_capacity, All, IfOk, true};
 ghost use Rattle.amqp_frame.specs.Frame.{Frame};
 ghost use Rattle.amqp_frame.specs.Splitting.{stream};
 ghost use Rattle.amqp_model.specs.Output.Arrangement.{IsArranged, HasChannel};
@@ -94,42 +93,42 @@ pub(crate) fn length_of(coming: &[Coming]) -> usize
     total
 }
 
-/// Puts the octets of frames among those of a row. They stand after these, and make so many in all.
+/// Puts the octets of frames among those of a row: so many of those that stand aside, which are appended otherwise. There
+/// is room for them.
 ///
 /// Of what waits before the last place and what waits after the first the part moves that has fewer octets, each once.
-/// Where there is no memory for what that takes, nothing moves.
+/// What stands aside is copied once.
 pub(crate) fn weave(
-    alloc: Global,
     octets: &mut Vec<u8>,
     ends: Ends,
     row: &[Waiting],
     coming: &[Coming],
+    aside: &[u8],
     total: usize,
-) -> Option<Ends>
+) -> Ends
     requires some { 0 < length coming.now }
     requires follow { Follow 0 (length row.now) (places_of coming.now) }
     requires begun { ends.written ≤ ends.begun }
     requires arranged { ends.arranged ≡ ends.begun + slots_length (slots_in row.now) }
     requires total { total ≡ slots_length (slots_of coming.now) }
-    requires there { ends.arranged + total ≤ length octets.old.items }
-    ensures woven { IfSome result (λ new.
-        WeavesIn ends new row.now coming.now total octets.old.items octets.new.items) }
-    ensures same { result ≡ None → octets.new.items ≡ octets.old.items }
+    requires all { length octets.old.items ≡ ends.arranged }
+    requires there { total ≤ length aside.now }
+    requires room { length octets.old.items + length aside.now ≤ vec_capacity octets.old }
+    ensures { WeavesIn ends result row.now coming.now total (octets.old.items ++ aside.now) octets.new.items }
 {
-    if goes_down(octets.len(), ends, row, coming, total) {
-        return Some(put_down(octets, ends, row, coming, total));
+    if goes_down(ends, row, coming, total) {
+        return put_down(octets, ends, row, coming, aside, total);
     }
-    put_up(alloc, octets, ends, row, coming, total)
+    put_up(octets, ends, row, coming, aside, total)
 }
 
-/// Whether fewer octets are moved where what waits before the last place moves down, and what is staged later after it,
-/// than where what waits after the first place moves up, with a copy of the frames. It needs as much room before.
-fn goes_down(all: usize, ends: Ends, row: &[Waiting], coming: &[Coming], total: usize) -> bool
+/// Whether fewer octets are moved where what waits before the last place moves down than where what waits after the
+/// first place moves up. It needs as much room before.
+fn goes_down(ends: Ends, row: &[Waiting], coming: &[Coming], total: usize) -> bool
     requires some { 0 < length coming.now }
     requires follow { Follow 0 (length row.now) (places_of coming.now) }
     requires begun { ends.written ≤ ends.begun }
     requires arranged { ends.arranged ≡ ends.begun + slots_length (slots_in row.now) }
-    requires there { ends.arranged + total ≤ all }
     ensures { result ≡ true → total ≤ ends.written }
 {
     if ends.written < total {
@@ -138,30 +137,32 @@ fn goes_down(all: usize, ends: Ends, row: &[Waiting], coming: &[Coming], total: 
     let waiting = ends.arranged - ends.begun;
     let after_first = length_from(row, coming[0].place, waiting);
     let after_last = length_from(row, coming[coming.len() - 1].place, waiting);
-    let later = all - ends.arranged - total;
-    ends.arranged - ends.written - after_last + later < after_first + total
+    ends.arranged - ends.written - after_last < after_first
 }
 
-/// The same, where what waits before the last place moves down over octets that are written. Each frame is copied once,
-/// from where it stands, and what stands after them all then moves down to the row.
+/// The same, where what waits before the last place moves down over octets that are written.
 fn put_down(
     octets: &mut Vec<u8>,
     ends: Ends,
     row: &[Waiting],
     coming: &[Coming],
+    aside: &[u8],
     total: usize,
 ) -> Ends
     requires follow { Follow 0 (length row.now) (places_of coming.now) }
-    requires room { total ≤ ends.written }
+    requires down { total ≤ ends.written }
     requires begun { ends.written ≤ ends.begun }
     requires arranged { ends.arranged ≡ ends.begun + slots_length (slots_in row.now) }
     requires total { total ≡ slots_length (slots_of coming.now) }
-    requires there { ends.arranged + total ≤ length octets.old.items }
-    ensures { WeavesIn ends result row.now coming.now total octets.old.items octets.new.items }
+    requires all { length octets.old.items ≡ ends.arranged }
+    requires there { total ≤ length aside.now }
+    requires room { length octets.old.items + length aside.now ≤ vec_capacity octets.old }
+    ensures { WeavesIn ends result row.now coming.now total (octets.old.items ++ aside.now) octets.new.items }
 {
-    settle(octets, ends.written, ends.begun, total, ends.arranged, 0);
-    weave_down(octets, ends.begun, ends.arranged, row, coming, total);
-    cut(octets, ends.arranged, total);
+    let (frames, later) = aside.split_at(total);
+    settle(octets, ends.written, ends.begun, total, &frames[..0]);
+    weave_down(octets, ends.begun, row, coming, frames);
+    append(octets, later);
     Ends {
         written: ends.written - total,
         begun: ends.begun - total,
@@ -169,38 +170,72 @@ fn put_down(
     }
 }
 
-/// The same, where what waits after the first place moves up. The frames are copied out of its way first, and then each
-/// to its place.
+/// The same, where what waits after the first place moves up.
 fn put_up(
-    alloc: Global,
     octets: &mut Vec<u8>,
     ends: Ends,
     row: &[Waiting],
     coming: &[Coming],
+    aside: &[u8],
     total: usize,
-) -> Option<Ends>
+) -> Ends
     requires follow { Follow 0 (length row.now) (places_of coming.now) }
     requires begun { ends.written ≤ ends.begun }
     requires arranged { ends.arranged ≡ ends.begun + slots_length (slots_in row.now) }
     requires total { total ≡ slots_length (slots_of coming.now) }
-    requires there { ends.arranged + total ≤ length octets.old.items }
-    ensures woven { IfSome result (λ new.
-        WeavesIn ends new row.now coming.now total octets.old.items octets.new.items) }
-    ensures same { result ≡ None → octets.new.items ≡ octets.old.items }
+    requires all { length octets.old.items ≡ ends.arranged }
+    requires there { total ≤ length aside.now }
+    requires room { length octets.old.items + length aside.now ≤ vec_capacity octets.old }
+    ensures { WeavesIn ends result row.now coming.now total (octets.old.items ++ aside.now) octets.new.items }
 {
-    let frames = &octets[ends.arranged..ends.arranged + total];
-    let Ok(frames) = Vec::from_slice(alloc, frames) else {
-        return None;
-    };
-    weave_octets(octets, ends.begun, ends.arranged, row, coming, &frames);
-    Some(Ends {
+    let (frames, later) = aside.split_at(total);
+    open(octets, ends.arranged + total);
+    append(octets, later);
+    weave_octets(octets, ends.begun, ends.arranged, row, coming, frames);
+    Ends {
         written: ends.written,
         begun: ends.begun,
         arranged: ends.arranged + total,
-    })
+    }
 }
 
-/// Puts the octets of frames among those of a row. They stand after these, and are given once more.
+/// Appends octets that say nothing, up to so many in all. There is room for them.
+fn open(octets: &mut Vec<u8>, count: usize)
+    requires more { length octets.old.items ≤ count }
+    requires room { count ≤ vec_capacity octets.old }
+    ensures opened { octets.new.items ≡ octets.old.items ++ replicate (count - length octets.old.items) 0 }
+    ensures count { length octets.new.items ≡ count }
+    ensures room { vec_capacity octets.old ≤ vec_capacity octets.new }
+{
+    let Ok(()) = octets.resize(count, 0) else {
+        unreachable!()
+    };
+}
+
+/// Appends octets. There is room for them.
+fn append(octets: &mut Vec<u8>, part: &[u8])
+    requires { length octets.old.items + length part.now ≤ vec_capacity octets.old }
+    ensures { octets.new.items ≡ octets.old.items ++ part.now }
+{
+    let Ok(()) = octets.extend_from_slice(part) else {
+        unreachable!()
+    };
+}
+
+/// Appends what stands aside. There is room for it.
+pub(crate) fn join(octets: &mut Vec<u8>, aside: &mut Vec<u8>)
+    requires { length octets.old.items + length aside.old.items ≤ vec_capacity octets.old }
+    ensures octets { octets.new.items ≡ octets.old.items ++ aside.old.items }
+    ensures aside { aside.new.items ≡ [] }
+{
+    if aside.is_empty() {
+        return;
+    }
+    append(octets, aside);
+    aside.clear();
+}
+
+/// Puts the octets of frames among those of a row, which moves up: after it there are as many octets, which are dropped.
 pub(crate) fn weave_octets(
     octets: &mut Vec<u8>,
     begun: usize,
@@ -214,9 +249,9 @@ pub(crate) fn weave_octets(
     requires frames { length frames.now ≡ slots_length (slots_of coming.now) }
     requires there { arranged + length frames.now ≤ length octets.old.items }
     ensures count { length octets.new.items ≡ length octets.old.items }
-    ensures octets { (before after : List ℕ) (rows puts : List Frame) → slots_in row.now ≡ map slot_of rows
+    ensures octets { (before dropped after : List ℕ) (rows puts : List Frame) → slots_in row.now ≡ map slot_of rows
         → slots_of coming.now ≡ map slot_of puts → frames.now ≡ stream puts → length before ≡ begun
-        → octets.old.items ≡ before ++ (stream rows ++ (stream puts ++ after))
+        → length dropped ≡ length frames.now → octets.old.items ≡ before ++ (stream rows ++ (dropped ++ after))
         → octets.new.items ≡ before ++ (stream (woven 0 (places_of coming.now) puts rows) ++ after) }
 {
     let mut left = coming.len();
@@ -236,40 +271,36 @@ pub(crate) fn weave_octets(
     }
 }
 
-/// Puts the octets of frames among those of a row, which moves down: before it there is room for them. The frames stand
-/// after the row, and are given once more there.
+/// Puts the octets of frames among those of a row, which moves down: before it there is room for them.
 pub(crate) fn weave_down(
     octets: &mut Vec<u8>,
     begun: usize,
-    arranged: usize,
     row: &[Waiting],
     coming: &[Coming],
-    total: usize,
+    frames: &[u8],
 )
     requires follow { Follow 0 (length row.now) (places_of coming.now) }
-    requires arranged { arranged ≡ begun + slots_length (slots_in row.now) }
-    requires total { total ≡ slots_length (slots_of coming.now) }
-    requires room { total ≤ begun }
-    requires there { arranged + total ≤ length octets.old.items }
+    requires frames { length frames.now ≡ slots_length (slots_of coming.now) }
+    requires room { length frames.now ≤ begun }
+    requires there { begun + slots_length (slots_in row.now) ≤ length octets.old.items }
     ensures count { length octets.new.items ≡ length octets.old.items }
+    ensures capacity { vec_capacity octets.new ≡ vec_capacity octets.old }
     ensures octets { (after : List ℕ) (rows puts : List Frame) → slots_in row.now ≡ map slot_of rows
-        → slots_of coming.now ≡ map slot_of puts
-        → drop begun octets.old.items ≡ stream rows ++ (stream puts ++ after)
-        → octets.new.items ≡ take (begun - total) octets.old.items
-        ++ (stream (woven 0 (places_of coming.now) puts rows) ++ (stream puts ++ after)) }
+        → slots_of coming.now ≡ map slot_of puts → frames.now ≡ stream puts
+        → drop begun octets.old.items ≡ stream rows ++ after
+        → octets.new.items ≡ take (begun - length frames.now) octets.old.items
+        ++ (stream (woven 0 (places_of coming.now) puts rows) ++ after) }
 {
     let mut place = 0;
     let mut from = begun;
-    let mut room = total;
-    let mut source = arranged;
+    let mut left = frames;
     for next in coming {
-        let count = next.waiting.slot.length();
         let end = from + slots::length_of(&row[place..next.place]);
-        settle(octets, from, end, room, source, count);
+        let (frame, later) = left.split_at(next.waiting.slot.length());
+        settle(octets, from, end, left.len(), frame);
         place = next.place;
         from = end;
-        room -= count;
-        source += count;
+        left = later;
     }
 }
 
@@ -299,38 +330,22 @@ pub(crate) fn weave_slots(
     }
 }
 
-/// Moves what stands from a place to an end down over room before it, and so many octets from a later place to where it
-/// ends then.
-pub(crate) fn settle(
-    octets: &mut Vec<u8>,
-    from: usize,
-    end: usize,
-    room: usize,
-    source: usize,
-    count: usize,
-)
+/// Moves what stands from a place to an end down over room before it, and copies a part to where it ends then.
+pub(crate) fn settle(octets: &mut Vec<u8>, from: usize, end: usize, room: usize, part: &[u8])
     requires order { from ≤ end }
     requires room { room ≤ from }
-    requires count { count ≤ room }
-    requires source { end ≤ source }
-    requires there { source + count ≤ length octets.old.items }
+    requires part { length part.now ≤ room }
+    requires there { end ≤ length octets.old.items }
     ensures count { length octets.new.items ≡ length octets.old.items }
-    ensures settled { take (end - room + count) octets.new.items ≡ take (from - room) octets.old.items
-        ++ (drop from (take end octets.old.items) ++ take count (drop source octets.old.items)) }
+    ensures capacity { vec_capacity octets.new ≡ vec_capacity octets.old }
+    ensures settled { take (end - room + length part.now) octets.new.items ≡ take (from - room) octets.old.items
+        ++ (drop from (take end octets.old.items) ++ part.now) }
     ensures rest { drop end octets.new.items ≡ drop end octets.old.items }
 {
     octets.copy_within(from..end, from - room);
-    octets.copy_within(source..source + count, end - room);
-}
-
-/// Drops so many octets from a place on.
-pub(crate) fn cut(octets: &mut Vec<u8>, at: usize, count: usize)
-    requires { at + count ≤ length octets.old.items }
-    ensures { octets.new.items ≡ take at octets.old.items ++ drop (at + count) octets.old.items }
-{
-    let left = octets.len() - count;
-    octets.copy_within(at + count.., at);
-    octets.truncate(left);
+    let to = end - room;
+    let gap = &mut octets.as_mut_slice()[to..to + part.len()];
+    gap.copy_from_slice(part);
 }
 
 /// Moves what stands from a place to an end up over a hole of so many items, and copies a part to the end of what is

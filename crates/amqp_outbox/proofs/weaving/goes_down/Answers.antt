@@ -18,12 +18,3 @@ overflow_sub-result-2 c =
     let a = c.requires.arranged in
     let b = c.requires.begun in
     omega arith
-
-pub overflow_add-result-2 : goal.overflow_add-result-2
-overflow_add-result-2 c =
-    let first = part-within c.args.row.now (get_or c.args.coming.now 0 no_coming).place in
-    let e = c.length_from-after_first.ensures in
-    let a = c.requires.arranged in
-    let b = c.requires.there in
-    let d = c.ranges.all.fits in
-    omega arith

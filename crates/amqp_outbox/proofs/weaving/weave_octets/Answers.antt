@@ -9,8 +9,8 @@ pub loop-left-init : goal.loop-left-init
 loop-left-init c = record {
   octets = octets-begun _ _ _ _ _ _ _ refl refl c.requires.follow c.requires.arranged c.requires.frames;
   count = refl;
-  woven = λ before after rows puts rows_are puts_are frames_are size now_is.
-      octets-start _ _ c.args.begun _ _ _ _ c.args.frames.now _ before after rows puts refl refl c.requires.arranged refl rows_are puts_are frames_are size now_is;
+  woven = λ before dropped after rows puts rows_are puts_are frames_are size dropped_size now_is.
+      octets-start _ _ c.args.begun _ _ _ _ c.args.frames.now _ before dropped after rows puts refl refl c.requires.arranged refl rows_are puts_are frames_are size dropped_size now_is;
 }
 
 pub slice_bounds-length_from-end : goal.slice_bounds-length_from-end
@@ -78,13 +78,13 @@ loop-left-preserved c =
     record {
       octets = n.after;
       count = c.splice.ensures.count ∙ i.count;
-      woven = λ before after rows puts rows_are puts_are frames_are size now_is.
+      woven = λ before dropped after rows puts rows_are puts_are frames_are size dropped_size now_is.
           octets-woven c.args.begun c.args.row.now c.args.coming.now l.row_end l.left (l.left - 1) l.end l.hole c.length-length.result c.length_from-moved.result _ _ c.args.frames.now l.octets.items c.splice.new.items.items _ before after rows puts
-          (omega arith) refl c.length-length.ensures c.length_from-moved.ensures i.octets rows_are puts_are frames_are size refl c.splice.ensures.before c.splice.ensures.after (i.woven before after rows puts rows_are puts_are frames_are size now_is);
+          (omega arith) refl c.length-length.ensures c.length_from-moved.ensures i.octets rows_are puts_are frames_are size refl c.splice.ensures.before c.splice.ensures.after (i.woven before dropped after rows puts rows_are puts_are frames_are size dropped_size now_is);
     }
 
 pub returns-clause-octets : goal.returns-clause-octets
-returns-clause-octets c before after rows puts rows_are puts_are frames_are size now_is =
+returns-clause-octets c before dropped after rows puts rows_are puts_are frames_are size dropped_size now_is =
     let l = c.loop-left in
     let i = l.invariant in
-    octets-end c.args.row.now c.args.coming.now c.args.begun l.row_end l.left l.end l.hole l.octets.items before after rows puts (omega arith) rows_are i.octets (i.woven before after rows puts rows_are puts_are frames_are size now_is)
+    octets-end c.args.row.now c.args.coming.now c.args.begun l.row_end l.left l.end l.hole l.octets.items before after rows puts (omega arith) rows_are i.octets (i.woven before dropped after rows puts rows_are puts_are frames_are size dropped_size now_is)

@@ -11,8 +11,8 @@ abbrev pub invariant-loop-left : goal.invariant-loop-left
 invariant-loop-left l = record {
   octets : Octets l.begun l.row l.coming l.row_end l.left l.end l.hole;
   count : length l.octets.items ≡ length l.fn.octets.items;
-  woven : (before after : List ℕ) (rows puts : List Frame) → slots_in l.row ≡ map slot_of rows → slots_of l.coming ≡ map slot_of puts → l.frames ≡ stream puts → length before ≡ l.begun
-      → l.fn.octets.items ≡ before ++ (stream rows ++ (stream puts ++ after))
+  woven : (before dropped after : List ℕ) (rows puts : List Frame) → slots_in l.row ≡ map slot_of rows → slots_of l.coming ≡ map slot_of puts → l.frames ≡ stream puts → length before ≡ l.begun → length dropped ≡ length l.frames
+      → l.fn.octets.items ≡ before ++ (stream rows ++ (dropped ++ after))
       → Weaving stream before after (places_of l.coming) puts rows l.left l.row_end l.end l.hole l.octets.items;
 }
 

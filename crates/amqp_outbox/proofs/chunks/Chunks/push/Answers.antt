@@ -1,4 +1,4 @@
-use Rattle.std.proofs.Common.{◌≡◌, ◌++◌, length, ap, ◌∙◌, arith, length-append}
+use Rattle.std.proofs.Common.{◌++◌, length, ap, ◌∙◌, arith, length-append}
 use Rattle.amqp_outbox.specs.Chunks.{left_of}
 use Rattle.amqp_outbox.proofs.ChunkLemmas.{left-push}
 use Rattle.amqp_outbox.proofs.chunks.Chunks.push.Goals as goal

@@ -44,6 +44,7 @@ invariant_of-self c =
     sound _ _ _ _ _ _ _ _ _ (write-laid_out x _ c.args.octets r.result.frames r.result.octets r.result.on r.result.last c.self.invariant w refl refl refl refl refl refl refl)
     (write-kept x c.args.octets r.result.frames r.result.octets r.result.on r.result.last c.self.invariant w)
     (laps-written x _ r.result.frames c.self.invariant w.few refl (r.ensures.lap ∙ ap (λ xs. laps_last x.lap x.last (take r.result.frames xs)) lent) (r.ensures.last ∙ ap (λ xs. slots_last x.last (take r.result.frames xs)) lent) refl)
+    (record { row = c.self.invariant.aside.row; room = c.self.invariant.aside.room })
 
 pub returns-then-ahead-octets : goal.returns-then-ahead-octets
 returns-then-ahead-octets c =

@@ -1,4 +1,4 @@
-use Rattle.std.proofs.Common.{List, ◌+◌, ◌-◌, length, take, drop, refl, ap, ◌∙◌, arith}
+use Rattle.std.proofs.Common.{List, ◌+◌, ◌-◌, length, take, drop, refl, ap, ◌∙◌, arith, length-append}
 use Rattle.std.proofs.lemmas.List.{length-map}
 use Rattle.amqp_outbox.specs.OutboxSlots.{slot_of, slots_length}
 use Rattle.amqp_outbox.specs.OutboxWeaving.{slots_of}
@@ -51,41 +51,61 @@ length_of-total-requires c =
     let coming = c.in-Ok.coming.items in
     let a = are-staged x _ _ coming (slots_length (slots_of coming)) s (staged-lent x _ s c.deref-2.ensures.value) c.in-Ok.ensures refl in
     let w = a.within in
+    let all = length-append x.octets.items x.aside.items in
+    let room = s.aside.room in
+    let fits = x.octets.ok in
+    let small = x.octets.small in
     let e = ap (λ (cs : List Coming). slots_length (slots_of cs)) c.deref-3.ensures.value in
     omega arith
 
-pub weave-requires-clause-arranged : goal.weave-requires-clause-arranged
-weave-requires-clause-arranged c =
+pub weave-ends-requires-clause-arranged : goal.weave-ends-requires-clause-arranged
+weave-ends-requires-clause-arranged c =
     let x = c.self.inside in
     let row = row-lent x _ c.self.invariant c.deref-4.ensures.value in
     let a = ap slots_length row ∙ slots_length-row (row_of x) in
     let b = row-size x c.self.invariant in
     omega arith
 
-pub weave-requires-clause-there : goal.weave-requires-clause-there
-weave-requires-clause-there c =
+pub weave-ends-requires-clause-all : goal.weave-ends-requires-clause-all
+weave-ends-requires-clause-all c =
+    let row = c.self.invariant.aside.row in
+    let alone = c.if-self-len.false in
+    omega arith
+
+pub weave-ends-requires-clause-there : goal.weave-ends-requires-clause-there
+weave-ends-requires-clause-there c =
     let x = c.self.inside in
     let s = c.self.invariant in
     let coming = c.in-Ok.coming.items in
     let octets_is = c.length_of-total.ensures ∙ ap (λ (cs : List Coming). slots_length (slots_of cs)) c.deref-3.ensures.value in
     let a = are-staged x _ _ coming c.length_of-total.result s (staged-lent x _ s c.deref-2.ensures.value) c.in-Ok.ensures octets_is in
-    a.within
+    let within = a.within in
+    let all = length-append x.octets.items x.aside.items in
+    let aside = ap length c.deref-6.ensures.value in
+    let row = s.aside.row in
+    omega arith
 
-pub invariant_of-self-2 : goal.invariant_of-self-2
-invariant_of-self-2 c =
+pub weave-ends-requires-clause-room : goal.weave-ends-requires-clause-room
+weave-ends-requires-clause-room c =
+    let room = c.self.invariant.aside.room in
+    let aside = ap length c.deref-6.ensures.value in
+    omega arith
+
+pub invariant_of-self : goal.invariant_of-self
+invariant_of-self c =
     let x = c.self.inside in
     let s = c.self.invariant in
     let coming = c.in-Ok.coming.items in
     let octets = c.length_of-total.result in
-    let ends = c.in-Some-weave.ends in
-    let y : Inside = record x { octets = c.weave.new.octets; written = ends.written; begun = ends.begun; arranged = ends.arranged; slots = c.weave_slots.new.slots; slots_arranged = x.slots_arranged + c.len.result } in
+    let ends = c.weave-ends.result in
+    let y : Inside = record x { octets = c.weave-ends.new.octets; aside = c.clear.new.self; written = ends.written; begun = ends.begun; arranged = ends.arranged; slots = c.weave_slots.new.slots; slots_arranged = x.slots_arranged + c.len-2.result } in
     let rows = row-lent x _ s c.deref.ensures.value in
     let staged = staged-lent x _ s c.deref-2.ensures.value in
     let octets_is = c.length_of-total.ensures ∙ ap (λ (cs : List Coming). slots_length (slots_of cs)) c.deref-3.ensures.value in
     let a = are-staged x _ _ coming octets s staged c.in-Ok.ensures octets_is in
-    let p = is-put-between x y _ _ _ coming ends octets s a (row-lent x _ s c.deref-4.ensures.value) c.deref-5.ensures.value c.deref-6.ensures.value
-    c.in-Some-weave.ensures.woven c.weave_slots.ensures refl refl refl refl (omega arith) in
-    (put-between x y _ _ coming octets c.args.self.now s c.self.view_is rows (row_laps-lent x _ s c.deref.ensures.value) staged c.in-Ok.ensures a p refl refl refl).0
+    let p = is-put-between x y _ _ _ coming _ ends octets s a (row-lent x _ s c.deref-4.ensures.value) c.deref-5.ensures.value c.deref-7.ensures.value c.deref-6.ensures.value c.clear.ensures.items
+    c.weave-ends.ensures c.weave_slots.ensures refl refl refl refl (omega arith) in
+    (put-between x y _ _ coming octets c.args.self.now s c.self.view_is rows (row_laps-lent x _ s c.deref.ensures.value) staged c.in-Ok.ensures a p c.clear.ensures.items refl refl refl).0
 
 pub returns : goal.returns
 returns c =
@@ -93,12 +113,12 @@ returns c =
     let s = c.self.invariant in
     let coming = c.in-Ok.coming.items in
     let octets = c.length_of-total.result in
-    let ends = c.in-Some-weave.ends in
-    let y : Inside = record x { octets = c.weave.new.octets; written = ends.written; begun = ends.begun; arranged = ends.arranged; slots = c.weave_slots.new.slots; slots_arranged = x.slots_arranged + c.len.result } in
+    let ends = c.weave-ends.result in
+    let y : Inside = record x { octets = c.weave-ends.new.octets; aside = c.clear.new.self; written = ends.written; begun = ends.begun; arranged = ends.arranged; slots = c.weave_slots.new.slots; slots_arranged = x.slots_arranged + c.len-2.result } in
     let rows = row-lent x _ s c.deref.ensures.value in
     let staged = staged-lent x _ s c.deref-2.ensures.value in
     let octets_is = c.length_of-total.ensures ∙ ap (λ (cs : List Coming). slots_length (slots_of cs)) c.deref-3.ensures.value in
     let a = are-staged x _ _ coming octets s staged c.in-Ok.ensures octets_is in
-    let p = is-put-between x y _ _ _ coming ends octets s a (row-lent x _ s c.deref-4.ensures.value) c.deref-5.ensures.value c.deref-6.ensures.value
-    c.in-Some-weave.ensures.woven c.weave_slots.ensures refl refl refl refl (omega arith) in
-    (put-between x y _ _ coming octets c.args.self.now s c.self.view_is rows (row_laps-lent x _ s c.deref.ensures.value) staged c.in-Ok.ensures a p refl refl refl).1
+    let p = is-put-between x y _ _ _ coming _ ends octets s a (row-lent x _ s c.deref-4.ensures.value) c.deref-5.ensures.value c.deref-7.ensures.value c.deref-6.ensures.value c.clear.ensures.items
+    c.weave-ends.ensures c.weave_slots.ensures refl refl refl refl (omega arith) in
+    (put-between x y _ _ coming octets c.args.self.now s c.self.view_is rows (row_laps-lent x _ s c.deref.ensures.value) staged c.in-Ok.ensures a p c.clear.ensures.items refl refl refl).1

@@ -1,4 +1,4 @@
-use Rattle.std.proofs.Common.{◌≡◌, ◌+◌, ◌-◌, ◌<◌, length, drop, All, sym, ap, ◌∙◌, subst, arith, rules}
+use Rattle.std.proofs.Common.{◌≡◌, ◌+◌, ◌-◌, length, drop, All, ap, ◌∙◌, subst, arith, rules}
 use Rattle.amqp_model.specs.Output.Arrangement.{IsChannel}
 use Rattle.std.proofs.lemmas.List.Elements.{All-drop, All-head}
 use Rattle.amqp_outbox.specs.PiecesQueues.{IsChunk, HaveRoom, row_of}
